@@ -1,5 +1,5 @@
 #!/bin/sh
-# Times the lexer and the formatter: builds the programs lex_count and justfmt, writes inputs of
+# Times the lexer and the formatter: builds the programs bench_lex and justfmt, writes inputs of
 # three sizes, and prints two tables, of lexing alone and of formatting beside lexing. Each time is
 # the least of nine runs. Needs rt and python3; all that it writes lies in bench/out and in the
 # crates' folders out.
@@ -19,9 +19,9 @@ build() {
 
 rm -rf "$out"
 mkdir "$out"
-build lex_count
+build bench_lex
 build justfmt
-lexer="$top/crates/lex_count/out/lex_count"
+lexer="$top/crates/bench_lex/out/bench_lex"
 formatter="$top/crates/justfmt/out/justfmt"
 
 python3 "$top/bench/inputs.py" "$out/inputs" $sizes

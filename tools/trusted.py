@@ -143,7 +143,7 @@ GROUPS = [
     [
         ("justfile_lex/src/lexer.rt", ["lex"]),
         ("justfile_parse/src/parse.rt", ["parse", "parse_source"]),
-        ("justfile_file/src/ast.rt", ["print", "print_to", "printable"]),
+        ("justfile_ast/src/ast.rt", ["print", "print_to", "printable"]),
     ],
 ]
 

@@ -4,36 +4,36 @@ use Rattle.std.specs.BTreeMap.{values}
 use Rattle.std.specs.Global.{Box}
 use Rattle.std.specs.Option.{is_some, option_map}
 use Rattle.std.proofs.lemmas.List.Elements.{All-map}
-use Rattle.justfile_base.specs.declared.token.Token.{Token}
-use Rattle.justfile_model.specs.ArgumentTexts.{GivenHasText, HasText, HasTexts}
+use Rattle.justfile_token.specs.declared.token.Token.{Token}
+use Rattle.justfile_model.specs.ArgumentTexts.{ValueHasText, HasText, HasTexts}
 use Rattle.justfile_model.specs.Meaning.{KeyArgument, Placed, quoted, quoted_text}
 use Rattle.justfile_model.specs.Tree.{Expr, Quoted}
-use Rattle.justfile_tree.specs.LeafSight.{sees_leaves}
-use Rattle.justfile_tree.specs.LeafTree.{Leaf, Literal, LiteralText, leaf_tree_of, literal_of}
-use Rattle.justfile_tree.specs.declared.expression.Expression.{Expression, StringLiteral}
+use Rattle.justfile_expression.specs.LeafViews.{views_leaves}
+use Rattle.justfile_expression.specs.LeafTree.{Leaf, Literal, LiteralText, leaf_tree_of, literal_of}
+use Rattle.justfile_expression.specs.declared.expression.Expression.{Expression, StringLiteral}
 use Rattle.justfile_attribute_rules.specs.Keys.{KeyMap, key_argument, key_arguments}
 use Rattle.justfile_attribute_rules.specs.Made.{placed_leaf, placed_leaves}
 use Rattle.justfile_attribute_rules.proofs.Quoted.{not_quoted}
 
-literal_text : (expanded : Bool) (l : LiteralText) → is_some (quoted_text sees_leaves (record { expanded = expanded; token = Literal l })) ≡ true
+literal_text : (expanded : Bool) (l : LiteralText) → is_some (quoted_text views_leaves (record { expanded = expanded; token = Literal l })) ≡ true
 literal_text true l = refl
 literal_text false l = refl
 
-no_literal : (e : Expr Leaf Token) → quoted e ≡ None → HasText sees_leaves e
+no_literal : (e : Expr Leaf Token) → quoted e ≡ None → HasText views_leaves e
 no_literal e none q is = cc
 
-expression_text : (e : Expression) → HasText sees_leaves (leaf_tree_of e)
+expression_text : (e : Expression) → HasText views_leaves (leaf_tree_of e)
 expression_text (StringLiteral l) q is =
     let same : record { expanded = l.expand; token = Literal (literal_of l) } ≡ q = cc in
-    subst (λ (q : Quoted Leaf). is_some (quoted_text sees_leaves q) ≡ true) same (literal_text l.expand (literal_of l))
+    subst (λ (q : Quoted Leaf). is_some (quoted_text views_leaves q) ≡ true) same (literal_text l.expand (literal_of l))
 expression_text e q is = no_literal (leaf_tree_of e) (not_quoted e (λ l h. cc)) q is
 
-given_text : (o : Option (Box Expression)) → GivenHasText sees_leaves (option_map (λ (b : Box Expression). leaf_tree_of b.value) o)
+given_text : (o : Option (Box Expression)) → ValueHasText views_leaves (option_map (λ (b : Box Expression). leaf_tree_of b.value) o)
 given_text None e is = cc
-given_text (Some b) e is = let same : leaf_tree_of b.value ≡ e = cc in subst (HasText sees_leaves) same (expression_text b.value)
+given_text (Some b) e is = let same : leaf_tree_of b.value ≡ e = cc in subst (HasText views_leaves) same (expression_text b.value)
 
-pub have_texts : (placed : List (Token × Box Expression)) (keys : KeyMap) → HasTexts sees_leaves (placed_leaves placed) (key_arguments keys)
+pub have_texts : (placed : List (Token × Box Expression)) (keys : KeyMap) → HasTexts views_leaves (placed_leaves placed) (key_arguments keys)
 have_texts placed keys = record {
-  values = All-map (λ (p : Placed Leaf Token). HasText sees_leaves p.value) placed_leaf placed (λ k d lt. expression_text (get_or placed k d).1.value);
-  given = All-map (λ (k : KeyArgument Leaf Token). GivenHasText sees_leaves k.value) key_argument (values keys) (λ k d lt. given_text (get_or (values keys) k d).1);
+  values = All-map (λ (p : Placed Leaf Token). HasText views_leaves p.value) placed_leaf placed (λ k d lt. expression_text (get_or placed k d).1.value);
+  given = All-map (λ (k : KeyArgument Leaf Token). ValueHasText views_leaves k.value) key_argument (values keys) (λ k d lt. given_text (get_or (values keys) k d).1);
 }

@@ -9,28 +9,28 @@ use Rattle.std.specs.Ordering.{nat_cmp, ordering_then, is_ne, on}
 use Rattle.std.specs.Cmp.Lexicographic.{slice_cmp}
 use Rattle.std.specs.declared.cmp.Ordering.{Ordering}
 use Rattle.std.specs.declared.cmp.Ordering.TheVariants.{Less, Equal, Greater}
-use Rattle.justfile_word.specs.contracts.attribute_kind.AttributeKind as attribute_kinds
+use Rattle.justfile_vocabulary.specs.contracts.attribute_kind.AttributeKind as attribute_kinds
 use Rattle.justfile_model.specs.KeyLaws.{then_end}
 use Rattle.justfile_model.specs.Tok.{tok_of}
-use Rattle.justfile_tree.specs.Expression.{expr_of, literal_tok}
-use Rattle.justfile_base.specs.StringLiteral.{IsSameLiteral}
-use Rattle.justfile_base.specs.declared.name.Name.{Name}
-use Rattle.justfile_base.specs.declared.string_literal.StringLiteral.{StringLiteral}
-use Rattle.justfile_base.specs.declared.token.Token.{Token}
+use Rattle.justfile_expression.specs.Expression.{expr_of, literal_tok}
+use Rattle.justfile_token.specs.StringLiteral.{IsSameLiteral}
+use Rattle.justfile_token.specs.declared.name.Name.{Name}
+use Rattle.justfile_token.specs.declared.string_literal.StringLiteral.{StringLiteral}
+use Rattle.justfile_token.specs.declared.token.Token.{Token}
 use Rattle.justfile_model.specs.ContentKeys.{attribute_key, attribute_keys, kind_of_attribute, expr_key, bound_number_key, bound_word_key, option_name_key, own_name_key, quoted_key, word_key}
 use Rattle.justfile_model.specs.ContentKeys as keys
 use Rattle.justfile_model.specs.ContentLeaf as contents
 use Rattle.justfile_model.specs.ContentLeaf.{ContentLeaf, content_cmp}
 use Rattle.justfile_model.specs.Key.{Key, keys_cmp, leaf, node, end, next, row, keys_of, option_key, present_key}
 use Rattle.justfile_model.specs.Tree.{Expr, Quoted}
-use Rattle.justfile_tree.specs.Content.{expression_content_cmp, token_content}
-use Rattle.justfile_tree.specs.ContentLaws.{content_key_cmp}
-use Rattle.justfile_tree.specs.LeafSight.{sees_leaves}
-use Rattle.justfile_tree.specs.LeafTree.{Leaf, leaf_tree_of}
-use Rattle.justfile_tree.specs.SeenKeys.{key_seen, quoted_seen}
-use Rattle.justfile_tree.specs.declared.expression.Expression.{Expression}
+use Rattle.justfile_expression.specs.Content.{expression_content_cmp, token_content}
+use Rattle.justfile_expression.specs.ContentLaws.{content_key_cmp}
+use Rattle.justfile_expression.specs.LeafViews.{views_leaves}
+use Rattle.justfile_expression.specs.LeafTree.{Leaf, leaf_tree_of}
+use Rattle.justfile_expression.specs.SeenKeys.{key_seen, quoted_seen}
+use Rattle.justfile_expression.specs.declared.expression.Expression.{Expression}
 use Rattle.justfile_attribute.specs.Attribute.{attribute_by, attribute_of, leaf_attribute_of, literal_leaf, quoted_by, option_by, property_by, bound_by}
-use Rattle.justfile_attribute.specs.New.{IsWholeAttribute}
+use Rattle.justfile_attribute.specs.New.{HasDerivedAttributeFields}
 use Rattle.justfile_attribute.specs.Order.{attribute_content_cmp, by_content, case_keys, case_kind, content_key, count_key, expression_key, literal_key, name_key, text_key}
 use Rattle.justfile_attribute_rules.specs.ArgumentRules.{IsNamedAs}
 use Rattle.justfile_attribute.specs.declared.attribute.Attribute.{Attribute}
@@ -44,10 +44,10 @@ expressions_compare a b = sym (content_key_cmp a b) ∙ λ i. by_content (key_se
 abbrev quoted_of : StringLiteral → Quoted Leaf
 quoted_of l = quoted_by leaf_tree_of literal_leaf (λ (t : Token). t) l
 
-literal_is : (l : StringLiteral) → quoted_key sees_leaves (quoted_of l) ≡ literal_key l
+literal_is : (l : StringLiteral) → quoted_key views_leaves (quoted_of l) ≡ literal_key l
 literal_is l = sym (quoted_seen l.expand l)
 
-literals_are : (ls : List StringLiteral) → keys_of (quoted_key sees_leaves) (map quoted_of ls) ≡ keys_of literal_key ls
+literals_are : (ls : List StringLiteral) → keys_of (quoted_key views_leaves) (map quoted_of ls) ≡ keys_of literal_key ls
 literals_are [] = refl
 literals_are (l ∷ ls) = λ i. next (literal_is l i) (literals_are ls i)
 
@@ -62,26 +62,26 @@ same_literal_key a b h =
     λ i. leaf (contents.literal (record { cooked = h.cooked i; expand = h.expand i; kind = h.kind i; part = h.part i; token = token_content (h.token i) }))
 
 option_is : (name : StringLiteral) (key : Option Name) (literal : Option StringLiteral) → IsNamedAs name key literal
-    → option_name_key sees_leaves (quoted_of name) (option_by leaf_tree_of literal_leaf (λ (t : Token). t) key literal) ≡ option_key literal_key literal
+    → option_name_key views_leaves (quoted_of name) (option_by leaf_tree_of literal_leaf (λ (t : Token). t) key literal) ≡ option_key literal_key literal
 option_is name (Some key) (Some literal) h = ap present_key (literal_is name ∙ sym (same_literal_key literal name h))
 option_is name (Some key) None h = absurd h
 option_is name None (Some literal) h = ap present_key (literal_is literal)
 option_is name None None h = refl
 
 own_is : (word : List ℕ) (key : Option Name) (literal : Option StringLiteral)
-    → own_name_key sees_leaves word (option_by leaf_tree_of literal_leaf (λ (t : Token). t) key literal) ≡ option_key name_key key
+    → own_name_key views_leaves word (option_by leaf_tree_of literal_leaf (λ (t : Token). t) key literal) ≡ option_key name_key key
 own_is word (Some key) literal = refl
 own_is word None (Some literal) = refl
 own_is word None None = refl
 
 number_is : (name : StringLiteral) (key : Option Name) (number : Option ℕ)
-    → bound_number_key sees_leaves (bound_by leaf_tree_of literal_leaf (λ (t : Token). t) name key number) ≡ option_key count_key number
+    → bound_number_key views_leaves (bound_by leaf_tree_of literal_leaf (λ (t : Token). t) name key number) ≡ option_key count_key number
 number_is name key None = refl
 number_is name (Some key) (Some number) = refl
 number_is name None (Some number) = refl
 
 word_is : (word : List ℕ) (name : StringLiteral) (key : Option Name) (number : Option ℕ) → is_some key ≡ is_some number
-    → bound_word_key sees_leaves word (bound_by leaf_tree_of literal_leaf (λ (t : Token). t) name key number) ≡ option_key name_key key
+    → bound_word_key views_leaves word (bound_by leaf_tree_of literal_leaf (λ (t : Token). t) name key number) ≡ option_key name_key key
 word_is word name None None h = refl
 word_is word name (Some key) (Some number) h = refl
 word_is word name None (Some number) h = absurd cc
@@ -89,8 +89,8 @@ word_is word name (Some key) None h = absurd cc
 
 -- ---- an attribute by its case
 
-module _ {A B : Type 0} (expression : Expression → Expr A B) (leaf : StringLiteral → A) (spot : Token → B) where
-  pub kind_is : (a : Attribute) → kind_of_attribute (attribute_by expression leaf spot a) ≡ case_kind a
+module _ {A B : Type 0} (expression : Expression → Expr A B) (leaf : StringLiteral → A) (position : Token → B) where
+  pub kind_is : (a : Attribute) → kind_of_attribute (attribute_by expression leaf position a) ≡ case_kind a
   kind_is (attributes.Confirm None) = refl
   kind_is (attributes.Confirm (Some e)) = refl
   kind_is (attributes.Doc None) = refl
@@ -105,20 +105,20 @@ module _ {A B : Type 0} (expression : Expression → Expr A B) (leaf : StringLit
 pub kind_seen : (a : Attribute) → kind_of_attribute (attribute_of a) ≡ kind_of_attribute (leaf_attribute_of a)
 kind_seen a = kind_is expr_of literal_tok tok_of a ∙ sym (kind_is leaf_tree_of literal_leaf (λ (t : Token). t) a)
 
-fields_are : (a : Attribute) → IsWholeAttribute a → attribute_keys sees_leaves (leaf_attribute_of a) ≡ case_keys a
+fields_are : (a : Attribute) → HasDerivedAttributeFields a → attribute_keys views_leaves (leaf_attribute_of a) ≡ case_keys a
 fields_are (attributes.Arg flag help property long long_key max max_key min min_key multiple name pattern short short_key value) h = λ i.
-    next (seen_option (word_key sees_leaves (codes "flag")) (λ (t : Token). t) flag i) (next (option_key text_key (sym h.no_help i))
-    (next (seen_option (keys.property_key sees_leaves (codes "help")) (property_by leaf_tree_of literal_leaf (λ (t : Token). t)) property i)
+    next (seen_option (word_key views_leaves (codes "flag")) (λ (t : Token). t) flag i) (next (option_key text_key (sym h.no_help i))
+    (next (seen_option (keys.property_key views_leaves (codes "help")) (property_by leaf_tree_of literal_leaf (λ (t : Token). t)) property i)
     (next (option_is name long_key long h.long_named i) (next (own_is (codes "long") long_key long i)
     (next (number_is name max_key max i) (next (word_is (codes "max") name max_key max h.max_keyed i)
     (next (number_is name min_key min i) (next (word_is (codes "min") name min_key min h.min_keyed i)
-    (next (seen_option (word_key sees_leaves (codes "multiple")) (λ (t : Token). t) multiple i) (next (literal_is name i)
-    (next (seen_option (keys.property_key sees_leaves (codes "pattern")) (property_by leaf_tree_of literal_leaf (λ (t : Token). t)) pattern i)
+    (next (seen_option (word_key views_leaves (codes "multiple")) (λ (t : Token). t) multiple i) (next (literal_is name i)
+    (next (seen_option (keys.property_key views_leaves (codes "pattern")) (property_by leaf_tree_of literal_leaf (λ (t : Token). t)) pattern i)
     (next (option_is name short_key short h.short_named i) (next (own_is (codes "short") short_key short i)
-    (next (seen_option (expr_key sees_leaves) (λ (e : Box Expression). leaf_tree_of e.value) value i) end))))))))))))))
+    (next (seen_option (expr_key views_leaves) (λ (e : Box Expression). leaf_tree_of e.value) value i) end))))))))))))))
 fields_are (attributes.Cache extra inputs outputs) h = λ i.
-    next (seen_option (expr_key sees_leaves) (λ (e : Box Expression). leaf_tree_of e.value) extra i) (next (seen_option (expr_key sees_leaves) (λ (e : Box Expression). leaf_tree_of e.value) inputs i)
-    (next (seen_option (expr_key sees_leaves) (λ (e : Box Expression). leaf_tree_of e.value) outputs i) end))
+    next (seen_option (expr_key views_leaves) (λ (e : Box Expression). leaf_tree_of e.value) extra i) (next (seen_option (expr_key views_leaves) (λ (e : Box Expression). leaf_tree_of e.value) inputs i)
+    (next (seen_option (expr_key views_leaves) (λ (e : Box Expression). leaf_tree_of e.value) outputs i) end))
 fields_are (attributes.Confirm None) h = refl
 fields_are (attributes.Confirm (Some e)) h = refl
 fields_are (attributes.Doc None) h = refl
@@ -134,7 +134,7 @@ fields_are (attributes.Script (Some interpreter)) h = λ i.
 fields_are _ h = refl
 
 -- an attribute as the parser makes it has the key of what it means
-pub key_is : (a : Attribute) → IsWholeAttribute a → attribute_key sees_leaves (leaf_attribute_of a) ≡ content_key a
+pub key_is : (a : Attribute) → HasDerivedAttributeFields a → attribute_key views_leaves (leaf_attribute_of a) ≡ content_key a
 key_is a h = λ i. node (tag_of attribute_kinds.the_type (kind_is leaf_tree_of literal_leaf (λ (t : Token). t) a i)) (fields_are a h i)
 
 -- ---- comparisons one after another

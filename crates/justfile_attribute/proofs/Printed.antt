@@ -4,23 +4,23 @@ use Rattle.std.proofs.lemmas.List.{map-append}
 use Rattle.std.specs.List.{flat_map}
 use Rattle.std.specs.Global.{Box}
 use Rattle.std.specs.Option.{option_map}
-use Rattle.justfile_word.specs.AttributeKind.{attribute_name}
-use Rattle.justfile_word.specs.Signal.{signal_name}
-use Rattle.justfile_base.specs.StringLiteral.{format_mark, literal_text}
-use Rattle.justfile_base.specs.Token.{lexeme_of}
-use Rattle.justfile_word.specs.declared.attribute_kind.AttributeKind.{AttributeKind}
-use Rattle.justfile_word.specs.declared.attribute_kind.AttributeKind.TheVariants as kinds
-use Rattle.justfile_base.specs.declared.name.Name.{Name}
-use Rattle.justfile_word.specs.declared.signal.Signal.{Signal}
-use Rattle.justfile_base.specs.declared.string_literal.StringLiteral.{StringLiteral}
-use Rattle.justfile_base.specs.declared.token.Token.{Token}
+use Rattle.justfile_vocabulary.specs.AttributeKind.{attribute_name}
+use Rattle.justfile_vocabulary.specs.Signal.{signal_name}
+use Rattle.justfile_token.specs.StringLiteral.{format_mark, literal_text}
+use Rattle.justfile_token.specs.Token.{lexeme_of}
+use Rattle.justfile_vocabulary.specs.declared.attribute_kind.AttributeKind.{AttributeKind}
+use Rattle.justfile_vocabulary.specs.declared.attribute_kind.AttributeKind.TheVariants as kinds
+use Rattle.justfile_token.specs.declared.name.Name.{Name}
+use Rattle.justfile_vocabulary.specs.declared.signal.Signal.{Signal}
+use Rattle.justfile_token.specs.declared.string_literal.StringLiteral.{StringLiteral}
+use Rattle.justfile_token.specs.declared.token.Token.{Token}
 use Rattle.justfile_model.specs.ContentKeys.{kind_of_attribute}
 use Rattle.justfile_model.specs.Printing.{fixed_text, mark_text, argument_text, arguments_text, parenthesized_arguments, attribute_arguments, attribute_text, quoted_argument, signal_argument, option_argument, keyed_if, bare_if, number_literal}
 use Rattle.justfile_model.specs.Tok.{Tok, tok_of}
 use Rattle.justfile_model.specs.Tree as tree
 use Rattle.justfile_model.specs.Tree.{Argument, Expr, Quoted, lexeme, nothing, over_attribute, over_quoted, over_option, over_property, over_bound, over_expr}
-use Rattle.justfile_tree.specs.Expression.{expr_of, literal_tok}
-use Rattle.justfile_tree.specs.declared.expression.Expression.{Expression}
+use Rattle.justfile_expression.specs.Expression.{expr_of, literal_tok}
+use Rattle.justfile_expression.specs.declared.expression.Expression.{Expression}
 use Rattle.justfile_attribute.specs.Attribute.{attribute_of, attribute_shape, bound_by, option_by, property_by, quoted_by, script_by, single_by}
 use Rattle.justfile_attribute.specs.Print.{Slots, value_text, with_value, slots, slots_text, literal_slot, signal_slot, option_slot, property_slot, value_slot, flag_slot, number_slot, single_slots, script_slots, cache_slots}
 use Rattle.justfile_attribute.specs.declared.attribute.Attribute.{Attribute}

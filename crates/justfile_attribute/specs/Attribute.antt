@@ -2,40 +2,40 @@
 use Rattle.std.specs.Prelude.{ℕ, List, [], ◌∷◌, map, Option, Some, None}
 use Rattle.std.specs.Global.{Box}
 use Rattle.std.specs.Option.{option_map}
-use Rattle.justfile_word.specs.declared.attribute_kind.AttributeKind.{AttributeKind}
-use Rattle.justfile_word.specs.declared.attribute_kind.AttributeKind.TheVariants as kinds
-use Rattle.justfile_base.specs.declared.name.Name.{Name}
-use Rattle.justfile_base.specs.declared.string_literal.StringLiteral.{StringLiteral}
-use Rattle.justfile_base.specs.declared.token.Token.{Token}
+use Rattle.justfile_vocabulary.specs.declared.attribute_kind.AttributeKind.{AttributeKind}
+use Rattle.justfile_vocabulary.specs.declared.attribute_kind.AttributeKind.TheVariants as kinds
+use Rattle.justfile_token.specs.declared.name.Name.{Name}
+use Rattle.justfile_token.specs.declared.string_literal.StringLiteral.{StringLiteral}
+use Rattle.justfile_token.specs.declared.token.Token.{Token}
 use Rattle.justfile_model.specs.Tok.{Tok, tok_of}
 use Rattle.justfile_model.specs.Tree as tree
 use Rattle.justfile_model.specs.Tree.{Expr, Quoted, OptionName, Property, Bound, lexeme, nothing, over_attribute}
-use Rattle.justfile_tree.specs.Expression.{expr_of, literal_tok}
-use Rattle.justfile_tree.specs.LeafTree.{Leaf, Literal, leaf_tree_of, literal_of}
-use Rattle.justfile_tree.specs.declared.expression.Expression.{Expression}
+use Rattle.justfile_expression.specs.Expression.{expr_of, literal_tok}
+use Rattle.justfile_expression.specs.LeafTree.{Leaf, Literal, leaf_tree_of, literal_of}
+use Rattle.justfile_expression.specs.declared.expression.Expression.{Expression}
 use Rattle.justfile_attribute.specs.declared.attribute.Attribute.{Attribute}
 use Rattle.justfile_attribute.specs.declared.attribute.Attribute.TheVariants as attributes
 use Rattle.justfile_attribute.specs.declared.interpreter.Interpreter.{Interpreter}
 
 -- by the trees of expressions, what is seen of a literal, and what is kept of a token
-module _ {A B : Type 0} (expression : Expression → Expr A B) (leaf : StringLiteral → A) (spot : Token → B) where
+module _ {A B : Type 0} (expression : Expression → Expr A B) (leaf : StringLiteral → A) (position : Token → B) where
   abbrev pub quoted_by : StringLiteral → Quoted A
   quoted_by l = record { expanded = l.expand; token = leaf l }
 
   -- a key that stands alone names the option as the argument, whatever literal there is
   abbrev pub option_by : (key : Option Name) → Option StringLiteral → OptionName A B
-  option_by (Some key) literal = tree.OwnName (spot key.token)
+  option_by (Some key) literal = tree.OwnName (position key.token)
   option_by None (Some literal) = tree.Named (quoted_by literal)
   option_by None None = tree.NoOption
 
   abbrev pub property_by : Name × Box Expression → Property A B
-  property_by p = record { key = spot p.0.token; value = expression p.1.value }
+  property_by p = record { key = position p.0.token; value = expression p.1.value }
 
   -- a number stands with its key, or with the token of the argument's name where it has none
   abbrev pub bound_by : (name : StringLiteral) → (key : Option Name) → Option ℕ → Option (Bound B)
   bound_by name key None = None
-  bound_by name (Some key) (Some number) = Some (record { key = spot key.token; number = number })
-  bound_by name None (Some number) = Some (record { key = spot name.token; number = number })
+  bound_by name (Some key) (Some number) = Some (record { key = position key.token; number = number })
+  bound_by name None (Some number) = Some (record { key = position name.token; number = number })
 
   -- with an expression, or without
   abbrev pub single_by : (kind : AttributeKind) → Option (Box Expression) → tree.Attribute A B
@@ -50,12 +50,12 @@ module _ {A B : Type 0} (expression : Expression → Expr A B) (leaf : StringLit
   attribute_by attributes.Android = tree.Plain kinds.Android
   attribute_by (attributes.Arg flag help help_property long long_key max max_key min min_key multiple name pattern short short_key value) =
       tree.Arg (record {
-        flag = option_map spot flag;
+        flag = option_map position flag;
         help = option_map property_by help_property;
         long = option_by long_key long;
         max = bound_by name max_key max;
         min = bound_by name min_key min;
-        multiple = option_map spot multiple;
+        multiple = option_map position multiple;
         name = quoted_by name;
         pattern = option_map property_by pattern;
         short = option_by short_key short;

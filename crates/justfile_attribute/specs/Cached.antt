@@ -2,14 +2,14 @@
 use Rattle.std.specs.Prelude.{codes, List, Ok}
 use Rattle.std.specs.Global.{Box}
 use Rattle.std.specs.Option.{option_map}
-use Rattle.justfile_base.specs.declared.token.Token.{Token}
+use Rattle.justfile_token.specs.declared.token.Token.{Token}
 use Rattle.justfile_model.specs.Meaning.{KeyArgument}
 use Rattle.justfile_model.specs.NewAttribute.{◌>>=◌, Made, required_at}
 use Rattle.justfile_model.specs.Tree as tree
 use Rattle.justfile_model.specs.Tree.{Attribute}
-use Rattle.justfile_tree.specs.LeafSight.{sees_leaves}
-use Rattle.justfile_tree.specs.LeafTree.{Leaf, leaf_tree_of}
-use Rattle.justfile_tree.specs.declared.expression.Expression.{Expression}
+use Rattle.justfile_expression.specs.LeafViews.{views_leaves}
+use Rattle.justfile_expression.specs.LeafTree.{Leaf, leaf_tree_of}
+use Rattle.justfile_expression.specs.declared.expression.Expression.{Expression}
 use Rattle.justfile_attribute.specs.declared.cache_values.CacheValues.{CacheValues}
 use Rattle.justfile_attribute_rules.specs.Keys.{without}
 
@@ -21,7 +21,7 @@ cache_of v = tree.Cache (option_map (λ (e : Box Expression). leaf_tree_of e.val
 -- each key is taken from those that are left
 abbrev pub cache_read : (at : Token) → List (KeyArgument Leaf Token) → Made Token (Attribute Leaf Token)
 cache_read at keys = do
-  extra ← required_at sees_leaves at (codes "extra") keys
-  inputs ← required_at sees_leaves at (codes "inputs") (without (codes "extra") keys)
-  outputs ← required_at sees_leaves at (codes "outputs") (without (codes "inputs") (without (codes "extra") keys))
+  extra ← required_at views_leaves at (codes "extra") keys
+  inputs ← required_at views_leaves at (codes "inputs") (without (codes "extra") keys)
+  outputs ← required_at views_leaves at (codes "outputs") (without (codes "inputs") (without (codes "extra") keys))
   Ok (tree.Cache extra inputs outputs)

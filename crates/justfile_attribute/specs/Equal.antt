@@ -5,12 +5,12 @@ use Rattle.std.specs.Global.{Box}
 use Rattle.std.specs.Option.{option_eq}
 use Rattle.std.specs.Bool.{nat_eq}
 use Rattle.std.specs.String.{string_eq}
-use Rattle.justfile_base.specs.declared.name.Name.{Name}
-use Rattle.justfile_word.specs.contracts.signal.SignalPartialEq.TheImpl as signals
-use Rattle.justfile_word.specs.declared.signal.Signal.{Signal}
+use Rattle.justfile_token.specs.declared.name.Name.{Name}
+use Rattle.justfile_vocabulary.specs.contracts.signal.SignalPartialEq.TheImpl as signals
+use Rattle.justfile_vocabulary.specs.declared.signal.Signal.{Signal}
 use Rattle.justfile_model.specs.AttributeKinds.{same_attribute}
-use Rattle.justfile_tree.specs.Equal.{boxed_eq, literal_eq, name_eq, token_eq}
-use Rattle.justfile_tree.specs.declared.expression.Expression.{Expression}
+use Rattle.justfile_expression.specs.Equal.{boxed_eq, literal_eq, name_eq, token_eq}
+use Rattle.justfile_expression.specs.declared.expression.Expression.{Expression}
 use Rattle.justfile_attribute.specs.InterpreterOrder.{interpreter_eq}
 use Rattle.justfile_attribute.specs.Order.{case_kind}
 use Rattle.justfile_attribute.specs.declared.attribute.Attribute.{Attribute}

@@ -4,8 +4,8 @@ use Rattle.std.specs.Global.{Global}
 use Rattle.std.specs.List.{AllZip}
 use Rattle.justfile_attribute.specs.Copies.{IsSameText}
 use Rattle.justfile_attribute.specs.declared.interpreter.Interpreter.{Interpreter}
-use Rattle.justfile_tree.specs.Copies.{IsSameExpression}
-use Rattle.justfile_tree.specs.declared.expression.Expression.{Expression}
+use Rattle.justfile_expression.specs.Copies.{IsSameExpression}
+use Rattle.justfile_expression.specs.declared.expression.Expression.{Expression}
 
 -- `sh`, with `-eu` before the script
 pub record IsDefault (interpreter : Interpreter (String Global)) : Type 0 where

@@ -1,17 +1,17 @@
 -- What is known of the arguments of an attribute that is made.
 use Rattle.std.specs.Global.{Global}
 use Rattle.std.specs.Prelude.{◌≡◌, ℕ, Bool, true, false, List, map, Option, None, Ok, is_some, String}
-use Rattle.justfile_word.specs.declared.attribute_kind.AttributeKind.{AttributeKind}
-use Rattle.justfile_word.specs.declared.attribute_kind.AttributeKind.TheVariants as kinds
-use Rattle.justfile_base.specs.declared.name.Name.{Name}
-use Rattle.justfile_base.specs.declared.string_literal.StringLiteral.{StringLiteral}
-use Rattle.justfile_base.specs.declared.token.Token.{Token}
+use Rattle.justfile_vocabulary.specs.declared.attribute_kind.AttributeKind.{AttributeKind}
+use Rattle.justfile_vocabulary.specs.declared.attribute_kind.AttributeKind.TheVariants as kinds
+use Rattle.justfile_token.specs.declared.name.Name.{Name}
+use Rattle.justfile_token.specs.declared.string_literal.StringLiteral.{StringLiteral}
+use Rattle.justfile_token.specs.declared.token.Token.{Token}
 use Rattle.justfile_model.specs.Meaning.{Placed}
 use Rattle.justfile_model.specs.NewAttribute.{◌>>=◌, Made, check_count}
 use Rattle.justfile_model.specs.Tree as tree
 use Rattle.justfile_model.specs.Tree.{Attribute, Expr, Quoted}
-use Rattle.justfile_tree.specs.LeafSight.{sees_leaves}
-use Rattle.justfile_tree.specs.LeafTree.{Leaf}
+use Rattle.justfile_expression.specs.LeafViews.{views_leaves}
+use Rattle.justfile_expression.specs.LeafTree.{Leaf}
 use Rattle.justfile_attribute.specs.declared.attribute.Attribute as code
 use Rattle.justfile_attribute.specs.declared.attribute.Attribute.TheVariants as attributes
 use Rattle.justfile_attribute_rules.specs.ArgumentRules.{IsNamedAs}
@@ -19,7 +19,7 @@ use Rattle.justfile_attribute_rules.specs.Made.{signals_made}
 
 -- it has as many arguments by position as the kind takes
 abbrev pub IsCounted : (at : Token) → AttributeKind → (found : ℕ) → Type 0
-IsCounted at kind found = check_count sees_leaves at kind found ≡ Ok tt
+IsCounted at kind found = check_count views_leaves at kind found ≡ Ok tt
 
 -- the values of arguments by position
 abbrev pub values_of : List (Placed Leaf Token) → List (Expr Leaf Token)
@@ -62,7 +62,7 @@ has_texts kinds.Continue = false
 has_texts kind = true
 
 -- what the tree doesn't show of what is said of a parameter
-pub record IsWholeArgument (help : Option (String Global)) (name : StringLiteral) (long_key : Option Name) (long : Option StringLiteral)
+pub record HasDerivedArgumentFields (help : Option (String Global)) (name : StringLiteral) (long_key : Option Name) (long : Option StringLiteral)
     (short_key : Option Name) (short : Option StringLiteral) (min_key : Option Name) (min : Option ℕ) (max_key : Option Name) (max : Option ℕ) : Type 0 where
   -- no help is worked out yet
   pub no_help : help ≡ None
@@ -73,7 +73,7 @@ pub record IsWholeArgument (help : Option (String Global)) (name : StringLiteral
   pub max_keyed : is_some max_key ≡ is_some max
 
 -- what the tree doesn't show of an attribute
-abbrev pub IsWholeAttribute : code.Attribute → Type 0
-IsWholeAttribute (attributes.Arg flag help help_property long long_key max max_key min min_key multiple name pattern short short_key value) =
-    IsWholeArgument help name long_key long short_key short min_key min max_key max
-IsWholeAttribute _ = Unit {0}
+abbrev pub HasDerivedAttributeFields : code.Attribute → Type 0
+HasDerivedAttributeFields (attributes.Arg flag help help_property long long_key max max_key min min_key multiple name pattern short short_key value) =
+    HasDerivedArgumentFields help name long_key long short_key short min_key min max_key max
+HasDerivedAttributeFields _ = Unit {0}

@@ -3,21 +3,21 @@ use denote.Enum.Declared.{tag_of}
 use Rattle.std.specs.Prelude.{ℕ, Option, String, string_bytes}
 use Rattle.std.specs.Global.{Box, Global}
 use Rattle.std.specs.declared.cmp.Ordering.{Ordering}
-use Rattle.justfile_word.specs.contracts.attribute_kind.AttributeKind.{the_type}
-use Rattle.justfile_word.specs.declared.attribute_kind.AttributeKind.{AttributeKind}
-use Rattle.justfile_word.specs.declared.attribute_kind.AttributeKind.TheVariants as kinds
-use Rattle.justfile_base.specs.declared.name.Name.{Name}
-use Rattle.justfile_word.specs.declared.signal.Signal.{Signal}
-use Rattle.justfile_base.specs.declared.string_literal.StringLiteral.{StringLiteral}
-use Rattle.justfile_base.specs.declared.token.Token.{Token}
+use Rattle.justfile_vocabulary.specs.contracts.attribute_kind.AttributeKind.{the_type}
+use Rattle.justfile_vocabulary.specs.declared.attribute_kind.AttributeKind.{AttributeKind}
+use Rattle.justfile_vocabulary.specs.declared.attribute_kind.AttributeKind.TheVariants as kinds
+use Rattle.justfile_token.specs.declared.name.Name.{Name}
+use Rattle.justfile_vocabulary.specs.declared.signal.Signal.{Signal}
+use Rattle.justfile_token.specs.declared.string_literal.StringLiteral.{StringLiteral}
+use Rattle.justfile_token.specs.declared.token.Token.{Token}
 use Rattle.justfile_model.specs.ContentKeys.{expr_key}
 use Rattle.justfile_model.specs.ContentLeaf as contents
 use Rattle.justfile_model.specs.ContentLeaf.{ContentLeaf, content_cmp}
 use Rattle.justfile_model.specs.Key.{Key, Keys, leaf, node, end, next, row, keys_of, option_key, key_cmp}
-use Rattle.justfile_tree.specs.Content.{literal_content, token_content}
-use Rattle.justfile_tree.specs.LeafSight.{sees_leaves}
-use Rattle.justfile_tree.specs.LeafTree.{leaf_tree_of}
-use Rattle.justfile_tree.specs.declared.expression.Expression.{Expression}
+use Rattle.justfile_expression.specs.Content.{literal_content, token_content}
+use Rattle.justfile_expression.specs.LeafViews.{views_leaves}
+use Rattle.justfile_expression.specs.LeafTree.{leaf_tree_of}
+use Rattle.justfile_expression.specs.declared.expression.Expression.{Expression}
 use Rattle.justfile_attribute.specs.declared.attribute.Attribute.{Attribute}
 use Rattle.justfile_attribute.specs.declared.attribute.Attribute.TheVariants as attributes
 use Rattle.justfile_attribute.specs.declared.interpreter.Interpreter.{Interpreter}
@@ -36,7 +36,7 @@ abbrev pub literal_key : StringLiteral → Key ContentLeaf
 literal_key l = leaf (contents.literal (literal_content l))
 
 abbrev pub expression_key : Expression → Key ContentLeaf
-expression_key e = expr_key sees_leaves (leaf_tree_of e)
+expression_key e = expr_key views_leaves (leaf_tree_of e)
 
 -- an expression in a box
 abbrev pub boxed_key : Box Expression → Key ContentLeaf

@@ -1,6 +1,6 @@
 use crate::interpreter::Interpreter;
-use justfile_base::{AttributeKind, Name, Signal, StringLiteral, Token};
-use justfile_tree::Expression;
+use justfile_expression::Expression;
+use justfile_token::{AttributeKind, Name, Signal, StringLiteral, Token};
 use std::collections::BTreeSet;
 
 /// What stands between brackets before a construct, and says how it is to be taken.
@@ -75,7 +75,7 @@ pub enum Attribute<'src> {
 
 impl<'src> Attribute<'src> {
     ghost use Rattle.std.specs.Prelude.{◌≡◌};
-    ghost use Rattle.justfile_word.specs.AttributeKind.{attribute_name};
+    ghost use Rattle.justfile_vocabulary.specs.AttributeKind.{attribute_name};
     ghost use Rattle.justfile_model.specs.AttributeKinds.{is_repeatable};
     ghost use Rattle.justfile_model.specs.ContentKeys.{kind_of_attribute};
     ghost use Rattle.justfile_attribute.specs.Attribute.{attribute_of};

@@ -1,4 +1,4 @@
-use justfile_tree::Expression;
+use justfile_expression::Expression;
 
 /// What `cache` says by its keys.
 #[derive(Drop)]

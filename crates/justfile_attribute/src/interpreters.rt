@@ -3,10 +3,10 @@ ghost use Rattle.std.specs.Prelude.{IfOk};
 ghost use Rattle.std.specs.List.{AllZip};
 ghost use Rattle.justfile_attribute.specs.Copies.{IsSameText};
 ghost use Rattle.justfile_attribute.specs.Interpreters.{IsDefault, IsSameCommand, IsSameTexts};
-ghost use Rattle.justfile_tree.specs.Copies.{IsSameExpression};
+ghost use Rattle.justfile_expression.specs.Copies.{IsSameExpression};
 
 use crate::interpreter::Interpreter;
-use justfile_tree::Expression;
+use justfile_expression::Expression;
 use std::alloc::{AllocError, Global};
 
 impl Interpreter<String> {

@@ -1,17 +1,17 @@
 //! Laws of attributes, each the contract of a function that does nothing.
 ghost use Rattle.std.specs.Prelude.{◌≡◌, List, [], Contains, Some, Ok, Err};
 ghost use Rattle.std.specs.Global.{Box};
-ghost use Rattle.justfile_word.specs.declared.attribute_kind.AttributeKind.{AttributeKind};
-ghost use Rattle.justfile_base.specs.declared.token.Token.{Token};
+ghost use Rattle.justfile_vocabulary.specs.declared.attribute_kind.AttributeKind.{AttributeKind};
+ghost use Rattle.justfile_token.specs.declared.token.Token.{Token};
 ghost use Rattle.justfile_model.specs.AttributeRules.{arguments_broken};
 ghost use Rattle.justfile_model.specs.Meaning.{attribute_of};
 ghost use Rattle.justfile_model.specs.NewAttribute.{new_attribute};
 ghost use Rattle.justfile_model.specs.Rules.{Broken};
 ghost use Rattle.justfile_model.specs.Tree.{Attribute};
-ghost use Rattle.justfile_tree.specs.LeafSight.{sees_leaves};
-ghost use Rattle.justfile_tree.specs.LeafTree.{Leaf};
-ghost use Rattle.justfile_tree.specs.Orders.{IsOrder};
-ghost use Rattle.justfile_tree.specs.declared.expression.Expression.{Expression};
+ghost use Rattle.justfile_expression.specs.LeafViews.{views_leaves};
+ghost use Rattle.justfile_expression.specs.LeafTree.{Leaf};
+ghost use Rattle.justfile_expression.specs.Orders.{IsOrder};
+ghost use Rattle.justfile_expression.specs.declared.expression.Expression.{Expression};
 ghost use Rattle.justfile_attribute.specs.Equal.{attribute_eq};
 ghost use Rattle.justfile_attribute.specs.InterpreterOrder.{interpreter_cmp, interpreter_eq};
 ghost use Rattle.justfile_attribute.specs.contracts.attribute.AttributePartialEq.TheImpl as equality;
@@ -26,15 +26,15 @@ use crate::interpreter::Interpreter;
 /// the rule that is named; and of arguments that break no rule an attribute is made.
 pub fn new_attributes()
     ensures made { (at : Token) (kind : AttributeKind) (placed : List (Token × Box Expression)) (keys : KeyMap) (a : Attribute Leaf Token)
-        → new_attribute sees_leaves at kind (placed_leaves placed) (key_arguments keys) ≡ Ok a
-        → (attribute_of sees_leaves kind (placed_leaves placed) (key_arguments keys) ≡ Some a)
-        × (arguments_broken sees_leaves at kind (placed_leaves placed) (key_arguments keys) ≡ []) }
+        → new_attribute views_leaves at kind (placed_leaves placed) (key_arguments keys) ≡ Ok a
+        → (attribute_of views_leaves kind (placed_leaves placed) (key_arguments keys) ≡ Some a)
+        × (arguments_broken views_leaves at kind (placed_leaves placed) (key_arguments keys) ≡ []) }
     ensures refused { (at : Token) (kind : AttributeKind) (placed : List (Token × Box Expression)) (keys : KeyMap) (r : Broken Token)
-        → new_attribute sees_leaves at kind (placed_leaves placed) (key_arguments keys) ≡ Err r
-        → Contains (arguments_broken sees_leaves at kind (placed_leaves placed) (key_arguments keys)) r }
+        → new_attribute views_leaves at kind (placed_leaves placed) (key_arguments keys) ≡ Err r
+        → Contains (arguments_broken views_leaves at kind (placed_leaves placed) (key_arguments keys)) r }
     ensures unbroken { (at : Token) (kind : AttributeKind) (placed : List (Token × Box Expression)) (keys : KeyMap)
-        → arguments_broken sees_leaves at kind (placed_leaves placed) (key_arguments keys) ≡ []
-        → (a : Attribute Leaf Token) × (new_attribute sees_leaves at kind (placed_leaves placed) (key_arguments keys) ≡ Ok a) }
+        → arguments_broken views_leaves at kind (placed_leaves placed) (key_arguments keys) ≡ []
+        → (a : Attribute Leaf Token) × (new_attribute views_leaves at kind (placed_leaves placed) (key_arguments keys) ≡ Ok a) }
 {}
 
 /// Two attributes are equal exactly if they are of one case and all their fields are equal, places included.

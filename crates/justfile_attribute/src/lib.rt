@@ -3,7 +3,7 @@
 
 pub mod attribute;
 mod cache_values;
-mod copied;
+mod copy;
 mod interpreter;
 mod interpreters;
 pub mod laws;
@@ -17,4 +17,4 @@ pub use crate::attribute::Attribute;
 pub use crate::interpreter::Interpreter;
 pub use crate::order::attribute_content_cmp;
 pub use crate::print::write_attribute;
-pub use justfile_base::{AttributeKind, Signal};
+pub use justfile_token::{AttributeKind, Signal};

@@ -1,16 +1,16 @@
 ghost use Rattle.std.specs.Prelude.{◌≡◌, ◌≤◌, IfOk, IsTrue, [], ◌∷◌, false, true, length};
 ghost use Rattle.std.specs.Option.{option_map};
-ghost use Rattle.justfile_word.specs.declared.attribute_kind.AttributeKind.TheVariants as kinds;
-ghost use Rattle.justfile_base.specs.declared.token.Token.{Token};
+ghost use Rattle.justfile_vocabulary.specs.declared.attribute_kind.AttributeKind.TheVariants as kinds;
+ghost use Rattle.justfile_token.specs.declared.token.Token.{Token};
 ghost use Rattle.justfile_model.specs.AttributeKinds.{takes_expressions};
 ghost use Rattle.justfile_model.specs.Meaning.{first_of, texts_of};
 ghost use Rattle.justfile_model.specs.NewAttribute as new;
 ghost use Rattle.justfile_model.specs.Tree as tree;
-ghost use Rattle.justfile_tree.specs.LeafSight.{sees_leaves};
-ghost use Rattle.justfile_tree.specs.LeafTree.{leaf_tree_of};
+ghost use Rattle.justfile_expression.specs.LeafViews.{views_leaves};
+ghost use Rattle.justfile_expression.specs.LeafTree.{leaf_tree_of};
 ghost use Rattle.justfile_attribute.specs.Attribute.{leaf_attribute_of};
 ghost use Rattle.justfile_attribute.specs.Cached.{cache_of, cache_read};
-ghost use Rattle.justfile_attribute.specs.New.{IsCounted, IsWholeAttribute, continue_made, has_texts, is_plain, values_of, with_known};
+ghost use Rattle.justfile_attribute.specs.New.{IsCounted, HasDerivedAttributeFields, continue_made, has_texts, is_plain, values_of, with_known};
 ghost use Rattle.justfile_attribute_rules.specs.ArgumentRules.{AreNamed, rules_of};
 ghost use Rattle.justfile_attribute_rules.specs.Keys.{AreKeyed, IsTaken, key_arguments};
 ghost use Rattle.justfile_attribute_rules.specs.KeywordArguments.{keys_of};
@@ -23,8 +23,8 @@ use justfile_attribute_rules::{
     ArgumentRules, KeyMap, KeywordArguments, accepts_expressions, check_count, check_keys,
     read_argument_rules, signal_set, string_literals, take_value,
 };
-use justfile_base::{AttributeKind, CompileResult, Name, StringLiteral, Token};
-use justfile_tree::Expression;
+use justfile_expression::Expression;
+use justfile_token::{AttributeKind, CompileResult, Name, StringLiteral, Token};
 use std::alloc::{AllocError, Global};
 
 impl<'src> Attribute<'src> {
@@ -42,8 +42,8 @@ impl<'src> Attribute<'src> {
         keyword_arguments: KeywordArguments<'src>,
     ) -> CompileResult<'src, Self>
         ensures made { Makes leaf_attribute_of result
-            (new.new_attribute sees_leaves name.entry.token kind (placed_leaves arguments.entry.items) (key_arguments (keys_of keyword_arguments.entry))) }
-        ensures whole { IfOk result IsWholeAttribute }
+            (new.new_attribute views_leaves name.entry.token kind (placed_leaves arguments.entry.items) (key_arguments (keys_of keyword_arguments.entry))) }
+        ensures whole { IfOk result HasDerivedAttributeFields }
     {
         let keys = keyword_arguments.into_map();
         check_count(name, kind, arguments.len())?;
@@ -67,8 +67,8 @@ fn from_expressions<'src>(
     requires kind { takes_expressions kind ≡ true }
     requires counted { IsCounted name.token kind (length (placed_leaves arguments.items)) }
     ensures made { Makes leaf_attribute_of result
-        (new.from_expressions sees_leaves name.entry.token kind (placed_leaves arguments.entry.items) (key_arguments keys.entry)) }
-    ensures whole { IfOk result IsWholeAttribute }
+        (new.from_expressions views_leaves name.entry.token kind (placed_leaves arguments.entry.items) (key_arguments keys.entry)) }
+    ensures whole { IfOk result HasDerivedAttributeFields }
 {
     check_keys(name, kind, &keys)?;
     match kind {
@@ -101,8 +101,8 @@ fn working_directory<'src>(
     mut arguments: Vec<(Token<'src>, Box<Expression<'src>>)>,
 ) -> Attribute<'src>
     requires { 1 ≤ length arguments.items }
-    ensures made { (at : Token) → leaf_attribute_of result ≡ new.new_of_expressions sees_leaves at kinds.WorkingDirectory (values_of (placed_leaves arguments.entry.items)) }
-    ensures whole { IsWholeAttribute result }
+    ensures made { (at : Token) → leaf_attribute_of result ≡ new.new_of_expressions views_leaves at kinds.WorkingDirectory (values_of (placed_leaves arguments.entry.items)) }
+    ensures whole { HasDerivedAttributeFields result }
 {
     let (_first, value) = arguments.remove(0);
     Attribute::WorkingDirectory(value)
@@ -112,8 +112,8 @@ fn working_directory<'src>(
 #[tactic(auto, using(crate::proofs::Counted::env_is))]
 fn env<'src>(mut arguments: Vec<(Token<'src>, Box<Expression<'src>>)>) -> Attribute<'src>
     requires { 2 ≤ length arguments.items }
-    ensures made { (at : Token) → leaf_attribute_of result ≡ new.new_of_expressions sees_leaves at kinds.Env (values_of (placed_leaves arguments.entry.items)) }
-    ensures whole { IsWholeAttribute result }
+    ensures made { (at : Token) → leaf_attribute_of result ≡ new.new_of_expressions views_leaves at kinds.Env (values_of (placed_leaves arguments.entry.items)) }
+    ensures whole { HasDerivedAttributeFields result }
 {
     let (_first, value) = arguments.remove(1);
     let (_first, key) = arguments.remove(0);
@@ -133,8 +133,8 @@ fn from_literals<'src>(
     requires kind { takes_expressions kind ≡ false }
     requires counted { IsCounted name.token kind (length (placed_leaves arguments.items)) }
     ensures made { Makes leaf_attribute_of result
-        (new.from_literals sees_leaves name.entry.token kind (placed_leaves arguments.entry.items) (key_arguments keys.entry)) }
-    ensures whole { IfOk result IsWholeAttribute }
+        (new.from_literals views_leaves name.entry.token kind (placed_leaves arguments.entry.items) (key_arguments keys.entry)) }
+    ensures whole { IfOk result HasDerivedAttributeFields }
 {
     let literals = string_literals(alloc, name, arguments)?;
     of_literals(alloc, name, kind, literals, &mut keys)
@@ -153,9 +153,9 @@ fn of_literals<'src>(
     requires kind { takes_expressions kind ≡ false }
     requires counted { IsCounted name.token kind (length (quoted_leaves literals.items)) }
     ensures made { Makes leaf_attribute_of result
-        (with_known (new.check_keys sees_leaves name.entry.token kind (key_arguments keys.old))
-        (new.new_of_literals sees_leaves name.entry.token kind (quoted_leaves literals.entry.items) (key_arguments keys.old))) }
-    ensures whole { IfOk result IsWholeAttribute }
+        (with_known (new.check_keys views_leaves name.entry.token kind (key_arguments keys.old))
+        (new.new_of_literals views_leaves name.entry.token kind (quoted_leaves literals.entry.items) (key_arguments keys.old))) }
+    ensures whole { IfOk result HasDerivedAttributeFields }
 {
     match kind {
         AttributeKind::Arg => arg(alloc, name, literals, keys),
@@ -178,9 +178,9 @@ fn of_texts<'src>(
     requires texts { IsTrue (has_texts kind) }
     requires counted { IsCounted name.token kind (length (quoted_leaves literals.items)) }
     ensures made { Makes leaf_attribute_of result
-        (with_known (new.check_keys sees_leaves name.entry.token kind (key_arguments keys.now))
-        (new.new_of_literals sees_leaves name.entry.token kind (quoted_leaves literals.entry.items) (key_arguments keys.now))) }
-    ensures whole { IfOk result IsWholeAttribute }
+        (with_known (new.check_keys views_leaves name.entry.token kind (key_arguments keys.now))
+        (new.new_of_literals views_leaves name.entry.token kind (quoted_leaves literals.entry.items) (key_arguments keys.now))) }
+    ensures whole { IfOk result HasDerivedAttributeFields }
 {
     check_keys(name, kind, keys)?;
     match kind {
@@ -205,7 +205,7 @@ fn only(mut literals: Vec<StringLiteral<'_>>) -> StringLiteral<'_>
 fn plain<'src>(kind: AttributeKind) -> Attribute<'src>
     requires { IsTrue (is_plain kind) }
     ensures made { leaf_attribute_of result ≡ tree.Plain kind }
-    ensures whole { IsWholeAttribute result }
+    ensures whole { HasDerivedAttributeFields result }
 {
     match kind {
         AttributeKind::Android => Attribute::Android,
@@ -240,8 +240,8 @@ fn proceed<'src>(
 ) -> CompileResult<'src, Attribute<'src>>
     requires { AreKeyed keys.now }
     ensures made { Makes leaf_attribute_of result
-        (with_known (new.check_keys sees_leaves name.entry.token kinds.Continue (key_arguments keys.now)) (continue_made (quoted_leaves literals.entry.items))) }
-    ensures whole { IfOk result IsWholeAttribute }
+        (with_known (new.check_keys views_leaves name.entry.token kinds.Continue (key_arguments keys.now)) (continue_made (quoted_leaves literals.entry.items))) }
+    ensures whole { IfOk result HasDerivedAttributeFields }
 {
     let signals = signal_set(alloc, literals)?;
     check_keys(name, AttributeKind::Continue, keys)?;
@@ -251,8 +251,8 @@ fn proceed<'src>(
 /// `script`, of a program and its arguments, or bare.
 #[tactic(auto, using(crate::proofs::Counted::script_is))]
 fn script(mut literals: Vec<StringLiteral<'_>>) -> Attribute<'_>
-    ensures made { leaf_attribute_of result ≡ texts_of sees_leaves kinds.Script (quoted_leaves literals.entry.items) }
-    ensures whole { IsWholeAttribute result }
+    ensures made { leaf_attribute_of result ≡ texts_of views_leaves kinds.Script (quoted_leaves literals.entry.items) }
+    ensures whole { HasDerivedAttributeFields result }
 {
     if literals.is_empty() {
         return Attribute::Script(None);
@@ -273,8 +273,8 @@ fn cache<'src>(
 ) -> CompileResult<'src, Attribute<'src>>
     requires { AreKeyed keys.old }
     ensures made { Makes leaf_attribute_of result
-        (with_known (new.check_keys sees_leaves name.entry.token kinds.Cache (key_arguments keys.old)) (new.new_cache sees_leaves name.entry.token (key_arguments keys.old))) }
-    ensures whole { IfOk result IsWholeAttribute }
+        (with_known (new.check_keys views_leaves name.entry.token kinds.Cache (key_arguments keys.old)) (new.new_cache views_leaves name.entry.token (key_arguments keys.old))) }
+    ensures whole { IfOk result HasDerivedAttributeFields }
 {
     let mut values = no_values(alloc)?;
     let known = check_keys(name, AttributeKind::Cache, keys);
@@ -320,7 +320,7 @@ fn read_value<'src>(
     value: &mut Option<Box<Expression<'src>>>,
 ) -> CompileResult<'src>
     requires { AreKeyed keys.old }
-    ensures read { Makes (λ _. option_map (λ b. leaf_tree_of b.value) value.new) result (new.required_at sees_leaves name.entry.token word.now (key_arguments keys.old)) }
+    ensures read { Makes (λ _. option_map (λ b. leaf_tree_of b.value) value.new) result (new.required_at views_leaves name.entry.token word.now (key_arguments keys.old)) }
     ensures left { IsTaken word.now keys.old keys.new }
 {
     match take_value(name, keys, word) {
@@ -335,7 +335,7 @@ fn read_value<'src>(
 /// The attribute of what `cache` says.
 fn of_values(values: Box<CacheValues<'_>>) -> Attribute<'_>
     ensures made { leaf_attribute_of result ≡ cache_of values.entry.value }
-    ensures whole { IsWholeAttribute result }
+    ensures whole { HasDerivedAttributeFields result }
 {
     let values = Box::into_inner(values);
     Attribute::Cache {
@@ -356,9 +356,9 @@ fn arg<'src>(
     requires keyed { AreKeyed keys.old }
     requires counted { length literals.items ≡ 1 }
     ensures made { Makes leaf_attribute_of result
-        (with_known (new.check_keys sees_leaves name.entry.token kinds.Arg (key_arguments keys.old))
-        (new.new_arg sees_leaves name.entry.token (quoted_leaves literals.entry.items) (key_arguments keys.old))) }
-    ensures whole { IfOk result IsWholeAttribute }
+        (with_known (new.check_keys views_leaves name.entry.token kinds.Arg (key_arguments keys.old))
+        (new.new_arg views_leaves name.entry.token (quoted_leaves literals.entry.items) (key_arguments keys.old))) }
+    ensures whole { IfOk result HasDerivedAttributeFields }
 {
     let argument = only(literals);
     let known = check_keys(name, AttributeKind::Arg, keys);
@@ -375,7 +375,7 @@ fn arg<'src>(
 fn of_rules(rules: Box<ArgumentRules<'_>>) -> Attribute<'_>
     requires { AreNamed rules.value }
     ensures made { leaf_attribute_of result ≡ tree.Arg (rules_of rules.entry.value) }
-    ensures whole { IsWholeAttribute result }
+    ensures whole { HasDerivedAttributeFields result }
 {
     let rules = Box::into_inner(rules);
     let (max_key, max) = parts(rules.max);

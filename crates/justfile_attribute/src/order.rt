@@ -3,8 +3,8 @@
 ghost use Rattle.std.specs.Prelude.{◌≡◌};
 ghost use denote.Enum.Declared.{tag_of};
 ghost use Rattle.std.specs.Ordering.{nat_cmp};
-ghost use Rattle.justfile_word.specs.contracts.attribute_kind.AttributeKind.{the_type};
-ghost use Rattle.justfile_word.specs.declared.attribute_kind.AttributeKind.TheVariants as kinds;
+ghost use Rattle.justfile_vocabulary.specs.contracts.attribute_kind.AttributeKind.{the_type};
+ghost use Rattle.justfile_vocabulary.specs.declared.attribute_kind.AttributeKind.TheVariants as kinds;
 ghost use Rattle.justfile_model.specs.ContentLeaf.{content_cmp};
 ghost use Rattle.justfile_model.specs.Key.{keys_cmp, end, next, keys_of, option_key, row};
 ghost use Rattle.justfile_attribute.specs.Order.{attribute_content_cmp, boxed_key, by_content, case_keys, case_kind, count_key, expression_key, interpreter_key, literal_key, name_key, property_key, signal_key, text_key, token_key};
@@ -15,8 +15,8 @@ use crate::parts_order::{
     compare_bounds, compare_expressions, compare_interpreters, compare_named, compare_optional,
     compare_properties, compare_rows, compare_texts, compare_tokens,
 };
-use justfile_base::{Signal, StringLiteral};
-use justfile_tree::{Expression, literal_content_cmp};
+use justfile_expression::{Expression, literal_content_cmp};
+use justfile_token::{Signal, StringLiteral};
 use std::cmp::Ordering;
 use std::collections::BTreeSet;
 

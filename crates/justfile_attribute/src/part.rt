@@ -5,8 +5,8 @@ ghost use Rattle.justfile_attribute.specs.Print.{arg_slots, cache_slots, flag_sl
 
 use crate::attribute::Attribute;
 use crate::interpreter::Interpreter;
-use justfile_base::{Name, Signal, StringLiteral, Token};
-use justfile_tree::Expression;
+use justfile_expression::Expression;
+use justfile_token::{Name, Signal, StringLiteral, Token};
 use std::collections::BTreeSet;
 
 /// What is printed of an argument.

@@ -15,17 +15,17 @@ use Rattle.std.proofs.lemmas.List.Elements.{All-from_recursion, recursion_from_A
 use Rattle.std.proofs.lemmas.Map.Text.{is_eq-slice_cmp}
 use Rattle.std.proofs.lemmas.Slice.Eq.{bytes_eq-Decides}
 use denote.Ref.{Bor}
-use Rattle.justfile_base.specs.Token.{lexeme_of}
-use Rattle.justfile_word.specs.declared.attribute_kind.AttributeKind.{AttributeKind}
-use Rattle.justfile_base.specs.declared.token.Token.{Token}
+use Rattle.justfile_token.specs.Token.{lexeme_of}
+use Rattle.justfile_vocabulary.specs.declared.attribute_kind.AttributeKind.{AttributeKind}
+use Rattle.justfile_token.specs.declared.token.Token.{Token}
 use Rattle.justfile_model.specs.AttributeRules.{is_known, least}
 use Rattle.justfile_model.specs.ContentLeaf.{text_cmp}
 use Rattle.justfile_model.specs.NewAttribute.{check_keys, refuse_key}
 use Rattle.justfile_model.specs.Meaning.{KeyArgument, at_key, first_of, is_key}
 use Rattle.justfile_model.proofs.OrderLaws.{Ascends, sorted_from_ascends}
 use Rattle.justfile_model.proofs.SameKeys.{least_first}
-use Rattle.justfile_tree.specs.LeafSight.{sees_leaves}
-use Rattle.justfile_tree.specs.LeafTree.{Leaf}
+use Rattle.justfile_expression.specs.LeafViews.{views_leaves}
+use Rattle.justfile_expression.specs.LeafTree.{Leaf}
 use Rattle.justfile_attribute_rules.specs.Keys.{AreKeyed, Given, IsTaken, KeyMap, key_argument, key_arguments, without}
 
 abbrev Entry : Type 0
@@ -50,22 +50,22 @@ turned s t = go (bytes_eq s t) refl (bytes_eq t s) refl
     go true e false f = sym ((bytes_eq-Decides t s).1 (sym ((bytes_eq-Decides s t).0 e))) ∙ f ∙ refl
     go false e true f = sym e ∙ (bytes_eq-Decides s t).1 (sym ((bytes_eq-Decides t s).0 f))
 
-same_test : (word : List ℕ) (e : Entry) → IsKeyed e → query word e.0 ≡ is_key sees_leaves word (key_argument e.1)
+same_test : (word : List ℕ) (e : Entry) → IsKeyed e → query word e.0 ≡ is_key views_leaves word (key_argument e.1)
 same_test word e h = is_eq-slice_cmp word e.0.now ∙ turned word e.0.now ∙ ap (λ t. bytes_eq t word) h
 
 found_in : (word : List ℕ) (es : List Entry) → AllByRecursion IsKeyed es
-    → option_map key_argument (lookup (query word) es) ≡ at_key sees_leaves word (seen es)
+    → option_map key_argument (lookup (query word) es) ≡ at_key views_leaves word (seen es)
 found_in word [] h = refl
-found_in word (e ∷ es) h = rw (same_test word e h.0) (go (is_key sees_leaves word (key_argument e.1)) (found_in word es h.1))
+found_in word (e ∷ es) h = rw (same_test word e h.0) (go (is_key views_leaves word (key_argument e.1)) (found_in word es h.1))
   where
-    go : (b : Bool) → option_map key_argument (lookup (query word) es) ≡ at_key sees_leaves word (seen es)
-        → option_map key_argument (cond b (Some e.1) (lookup (query word) es)) ≡ cond b (Some (key_argument e.1)) (at_key sees_leaves word (seen es))
+    go : (b : Bool) → option_map key_argument (lookup (query word) es) ≡ at_key views_leaves word (seen es)
+        → option_map key_argument (cond b (Some e.1) (lookup (query word) es)) ≡ cond b (Some (key_argument e.1)) (at_key views_leaves word (seen es))
     go true same = refl
     go false same = same
 
 left_in : (word : List ℕ) (es : List Entry) → AllByRecursion IsKeyed es → seen (remove_entry (query word) es) ≡ without word (seen es)
 left_in word [] h = refl
-left_in word (e ∷ es) h = rw (same_test word e h.0) (go (is_key sees_leaves word (key_argument e.1)) (left_in word es h.1))
+left_in word (e ∷ es) h = rw (same_test word e h.0) (go (is_key views_leaves word (key_argument e.1)) (left_in word es h.1))
   where
     go : (b : Bool) → seen (remove_entry (query word) es) ≡ without word (seen es)
         → seen (cond b es (e ∷ remove_entry (query word) es)) ≡ cond b (seen es) (key_argument e.1 ∷ without word (seen es))
@@ -81,7 +81,7 @@ keyed_in word (e ∷ es) h = go (query word e.0) (keyed_in word es h.1)
     go false others = (h.0, others)
 
 -- what is removed from a map is taken from its keys
-pub found_is : (word : List ℕ) (m : KeyMap) → AreKeyed m → option_map key_argument (lookup (query word) m.entries) ≡ at_key sees_leaves word (key_arguments m)
+pub found_is : (word : List ℕ) (m : KeyMap) → AreKeyed m → option_map key_argument (lookup (query word) m.entries) ≡ at_key views_leaves word (key_arguments m)
 unfolding AreKeyed
 found_is word m h = found_in word m.entries (recursion_from_All IsKeyed m.entries h)
 
@@ -97,7 +97,7 @@ taken_is word m n h e =
 -- ---- the least of the keys that are not known
 
 abbrev text : KeyArgument Leaf Token → List ℕ
-text k = sees_leaves.bytes k.key
+text k = views_leaves.bytes k.key
 
 abbrev under : KeyArgument Leaf Token → KeyArgument Leaf Token → Ordering
 under j k = text_cmp (text j) (text k)
@@ -140,14 +140,14 @@ module _ (test : KeyArgument Leaf Token → Bool) where
       (sorted_from_ascends (on_total text nat_list_cmp_total) (filter test (key_arguments m)) (ascending m.entries (recursion_from_All IsKeyed m.entries h) s))
 
 abbrev pub unknown : Token → AttributeKind → KeyArgument Leaf Token → Bool
-unknown at kind k = not (is_known sees_leaves at kind k)
+unknown at kind k = not (is_known views_leaves at kind k)
 
 -- the keys so far are known, and this one is not: it is refused
 pub here_refused : (at : Token) (kind : AttributeKind) (m : KeyMap) → AreKeyed m → IsOrdered (λ j k. slice_cmp nat_cmp j.now k.now) m → (rest : List Given)
     → filter (unknown at kind) (key_arguments m) ≡ filter (unknown at kind) (map key_argument rest) → (given : Given) (others : List Given) → rest ≡ given ∷ others
-    → is_known sees_leaves at kind (key_argument given) ≡ false
-    → check_keys sees_leaves at kind (key_arguments m) ≡ refuse_key sees_leaves at (Some (key_argument given))
+    → is_known views_leaves at kind (key_argument given) ≡ false
+    → check_keys views_leaves at kind (key_arguments m) ≡ refuse_key views_leaves at (Some (key_argument given))
 here_refused at kind m h s rest so_far given others taken e =
     let first : filter (unknown at kind) (map key_argument (given ∷ others)) ≡ key_argument given ∷ filter (unknown at kind) (map key_argument others) = rw e refl in
-    ap (refuse_key sees_leaves at)
+    ap (refuse_key views_leaves at)
     (least_of (unknown at kind) m h s ∙ ap first_of (so_far ∙ ap (λ r. filter (unknown at kind) (map key_argument r)) taken ∙ first))

@@ -5,20 +5,20 @@ use Rattle.std.specs.Global.{Box}
 use Rattle.std.specs.List.{filter, list_any}
 use Rattle.std.proofs.lemmas.List.{append-nil, append_assoc}
 use denote.Enum.Bare.{sameb}
-use Rattle.justfile_word.specs.Signal.{signals}
-use Rattle.justfile_word.specs.contracts.signal.Signal as signal_type
-use Rattle.justfile_word.specs.contracts.signal.SignalOrd.TheImpl as signal_order
-use Rattle.justfile_word.specs.declared.signal.Signal.{Signal}
-use Rattle.justfile_word.specs.declared.signal.Signal.TheVariants.{Hangup, Interrupt, Quit}
-use Rattle.justfile_base.specs.declared.fault.Fault.{Fault}
-use Rattle.justfile_base.specs.declared.string_literal.StringLiteral.{StringLiteral}
-use Rattle.justfile_base.specs.declared.token.Token.{Token}
+use Rattle.justfile_vocabulary.specs.Signal.{signals}
+use Rattle.justfile_vocabulary.specs.contracts.signal.Signal as signal_type
+use Rattle.justfile_vocabulary.specs.contracts.signal.SignalOrd.TheImpl as signal_order
+use Rattle.justfile_vocabulary.specs.declared.signal.Signal.{Signal}
+use Rattle.justfile_vocabulary.specs.declared.signal.Signal.TheVariants.{Hangup, Interrupt, Quit}
+use Rattle.justfile_token.specs.declared.fault.Fault.{Fault}
+use Rattle.justfile_token.specs.declared.string_literal.StringLiteral.{StringLiteral}
+use Rattle.justfile_token.specs.declared.token.Token.{Token}
 use Rattle.justfile_model.specs.Meaning.{signal_set}
 use Rattle.justfile_model.specs.NewAttribute.{◌>>=◌, Made, make_all, placed_literal}
 use Rattle.justfile_model.specs.Tree.{Quoted}
-use Rattle.justfile_tree.specs.LeafSight.{sees_leaves}
-use Rattle.justfile_tree.specs.LeafTree.{Leaf}
-use Rattle.justfile_tree.specs.declared.expression.Expression.{Expression}
+use Rattle.justfile_expression.specs.LeafViews.{views_leaves}
+use Rattle.justfile_expression.specs.LeafTree.{Leaf}
+use Rattle.justfile_expression.specs.declared.expression.Expression.{Expression}
 use Rattle.justfile_attribute_rules.specs.Made.{IsRefusedBy, quoted_leaf, quoted_leaves, placed_leaf, placed_leaves, signal_made, signals_made}
 use Rattle.justfile_attribute_rules.proofs.Refused.{refused_first}
 
@@ -56,13 +56,13 @@ one_last (x ∷ xs) l = ap (λ qs. quoted_leaf x ∷ qs) (one_last xs l)
 
 -- the next argument is a literal
 pub literal_turn : (at : Token) (made : List StringLiteral) (l : StringLiteral) (rest others : List (Token × Box Expression)) (p : Token × Box Expression) → rest ≡ p ∷ others
-    → placed_literal sees_leaves at (placed_leaf p) ≡ Ok (quoted_leaf l)
-    → goes_on (placed_literal sees_leaves at) (quoted_leaves made) (placed_leaves rest)
-    ≡ goes_on (placed_literal sees_leaves at) (quoted_leaves (made ++ l ∷ [])) (placed_leaves others)
+    → placed_literal views_leaves at (placed_leaf p) ≡ Ok (quoted_leaf l)
+    → goes_on (placed_literal views_leaves at) (quoted_leaves made) (placed_leaves rest)
+    ≡ goes_on (placed_literal views_leaves at) (quoted_leaves (made ++ l ∷ [])) (placed_leaves others)
 literal_turn at made l rest others p e is_literal =
-    ap (λ xs. goes_on (placed_literal sees_leaves at) (quoted_leaves made) (placed_leaves xs)) e
-    ∙ one_made (placed_literal sees_leaves at) (quoted_leaves made) (placed_leaf p) (placed_leaves others) (quoted_leaf l) is_literal
-    ∙ ap (λ qs. goes_on (placed_literal sees_leaves at) qs (placed_leaves others)) (sym (one_last made l))
+    ap (λ xs. goes_on (placed_literal views_leaves at) (quoted_leaves made) (placed_leaves xs)) e
+    ∙ one_made (placed_literal views_leaves at) (quoted_leaves made) (placed_leaf p) (placed_leaves others) (quoted_leaf l) is_literal
+    ∙ ap (λ qs. goes_on (placed_literal views_leaves at) qs (placed_leaves others)) (sym (one_last made l))
 
 -- ---- sets of signals
 

@@ -1,10 +1,10 @@
 -- Which expressions are no literals.
 use mathlib.Core.Former.{Count}
 use Rattle.std.proofs.Common.{◌≡◌, None, refl}
-use Rattle.justfile_base.specs.declared.string_literal.StringLiteral as literals
+use Rattle.justfile_token.specs.declared.string_literal.StringLiteral as literals
 use Rattle.justfile_model.specs.Meaning.{quoted}
-use Rattle.justfile_tree.specs.LeafTree.{Leaf, leaf_tree_of, format_row_tree}
-use Rattle.justfile_tree.specs.declared.expression.Expression.{Expression, And', Assert', Backtick, Call', Comparison', Concatenation', Conditional', FormatString', Group', Join', List', ListConcatenation', Not', Or', StringLiteral, Variable, None', Some', Row_of-Expression-FormatString-1-2 as FormatRow, end_of-Expression-FormatString-1-2 as format_row_end, more_of-Expression-FormatString-1-2 as format_row_more}
+use Rattle.justfile_expression.specs.LeafTree.{Leaf, leaf_tree_of, format_row_tree}
+use Rattle.justfile_expression.specs.declared.expression.Expression.{Expression, And', Assert', Backtick, Call', Comparison', Concatenation', Conditional', FormatString', Group', Join', List', ListConcatenation', Not', Or', StringLiteral, Variable, None', Some', Row_of-Expression-FormatString-1-2 as FormatRow, end_of-Expression-FormatString-1-2 as format_row_end, more_of-Expression-FormatString-1-2 as format_row_more}
 
 format_never : (start : Leaf) (n : Count) (row : FormatRow n) → quoted (format_row_tree start row) ≡ None
 format_never start n format_row_end = refl

@@ -1,8 +1,8 @@
 -- What a refusal of a first step refuses.
 use Rattle.std.proofs.Common.{Ok, Err}
-use Rattle.justfile_base.specs.declared.fault.Fault.{Fault}
-use Rattle.justfile_base.specs.declared.fault.Fault.TheVariants as faults
-use Rattle.justfile_base.specs.declared.token.Token.{Token}
+use Rattle.justfile_token.specs.declared.fault.Fault.{Fault}
+use Rattle.justfile_token.specs.declared.fault.Fault.TheVariants as faults
+use Rattle.justfile_token.specs.declared.token.Token.{Token}
 use Rattle.justfile_model.specs.NewAttribute.{◌>>=◌, Made}
 use Rattle.justfile_attribute_rules.specs.Made.{IsRefusedBy}
 

@@ -9,13 +9,13 @@ use Rattle.std.specs.Option.{option_map}
 use Rattle.std.specs.Ordering.{nat_cmp}
 use Rattle.std.specs.declared.cmp.Ordering.{Ordering}
 use denote.Ref.{Bor}
-use Rattle.justfile_base.specs.Token.{lexeme_of}
-use Rattle.justfile_base.specs.declared.name.Name.{Name}
-use Rattle.justfile_base.specs.declared.token.Token.{Token}
+use Rattle.justfile_token.specs.Token.{lexeme_of}
+use Rattle.justfile_token.specs.declared.name.Name.{Name}
+use Rattle.justfile_token.specs.declared.token.Token.{Token}
 use Rattle.justfile_model.specs.Meaning.{KeyArgument, is_key}
-use Rattle.justfile_tree.specs.LeafSight.{sees_leaves}
-use Rattle.justfile_tree.specs.LeafTree.{Leaf, Named, leaf_tree_of}
-use Rattle.justfile_tree.specs.declared.expression.Expression.{Expression}
+use Rattle.justfile_expression.specs.LeafViews.{views_leaves}
+use Rattle.justfile_expression.specs.LeafTree.{Leaf, Named, leaf_tree_of}
+use Rattle.justfile_expression.specs.declared.expression.Expression.{Expression}
 
 -- a key, and its value if it has one
 abbrev pub Given : Type 0
@@ -56,7 +56,7 @@ pub record IsPut (given : Given) (old new : KeyMap) : Type 0 where
 -- the keys without the first one of this text
 abbrev pub without : (word : List ℕ) → List (KeyArgument Leaf Token) → List (KeyArgument Leaf Token)
 without word [] = []
-without word (k ∷ keys) = if is_key sees_leaves word k then keys else k ∷ without word keys
+without word (k ∷ keys) = if is_key views_leaves word k then keys else k ∷ without word keys
 
 -- the key of this text was taken, and the others are left
 pub record IsTaken (word : List ℕ) (old new : KeyMap) : Type 0 where

@@ -1,20 +1,20 @@
 -- What the code makes is what the definitions make, and it refuses what they refuse.
 use Rattle.std.specs.Prelude.{◌≡◌, ℕ, Bool, not, nat_lt, List, map, codes, Option, Some, None, Result, Ok, Err, if◌then◌else◌}
 use Rattle.std.specs.Global.{Box}
-use Rattle.justfile_word.specs.Signal.{signal_named}
-use Rattle.justfile_base.specs.declared.fault.Fault.{Fault}
-use Rattle.justfile_base.specs.declared.fault.Fault.TheVariants as faults
-use Rattle.justfile_base.specs.declared.name.Name.{Name}
-use Rattle.justfile_word.specs.declared.signal.Signal.{Signal}
-use Rattle.justfile_base.specs.declared.string_literal.StringLiteral.{StringLiteral}
-use Rattle.justfile_base.specs.declared.token.Token.{Token}
+use Rattle.justfile_vocabulary.specs.Signal.{signal_named}
+use Rattle.justfile_token.specs.declared.fault.Fault.{Fault}
+use Rattle.justfile_token.specs.declared.fault.Fault.TheVariants as faults
+use Rattle.justfile_token.specs.declared.name.Name.{Name}
+use Rattle.justfile_vocabulary.specs.declared.signal.Signal.{Signal}
+use Rattle.justfile_token.specs.declared.string_literal.StringLiteral.{StringLiteral}
+use Rattle.justfile_token.specs.declared.token.Token.{Token}
 use Rattle.justfile_model.specs.Meaning.{Placed, count_of, is_count, signal_set, text_of}
 use Rattle.justfile_model.specs.NewAttribute.{◌>>=◌, Made, check, literal, make_all, or_refuse}
 use Rattle.justfile_model.specs.Rules.{ArgAttributeMinExceedsMax, ArgumentCountParse, ArgumentCountValue, InvalidSignal}
 use Rattle.justfile_model.specs.Tree.{Bound, Expr, Quoted}
-use Rattle.justfile_tree.specs.LeafSight.{sees_leaves}
-use Rattle.justfile_tree.specs.LeafTree.{Leaf, Literal, Named, leaf_tree_of, literal_of}
-use Rattle.justfile_tree.specs.declared.expression.Expression.{Expression}
+use Rattle.justfile_expression.specs.LeafViews.{views_leaves}
+use Rattle.justfile_expression.specs.LeafTree.{Leaf, Literal, Named, leaf_tree_of, literal_of}
+use Rattle.justfile_expression.specs.declared.expression.Expression.{Expression}
 use Rattle.justfile_attribute_rules.specs.RuleErrors.{IsErrorOfRule}
 
 -- The fault is the error of the rule by which nothing is made. That memory ran out says nothing.
@@ -45,7 +45,7 @@ placed_leaves = map placed_leaf
 
 -- the signal that a literal names
 abbrev pub signal_made : Quoted Leaf → Made Token Signal
-signal_made q = or_refuse (signal_named (text_of sees_leaves q)) (InvalidSignal (text_of sees_leaves q)) (sees_leaves.place q.token)
+signal_made q = or_refuse (signal_named (text_of views_leaves q)) (InvalidSignal (text_of views_leaves q)) (views_leaves.place q.token)
 
 -- the signals that literals name, in their order
 abbrev pub signals_made : List (Quoted Leaf) → Made Token (List Signal)
@@ -61,8 +61,8 @@ within _ _ = Ok tt
 -- the number that a literal writes, of this key
 abbrev pub count_made : (key : Token) → Quoted Leaf → Made Token ℕ
 count_made key q = do
-  digits ← check (not (is_count (text_of sees_leaves q))) (ArgumentCountValue key (text_of sees_leaves q)) (sees_leaves.place q.token)
-  or_refuse (count_of (text_of sees_leaves q)) (ArgumentCountParse key (text_of sees_leaves q)) (sees_leaves.place q.token)
+  digits ← check (not (is_count (text_of views_leaves q))) (ArgumentCountValue key (text_of views_leaves q)) (views_leaves.place q.token)
+  or_refuse (count_of (text_of views_leaves q)) (ArgumentCountParse key (text_of views_leaves q)) (views_leaves.place q.token)
 
 abbrev pub bound_at : Name × ℕ → Bound Token
 bound_at p = record { key = p.0.token; number = p.1 }
@@ -70,7 +70,7 @@ bound_at p = record { key = p.0.token; number = p.1 }
 -- the number of a key with this value
 abbrev pub bound_made : (at key : Token) → Expr Leaf Token → Made Token (Option (Bound Token))
 bound_made at key value = do
-  q ← literal sees_leaves at (Named key None) value
+  q ← literal views_leaves at (Named key None) value
   number ← count_made key q
   Ok (Some (record { key = key; number = number }))
 

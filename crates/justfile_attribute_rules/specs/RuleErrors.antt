@@ -1,16 +1,16 @@
 -- Which error says that a rule is broken.
 use Rattle.std.specs.Prelude.{◌≡◌, ℕ, ◌+◌, ◌^◌, Option, Some, None, codes, string_bytes}
-use Rattle.justfile_base.specs.Token.{lexeme_of}
-use Rattle.justfile_base.specs.declared.compile_error.CompileError.{CompileError}
-use Rattle.justfile_base.specs.declared.compile_error_kind.CompileErrorKind.{CompileErrorKind}
-use Rattle.justfile_base.specs.declared.compile_error_kind.CompileErrorKind.TheVariants as errors
-use Rattle.justfile_word.specs.declared.switch.Switch.TheVariants as switches
-use Rattle.justfile_base.specs.declared.token.Token.{Token}
+use Rattle.justfile_token.specs.Token.{lexeme_of}
+use Rattle.justfile_token.specs.declared.compile_error.CompileError.{CompileError}
+use Rattle.justfile_token.specs.declared.compile_error_kind.CompileErrorKind.{CompileErrorKind}
+use Rattle.justfile_token.specs.declared.compile_error_kind.CompileErrorKind.TheVariants as errors
+use Rattle.justfile_vocabulary.specs.declared.switch.Switch.TheVariants as switches
+use Rattle.justfile_token.specs.declared.token.Token.{Token}
 use Rattle.justfile_model.specs.ContentLeaf.{literal_value}
 use Rattle.justfile_model.specs.Rules as rules
 use Rattle.justfile_model.specs.Rules.{Broken, Rule}
 use Rattle.justfile_model.specs.Versions.{version_numbers}
-use Rattle.justfile_tree.specs.Content.{literal_content}
+use Rattle.justfile_expression.specs.Content.{literal_content}
 
 -- the greatest number stands for no bound
 abbrev pub IsMost : Option ℕ → ℕ → Type 0

@@ -1,14 +1,14 @@
 -- The rules of an argument, key by key: each step takes its keys, and sets its part of the rules.
 use Rattle.std.specs.Prelude.{ℕ, Bool, true, false, ◌&&◌, not, List, codes, Option, None, Ok}
 use Rattle.std.specs.Option.{is_some}
-use Rattle.justfile_base.specs.declared.token.Token.{Token}
+use Rattle.justfile_token.specs.declared.token.Token.{Token}
 use Rattle.justfile_model.specs.Meaning.{KeyArgument, at_key, text_of}
 use Rattle.justfile_model.specs.NewAttribute as new
 use Rattle.justfile_model.specs.NewAttribute.{◌>>=◌, Made, if_given}
 use Rattle.justfile_model.specs.Tree as tree
 use Rattle.justfile_model.specs.Tree.{Bound, Expr, OptionName, Quoted}
-use Rattle.justfile_tree.specs.LeafSight.{sees_leaves}
-use Rattle.justfile_tree.specs.LeafTree.{Leaf}
+use Rattle.justfile_expression.specs.LeafViews.{views_leaves}
+use Rattle.justfile_expression.specs.LeafTree.{Leaf}
 use Rattle.justfile_attribute_rules.specs.Keys.{without}
 use Rattle.justfile_attribute_rules.specs.Made.{within}
 
@@ -38,23 +38,23 @@ named_only name = record {
 
 -- the text of the argument, and its token
 abbrev pub argument_of : Rules → List ℕ
-argument_of r = text_of sees_leaves r.name
+argument_of r = text_of views_leaves r.name
 
 abbrev pub place_of : Rules → Token
-place_of r = sees_leaves.place r.name.token
+place_of r = views_leaves.place r.name.token
 
 -- the argument is no option
 abbrev pub wants_option : Rules → Bool
-wants_option r = not (new.is_option sees_leaves (place_of r) (argument_of r) r.long) && not (new.is_option sees_leaves (place_of r) (argument_of r) r.short)
+wants_option r = not (new.is_option views_leaves (place_of r) (argument_of r) r.long) && not (new.is_option views_leaves (place_of r) (argument_of r) r.short)
 
 abbrev pub value_made : Rules → Key → Made Token (Expr Leaf Token)
-value_made r = new.option_value sees_leaves (place_of r) (argument_of r) r.long r.short
+value_made r = new.option_value views_leaves (place_of r) (argument_of r) r.long r.short
 
 abbrev pub flag_made : Rules → Key → Made Token Token
-flag_made r = new.flag sees_leaves (place_of r) (argument_of r) r.long r.short (is_some r.value) (is_some r.pattern)
+flag_made r = new.flag views_leaves (place_of r) (argument_of r) r.long r.short (is_some r.value) (is_some r.pattern)
 
 abbrev pub multiple_made : Rules → Key → Made Token Token
-multiple_made r = new.multiple sees_leaves (place_of r) (argument_of r) r.long r.short
+multiple_made r = new.multiple views_leaves (place_of r) (argument_of r) r.long r.short
 
 abbrev pub with_numbers : (min max : Option (Bound Token)) → Rules → Rules
 with_numbers min max r = record r { min = min; max = max }
@@ -79,18 +79,18 @@ abbrev pub after_bounds : Keys → Keys
 after_bounds keys = without (codes "min") (without (codes "max") keys)
 
 abbrev pub at : (word : List ℕ) → Keys → Option Key
-at = at_key sees_leaves
+at = at_key views_leaves
 
 -- what each step reads of the keys that are its own, if they are there
 module _ (name : Token) where
   abbrev pub long_of : Option Key → Rules → Made Token Rules
   long_of l r = do
-    long ← new.option sees_leaves name (argument_of r) false l
+    long ← new.option views_leaves name (argument_of r) false l
     Ok (with_long long r)
 
   abbrev pub short_of : Option Key → Rules → Made Token Rules
   short_of s r = do
-    short ← new.option sees_leaves name (argument_of r) true s
+    short ← new.option views_leaves name (argument_of r) true s
     Ok (with_short short r)
 
   abbrev pub names_of : (long short : Option Key) → Rules → Made Token Rules
@@ -105,7 +105,7 @@ module _ (name : Token) where
 
   abbrev pub values_of : (pattern value : Option Key) → Rules → Made Token Rules
   values_of p v r = do
-    pattern ← if_given (new.property sees_leaves name) p
+    pattern ← if_given (new.property views_leaves name) p
     value_of v (record r { pattern = pattern })
 
   abbrev pub multiple_of : Option Key → Rules → Made Token Rules
@@ -120,14 +120,14 @@ module _ (name : Token) where
 
   abbrev pub bounds_of : (max min : Option Key) → Rules → Made Token Rules
   bounds_of x n r = do
-    max ← if_given (new.bound sees_leaves name (argument_of r)) x
-    min ← if_given (new.bound sees_leaves name (argument_of r)) n
+    max ← if_given (new.bound views_leaves name (argument_of r)) x
+    min ← if_given (new.bound views_leaves name (argument_of r)) n
     checked ← within min max
     Ok (with_numbers min max r)
 
   abbrev pub help_of : Option Key → Rules → Made Token Rules
   help_of h r = do
-    help ← if_given (new.property sees_leaves name) h
+    help ← if_given (new.property views_leaves name) h
     Ok (record r { help = help })
 
   -- each key is taken from those that are left

@@ -1,8 +1,8 @@
 ghost use Rattle.std.specs.Prelude.{◌≡◌, IfOk, OnOk, codes, string_bytes};
 ghost use Rattle.std.specs.Option.{option_map};
-ghost use Rattle.justfile_base.specs.declared.string_literal.StringLiteral.{StringLiteral};
+ghost use Rattle.justfile_token.specs.declared.string_literal.StringLiteral.{StringLiteral};
 ghost use Rattle.justfile_model.specs.NewAttribute as new;
-ghost use Rattle.justfile_tree.specs.LeafSight.{sees_leaves};
+ghost use Rattle.justfile_expression.specs.LeafViews.{views_leaves};
 ghost use Rattle.justfile_attribute_rules.specs.ArgumentRules.{AreNamed, option_of, rules_of};
 ghost use Rattle.justfile_attribute_rules.specs.Keys.{AreKeyed, IsTaken, key_arguments};
 ghost use Rattle.justfile_attribute_rules.specs.Made.{Makes, bound_at, quoted_leaf};
@@ -13,7 +13,7 @@ use crate::keys::{KeyMap, take_required};
 use crate::numbers::{check_bounds, take_bound};
 use crate::options::{OptionName, name_option, take_option};
 use crate::switches::{take_flag, take_multiple, take_value};
-use justfile_base::{CompileResult, Name, StringLiteral};
+use justfile_token::{CompileResult, Name, StringLiteral};
 use std::alloc::{AllocError, Global};
 
 /// What an `arg` says of its argument by its keys, which are taken out of the map one after another.
@@ -29,7 +29,7 @@ pub fn read_argument_rules<'src>(
 ) -> CompileResult<'src, Box<ArgumentRules<'src>>>
     requires { AreKeyed keys.old }
     ensures made { Makes (λ rules. rules_of rules.value) result
-        (new.new_rules sees_leaves name.entry.token (string_bytes argument.entry.cooked) (quoted_leaf argument.entry) (key_arguments keys.old)) }
+        (new.new_rules views_leaves name.entry.token (string_bytes argument.entry.cooked) (quoted_leaf argument.entry) (key_arguments keys.old)) }
     ensures named { IfOk result (λ rules. AreNamed rules.value) }
 {
     let mut rules = boxed(alloc, argument)?;

@@ -1,5 +1,5 @@
-use justfile_base::{Name, StringLiteral, Token};
-use justfile_tree::Expression;
+use justfile_expression::Expression;
+use justfile_token::{Name, StringLiteral, Token};
 
 /// What is said of a parameter of a recipe.
 #[derive(Drop)]

@@ -1,11 +1,11 @@
 ghost use Rattle.std.specs.Prelude.{◌≡◌};
 ghost use Rattle.justfile_model.specs.AttributeKinds.{least_count, most_count, takes_expressions};
 ghost use Rattle.justfile_model.specs.NewAttribute as new;
-ghost use Rattle.justfile_tree.specs.LeafSight.{sees_leaves};
+ghost use Rattle.justfile_expression.specs.LeafViews.{views_leaves};
 ghost use Rattle.justfile_attribute_rules.specs.Made.{Makes};
 ghost use Rattle.justfile_attribute_rules.specs.RuleErrors.{IsMost};
 
-use justfile_base::{AttributeKind, CompileErrorKind, CompileResult, Fault, Name};
+use justfile_token::{AttributeKind, CompileErrorKind, CompileResult, Fault, Name};
 
 /// Whether the arguments by position are any expressions, where those of other kinds are literals.
 pub fn accepts_expressions(kind: AttributeKind) -> bool
@@ -46,7 +46,7 @@ fn argument_range(kind: AttributeKind) -> (usize, usize)
 /// `Compile` at the name.
 #[tactic(auto, using(crate::proofs::Counts::more_is))]
 pub fn check_count<'src>(name: Name<'src>, kind: AttributeKind, found: usize) -> CompileResult<'src>
-    ensures { Makes (λ _. tt) result (new.check_count sees_leaves name.entry.token kind found) }
+    ensures { Makes (λ _. tt) result (new.check_count views_leaves name.entry.token kind found) }
 {
     let (min, max) = argument_range(kind);
     if found < min || max < found {

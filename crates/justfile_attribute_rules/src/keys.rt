@@ -5,15 +5,15 @@ ghost use Rattle.std.specs.Str.{bytes_eq};
 ghost use Rattle.justfile_model.specs.AttributeKinds.{known_keys};
 ghost use Rattle.justfile_model.specs.Meaning.{at_key};
 ghost use Rattle.justfile_model.specs.NewAttribute as new;
-ghost use Rattle.justfile_tree.specs.LeafSight.{sees_leaves};
-ghost use Rattle.justfile_tree.specs.LeafTree.{leaf_tree_of};
+ghost use Rattle.justfile_expression.specs.LeafViews.{views_leaves};
+ghost use Rattle.justfile_expression.specs.LeafTree.{leaf_tree_of};
 ghost use Rattle.justfile_attribute_rules.specs.ArgumentRules.{property_of};
 ghost use Rattle.justfile_attribute_rules.specs.Keys.{AreKeyed, IsPut, IsTaken, key_argument, key_arguments};
 ghost use Rattle.justfile_model.specs.Rules.{AttributeKeyMissingValue};
 ghost use Rattle.justfile_attribute_rules.specs.Made.{IsRefusedBy, Makes};
 
-use justfile_base::{AttributeKind, CompileErrorKind, CompileResult, Fault, Name};
-use justfile_tree::Expression;
+use justfile_expression::Expression;
+use justfile_token::{AttributeKind, CompileErrorKind, CompileResult, Fault, Name};
 use std::alloc::AllocError;
 use std::collections::BTreeMap;
 
@@ -52,7 +52,7 @@ pub fn take<'src>(
     word: &str,
 ) -> Option<(Name<'src>, Option<Box<Expression<'src>>>)>
     requires { AreKeyed keys.old }
-    ensures taken { option_map key_argument result ≡ at_key sees_leaves word.now (key_arguments keys.old) }
+    ensures taken { option_map key_argument result ≡ at_key views_leaves word.now (key_arguments keys.old) }
     ensures left { IsTaken word.now keys.old keys.new }
 {
     keys.remove(word)
@@ -70,7 +70,7 @@ pub fn take_required<'src>(
 ) -> CompileResult<'src, Option<(Name<'src>, Box<Expression<'src>>)>>
     requires { AreKeyed keys.old }
     ensures taken { Makes (option_map property_of) result
-        (new.if_given (new.property sees_leaves name.entry.token) (at_key sees_leaves word.now (key_arguments keys.old))) }
+        (new.if_given (new.property views_leaves name.entry.token) (at_key views_leaves word.now (key_arguments keys.old))) }
     ensures left { IsTaken word.now keys.old keys.new }
 {
     match take(keys, word) {
@@ -91,7 +91,7 @@ pub fn take_value<'src>(
     word: &str,
 ) -> CompileResult<'src, Option<Box<Expression<'src>>>>
     requires { AreKeyed keys.old }
-    ensures taken { Makes (option_map (λ e. leaf_tree_of e.value)) result (new.required_at sees_leaves name.entry.token word.now (key_arguments keys.old)) }
+    ensures taken { Makes (option_map (λ e. leaf_tree_of e.value)) result (new.required_at views_leaves name.entry.token word.now (key_arguments keys.old)) }
     ensures left { IsTaken word.now keys.old keys.new }
 {
     match take(keys, word) {
@@ -137,7 +137,7 @@ pub fn check_keys<'src>(
     keys: &KeyMap<'src>,
 ) -> CompileResult<'src>
     requires { AreKeyed keys.now }
-    ensures { Makes (λ _. tt) result (new.check_keys sees_leaves name.entry.token kind (key_arguments keys.now)) }
+    ensures { Makes (λ _. tt) result (new.check_keys views_leaves name.entry.token kind (key_arguments keys.now)) }
 {
     for (key, _value) in keys.values() {
         if !is_known(kind, key.lexeme()) {

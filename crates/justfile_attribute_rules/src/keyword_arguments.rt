@@ -1,8 +1,8 @@
 ghost use Rattle.justfile_attribute_rules.specs.Keys.{AreKeyed, prop_keyed};
 
 use crate::keys::{KeyMap, put_key};
-use justfile_base::Name;
-use justfile_tree::Expression;
+use justfile_expression::Expression;
+use justfile_token::Name;
 use std::alloc::{AllocError, Global};
 use std::collections::BTreeMap;
 

@@ -3,14 +3,14 @@ ghost use Rattle.std.specs.Option.{option_map};
 ghost use Rattle.justfile_model.specs.Meaning.{quoted};
 ghost use Rattle.justfile_model.specs.NewAttribute as new;
 ghost use Rattle.justfile_model.specs.Rules.{AttributeArgumentExpression};
-ghost use Rattle.justfile_tree.specs.LeafSight.{sees_leaves};
-ghost use Rattle.justfile_tree.specs.LeafTree.{Named, leaf_tree_of};
+ghost use Rattle.justfile_expression.specs.LeafViews.{views_leaves};
+ghost use Rattle.justfile_expression.specs.LeafTree.{Named, leaf_tree_of};
 ghost use Rattle.justfile_attribute_rules.specs.Made.{IsRefusedBy, Makes, placed_leaf, placed_leaves, quoted_leaf, quoted_leaves};
 
-use justfile_base::{
+use justfile_expression::Expression;
+use justfile_token::{
     CompileError, CompileErrorKind, CompileResult, Fault, Name, StringLiteral, Token,
 };
-use justfile_tree::Expression;
 use std::alloc::Global;
 
 /// The literal that an expression is, if it is one.
@@ -31,7 +31,7 @@ pub(crate) fn key_literal<'src>(
     key: Name<'src>,
     value: Box<Expression<'src>>,
 ) -> CompileResult<'src, StringLiteral<'src>>
-    ensures { Makes quoted_leaf result (new.literal sees_leaves name.entry.token (Named key.entry.token None) (leaf_tree_of value.entry.value)) }
+    ensures { Makes quoted_leaf result (new.literal views_leaves name.entry.token (Named key.entry.token None) (leaf_tree_of value.entry.value)) }
 {
     match literal_of(value) {
         Some(literal) => Ok(literal),
@@ -49,7 +49,7 @@ fn placed_literal<'src>(
     first: Token<'src>,
     value: Box<Expression<'src>>,
 ) -> CompileResult<'src, StringLiteral<'src>>
-    ensures { Makes quoted_leaf result (new.placed_literal sees_leaves name.entry.token (placed_leaf (first.entry, value.entry))) }
+    ensures { Makes quoted_leaf result (new.placed_literal views_leaves name.entry.token (placed_leaf (first.entry, value.entry))) }
 {
     match literal_of(value) {
         Some(literal) => Ok(literal),
@@ -75,7 +75,7 @@ pub fn string_literals<'src>(
     arguments: Vec<(Token<'src>, Box<Expression<'src>>)>,
 ) -> CompileResult<'src, Vec<StringLiteral<'src>>>
     ensures { Makes (λ literals. quoted_leaves literals.items) result
-        (new.make_all (new.placed_literal sees_leaves name.entry.token) (placed_leaves arguments.entry.items)) }
+        (new.make_all (new.placed_literal views_leaves name.entry.token) (placed_leaves arguments.entry.items)) }
 {
     let mut literals = Vec::new(alloc);
     for (first, value) in arguments {

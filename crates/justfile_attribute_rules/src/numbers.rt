@@ -5,15 +5,15 @@ ghost use Rattle.justfile_model.proofs.CountLaws.{is_digit_byte};
 ghost use Rattle.justfile_model.specs.Meaning as means;
 ghost use Rattle.justfile_model.specs.Meaning.{at_key};
 ghost use Rattle.justfile_model.specs.NewAttribute as new;
-ghost use Rattle.justfile_tree.specs.LeafSight.{sees_leaves};
-ghost use Rattle.justfile_tree.specs.LeafTree.{leaf_tree_of};
+ghost use Rattle.justfile_expression.specs.LeafViews.{views_leaves};
+ghost use Rattle.justfile_expression.specs.LeafTree.{leaf_tree_of};
 ghost use Rattle.justfile_attribute_rules.specs.Keys.{AreKeyed, IsTaken, key_arguments};
 ghost use Rattle.justfile_attribute_rules.specs.Made.{Makes, bound_at, bound_made, count_made, quoted_leaf, within};
 
 use crate::keys::{KeyMap, missing_value, take};
 use crate::literals::key_literal;
-use justfile_base::{CompileErrorKind, CompileResult, Fault, Name, StringLiteral};
-use justfile_tree::Expression;
+use justfile_expression::Expression;
+use justfile_token::{CompileErrorKind, CompileResult, Fault, Name, StringLiteral};
 use std::alloc::Global;
 
 /// Why digits are no number of 64 bits.
@@ -33,7 +33,7 @@ pub(crate) fn take_bound<'src>(
 ) -> CompileResult<'src, Option<(Name<'src>, u64)>>
     requires { AreKeyed keys.old }
     ensures taken { Makes (option_map bound_at) result
-        (new.if_given (new.bound sees_leaves name.entry.token []) (at_key sees_leaves word.now (key_arguments keys.old))) }
+        (new.if_given (new.bound views_leaves name.entry.token []) (at_key views_leaves word.now (key_arguments keys.old))) }
     ensures left { IsTaken word.now keys.old keys.new }
 {
     match take(keys, word) {

@@ -3,16 +3,16 @@ ghost use Rattle.std.specs.Option.{option_map};
 ghost use Rattle.std.specs.Str.{chars};
 ghost use Rattle.justfile_model.specs.Meaning.{at_key};
 ghost use Rattle.justfile_model.specs.NewAttribute as new;
-ghost use Rattle.justfile_tree.specs.LeafSight.{sees_leaves};
-ghost use Rattle.justfile_tree.specs.LeafTree.{Named, leaf_tree_of};
+ghost use Rattle.justfile_expression.specs.LeafViews.{views_leaves};
+ghost use Rattle.justfile_expression.specs.LeafTree.{Named, leaf_tree_of};
 ghost use Rattle.justfile_attribute_rules.specs.ArgumentRules.{IsNamedAs, option_of};
 ghost use Rattle.justfile_attribute_rules.specs.Keys.{AreKeyed, IsTaken, key_arguments};
 ghost use Rattle.justfile_attribute_rules.specs.Made.{Makes, option_word, quoted_leaf};
 
 use crate::keys::{KeyMap, take};
 use crate::literals::key_literal;
-use justfile_base::{CompileErrorKind, CompileResult, Fault, Name, StringLiteral};
-use justfile_tree::Expression;
+use justfile_expression::Expression;
+use justfile_token::{CompileErrorKind, CompileResult, Fault, Name, StringLiteral};
 use std::alloc::{AllocError, Global};
 
 /// The literal that names an option, or the key that names it as the argument, or none of them.
@@ -32,7 +32,7 @@ pub(crate) fn take_option<'src>(
 ) -> CompileResult<'src, OptionName<'src>>
     requires { AreKeyed keys.old }
     ensures taken { Makes (λ p. option_of p.1 p.0) result
-        (new.option sees_leaves name.entry.token (string_bytes argument.now.cooked) is_short (at_key sees_leaves (option_word is_short) (key_arguments keys.old))) }
+        (new.option views_leaves name.entry.token (string_bytes argument.now.cooked) is_short (at_key views_leaves (option_word is_short) (key_arguments keys.old))) }
     ensures left { IsTaken (option_word is_short) keys.old keys.new }
 {
     let word = if is_short { "short" } else { "long" };
@@ -54,7 +54,7 @@ fn option_name<'src>(
     value: Box<Expression<'src>>,
 ) -> CompileResult<'src, OptionName<'src>>
     ensures { Makes (λ p. option_of p.1 p.0) result
-        (new.option_by sees_leaves name.entry.token (string_bytes argument.now.cooked) is_short (Named key.entry.token None) (Some (leaf_tree_of value.entry.value))) }
+        (new.option_by views_leaves name.entry.token (string_bytes argument.now.cooked) is_short (Named key.entry.token None) (Some (leaf_tree_of value.entry.value))) }
 {
     let literal = key_literal(name, key, value)?;
     check_option_name(alloc, argument, &literal)?;
@@ -85,7 +85,7 @@ fn check_option_name<'src>(
     literal: &StringLiteral<'src>,
 ) -> CompileResult<'src>
     ensures { Makes (λ _. tt) result
-        (new.check_option_name sees_leaves literal.now.token (string_bytes argument.now.cooked) (quoted_leaf literal.now) (string_bytes literal.now.cooked)) }
+        (new.check_option_name views_leaves literal.now.token (string_bytes argument.now.cooked) (quoted_leaf literal.now) (string_bytes literal.now.cooked)) }
 {
     let option = literal.cooked.as_str().as_bytes();
     if option.contains(&b'=') {
@@ -121,7 +121,7 @@ fn check_short<'src>(
     literal: &StringLiteral<'src>,
 ) -> CompileResult<'src>
     ensures { Makes (λ _. tt) result
-        (new.check_short sees_leaves literal.now.token (string_bytes argument.now.cooked) is_short (quoted_leaf literal.now) (string_bytes literal.now.cooked)) }
+        (new.check_short views_leaves literal.now.token (string_bytes argument.now.cooked) is_short (quoted_leaf literal.now) (string_bytes literal.now.cooked)) }
 {
     if is_short && !has_one_char(literal.cooked.as_str()) {
         let parameter = argument_text(alloc, argument)?;

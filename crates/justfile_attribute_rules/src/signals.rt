@@ -1,7 +1,7 @@
 ghost use Rattle.std.specs.Prelude.{◌≡◌};
 ghost use Rattle.justfile_attribute_rules.specs.Made.{Makes, quoted_leaf, quoted_leaves, signal_made, signals_made};
 
-use justfile_base::{CompileErrorKind, CompileResult, Fault, Signal, StringLiteral};
+use justfile_token::{CompileErrorKind, CompileResult, Fault, Signal, StringLiteral};
 use std::alloc::Global;
 use std::collections::BTreeSet;
 

@@ -3,8 +3,8 @@ ghost use Rattle.std.specs.Option.{is_some, option_map};
 ghost use Rattle.justfile_model.specs.Meaning.{at_key};
 ghost use Rattle.justfile_model.specs.NewAttribute as new;
 ghost use Rattle.justfile_model.specs.Rules as refusals;
-ghost use Rattle.justfile_tree.specs.LeafSight.{sees_leaves};
-ghost use Rattle.justfile_tree.specs.LeafTree.{leaf_tree_of};
+ghost use Rattle.justfile_expression.specs.LeafViews.{views_leaves};
+ghost use Rattle.justfile_expression.specs.LeafTree.{leaf_tree_of};
 ghost use Rattle.justfile_attribute_rules.specs.ArgumentRules.{rules_of};
 ghost use Rattle.justfile_attribute_rules.specs.Keys.{AreKeyed, IsTaken, key_argument, key_arguments};
 ghost use Rattle.justfile_attribute_rules.specs.Made.{Makes};
@@ -13,8 +13,8 @@ ghost use Rattle.justfile_attribute_rules.specs.Steps.{flag_made, multiple_made,
 use crate::argument_rules::ArgumentRules;
 use crate::keys::{KeyMap, missing_value, take};
 use crate::options::argument_text;
-use justfile_base::{CompileErrorKind, CompileResult, Fault, Name, Token};
-use justfile_tree::Expression;
+use justfile_expression::Expression;
+use justfile_token::{CompileErrorKind, CompileResult, Fault, Name, Token};
 use std::alloc::Global;
 
 /// Whether the argument is no option: neither a literal nor a key names it as one.
@@ -49,7 +49,7 @@ pub(crate) fn take_value<'src>(
 ) -> CompileResult<'src, Option<Box<Expression<'src>>>>
     requires { AreKeyed keys.old }
     ensures taken { Makes (option_map (λ e. leaf_tree_of e.value)) result
-        (new.if_given (value_made (rules_of rules.now)) (at_key sees_leaves (codes "value") (key_arguments keys.old))) }
+        (new.if_given (value_made (rules_of rules.now)) (at_key views_leaves (codes "value") (key_arguments keys.old))) }
     ensures left { IsTaken (codes "value") keys.old keys.new }
 {
     match take(keys, "value") {
@@ -74,7 +74,7 @@ pub(crate) fn take_flag<'src>(
 ) -> CompileResult<'src, Option<Token<'src>>>
     requires { AreKeyed keys.old }
     ensures taken { Makes (λ token. token) result
-        (new.if_given (flag_made (rules_of rules.now)) (at_key sees_leaves (codes "flag") (key_arguments keys.old))) }
+        (new.if_given (flag_made (rules_of rules.now)) (at_key views_leaves (codes "flag") (key_arguments keys.old))) }
     ensures left { IsTaken (codes "flag") keys.old keys.new }
 {
     match take(keys, "flag") {
@@ -129,7 +129,7 @@ pub(crate) fn take_multiple<'src>(
 ) -> CompileResult<'src, Option<Token<'src>>>
     requires { AreKeyed keys.old }
     ensures taken { Makes (λ token. token) result
-        (new.if_given (multiple_made (rules_of rules.now)) (at_key sees_leaves (codes "multiple") (key_arguments keys.old))) }
+        (new.if_given (multiple_made (rules_of rules.now)) (at_key views_leaves (codes "multiple") (key_arguments keys.old))) }
     ensures left { IsTaken (codes "multiple") keys.old keys.new }
 {
     match take(keys, "multiple") {

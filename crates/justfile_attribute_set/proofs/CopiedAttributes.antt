@@ -3,16 +3,16 @@ use Rattle.std.proofs.Common.{◌≡◌, ◌∙◌, ℕ, List, [], ◌∷◌, ma
 use Rattle.std.specs.Global.{Box}
 use Rattle.std.specs.List.{AllZip}
 use Rattle.std.specs.Option.{option_map}
-use Rattle.justfile_base.specs.StringLiteral.{IsSameLiteral}
-use Rattle.justfile_word.specs.declared.attribute_kind.AttributeKind.{AttributeKind}
-use Rattle.justfile_word.specs.declared.attribute_kind.AttributeKind.TheVariants as kinds
-use Rattle.justfile_base.specs.declared.name.Name.{Name}
-use Rattle.justfile_base.specs.declared.string_literal.StringLiteral.{StringLiteral}
-use Rattle.justfile_base.specs.declared.token.Token.{Token}
+use Rattle.justfile_token.specs.StringLiteral.{IsSameLiteral}
+use Rattle.justfile_vocabulary.specs.declared.attribute_kind.AttributeKind.{AttributeKind}
+use Rattle.justfile_vocabulary.specs.declared.attribute_kind.AttributeKind.TheVariants as kinds
+use Rattle.justfile_token.specs.declared.name.Name.{Name}
+use Rattle.justfile_token.specs.declared.string_literal.StringLiteral.{StringLiteral}
+use Rattle.justfile_token.specs.declared.token.Token.{Token}
 use Rattle.justfile_model.specs.Tree as tree
 use Rattle.justfile_model.specs.Tree.{Expr, Quoted}
-use Rattle.justfile_tree.specs.LeafTree.{Leaf, Literal, leaf_tree_of}
-use Rattle.justfile_tree.specs.declared.expression.Expression.{Expression}
+use Rattle.justfile_expression.specs.LeafTree.{Leaf, Literal, leaf_tree_of}
+use Rattle.justfile_expression.specs.declared.expression.Expression.{Expression}
 use Rattle.justfile_attribute.specs.Attribute.{bound_by, leaf_attribute_of, literal_leaf, option_by, property_by, quoted_by, script_by, single_by}
 use Rattle.justfile_attribute.specs.Copies.{IsSameAttribute, IsSameBoxed, IsSameIfPresent, IsSameInterpreter, IsSameProperty}
 use Rattle.justfile_attribute.specs.declared.attribute.Attribute.{Attribute}
@@ -21,11 +21,11 @@ use Rattle.justfile_attribute.specs.declared.interpreter.Interpreter.{Interprete
 use Rattle.justfile_attribute_set.proofs.CopiedTrees.{same_literal, same_tree}
 
 -- what is seen of tokens and literals, with all that the parser's trees hold
-abbrev spot : Token → Token
-spot t = t
+abbrev position : Token → Token
+position t = t
 
 abbrev quoted : StringLiteral → Quoted Leaf
-quoted = quoted_by leaf_tree_of literal_leaf spot
+quoted = quoted_by leaf_tree_of literal_leaf position
 
 same_quoted : (copy original : StringLiteral) → IsSameLiteral copy original → quoted copy ≡ quoted original
 same_quoted copy original same = λ i. record { expanded = same.expand i; token = Literal (same_literal copy original same i) }
@@ -56,20 +56,20 @@ same_expressions : (copy original : Option (Box Expression)) → IsSameIfPresent
 same_expressions = same_options IsSameBoxed boxed_leaves same_boxed
 
 same_property : (copy original : Name × Box Expression) → IsSameProperty copy original
-    → property_by leaf_tree_of literal_leaf spot copy ≡ property_by leaf_tree_of literal_leaf spot original
+    → property_by leaf_tree_of literal_leaf position copy ≡ property_by leaf_tree_of literal_leaf position original
 same_property copy original same = λ i. record { key = (same.0 i).token; value = same_boxed copy.1 original.1 same.1 i }
 
 same_properties : (copy original : Option (Name × Box Expression)) → IsSameIfPresent IsSameProperty copy original
-    → option_map (property_by leaf_tree_of literal_leaf spot) copy ≡ option_map (property_by leaf_tree_of literal_leaf spot) original
-same_properties = same_options IsSameProperty (property_by leaf_tree_of literal_leaf spot) same_property
+    → option_map (property_by leaf_tree_of literal_leaf position) copy ≡ option_map (property_by leaf_tree_of literal_leaf position) original
+same_properties = same_options IsSameProperty (property_by leaf_tree_of literal_leaf position) same_property
 
 same_option : (key key' : Option Name) (copy original : Option StringLiteral) → key ≡ key' → IsSameIfPresent IsSameLiteral copy original
-    → option_by leaf_tree_of literal_leaf spot key copy ≡ option_by leaf_tree_of literal_leaf spot key' original
+    → option_by leaf_tree_of literal_leaf position key copy ≡ option_by leaf_tree_of literal_leaf position key' original
 same_option key key' copy original k same =
-    (λ i. option_by leaf_tree_of literal_leaf spot (k i) copy) ∙ within key' copy original same
+    (λ i. option_by leaf_tree_of literal_leaf position (k i) copy) ∙ within key' copy original same
   where
     within : (key : Option Name) (copy original : Option StringLiteral) → IsSameIfPresent IsSameLiteral copy original
-        → option_by leaf_tree_of literal_leaf spot key copy ≡ option_by leaf_tree_of literal_leaf spot key original
+        → option_by leaf_tree_of literal_leaf position key copy ≡ option_by leaf_tree_of literal_leaf position key original
     within (Some key) copy original same = refl
     within None None None same = refl
     within None (Some copy) (Some original) same = ap tree.Named (same_quoted copy original same)
@@ -77,24 +77,24 @@ same_option key key' copy original k same =
     within None (Some copy) None same = absurd same
 
 same_single : (kind : AttributeKind) (copy original : Option (Box Expression)) → IsSameIfPresent IsSameBoxed copy original
-    → single_by leaf_tree_of literal_leaf spot kind copy ≡ single_by leaf_tree_of literal_leaf spot kind original
+    → single_by leaf_tree_of literal_leaf position kind copy ≡ single_by leaf_tree_of literal_leaf position kind original
 same_single kind None None same = refl
 same_single kind (Some copy) (Some original) same = λ i. tree.Single kind (same_boxed copy original same i)
 same_single kind None (Some original) same = absurd same
 same_single kind (Some copy) None same = absurd same
 
 same_bound : (name name' : StringLiteral) (key key' : Option Name) (number number' : Option ℕ) → IsSameLiteral name name' → key ≡ key' → number ≡ number'
-    → bound_by leaf_tree_of literal_leaf spot name key number ≡ bound_by leaf_tree_of literal_leaf spot name' key' number'
+    → bound_by leaf_tree_of literal_leaf position name key number ≡ bound_by leaf_tree_of literal_leaf position name' key' number'
 same_bound name name' key key' number number' same k n =
-    (λ i. bound_by leaf_tree_of literal_leaf spot name (k i) (n i)) ∙ within key' number'
+    (λ i. bound_by leaf_tree_of literal_leaf position name (k i) (n i)) ∙ within key' number'
   where
-    within : (key : Option Name) (number : Option ℕ) → bound_by leaf_tree_of literal_leaf spot name key number ≡ bound_by leaf_tree_of literal_leaf spot name' key number
+    within : (key : Option Name) (number : Option ℕ) → bound_by leaf_tree_of literal_leaf position name key number ≡ bound_by leaf_tree_of literal_leaf position name' key number
     within key None = refl
     within (Some key) (Some number) = refl
     within None (Some number) = λ i. Some (record { key = same.token i; number = number })
 
 same_script : (copy original : Option (Interpreter StringLiteral)) → IsSameIfPresent IsSameInterpreter copy original
-    → script_by leaf_tree_of literal_leaf spot copy ≡ script_by leaf_tree_of literal_leaf spot original
+    → script_by leaf_tree_of literal_leaf position copy ≡ script_by leaf_tree_of literal_leaf position original
 same_script None None same = refl
 same_script (Some copy) (Some original) same =
     λ i. tree.Texts kinds.Script (same_quoted copy.command original.command same.command i ∷ same_maps IsSameLiteral quoted same_quoted copy.arguments.items original.arguments.items same.arguments i)
@@ -107,12 +107,12 @@ same_attribute_tree (attributes.Arg flag help property long long_key max max_key
     (attributes.Arg flag' help' property' long' long_key' max' max_key' min' min_key' multiple' name' pattern' short' short_key' value')
     same =
     λ i. tree.Arg (record {
-      flag = option_map spot (same.0 i);
+      flag = option_map position (same.0 i);
       help = same_properties property property' same.2 i;
       long = same_option long_key long_key' long long' same.4 same.3 i;
       max = same_bound name name' max_key max_key' max max' same.10 same.6 same.5 i;
       min = same_bound name name' min_key min_key' min min' same.10 same.8 same.7 i;
-      multiple = option_map spot (same.9 i);
+      multiple = option_map position (same.9 i);
       name = same_quoted name name' same.10 i;
       pattern = same_properties pattern pattern' same.11 i;
       short = same_option short_key short_key' short short' same.13 same.12 i;

@@ -2,22 +2,22 @@
 use Rattle.std.proofs.Common.{◌≡◌, ◌∙◌, Option, Some, None, refl, sym, ap}
 use Rattle.std.specs.Global.{Box}
 use denote.Enum.Declared.{tag_of}
-use Rattle.justfile_base.specs.declared.name.Name.{Name}
-use Rattle.justfile_base.specs.declared.string_literal.StringLiteral.{StringLiteral}
-use Rattle.justfile_base.specs.declared.token.Token.{Token}
-use Rattle.justfile_word.specs.contracts.attribute_kind.AttributeKind.{the_type}
-use Rattle.justfile_word.specs.declared.attribute_kind.AttributeKind.TheVariants as kinds
+use Rattle.justfile_token.specs.declared.name.Name.{Name}
+use Rattle.justfile_token.specs.declared.string_literal.StringLiteral.{StringLiteral}
+use Rattle.justfile_token.specs.declared.token.Token.{Token}
+use Rattle.justfile_vocabulary.specs.contracts.attribute_kind.AttributeKind.{the_type}
+use Rattle.justfile_vocabulary.specs.declared.attribute_kind.AttributeKind.TheVariants as kinds
 use Rattle.justfile_model.specs.ContentKeys.{attribute_key, expr_key, kind_of_attribute}
 use Rattle.justfile_model.specs.ContentLeaf as contents
 use Rattle.justfile_model.specs.ContentLeaf.{ContentLeaf}
 use Rattle.justfile_model.specs.Key.{Key, leaf, node, end, next, row, option_key, present_key}
-use Rattle.justfile_tree.specs.LeafSight.{sees_leaves}
-use Rattle.justfile_tree.specs.LeafTree.{leaf_tree_of}
-use Rattle.justfile_tree.specs.declared.expression.Expression.{Expression}
+use Rattle.justfile_expression.specs.LeafViews.{views_leaves}
+use Rattle.justfile_expression.specs.LeafTree.{leaf_tree_of}
+use Rattle.justfile_expression.specs.declared.expression.Expression.{Expression}
 use Rattle.justfile_attribute.specs.Attribute.{leaf_attribute_of, literal_leaf}
 use Rattle.justfile_attribute.specs.Copies.{IsSameAttribute, IsSameBoxed, IsSameIfPresent, IsSameProperty, IsSameText}
-use Rattle.justfile_base.specs.StringLiteral.{IsSameLiteral}
-use Rattle.justfile_attribute.specs.New.{IsWholeAttribute}
+use Rattle.justfile_token.specs.StringLiteral.{IsSameLiteral}
+use Rattle.justfile_attribute.specs.New.{HasDerivedAttributeFields}
 use Rattle.justfile_attribute.specs.Order.{boxed_key, case_kind, content_key, count_key, literal_key, name_key, property_key, text_key, token_key}
 use Rattle.justfile_attribute.specs.declared.attribute.Attribute.{Attribute}
 use Rattle.justfile_attribute.specs.declared.attribute.Attribute.TheVariants as attributes
@@ -32,7 +32,7 @@ same_options R key_of each None (Some original) same = absurd same
 same_options R key_of each (Some copy) None same = absurd same
 
 same_expression : (copy original : Box Expression) → IsSameBoxed copy original → boxed_key copy ≡ boxed_key original
-same_expression copy original same = ap (expr_key sees_leaves) (same_boxed copy original same)
+same_expression copy original same = ap (expr_key views_leaves) (same_boxed copy original same)
 
 same_property : (copy original : Name × Box Expression) → IsSameProperty copy original → property_key copy ≡ property_key original
 same_property copy original same = λ i. row (next (name_key (same.0 i)) (next (same_expression copy.1 original.1 same.1 i) end))
@@ -56,7 +56,7 @@ same_arg _ original is same = absurd cc
 
 -- ---- all others, by their trees
 
-other_whole : (a : Attribute) → (case_kind a ≡ kinds.Arg → ⊥) → IsWholeAttribute a
+other_whole : (a : Attribute) → (case_kind a ≡ kinds.Arg → ⊥) → HasDerivedAttributeFields a
 other_whole (attributes.Arg flag help property long long_key max max_key min min_key multiple name pattern short short_key value) other = absurd (other refl)
 other_whole _ other = tt
 
@@ -67,7 +67,7 @@ same_case copy original same =
 
 same_other : (copy original : Attribute) → (case_kind copy ≡ kinds.Arg → ⊥) → IsSameAttribute copy original → content_key copy ≡ content_key original
 same_other copy original other same =
-    sym (key_is copy (other_whole copy other)) ∙ ap (attribute_key sees_leaves) (same_attribute_tree copy original same)
+    sym (key_is copy (other_whole copy other)) ∙ ap (attribute_key views_leaves) (same_attribute_tree copy original same)
     ∙ key_is original (other_whole original (λ e. other (same_case copy original same ∙ e)))
 
 pub same_content : (copy original : Attribute) → IsSameAttribute copy original → content_key copy ≡ content_key original

@@ -4,7 +4,7 @@ mod CopiedPairs
 pub mod CopiedTrees
 mod Firsts
 mod Groups
-mod Kept
+mod LastKept
 mod Named
 mod SeenKinds
 mod Sorts

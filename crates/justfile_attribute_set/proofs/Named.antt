@@ -2,7 +2,7 @@
 use Rattle.std.proofs.Common.{◌≡◌, ◌∙◌, List, [], ◌∷◌, Bool, true, false, cond, ◌||◌, map, Option, Some, None, refl, sym, ap}
 use Rattle.std.specs.List.{find, list_any}
 use Rattle.std.specs.Option.{option_map}
-use Rattle.justfile_base.specs.declared.name.Name.{Name}
+use Rattle.justfile_token.specs.declared.name.Name.{Name}
 use Rattle.justfile_model.specs.Distinct.{kept_last}
 use Rattle.justfile_model.specs.Order.{in_order}
 use Rattle.justfile_model.proofs.OrderMaps.{in_order_map}

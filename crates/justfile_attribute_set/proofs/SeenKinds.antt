@@ -2,16 +2,16 @@
 use Rattle.std.proofs.Common.{◌≡◌, ◌∙◌, List, [], ◌∷◌, Bool, true, false, cond, map, not, Option, Some, None, refl, sym, ap, subst}
 use Rattle.std.specs.List.{find}
 use Rattle.std.specs.Option.{option_map}
-use Rattle.justfile_base.specs.Token.{lexeme_of}
-use Rattle.justfile_word.specs.declared.attribute_kind.AttributeKind.{AttributeKind}
-use Rattle.justfile_base.specs.declared.compile_error.CompileError.{CompileError}
-use Rattle.justfile_base.specs.declared.compile_error_kind.CompileErrorKind.TheVariants.{InvalidAttribute}
-use Rattle.justfile_word.specs.declared.item_kind.ItemKind.{ItemKind}
-use Rattle.justfile_base.specs.declared.token.Token.{Token}
+use Rattle.justfile_token.specs.Token.{lexeme_of}
+use Rattle.justfile_vocabulary.specs.declared.attribute_kind.AttributeKind.{AttributeKind}
+use Rattle.justfile_token.specs.declared.compile_error.CompileError.{CompileError}
+use Rattle.justfile_token.specs.declared.compile_error_kind.CompileErrorKind.TheVariants.{InvalidAttribute}
+use Rattle.justfile_vocabulary.specs.declared.item_kind.ItemKind.{ItemKind}
+use Rattle.justfile_token.specs.declared.token.Token.{Token}
 use Rattle.justfile_model.specs.AttributeKinds.{is_allowed}
 use Rattle.justfile_model.specs.AttributeRules.{first_invalid}
 use Rattle.justfile_model.specs.ContentKeys.{kind_of_attribute}
-use Rattle.justfile_tree.specs.LeafSight.{sees_leaves}
+use Rattle.justfile_expression.specs.LeafViews.{views_leaves}
 use Rattle.justfile_attribute.specs.Attribute.{leaf_attribute_of}
 use Rattle.justfile_attribute.specs.declared.attribute.Attribute.{Attribute}
 use Rattle.justfile_attribute.proofs.Ordered.{kind_seen}
@@ -38,18 +38,18 @@ first_if item p o =
 abbrev pub first_pair : ItemKind → List Pair → Option Pair
 first_pair item pairs = find (λ p. not (is_allowed item (kind_of p.0))) pairs
 
-pub first_seen : (item : ItemKind) (pairs : List Pair) → first_invalid sees_leaves item (map leaf_entry_of pairs) ≡ option_map leaf_entry_of (first_pair item pairs)
+pub first_seen : (item : ItemKind) (pairs : List Pair) → first_invalid views_leaves item (map leaf_entry_of pairs) ≡ option_map leaf_entry_of (first_pair item pairs)
 first_seen item [] = refl
 first_seen item (p ∷ ps) =
     ap (λ o. cond (not (is_allowed item (kind_of_attribute (leaf_attribute_of p.0)))) (Some (leaf_entry_of p)) o) (first_seen item ps)
     ∙ first_if item p (first_pair item ps)
 
-pub none_invalid : (item : ItemKind) (pairs : List Pair) → first_pair item pairs ≡ None → first_invalid sees_leaves item (map leaf_entry_of pairs) ≡ None
+pub none_invalid : (item : ItemKind) (pairs : List Pair) → first_pair item pairs ≡ None → first_invalid views_leaves item (map leaf_entry_of pairs) ≡ None
 none_invalid item pairs e = first_seen item pairs ∙ ap (option_map leaf_entry_of) e
 
 pub invalid_by : (item : ItemKind) (pairs : List Pair) (p : Pair) (name : Token) (kind : AttributeKind) {text : _} (e : CompileError) → first_pair item pairs ≡ Some p
     → kind ≡ kind_of p.0 → e.token ≡ name → e.kind ≡ InvalidAttribute item text kind → text.now ≡ lexeme_of name
-    → IsInvalidBy (first_invalid sees_leaves item (map leaf_entry_of pairs)) item name e
+    → IsInvalidBy (first_invalid views_leaves item (map leaf_entry_of pairs)) item name e
 invalid_by item pairs p name kind e found is token says named =
     subst (λ o. IsInvalidBy o item name e) (sym (first_seen item pairs ∙ ap (option_map leaf_entry_of) found))
     (token, subst (λ k. SaysInvalid item name (kind_of_attribute (leaf_attribute_of p.0)) k) (sym says) (refl, named, is ∙ kind_is p.0))

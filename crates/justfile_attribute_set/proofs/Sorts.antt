@@ -9,8 +9,8 @@ use Rattle.justfile_model.specs.KeyLaws.{key_total}
 use Rattle.justfile_model.specs.Order.{in_order}
 use Rattle.justfile_model.proofs.OrderLaws.{sorted_from_order}
 use Rattle.justfile_model.proofs.OrderMaps.{in_order_map_where}
-use Rattle.justfile_tree.specs.LeafSight.{sees_leaves}
-use Rattle.justfile_attribute.specs.New.{IsWholeAttribute}
+use Rattle.justfile_expression.specs.LeafViews.{views_leaves}
+use Rattle.justfile_attribute.specs.New.{HasDerivedAttributeFields}
 use Rattle.justfile_attribute.specs.Order.{attribute_content_cmp, by_content, content_key}
 use Rattle.justfile_attribute.specs.declared.attribute.Attribute.{Attribute}
 use Rattle.justfile_attribute.proofs.Ordered.{key_is}
@@ -26,15 +26,15 @@ unfolding AreInOrder
 sorted_in_order xs ys e = sorted_from_order (pair_total Written) xs ys e
 
 -- pairs whose attributes are as the parser makes them compare as their entries do
-entries_compare : (x y : Pair) → IsWholeAttribute x.0 → IsWholeAttribute y.0 → entry_cmp sees_leaves (leaf_entry_of x) (leaf_entry_of y) ≡ pair_cmp x y
+entries_compare : (x y : Pair) → HasDerivedAttributeFields x.0 → HasDerivedAttributeFields y.0 → entry_cmp views_leaves (leaf_entry_of x) (leaf_entry_of y) ≡ pair_cmp x y
 entries_compare x y h k = λ i. by_content (key_is x.0 h i) (key_is y.0 k i)
 
 -- so the entries of these in order are their entries, in order
-pub entries_sorted : (xs ys : List Pair) → ys ≡ in_order pair_cmp xs → All (λ (p : Pair). IsWholeAttribute p.0) xs
-    → map leaf_entry_of ys ≡ in_order (entry_cmp sees_leaves) (map leaf_entry_of xs)
+pub entries_sorted : (xs ys : List Pair) → ys ≡ in_order pair_cmp xs → All (λ (p : Pair). HasDerivedAttributeFields p.0) xs
+    → map leaf_entry_of ys ≡ in_order (entry_cmp views_leaves) (map leaf_entry_of xs)
 entries_sorted xs ys e h =
     ap (map leaf_entry_of) e
-    ∙ sym (in_order_map_where pair_cmp (entry_cmp sees_leaves) leaf_entry_of (λ (p : Pair). IsWholeAttribute p.0) entries_compare xs h)
+    ∙ sym (in_order_map_where pair_cmp (entry_cmp views_leaves) leaf_entry_of (λ (p : Pair). HasDerivedAttributeFields p.0) entries_compare xs h)
 
 pub on_ok : {A E P Q : Type 0} (r : Result A E) → (P → Q) → OnOk r P → OnOk r Q
 on_ok (Ok x) f h = f h

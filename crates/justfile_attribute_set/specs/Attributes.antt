@@ -1,10 +1,10 @@
 -- Which attributes there are in a list, by their kinds.
 use Rattle.std.specs.Prelude.{Bool, ◌||◌, not, List, Option, Some, None}
 use Rattle.std.specs.List.{filter_map, list_any}
-use Rattle.justfile_word.specs.AttributeKind.{is_enabler_kind}
-use Rattle.justfile_word.specs.declared.attribute_kind.AttributeKind.{AttributeKind}
-use Rattle.justfile_word.specs.declared.attribute_kind.AttributeKind.TheVariants as kinds
-use Rattle.justfile_base.specs.declared.string_literal.StringLiteral.{StringLiteral}
+use Rattle.justfile_vocabulary.specs.AttributeKind.{is_enabler_kind}
+use Rattle.justfile_vocabulary.specs.declared.attribute_kind.AttributeKind.{AttributeKind}
+use Rattle.justfile_vocabulary.specs.declared.attribute_kind.AttributeKind.TheVariants as kinds
+use Rattle.justfile_token.specs.declared.string_literal.StringLiteral.{StringLiteral}
 use Rattle.justfile_model.specs.AttributeKinds.{same_attribute}
 use Rattle.justfile_model.specs.ContentKeys.{kind_of_attribute}
 use Rattle.justfile_attribute.specs.Attribute.{attribute_of}

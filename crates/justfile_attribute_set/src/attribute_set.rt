@@ -3,16 +3,16 @@ ghost use Rattle.std.specs.Cmp.{on_per};
 ghost use Rattle.std.specs.Cmp.Lexicographic.{lists_per, pointwise};
 ghost use Rattle.std.specs.List.{All, AllZip};
 ghost use Rattle.std.specs.Option.{option_and_then, option_copied, option_map};
-ghost use Rattle.justfile_base.specs.StringLiteral.{IsSameLiteral};
-ghost use Rattle.justfile_word.specs.declared.attribute_kind.AttributeKind.TheVariants as kinds;
+ghost use Rattle.justfile_token.specs.StringLiteral.{IsSameLiteral};
+ghost use Rattle.justfile_vocabulary.specs.declared.attribute_kind.AttributeKind.TheVariants as kinds;
 ghost use Rattle.justfile_model.specs.AttributeKinds.{is_allowed};
 ghost use Rattle.justfile_model.specs.AttributeRules.{first_invalid};
 ghost use Rattle.justfile_model.specs.ContentKeys.{entry_cmp};
 ghost use Rattle.justfile_model.specs.Distinct.{kept_last};
 ghost use Rattle.justfile_model.specs.Order.{in_order};
-ghost use Rattle.justfile_attribute.specs.New.{IsWholeAttribute};
+ghost use Rattle.justfile_attribute.specs.New.{HasDerivedAttributeFields};
 ghost use Rattle.justfile_attribute.specs.contracts.attribute.AttributePartialEq.TheImpl.Laws.{laws-law as attribute_per};
-ghost use Rattle.justfile_tree.specs.LeafSight.{sees_leaves};
+ghost use Rattle.justfile_expression.specs.LeafViews.{views_leaves};
 ghost use Rattle.justfile_attribute_set.specs.Pairs.{commented_cmp, leaf_entry_of, pair_cmp, same, same_attributes, same_commented};
 ghost use Rattle.justfile_attribute_set.specs.IntoNamed.{named_left};
 ghost use Rattle.justfile_written.specs.Written.{uncommented};
@@ -20,13 +20,13 @@ ghost use Rattle.justfile_attribute_set.specs.Attributes as wanted;
 ghost use Rattle.justfile_attribute_set.specs.Attributes.{are_enabled, groups_in, has_kind};
 ghost use Rattle.justfile_attribute_set.specs.Keys.{keys_left};
 
-use crate::copied::copy_pairs;
+use crate::copy::copy_pairs;
 use crate::keys::{IntoNamed, Keys};
 use crate::kinds::{first_of_kind, has_enabler, has_kind, is_here, kind_of, may_have};
 use crate::pair_set::PairSet;
 use crate::pairs::{find_key, have_same_keys, last_of_each, sort_pairs};
 use justfile_attribute::Attribute;
-use justfile_base::{
+use justfile_token::{
     AttributeKind, CompileError, CompileErrorKind, ItemKind, Name, StringLiteral, Token,
 };
 use justfile_written::{Written, with_comments, without_comments};
@@ -107,10 +107,10 @@ impl<'src> PairSet<Attribute<'src>, Written<'src>> {
     ///
     /// `AllocError` if the program is out of memory.
     #[tactic(auto, using(crate::proofs::Sorts::entries_sorted))]
-    pub fn from_read(pairs: Vec<(Attribute<'src>, Written<'src>)>) -> Result<Self, AllocError>
+    pub fn from_parsed(pairs: Vec<(Attribute<'src>, Written<'src>)>) -> Result<Self, AllocError>
         ensures pairs { IfOk result (λ set. written_of set ≡ in_order pair_cmp pairs.entry.items) }
-        ensures entries { IfOk result (λ set. All (λ p. IsWholeAttribute p.0) pairs.entry.items
-            → leaf_entries_of set ≡ in_order (entry_cmp sees_leaves) (map leaf_entry_of pairs.entry.items)) }
+        ensures entries { IfOk result (λ set. All (λ p. HasDerivedAttributeFields p.0) pairs.entry.items
+            → leaf_entries_of set ≡ in_order (entry_cmp views_leaves) (map leaf_entry_of pairs.entry.items)) }
     {
         let mut pairs = pairs;
         sort_pairs(&mut pairs)?;
@@ -242,8 +242,8 @@ impl<'src> PairSet<Attribute<'src>, Written<'src>> {
         item_token: Token<'src>,
     ) -> Result<(), CompileError<'src>>
         requires construct { IsConstruct item_kind }
-        ensures valid { OnOk result (first_invalid sees_leaves item_kind (leaf_entries_of self.now) ≡ None) }
-        ensures invalid { IfErr result (λ e. IsInvalidBy (first_invalid sees_leaves item_kind (leaf_entries_of self.now)) item_kind item_token.entry e) }
+        ensures valid { OnOk result (first_invalid views_leaves item_kind (leaf_entries_of self.now) ≡ None) }
+        ensures invalid { IfErr result (λ e. IsInvalidBy (first_invalid views_leaves item_kind (leaf_entries_of self.now)) item_kind item_token.entry e) }
     {
         match self.first_invalid(item_kind) {
             None => Ok(()),

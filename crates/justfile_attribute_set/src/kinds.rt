@@ -2,12 +2,12 @@
 ghost use Rattle.std.specs.Prelude.{◌≡◌, ◌||◌, find, not};
 ghost use Rattle.std.specs.List.{list_any};
 ghost use Rattle.std.specs.Option.{option_copied};
-ghost use Rattle.justfile_word.specs.AttributeKind.{is_enabler_kind};
+ghost use Rattle.justfile_vocabulary.specs.AttributeKind.{is_enabler_kind};
 ghost use Rattle.justfile_model.specs.AttributeKinds.{is_allowed};
 ghost use Rattle.justfile_attribute_set.specs.Attributes as wanted;
 
 use justfile_attribute::Attribute;
-use justfile_base::{AttributeKind, ItemKind};
+use justfile_token::{AttributeKind, ItemKind};
 use justfile_written::Written;
 
 /// What the attribute is.

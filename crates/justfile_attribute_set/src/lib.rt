@@ -2,7 +2,7 @@
 #![tactic(auto)]
 
 mod attribute_set;
-mod copied;
+mod copy;
 mod keys;
 mod kinds;
 pub mod laws;
@@ -13,5 +13,5 @@ pub use crate::attribute_set::AttributeSet;
 pub use crate::keys::{IntoKeys, IntoNamed, Keys};
 pub use crate::pair_set::{ContentOrder, PairSet};
 pub use justfile_attribute::Attribute;
-pub use justfile_base::AttributeKind;
+pub use justfile_token::AttributeKind;
 pub use justfile_written::Written;

@@ -3,8 +3,8 @@ use Rattle.std.proofs.Common.{◌≡◌, ◌∙◌, ℕ, true, false, List, Opti
 use Rattle.std.specs.Prelude.{IfSome}
 use Rattle.std.specs.Option.{option_map}
 use Rattle.std.proofs.lemmas.Option.{none-some, same_Some}
-use Rattle.justfile_word.proofs.IndentationLemmas.{indentation_read}
-use Rattle.justfile_word.specs.Indentation.{IsIndentation}
+use Rattle.justfile_vocabulary.proofs.IndentationLemmas.{indentation_read}
+use Rattle.justfile_vocabulary.specs.Indentation.{IsIndentation}
 use Rattle.justfile_model.specs.Enabled.{indentation_of}
 use Rattle.justfile_model.specs.Features.{Noted}
 use Rattle.justfile_model.specs.Literals.{LiteralFault, string_text}

@@ -4,17 +4,17 @@ use Rattle.std.specs.Prelude.{All, IfSome, string_bytes}
 use Rattle.std.specs.Option.{option_map}
 use Rattle.std.proofs.lemmas.List.Elements.{All-head, All-tail}
 use Rattle.std.proofs.lemmas.Option.{none-some, same_Some}
-use Rattle.justfile_word.specs.Indentation.{indentation_text}
-use Rattle.justfile_base.specs.StringLiteral.{begins_format_string}
-use Rattle.justfile_base.specs.Token.{lexeme_of}
-use Rattle.justfile_word.specs.declared.indentation.Indentation.{Indentation}
-use Rattle.justfile_word.specs.declared.numerator.Numerator.{Numerator}
-use Rattle.justfile_base.specs.declared.string_literal.StringLiteral.{StringLiteral}
-use Rattle.justfile_base.specs.declared.token.Token.{Token}
+use Rattle.justfile_vocabulary.specs.Indentation.{indentation_text}
+use Rattle.justfile_token.specs.StringLiteral.{begins_format_string}
+use Rattle.justfile_token.specs.Token.{lexeme_of}
+use Rattle.justfile_vocabulary.specs.declared.indentation.Indentation.{Indentation}
+use Rattle.justfile_vocabulary.specs.declared.numerator.Numerator.{Numerator}
+use Rattle.justfile_token.specs.declared.string_literal.StringLiteral.{StringLiteral}
+use Rattle.justfile_token.specs.declared.token.Token.{Token}
 use Rattle.justfile_model.specs.Literals.{LiteralFault, cooked_text, expanded_text, string_of, string_text}
 use Rattle.justfile_model.specs.RecipeRules.{or_else}
 use Rattle.justfile_model.specs.Tok.{Tok}
-use Rattle.justfile_tree.specs.Expression.{literal_tok}
+use Rattle.justfile_expression.specs.Expression.{literal_tok}
 use Rattle.justfile_attribute_set.specs.AttributeSet.{attributes_of}
 use Rattle.justfile_attribute_set.specs.Attributes.{are_enabled}
 use Rattle.justfile_setting.specs.declared.setting.Setting.{Setting}
@@ -22,8 +22,8 @@ use Rattle.justfile_setting.specs.declared.setting.Setting.TheVariants as settin
 use Rattle.justfile_item.specs.Indented.{indentation_set, item_indentation, items_indentation}
 use Rattle.justfile_item.specs.declared.item.Item.{Item}
 use Rattle.justfile_item.specs.declared.item.Item.TheVariants as items
-use Rattle.justfile_file.specs.declared.ast.Ast.{Ast}
-use Rattle.justfile_parse_item.specs.Filled.{IsGivenItem, IsGivenLiteral, IsGivenSetting}
+use Rattle.justfile_ast.specs.declared.ast.Ast.{Ast}
+use Rattle.justfile_parse_item.specs.Filled.{IsFilledItem, IsFilledLiteral, IsFilledSetting}
 use Rattle.justfile_parse.specs.Parsing.{IsParsedText}
 use Rattle.justfile_format.specs.Formatting.{IsFileOf, IsIndentedBy, IsSaid, conditions, unchanged}
 
@@ -38,14 +38,14 @@ plain false lexeme text h = h
 plain true lexeme text h = unexpanded (string_text lexeme) text h
 
 module _ (IsToken : Token → Type 0) where
-  said_literal : (literal : StringLiteral) (indentation : Indentation) → IsGivenLiteral unchanged IsToken literal
+  said_literal : (literal : StringLiteral) (indentation : Indentation) → IsFilledLiteral unchanged IsToken literal
       → indentation_text indentation ≡ string_bytes literal.cooked → IsSaid (literal, indentation)
   said_literal literal indentation given e =
       ap (λ part. string_text ((if begins_format_string part then codes "f" else []) ++ lexeme_of literal.token)) given.part
       ∙ plain literal.expand (lexeme_of literal.token) (string_bytes literal.cooked) given.cooked
       ∙ ap (λ (text : List ℕ). Ok text) (sym e)
 
-  said_set : (s : Setting) → IsGivenSetting unchanged IsToken s → IfSome (indentation_set s) IsSaid
+  said_set : (s : Setting) → IsFilledSetting unchanged IsToken s → IfSome (indentation_set s) IsSaid
   said_set (settings.Indentation literal indentation) given = said_literal literal indentation given.0 given.1
   said_set (settings.AllowDuplicateRecipes value) given = tt
   said_set (settings.AllowDuplicateVariables value) given = tt
@@ -76,12 +76,12 @@ module _ (IsToken : Token → Type 0) where
   said_set (settings.WindowsShell interpreter) given = tt
   said_set (settings.WorkingDirectory value) given = tt
 
-  said_if : (b : Bool) (s : Setting) → IsGivenSetting unchanged IsToken s → IfSome (if b then indentation_set s else None) IsSaid
+  said_if : (b : Bool) (s : Setting) → IsFilledSetting unchanged IsToken s → IfSome (if b then indentation_set s else None) IsSaid
   said_if true s given = said_set s given
   said_if false s given = tt
 
   module _ (depth : ℕ) (offsets : List ℕ) where
-    said_item : (i : Item) → IsGivenItem unchanged IsToken depth offsets i → IfSome (item_indentation i) IsSaid
+    said_item : (i : Item) → IsFilledItem unchanged IsToken depth offsets i → IfSome (item_indentation i) IsSaid
     said_item (items.Alias a) given = tt
     said_item (items.Assignment a) given = tt
     said_item (items.Comment text) given = tt
@@ -97,11 +97,11 @@ module _ (IsToken : Token → Type 0) where
     said_first None found h k = k
     said_first (Some p) found h k = h
 
-    said_items : (all : List Item) → All (IsGivenItem unchanged IsToken depth offsets) all → IfSome (items_indentation all) IsSaid
+    said_items : (all : List Item) → All (IsFilledItem unchanged IsToken depth offsets) all → IfSome (items_indentation all) IsSaid
     said_items [] given = tt
     said_items (i ∷ all) given =
-        said_first (item_indentation i) (items_indentation all) (said_item i (All-head (IsGivenItem unchanged IsToken depth offsets) i all given))
-        (said_items all (All-tail (IsGivenItem unchanged IsToken depth offsets) i all given))
+        said_first (item_indentation i) (items_indentation all) (said_item i (All-head (IsFilledItem unchanged IsToken depth offsets) i all given))
+        (said_items all (All-tail (IsFilledItem unchanged IsToken depth offsets) i all given))
 
 -- a file that was parsed is that of its text
 pub file_of : (path src : List ℕ) (depth : ℕ) (offsets : List ℕ) (old new : Numerator) (ast : Ast) → IsParsedText conditions path src depth offsets old new ast → IsFileOf src ast

@@ -4,17 +4,17 @@ use Rattle.std.specs.Prelude.{IfSome, OnErr, OnOk, String}
 use Rattle.std.specs.Io.KnownBytes.{Appends, Keeps}
 use Rattle.std.specs.Str.{IsUtf8}
 use Rattle.std.proofs.KnownBytes.{Appends-kept}
-use Rattle.justfile_word.specs.Numerator.{bindings_of, recipes_of}
-use Rattle.justfile_word.specs.declared.numerator.Numerator.{Numerator}
-use Rattle.justfile_base.specs.declared.fault.Fault.{Fault}
-use Rattle.justfile_base.specs.declared.fault.Fault.TheVariants.{Numbers}
+use Rattle.justfile_vocabulary.specs.Numerator.{bindings_of, recipes_of}
+use Rattle.justfile_vocabulary.specs.declared.numerator.Numerator.{Numerator}
+use Rattle.justfile_token.specs.declared.fault.Fault.{Fault}
+use Rattle.justfile_token.specs.declared.fault.Fault.TheVariants.{Numbers}
 use Rattle.justfile_model.specs.Files.{NumbersSuffice}
-use Rattle.justfile_file.specs.Written.{AppendsPart}
-use Rattle.justfile_file.specs.declared.write_fault.WriteFault.{WriteFault}
+use Rattle.justfile_ast.specs.Written.{AppendsPart}
+use Rattle.justfile_ast.specs.declared.write_fault.WriteFault.{WriteFault}
 use Rattle.justfile_parse.specs.Parsing.{HasNoTree}
 use Rattle.justfile_format.specs.Arguments.{AsksFormat}
 use Rattle.justfile_format.specs.Failure.{IfRefused}
-use Rattle.justfile_format.specs.Formatting.{Formats, IsFormatted, IsRefusal, IsUnprintable, conditions}
+use Rattle.justfile_format.specs.Formatting.{FormatStrings, IsFormatted, IsRefusal, IsUnprintable, conditions}
 use Rattle.justfile_format.specs.Outcome.{AppendsBeginning, FormatsBeginning, IsWhy, LacksNumbers}
 use Rattle.justfile_format.specs.declared.failure.Failure.{Failure}
 use Rattle.justfile_format.specs.declared.failure.Failure.TheVariants as failures
@@ -36,7 +36,7 @@ pub formatted_part : (source text : List ℕ) (old new : Option (List ℕ)) → 
 formatted_part source text old new f h = record { canonical = text; formatted = f; written = part old new text h }
 
 -- all was written, and stays as it is
-pub unflushed : (source : List ℕ) (old mid new : Option (List ℕ)) → Formats source old mid → Keeps mid new → FormatsBeginning source old new
+pub unflushed : (source : List ℕ) (old mid new : Option (List ℕ)) → FormatStrings source old mid → Keeps mid new → FormatsBeginning source old new
 unflushed source old mid new f kept = record {
   canonical = f.canonical;
   formatted = f.formatted;

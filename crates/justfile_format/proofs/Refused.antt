@@ -1,10 +1,10 @@
 -- A refused text has an error, of which the failure tells.
 use Rattle.std.proofs.Common.{◌≡◌, ◌⊎◌, inl, inr, List, ℕ, codes, subst}
 use Rattle.std.specs.Str.{IsUtf8}
-use Rattle.justfile_word.specs.declared.numerator.Numerator.{Numerator}
-use Rattle.justfile_base.specs.declared.compile_error.CompileError.{CompileError}
-use Rattle.justfile_base.specs.declared.fault.Fault.{Fault}
-use Rattle.justfile_base.specs.declared.fault.Fault.TheVariants.{Compile}
+use Rattle.justfile_vocabulary.specs.declared.numerator.Numerator.{Numerator}
+use Rattle.justfile_token.specs.declared.compile_error.CompileError.{CompileError}
+use Rattle.justfile_token.specs.declared.fault.Fault.{Fault}
+use Rattle.justfile_token.specs.declared.fault.Fault.TheVariants.{Compile}
 use Rattle.justfile_parse.specs.Parsing.{HasNoTree, IsTreeless}
 use Rattle.justfile_format.specs.Failure.{IfRefused, IsRefusalFor}
 use Rattle.justfile_format.specs.Formatting.{IsRefusal, conditions}

@@ -1,8 +1,8 @@
 -- Why nothing was formatted: exit statuses, and the lines for standard error.
 use Rattle.std.specs.Prelude.{◌≡◌, ℕ, List, ◌++◌, codes, string_bytes}
-use Rattle.justfile_base.specs.Excerpt.{excerpt_text}
-use Rattle.justfile_base.specs.Messages.{message_text}
-use Rattle.justfile_base.specs.declared.compile_error.CompileError.{CompileError}
+use Rattle.justfile_token.specs.Excerpt.{excerpt_text}
+use Rattle.justfile_token.specs.Messages.{message_text}
+use Rattle.justfile_token.specs.declared.compile_error.CompileError.{CompileError}
 use Rattle.justfile_format.specs.declared.failure.Failure.{Failure}
 use Rattle.justfile_format.specs.declared.failure.Failure.TheVariants.{Usage, Reading, NotUtf8, Refused, NotPrintable, Writing, Memory, Numbers}
 

@@ -2,11 +2,11 @@
 use Rattle.std.specs.Prelude.{◌≡◌, ◌≢◌, ◌⊎◌, ℕ, true, false, List, Option, Some, None, Ok, IfSome, codes}
 use Rattle.std.specs.Str.{IsUtf8}
 use Rattle.std.specs.Io.KnownBytes.{Appends}
-use Rattle.justfile_word.specs.Indentation.{indentation_text}
-use Rattle.justfile_word.specs.declared.indentation.Indentation.{Indentation}
-use Rattle.justfile_base.specs.declared.compile_error.CompileError.{CompileError}
-use Rattle.justfile_base.specs.declared.string_literal.StringLiteral.{StringLiteral}
-use Rattle.justfile_model.specs.Answers.{IsFrom, IsLexicalError}
+use Rattle.justfile_vocabulary.specs.Indentation.{indentation_text}
+use Rattle.justfile_vocabulary.specs.declared.indentation.Indentation.{Indentation}
+use Rattle.justfile_token.specs.declared.compile_error.CompileError.{CompileError}
+use Rattle.justfile_token.specs.declared.string_literal.StringLiteral.{StringLiteral}
+use Rattle.justfile_model.specs.LexResult.{IsFrom, IsLexicalError}
 use Rattle.justfile_model.specs.Conditions.{Conditions}
 use Rattle.justfile_model.specs.Enabled.{indentation_of}
 use Rattle.justfile_model.specs.Features.{Noted}
@@ -14,10 +14,10 @@ use Rattle.justfile_model.specs.Literals.{Expansions, string_text}
 use Rattle.justfile_model.specs.Printing.{printable}
 use Rattle.justfile_model.specs.Tok.{Tok}
 use Rattle.justfile_model.specs.Tree.{Tree, shape_of}
-use Rattle.justfile_tree.specs.Expression.{literal_tok}
+use Rattle.justfile_expression.specs.Expression.{literal_tok}
 use Rattle.justfile_item.specs.Indented.{items_indentation}
-use Rattle.justfile_file.specs.Ast.{features_of, tree_of}
-use Rattle.justfile_file.specs.declared.ast.Ast.{Ast}
+use Rattle.justfile_ast.specs.Ast.{features_of, tree_of}
+use Rattle.justfile_ast.specs.declared.ast.Ast.{Ast}
 use Rattle.justfile_round_trip.specs.RoundTrip.{TextDerives, printed}
 use Rattle.justfile_parse_expression.specs.declared.expression.TheConstants.{RECURSION_LIMIT}
 use Rattle.justfile_parse.specs.Parsing.{IsTextRefused}
@@ -72,7 +72,7 @@ pub data HasNone (source : List ℕ) : Type 0 where
   unprintable : IsUnprintable source → HasNone source
 
 -- the canonical text was written after what was written before
-pub record Formats (source : List ℕ) (old new : Option (List ℕ)) : Type 0 where
+pub record FormatStrings (source : List ℕ) (old new : Option (List ℕ)) : Type 0 where
   pub canonical : List ℕ
   pub formatted : IsFormatted source canonical
   pub written : Appends old new canonical

@@ -2,9 +2,9 @@ ghost use Rattle.std.specs.Prelude.{◌≡◌, ◌≢◌, Err, IfErr, IfOk, OnOk
 ghost use Rattle.justfile_format.specs.declared.failure.Failure.TheVariants as failures;
 ghost use Rattle.justfile_format.specs.Failure.{IfRefused, IsOfPrinting, IsOfText, IsOfTextOrWriting, IsRefusalFor};
 ghost use Rattle.justfile_format.specs.Outcome.{FormatsBeginning, LacksNumbers};
-ghost use Rattle.justfile_format.specs.Formatting.{Formats, IsFileOf, IsFormatted, IsIndented, IsIndentedBy, IsPrinted, IsRefusal, IsUnprintable};
-ghost use Rattle.justfile_word.specs.Indentation.{indentation_text};
-ghost use Rattle.justfile_file.specs.Ast.{ast_shape, tree_of};
+ghost use Rattle.justfile_format.specs.Formatting.{FormatStrings, IsFileOf, IsFormatted, IsIndented, IsIndentedBy, IsPrinted, IsRefusal, IsUnprintable};
+ghost use Rattle.justfile_vocabulary.specs.Indentation.{indentation_text};
+ghost use Rattle.justfile_ast.specs.Ast.{ast_shape, tree_of};
 ghost use Rattle.justfile_model.specs.Enabled.{indentation_of};
 ghost use Rattle.justfile_model.specs.Printing.{printable};
 
@@ -130,7 +130,7 @@ pub fn format_text(alloc: Global, source: &str) -> Result<String, Failure>
 /// memory first, since it is many small pieces, and each write of one takes longer than a copy.
 #[tactic(auto, using(crate::proofs::Outcomes::formatted_part))]
 pub fn format_to<W: Write>(alloc: Global, source: &str, writer: &mut W) -> Result<(), Failure>
-    ensures ok { OnOk result (Formats source.now (W.contents writer.old) (W.contents writer.new)) }
+    ensures ok { OnOk result (FormatStrings source.now (W.contents writer.old) (W.contents writer.new)) }
     ensures refused { IfErr result (IfRefused (IsRefusal source.now)) }
     ensures unprintable { result ≡ Err failures.NotPrintable → IsUnprintable source.now }
     ensures part { result ≡ Err failures.Writing

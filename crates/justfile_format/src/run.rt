@@ -4,7 +4,7 @@ ghost use Rattle.std.specs.Str.{IsUtf8};
 ghost use Rattle.justfile_format.specs.declared.failure.Failure.TheVariants as failures;
 ghost use Rattle.justfile_format.specs.Arguments.{AsksCheck, AsksFormat};
 ghost use Rattle.justfile_format.specs.Failure.{IfRefused};
-ghost use Rattle.justfile_format.specs.Formatting.{IsFormatted, IsRefusal, IsUnprintable, Formats, Differs, HasNone};
+ghost use Rattle.justfile_format.specs.Formatting.{IsFormatted, IsRefusal, IsUnprintable, FormatStrings, Differs, HasNone};
 ghost use Rattle.justfile_format.specs.Outcome.{Fails, FormatsBeginning, LacksNumbers};
 
 use crate::failure::{Failure, report};
@@ -61,7 +61,7 @@ fn flush<W: Write>(writer: &mut W) -> Result<(), Failure>
 #[tactic(auto, using(crate::proofs::Written::flushed, crate::proofs::Outcomes::unflushed))]
 fn format<R: Read, W: Write>(alloc: Global, reader: &mut R, writer: &mut W) -> Result<(), Failure>
     ensures ok { OnOk result (IfSome (R.remaining reader.old)
-        (λ source. Formats source (W.contents writer.old) (W.contents writer.new))) }
+        (λ source. FormatStrings source (W.contents writer.old) (W.contents writer.new))) }
     ensures refused { IfErr result (IfRefused (λ lines. IfSome (R.remaining reader.old) (λ source. IsRefusal source lines))) }
     ensures unprintable { result ≡ Err failures.NotPrintable → IfSome (R.remaining reader.old) IsUnprintable }
     ensures not_utf8 { result ≡ Err failures.NotUtf8 → IfSome (R.remaining reader.old) (λ source. ¬ IsUtf8 source) }
@@ -111,7 +111,7 @@ pub fn run<R: Read, W: Write, E: Write>(
     ensures usage_reads_nothing { ¬ AsksFormat arguments.now → ¬ AsksCheck arguments.now → reader.new ≡ reader.old }
 
     ensures formatted { AsksFormat arguments.now → result ≡ 0 → IfSome (R.remaining reader.old)
-        (λ source. Formats source (W.contents writer.old) (W.contents writer.new)) }
+        (λ source. FormatStrings source (W.contents writer.old) (W.contents writer.new)) }
     ensures canonical { AsksCheck arguments.now → result ≡ 0 → IfSome (R.remaining reader.old) (λ source. IsFormatted source source) }
     ensures differs { result ≡ 1 → AsksCheck arguments.now × IfSome (R.remaining reader.old) Differs }
     ensures refused { result ≡ 2 → IfSome (R.remaining reader.old) HasNone }

@@ -6,11 +6,11 @@ use Rattle.std.specs.List.{flat_map}
 use Rattle.std.specs.Option.{option_map}
 use Rattle.std.proofs.lemmas.List.{map-append}
 use Rattle.std.proofs.lemmas.List.Elements.{All-head, All-tail}
-use Rattle.justfile_word.specs.declared.attribute_kind.AttributeKind.{AttributeKind}
-use Rattle.justfile_word.specs.declared.attribute_kind.AttributeKind.TheVariants as kinds
-use Rattle.justfile_base.specs.declared.name.Name.{Name}
-use Rattle.justfile_base.specs.declared.string_literal.StringLiteral.{StringLiteral}
-use Rattle.justfile_base.specs.declared.token.Token.{Token}
+use Rattle.justfile_vocabulary.specs.declared.attribute_kind.AttributeKind.{AttributeKind}
+use Rattle.justfile_vocabulary.specs.declared.attribute_kind.AttributeKind.TheVariants as kinds
+use Rattle.justfile_token.specs.declared.name.Name.{Name}
+use Rattle.justfile_token.specs.declared.string_literal.StringLiteral.{StringLiteral}
+use Rattle.justfile_token.specs.declared.token.Token.{Token}
 use Rattle.justfile_model.specs.Files.{attribute_literals, entries_literals, expr_literals, optional_literals, option_literals, quoted_literals}
 use Rattle.justfile_model.specs.Literals.{Expansions, Literal, AreCookedTexts, over_literal}
 use Rattle.justfile_model.specs.Tok.{Tok, tok_of}
@@ -23,8 +23,8 @@ use Rattle.justfile_attribute_set.specs.Keys.{firsts}
 use Rattle.justfile_attribute_set.specs.Pairs.{Pair, entry_of}
 use Rattle.justfile_item.specs.AttributeParts.{OfBoxed, OfParts, OfPair, OfProperty, OfSet}
 use Rattle.justfile_item.specs.Attributes.{attribute_cooked, boxed_cooked, literal_cooked, optional, option_cooked, property_cooked, set_cooked}
-use Rattle.justfile_tree.specs.Expression.{expr_of, expr_cooked, literal_tok}
-use Rattle.justfile_tree.specs.declared.expression.Expression.{Expression}
+use Rattle.justfile_expression.specs.Expression.{expr_of, expr_cooked, literal_tok}
+use Rattle.justfile_expression.specs.declared.expression.Expression.{Expression}
 
 module _ (expander : Expansions) where
   abbrev pub Cook : List (Literal Tok) → List (List ℕ) → Type 0

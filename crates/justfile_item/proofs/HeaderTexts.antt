@@ -5,14 +5,14 @@ use Rattle.std.specs.Global.{Box}
 use Rattle.std.specs.List.{flat_map}
 use Rattle.std.specs.Option.{option_map}
 use Rattle.std.proofs.lemmas.List.Elements.{All-head, All-tail, All-take, All-drop}
-use Rattle.justfile_header.specs.Header.{argument_cooked, boxed_of, dependency_argument_of, dependency_cooked, dependency_of, option_cooked, parameter_cooked, parameter_of}
-use Rattle.justfile_header.specs.declared.parameter.Parameter.{Parameter}
-use Rattle.justfile_header.specs.declared.unresolved_dependency.DependencyArgument.{DependencyArgument}
-use Rattle.justfile_header.specs.declared.unresolved_dependency.UnresolvedDependency.{UnresolvedDependency}
+use Rattle.justfile_recipe_header.specs.Header.{argument_cooked, boxed_of, dependency_argument_of, dependency_cooked, dependency_of, option_cooked, parameter_cooked, parameter_of}
+use Rattle.justfile_recipe_header.specs.declared.parameter.Parameter.{Parameter}
+use Rattle.justfile_recipe_header.specs.declared.unresolved_dependency.DependencyArgument.{DependencyArgument}
+use Rattle.justfile_recipe_header.specs.declared.unresolved_dependency.UnresolvedDependency.{UnresolvedDependency}
 use Rattle.justfile_model.specs.Files.{dependency_literals, expr_literals, header_literals, optional_literals, parameter_literals}
 use Rattle.justfile_model.specs.Literals.{Expansions}
-use Rattle.justfile_tree.specs.Expression.{expr_of, expr_cooked}
-use Rattle.justfile_tree.specs.declared.expression.Expression.{Expression}
+use Rattle.justfile_expression.specs.Expression.{expr_of, expr_cooked}
+use Rattle.justfile_expression.specs.declared.expression.Expression.{Expression}
 use Rattle.justfile_item.specs.HeaderParts.{OfArgument, OfArguments, OfDefault, OfHeader}
 use Rattle.justfile_item.specs.Item.{header_cooked, header_of, priors_of, subsequents_of}
 use Rattle.justfile_item.specs.declared.recipe.UnresolvedRecipe.{UnresolvedRecipe}

@@ -1,15 +1,15 @@
 -- The texts of items, by their parts.
 use Rattle.std.proofs.Common.{◌≡◌, Bool, true, false, List, [], ◌∷◌, ◌++◌, map, codes, Option, Some, None, refl, sym, ap, ◌∙◌, append_assoc, append-nil}
 use Rattle.std.specs.Option.{option_map}
-use Rattle.justfile_base.specs.Name.{name_text}
-use Rattle.justfile_base.specs.Namepath.{names_in, namepath_text}
-use Rattle.justfile_base.specs.Path.{path_text}
-use Rattle.justfile_base.specs.StringLiteral.{format_mark}
-use Rattle.justfile_base.specs.Token.{lexeme_of}
-use Rattle.justfile_base.specs.declared.name.Name.{Name}
-use Rattle.justfile_base.specs.declared.namepath.Namepath.{Namepath}
-use Rattle.justfile_word.specs.declared.number.Number.{Number}
-use Rattle.justfile_base.specs.declared.string_literal.StringLiteral.{StringLiteral}
+use Rattle.justfile_token.specs.Name.{name_text}
+use Rattle.justfile_token.specs.Namepath.{names_in, namepath_text}
+use Rattle.justfile_token.specs.Path.{path_text}
+use Rattle.justfile_token.specs.StringLiteral.{format_mark}
+use Rattle.justfile_token.specs.Token.{lexeme_of}
+use Rattle.justfile_token.specs.declared.name.Name.{Name}
+use Rattle.justfile_token.specs.declared.namepath.Namepath.{Namepath}
+use Rattle.justfile_vocabulary.specs.declared.number.Number.{Number}
+use Rattle.justfile_token.specs.declared.string_literal.StringLiteral.{StringLiteral}
 use Rattle.justfile_model.specs.Printing.{fixed_text, if_some, if_true, file_path_text, mark_text, setting_value_text}
 use Rattle.justfile_model.specs.Tok.{Tok}
 use Rattle.justfile_model.specs.Tree as tree
@@ -17,7 +17,7 @@ use Rattle.justfile_model.specs.Tree.{SettingValue, lexeme, nothing, over_quoted
 use Rattle.justfile_setting.specs.Print.{setting_output, value_text}
 use Rattle.justfile_setting.specs.Setting.{is_default, value_of}
 use Rattle.justfile_setting.specs.declared.setting.Setting.{Setting}
-use Rattle.justfile_header.specs.Header.{name_of}
+use Rattle.justfile_recipe_header.specs.Header.{name_of}
 use Rattle.justfile_item.specs.Item.{quoted_of}
 use Rattle.justfile_item.specs.ItemText.{alias_text_of, later_names_text, later_path_text, later_value_text, module_text_of, parameter_names_text, path_text_of}
 use Rattle.justfile_item.specs.declared.alias.Alias.{Alias}

@@ -6,14 +6,14 @@ use Rattle.std.specs.List.{flat_map}
 use Rattle.std.specs.Option.{option_map}
 use Rattle.std.proofs.lemmas.List.Elements.{All-head, All-tail}
 use Rattle.justfile_attribute.specs.declared.interpreter.Interpreter.{Interpreter}
-use Rattle.justfile_base.specs.declared.string_literal.StringLiteral.{StringLiteral}
+use Rattle.justfile_token.specs.declared.string_literal.StringLiteral.{StringLiteral}
 use Rattle.justfile_model.specs.Files.{expr_literals, exprs_literals, optional_literals, quoted_literals, setting_literals}
 use Rattle.justfile_model.specs.Literals.{Expansions}
 use Rattle.justfile_setting.specs.Setting.{interpreter_cooked, setting_cooked, value_of}
 use Rattle.justfile_setting.specs.declared.setting.Setting.{Setting}
 use Rattle.justfile_setting.specs.declared.setting.Setting.TheVariants as settings
-use Rattle.justfile_tree.specs.Expression.{expr_of, exprs_of, expr_cooked}
-use Rattle.justfile_tree.specs.declared.expression.Expression.{Expression}
+use Rattle.justfile_expression.specs.Expression.{expr_of, exprs_of, expr_cooked}
+use Rattle.justfile_expression.specs.declared.expression.Expression.{Expression}
 use Rattle.justfile_item.specs.Attributes.{literal_cooked, optional}
 use Rattle.justfile_item.specs.Item.{quoted_of}
 use Rattle.justfile_item.specs.SettingParts.{OfCommand, OfSetting}

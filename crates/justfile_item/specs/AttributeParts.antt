@@ -1,15 +1,15 @@
 -- What holds of the parts of attributes: of the expressions, the literals, and the tokens of names and keys.
 use Rattle.std.specs.Prelude.{Option, All, IfSome}
 use Rattle.std.specs.Global.{Box}
-use Rattle.justfile_base.specs.declared.name.Name.{Name}
-use Rattle.justfile_base.specs.declared.string_literal.StringLiteral.{StringLiteral}
-use Rattle.justfile_base.specs.declared.token.Token.{Token}
+use Rattle.justfile_token.specs.declared.name.Name.{Name}
+use Rattle.justfile_token.specs.declared.string_literal.StringLiteral.{StringLiteral}
+use Rattle.justfile_token.specs.declared.token.Token.{Token}
 use Rattle.justfile_attribute.specs.declared.attribute.Attribute.{Attribute}
 use Rattle.justfile_attribute.specs.declared.attribute.Attribute.TheVariants as attributes
 use Rattle.justfile_attribute.specs.declared.interpreter.Interpreter.{Interpreter}
 use Rattle.justfile_attribute_set.specs.AttributeSet.{AttributeSet, written_of}
 use Rattle.justfile_attribute_set.specs.Pairs.{Pair}
-use Rattle.justfile_tree.specs.declared.expression.Expression.{Expression}
+use Rattle.justfile_expression.specs.declared.expression.Expression.{Expression}
 
 module _ (OfExpression : Expression → Type 0) (OfLiteral : StringLiteral → Type 0) (OfToken : Token → Type 0) where
   -- of a key that may be missing

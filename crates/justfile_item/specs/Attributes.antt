@@ -2,8 +2,8 @@
 use Rattle.std.specs.Prelude.{ℕ, List, [], ◌∷◌, ◌++◌, map, Option, Some, None, string_bytes}
 use Rattle.std.specs.Global.{Box}
 use Rattle.std.specs.List.{flat_map}
-use Rattle.justfile_base.specs.declared.name.Name.{Name}
-use Rattle.justfile_base.specs.declared.string_literal.StringLiteral.{StringLiteral}
+use Rattle.justfile_token.specs.declared.name.Name.{Name}
+use Rattle.justfile_token.specs.declared.string_literal.StringLiteral.{StringLiteral}
 use Rattle.justfile_model.specs.Printing.{entries_text, entry_text}
 use Rattle.justfile_model.specs.Tree.{Entry, lexeme, nothing, over_entry}
 use Rattle.justfile_attribute.specs.declared.attribute.Attribute.{Attribute}
@@ -11,8 +11,8 @@ use Rattle.justfile_attribute.specs.declared.attribute.Attribute.TheVariants as 
 use Rattle.justfile_attribute.specs.declared.interpreter.Interpreter.{Interpreter}
 use Rattle.justfile_attribute_set.specs.AttributeSet.{AttributeSet, attributes_of, entries_of, written_of}
 use Rattle.justfile_attribute_set.specs.Pairs.{Pair, entry_of}
-use Rattle.justfile_tree.specs.Expression.{expr_cooked}
-use Rattle.justfile_tree.specs.declared.expression.Expression.{Expression}
+use Rattle.justfile_expression.specs.Expression.{expr_cooked}
+use Rattle.justfile_expression.specs.declared.expression.Expression.{Expression}
 
 -- attributes as entries without places
 abbrev pub entry_shapes : AttributeSet → List (Entry (List ℕ) (Unit {0}))

@@ -3,14 +3,14 @@ use Rattle.std.specs.Prelude.{◌≡◌}
 use Rattle.std.specs.List.{AllZip}
 use Rattle.justfile_attribute.specs.Copies.{IsSameIfPresent}
 use Rattle.justfile_attribute_set.specs.Copies.{IsSameSet}
-use Rattle.justfile_base.specs.Namepath.{names_in}
-use Rattle.justfile_base.specs.StringLiteral.{IsSameLiteral}
-use Rattle.justfile_base.specs.declared.namepath.Namepath.{Namepath}
-use Rattle.justfile_header.specs.Copies.{IsSameDependency, IsSameParameter, IsSameText}
+use Rattle.justfile_token.specs.Namepath.{names_in}
+use Rattle.justfile_token.specs.StringLiteral.{IsSameLiteral}
+use Rattle.justfile_token.specs.declared.namepath.Namepath.{Namepath}
+use Rattle.justfile_recipe_header.specs.Copies.{IsSameDependency, IsSameParameter, IsSameText}
 use Rattle.justfile_line.specs.Copies.{IsSameLine}
 use Rattle.justfile_setting.specs.Copies.{IsSameSetting}
-use Rattle.justfile_tree.specs.declared.expression.Expression.{Expression}
-use Rattle.justfile_tree.specs.Copies.{IsSameExpression}
+use Rattle.justfile_expression.specs.declared.expression.Expression.{Expression}
+use Rattle.justfile_expression.specs.Copies.{IsSameExpression}
 use Rattle.justfile_item.specs.declared.alias.Alias.{Alias}
 use Rattle.justfile_item.specs.declared.binding.Binding.{Binding}
 use Rattle.justfile_item.specs.declared.function_definition.FunctionDefinition.{FunctionDefinition}

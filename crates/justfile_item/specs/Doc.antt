@@ -2,7 +2,7 @@
 use Rattle.std.specs.Prelude.{ℕ, List, Option, None, String, string_bytes, if◌then◌else◌}
 use Rattle.std.specs.Global.{Global}
 use Rattle.std.specs.Option.{option_map}
-use Rattle.justfile_word.specs.declared.attribute_kind.AttributeKind.TheVariants.{Doc}
+use Rattle.justfile_vocabulary.specs.declared.attribute_kind.AttributeKind.TheVariants.{Doc}
 use Rattle.justfile_model.specs.ContentKeys.{has_attribute}
 use Rattle.justfile_model.specs.Printing.{doc_line, if_some}
 use Rattle.justfile_attribute_set.specs.AttributeSet.{AttributeSet}

@@ -2,8 +2,8 @@
 use Rattle.std.specs.Prelude.{Bool, ◌&&◌, ◌==◌}
 use Rattle.std.specs.Bool.{beq}
 use Rattle.std.specs.Cmp.Lexicographic.{pointwise}
-use Rattle.justfile_word.specs.contracts.number.NumberPartialEq.TheImpl as numbers
-use Rattle.justfile_tree.specs.Equal.{boxed_eq, name_eq}
+use Rattle.justfile_vocabulary.specs.contracts.number.NumberPartialEq.TheImpl as numbers
+use Rattle.justfile_expression.specs.Equal.{boxed_eq, name_eq}
 use Rattle.justfile_attribute_set.specs.contracts.attribute_set.PairSetAttributeWrittenPartialEq.TheImpl as sets
 use Rattle.justfile_item.specs.FunctionParameter.{same_parameter}
 use Rattle.justfile_item.specs.declared.alias.Alias.{Alias}

@@ -1,11 +1,11 @@
 -- The indentation that a file sets for itself.
 use Rattle.std.specs.Prelude.{List, [], ◌∷◌, Option, None, Some, if◌then◌else◌}
-use Rattle.justfile_word.specs.declared.indentation.Indentation.{Indentation}
-use Rattle.justfile_base.specs.declared.string_literal.StringLiteral.{StringLiteral}
+use Rattle.justfile_vocabulary.specs.declared.indentation.Indentation.{Indentation}
+use Rattle.justfile_token.specs.declared.string_literal.StringLiteral.{StringLiteral}
 use Rattle.justfile_model.specs.RecipeRules.{or_else}
 use Rattle.justfile_attribute_set.specs.AttributeSet.{attributes_of}
 use Rattle.justfile_attribute_set.specs.Attributes.{are_enabled}
-use Rattle.justfile_setting.specs.Setting.{IsWholeSetting}
+use Rattle.justfile_setting.specs.Setting.{HasDerivedSettingFields}
 use Rattle.justfile_setting.specs.declared.setting.Setting.{Setting}
 use Rattle.justfile_setting.specs.declared.setting.Setting.TheVariants as settings
 use Rattle.justfile_item.specs.declared.item.Item.{Item}
@@ -32,6 +32,6 @@ items_indentation [] = None
 items_indentation (i ∷ items) = or_else (item_indentation i) (items_indentation items)
 
 -- what a setting has beside its tree is that of its tree
-abbrev pub IsWholeItem : Item → Type 0
-IsWholeItem (items.Setting s) = IsWholeSetting s.value.value
-IsWholeItem _ = Unit {0}
+abbrev pub HasDerivedItemFields : Item → Type 0
+HasDerivedItemFields (items.Setting s) = HasDerivedSettingFields s.value.value
+HasDerivedItemFields _ = Unit {0}

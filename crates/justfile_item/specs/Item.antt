@@ -3,22 +3,22 @@ use Rattle.std.specs.Prelude.{ℕ, Bool, true, List, [], ◌∷◌, ◌++◌, ma
 use Rattle.std.specs.Global.{Global}
 use Rattle.std.specs.List.{flat_map}
 use Rattle.std.specs.Option.{option_copied, option_map}
-use Rattle.justfile_base.specs.Namepath.{names_in}
-use Rattle.justfile_base.specs.declared.name.Name.{Name}
-use Rattle.justfile_base.specs.declared.namepath.Namepath.{Namepath}
-use Rattle.justfile_word.specs.declared.number.Number.{Number}
-use Rattle.justfile_base.specs.declared.string_literal.StringLiteral.{StringLiteral}
+use Rattle.justfile_token.specs.Namepath.{names_in}
+use Rattle.justfile_token.specs.declared.name.Name.{Name}
+use Rattle.justfile_token.specs.declared.namepath.Namepath.{Namepath}
+use Rattle.justfile_vocabulary.specs.declared.number.Number.{Number}
+use Rattle.justfile_token.specs.declared.string_literal.StringLiteral.{StringLiteral}
 use Rattle.justfile_model.specs.Tok.{Tok, tok_of}
 use Rattle.justfile_model.specs.Tree as tree
 use Rattle.justfile_model.specs.Tree.{AliasParts, AssignmentParts, FunctionParts, Header, ImportParts, ModuleParts, OrderedItem, Quoted, RecipeParts, SettingParts, item_shape_of, lexeme, nothing, over_alias, over_assignment, over_function, over_header, over_import, over_module, over_recipe, over_setting}
-use Rattle.justfile_tree.specs.Expression.{expr_of, expr_cooked, literal_tok}
-use Rattle.justfile_tree.specs.declared.expression.Expression.{Expression}
+use Rattle.justfile_expression.specs.Expression.{expr_of, expr_cooked, literal_tok}
+use Rattle.justfile_expression.specs.declared.expression.Expression.{Expression}
 use Rattle.justfile_attribute.specs.Attribute.{quoted_by}
 use Rattle.justfile_attribute_set.specs.AttributeSet.{attributes_of, entries_of}
 use Rattle.justfile_attribute_set.specs.Attributes.{are_enabled}
-use Rattle.justfile_header.specs.Header.{dependency_cooked, dependency_of, name_of, parameter_cooked, parameter_of}
-use Rattle.justfile_header.specs.declared.parameter.Parameter.{Parameter}
-use Rattle.justfile_header.specs.declared.unresolved_dependency.UnresolvedDependency.{UnresolvedDependency}
+use Rattle.justfile_recipe_header.specs.Header.{dependency_cooked, dependency_of, name_of, parameter_cooked, parameter_of}
+use Rattle.justfile_recipe_header.specs.declared.parameter.Parameter.{Parameter}
+use Rattle.justfile_recipe_header.specs.declared.unresolved_dependency.UnresolvedDependency.{UnresolvedDependency}
 use Rattle.justfile_setting.specs.Setting.{keyword_of, setting_cooked, value_of}
 use Rattle.justfile_line.specs.Body.{body_line_of, line_cooked}
 use Rattle.justfile_item.specs.Attributes.{literal_cooked, optional, set_cooked}

@@ -1,11 +1,11 @@
 -- The texts of items by their parts.
 use Rattle.std.specs.Prelude.{ℕ, Bool, List, [], ◌++◌, map, codes, Option, None, Some}
 use Rattle.std.specs.List.{flat_map}
-use Rattle.justfile_base.specs.Token.{lexeme_of}
-use Rattle.justfile_base.specs.declared.name.Name.{Name}
-use Rattle.justfile_base.specs.declared.namepath.Namepath.{Namepath}
-use Rattle.justfile_word.specs.declared.number.Number.{Number}
-use Rattle.justfile_base.specs.declared.string_literal.StringLiteral.{StringLiteral}
+use Rattle.justfile_token.specs.Token.{lexeme_of}
+use Rattle.justfile_token.specs.declared.name.Name.{Name}
+use Rattle.justfile_token.specs.declared.namepath.Namepath.{Namepath}
+use Rattle.justfile_vocabulary.specs.declared.number.Number.{Number}
+use Rattle.justfile_token.specs.declared.string_literal.StringLiteral.{StringLiteral}
 use Rattle.justfile_model.specs.Printing as printing
 use Rattle.justfile_model.specs.Printing.{fixed_text}
 use Rattle.justfile_model.specs.Tok.{Tok}

@@ -2,10 +2,10 @@
 use Rattle.std.specs.Prelude.{All}
 use Rattle.std.specs.Global.{Box}
 use Rattle.justfile_attribute.specs.declared.interpreter.Interpreter.{Interpreter}
-use Rattle.justfile_base.specs.declared.string_literal.StringLiteral.{StringLiteral}
+use Rattle.justfile_token.specs.declared.string_literal.StringLiteral.{StringLiteral}
 use Rattle.justfile_setting.specs.declared.setting.Setting.{Setting}
 use Rattle.justfile_setting.specs.declared.setting.Setting.TheVariants as settings
-use Rattle.justfile_tree.specs.declared.expression.Expression.{Expression}
+use Rattle.justfile_expression.specs.declared.expression.Expression.{Expression}
 
 module _ (OfExpression : Expression → Type 0) (OfLiteral : StringLiteral → Type 0) where
   -- of the command of an interpreter, and its arguments

@@ -2,16 +2,16 @@ ghost use Rattle.std.specs.Prelude.{◌≡◌, ◌&&◌, OnOk, OnErr, IfOk};
 ghost use Rattle.std.specs.Cmp.{and_per, on_per};
 ghost use Rattle.justfile_attribute_set.specs.contracts.attribute_set.PairSetAttributeWrittenPartialEq.TheImpl as sets;
 ghost use Rattle.justfile_attribute_set.specs.contracts.attribute_set.PairSetAttributeWrittenPartialEq.TheImpl.Laws.{laws-law as set_per};
-ghost use Rattle.justfile_base.specs.contracts.name.NamePartialEq.TheImpl as names;
-ghost use Rattle.justfile_base.specs.contracts.name.NamePartialEq.TheImpl.Laws.{laws-law as name_per};
+ghost use Rattle.justfile_token.specs.contracts.name.NamePartialEq.TheImpl as names;
+ghost use Rattle.justfile_token.specs.contracts.name.NamePartialEq.TheImpl.Laws.{laws-law as name_per};
 ghost use Rattle.justfile_item.specs.Copies.{IsSameAlias};
 ghost use Rattle.justfile_item.specs.ItemText.{alias_text_of};
 
 use crate::attributes::are_equal;
 use justfile_attribute_set::AttributeSet;
-use justfile_base::{Keyed, Name, Namepath};
-use justfile_header::write_namepath;
-use justfile_tree::{Sink, put_piece};
+use justfile_expression::{Sink, put_piece};
+use justfile_recipe_header::write_namepath;
+use justfile_token::{Keyed, Name, Namepath};
 use std::alloc::{AllocError, Global};
 use std::fmt;
 
@@ -45,7 +45,7 @@ impl<'src> Alias<'src, Namepath<'src>> {
 
 /// The key of an alias is its name.
 impl<'src, T> Keyed<'src> for Alias<'src, T> {
-    ghost use Rattle.justfile_base.specs.Name.{name_text};
+    ghost use Rattle.justfile_token.specs.Name.{name_text};
 
     ghost key_text = { λ alias. name_text alias.name };
 

@@ -4,7 +4,7 @@ ghost use Rattle.justfile_item.specs.Assignment.{binding_text};
 ghost use Rattle.justfile_item.specs.Copies.{IsSameAssignment};
 
 use crate::binding::Binding;
-use justfile_tree::{Expression, Sink, put_piece, write_expression};
+use justfile_expression::{Expression, Sink, put_piece, write_expression};
 use std::alloc::{AllocError, Global};
 use std::fmt;
 

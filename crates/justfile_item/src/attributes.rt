@@ -5,7 +5,7 @@ ghost use Rattle.justfile_item.specs.Attributes.{attribute_line, attributes_text
 use crate::comment::write_comment;
 use justfile_attribute::{Attribute, write_attribute};
 use justfile_attribute_set::{AttributeSet, Written};
-use justfile_tree::{Sink, put_piece};
+use justfile_expression::{Sink, put_piece};
 
 /// Whether two sets have equal attributes.
 pub(crate) fn are_equal<'src>(attributes: &AttributeSet<'src>, others: &AttributeSet<'src>) -> bool

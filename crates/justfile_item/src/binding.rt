@@ -3,14 +3,14 @@ ghost use Rattle.std.specs.Bool.{beq};
 ghost use Rattle.std.specs.Cmp.{and_per, bool_eq_equiv, nat_eq_equiv, on_per, partial_equiv_from_equiv};
 ghost use Rattle.justfile_attribute_set.specs.contracts.attribute_set.PairSetAttributeWrittenPartialEq.TheImpl as sets;
 ghost use Rattle.justfile_attribute_set.specs.contracts.attribute_set.PairSetAttributeWrittenPartialEq.TheImpl.Laws.{laws-law as set_per};
-ghost use Rattle.justfile_base.specs.contracts.name.NamePartialEq.TheImpl as names;
-ghost use Rattle.justfile_base.specs.contracts.name.NamePartialEq.TheImpl.Laws.{laws-law as name_per};
-ghost use Rattle.justfile_word.specs.contracts.number.NumberPartialEq.TheImpl as numbers;
-ghost use Rattle.justfile_word.specs.contracts.number.NumberPartialEq.TheImpl.Laws.{laws-law as number_per};
+ghost use Rattle.justfile_token.specs.contracts.name.NamePartialEq.TheImpl as names;
+ghost use Rattle.justfile_token.specs.contracts.name.NamePartialEq.TheImpl.Laws.{laws-law as name_per};
+ghost use Rattle.justfile_vocabulary.specs.contracts.number.NumberPartialEq.TheImpl as numbers;
+ghost use Rattle.justfile_vocabulary.specs.contracts.number.NumberPartialEq.TheImpl.Laws.{laws-law as number_per};
 
 use crate::attributes::are_equal;
 use justfile_attribute_set::AttributeSet;
-use justfile_base::{Keyed, Name, Number};
+use justfile_token::{Keyed, Name, Number};
 use std::fmt;
 
 /// What a name stands for.
@@ -38,7 +38,7 @@ pub struct Binding<'src, V> {
 
 /// The key of a binding is its name.
 impl<'src, V> Keyed<'src> for Binding<'src, V> {
-    ghost use Rattle.justfile_base.specs.Name.{name_text};
+    ghost use Rattle.justfile_token.specs.Name.{name_text};
 
     ghost key_text = { λ binding. name_text binding.name };
 

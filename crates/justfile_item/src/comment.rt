@@ -3,7 +3,7 @@ ghost use Rattle.std.specs.Prelude.{OnOk, OnErr};
 ghost use Rattle.std.specs.Option.{option_copied};
 ghost use Rattle.justfile_model.specs.Printing.{comment_text};
 
-use justfile_tree::{Sink, put_piece};
+use justfile_expression::{Sink, put_piece};
 
 /// Puts a comment after a blank, if there is one.
 pub(crate) fn write_comment<S: Sink>(comment: Option<&str>, sink: &mut S) -> Result<(), S::Fault>

@@ -5,8 +5,8 @@ ghost use Rattle.justfile_item.specs.Doc.{doc_text_of, shown_doc_of};
 ghost use Rattle.justfile_model.specs.Printing.{doc_comment, doc_line};
 
 use justfile_attribute_set::AttributeSet;
-use justfile_base::AttributeKind;
-use justfile_tree::{Sink, put_piece};
+use justfile_expression::{Sink, put_piece};
+use justfile_token::AttributeKind;
 
 /// The text of a doc, if there is one.
 fn text_of(doc: &Option<String>) -> Option<&str>

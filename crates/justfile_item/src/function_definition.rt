@@ -3,22 +3,22 @@ ghost use Rattle.std.specs.Cmp.{and_per, on_per};
 ghost use Rattle.std.specs.Cmp.Lexicographic.{lists_per, pointwise};
 ghost use Rattle.justfile_attribute_set.specs.contracts.attribute_set.PairSetAttributeWrittenPartialEq.TheImpl as sets;
 ghost use Rattle.justfile_attribute_set.specs.contracts.attribute_set.PairSetAttributeWrittenPartialEq.TheImpl.Laws.{laws-law as set_per};
-ghost use Rattle.justfile_base.specs.contracts.name.NamePartialEq.TheImpl as names;
-ghost use Rattle.justfile_base.specs.contracts.name.NamePartialEq.TheImpl.Laws.{laws-law as name_per};
-ghost use Rattle.justfile_base.specs.Token.{lexeme_of};
+ghost use Rattle.justfile_token.specs.contracts.name.NamePartialEq.TheImpl as names;
+ghost use Rattle.justfile_token.specs.contracts.name.NamePartialEq.TheImpl.Laws.{laws-law as name_per};
+ghost use Rattle.justfile_token.specs.Token.{lexeme_of};
 ghost use Rattle.justfile_model.specs.Printing.{fixed_text};
-ghost use Rattle.justfile_tree.specs.Copies.{IsSameExpression};
-ghost use Rattle.justfile_tree.specs.contracts.order.ExpressionPartialEq.TheImpl as expressions;
-ghost use Rattle.justfile_tree.specs.contracts.order.ExpressionPartialEq.TheImpl.Laws.{laws-law as expression_per};
+ghost use Rattle.justfile_expression.specs.Copies.{IsSameExpression};
+ghost use Rattle.justfile_expression.specs.contracts.order.ExpressionPartialEq.TheImpl as expressions;
+ghost use Rattle.justfile_expression.specs.contracts.order.ExpressionPartialEq.TheImpl.Laws.{laws-law as expression_per};
 ghost use Rattle.justfile_item.specs.Copies.{IsSameFunction};
 ghost use Rattle.justfile_item.specs.FunctionParameter.{parameter_per, same_parameter};
 ghost use Rattle.justfile_item.specs.ItemText.{function_text_of, later_names_text, parameter_names_text};
 
 use crate::attributes::are_equal;
-use crate::copied::boxed_made;
+use crate::copy::boxed_made;
 use justfile_attribute_set::AttributeSet;
-use justfile_base::{Keyed, Name, Number};
-use justfile_tree::{Expression, Sink, put_piece, write_expression};
+use justfile_expression::{Expression, Sink, put_piece, write_expression};
+use justfile_token::{Keyed, Name, Number};
 use std::alloc::{AllocError, Global};
 use std::fmt;
 
@@ -67,7 +67,7 @@ fn copy_boxed<'src>(
 
 /// The key of a function is its name.
 impl<'src> Keyed<'src> for FunctionDefinition<'src> {
-    ghost use Rattle.justfile_base.specs.Name.{name_text};
+    ghost use Rattle.justfile_token.specs.Name.{name_text};
 
     ghost key_text = { λ function. name_text function.name };
 

@@ -1,6 +1,6 @@
 ghost use Rattle.std.specs.Prelude.{◌≡◌, OnOk, OnErr, IfOk, string_bytes};
 ghost use Rattle.std.specs.Option.{option_map};
-ghost use Rattle.justfile_word.specs.Indentation.{indentation_text};
+ghost use Rattle.justfile_vocabulary.specs.Indentation.{indentation_text};
 ghost use Rattle.justfile_model.specs.Printing.{if_some, item_text, printable_item};
 ghost use Rattle.justfile_item.specs.Attributes.{attributes_text};
 ghost use Rattle.justfile_item.specs.Copies.{IsSameItem};
@@ -18,9 +18,9 @@ use crate::path::{copy_path, write_import, write_module, write_unexport};
 use crate::recipe::{UnresolvedRecipe, write_recipe};
 use crate::set::{Set, write_set};
 use justfile_attribute_set::AttributeSet;
-use justfile_base::{Indentation, Name, Namepath, StringLiteral};
-use justfile_header::copied::copy_text;
-use justfile_tree::Sink;
+use justfile_expression::Sink;
+use justfile_recipe_header::try_clone::copy_text;
+use justfile_token::{Indentation, Name, Namepath, StringLiteral};
 use std::alloc::{AllocError, Global};
 
 /// What stands on the lines of a file.

@@ -6,7 +6,7 @@ pub mod assignment;
 mod attributes;
 pub mod binding;
 mod comment;
-mod copied;
+mod copy;
 mod doc;
 pub mod function_definition;
 pub mod item;

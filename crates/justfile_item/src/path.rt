@@ -1,12 +1,12 @@
 //! How imports and modules name files.
 ghost use Rattle.std.specs.Prelude.{◌++◌, OnOk, OnErr, IfOk, codes};
-ghost use Rattle.justfile_base.specs.StringLiteral.{IsSameLiteral};
+ghost use Rattle.justfile_token.specs.StringLiteral.{IsSameLiteral};
 ghost use Rattle.justfile_model.specs.Printing.{fixed_text, if_true, mark_text};
 ghost use Rattle.justfile_attribute.specs.Copies.{IsSameIfPresent};
 ghost use Rattle.justfile_item.specs.ItemText.{import_text_of, later_path_text, module_text_of, path_text_of, unexport_text_of};
 
-use justfile_base::{Name, StringLiteral};
-use justfile_tree::{Sink, put_piece};
+use justfile_expression::{Sink, put_piece};
+use justfile_token::{Name, StringLiteral};
 use std::alloc::{AllocError, Global};
 
 /// A copy of a path, if there is one.

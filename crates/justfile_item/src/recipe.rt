@@ -1,6 +1,6 @@
 ghost use Rattle.std.specs.Prelude.{◌≡◌, ◌++◌, OnOk, OnErr, IfOk, codes};
 ghost use Rattle.std.specs.List.{list_all};
-ghost use Rattle.justfile_word.specs.Indentation.{indentation_text};
+ghost use Rattle.justfile_vocabulary.specs.Indentation.{indentation_text};
 ghost use Rattle.justfile_model.specs.Printing.{fixed_text, header_text, if_true, line_text, body_text, printable_fragments, printable_body};
 ghost use Rattle.justfile_line.specs.Body.{fragment_shapes, line_shape, line_shapes};
 ghost use Rattle.justfile_item.specs.Copies.{IsSameRecipe};
@@ -9,13 +9,13 @@ ghost use Rattle.justfile_item.specs.Recipe.{unresolved_recipe_text};
 
 use crate::comment::write_comment;
 use justfile_attribute_set::AttributeSet;
-use justfile_base::{Indentation, Name, Number};
-use justfile_header::copied::{all_copied, copy_text};
-use justfile_header::{
+use justfile_expression::{Sink, put_piece};
+use justfile_line::{Line, is_printable, write_line};
+use justfile_recipe_header::try_clone::{clone_all, copy_text};
+use justfile_recipe_header::{
     Parameter, UnresolvedDependency, write_dependencies, write_parameters, write_subsequents,
 };
-use justfile_line::{Line, is_printable, write_line};
-use justfile_tree::{Sink, put_piece};
+use justfile_token::{Indentation, Name, Number};
 use std::alloc::{AllocError, Global};
 use std::fmt;
 
@@ -60,13 +60,13 @@ impl<'src> UnresolvedRecipe<'src> {
         ensures { IfOk result (λ copy. IsSameRecipe copy self.now) }
     {
         let attributes = self.attributes.clone(alloc)?;
-        let dependencies = all_copied(alloc, &self.dependencies)?;
-        let parameters = all_copied(alloc, &self.parameters)?;
+        let dependencies = clone_all(alloc, &self.dependencies)?;
+        let parameters = clone_all(alloc, &self.parameters)?;
         let import_offsets = self.import_offsets.clone()?;
         let doc = copy_text(alloc, &self.doc)?;
         Ok(UnresolvedRecipe {
             attributes,
-            body: all_copied(alloc, &self.body)?,
+            body: clone_all(alloc, &self.body)?,
             comment: self.comment,
             dependencies,
             doc,

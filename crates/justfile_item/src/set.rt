@@ -5,11 +5,11 @@ ghost use Rattle.justfile_item.specs.Copies.{IsSameAssigned};
 ghost use Rattle.justfile_item.specs.Indented.{indentation_set, set_indentation};
 ghost use Rattle.justfile_item.specs.ItemText.{later_value_text, setting_text_of};
 
-use crate::copied::boxed_made;
+use crate::copy::boxed_made;
 use justfile_attribute_set::AttributeSet;
-use justfile_base::{Indentation, Keyed, Name};
+use justfile_expression::{Sink, put_piece};
 use justfile_setting::{Setting, write_setting};
-use justfile_tree::{Sink, put_piece};
+use justfile_token::{Indentation, Keyed, Name};
 use std::alloc::{AllocError, Global};
 use std::fmt;
 
@@ -74,7 +74,7 @@ fn indentation_of(setting: &Setting<'_>) -> Option<Indentation>
 
 /// The key of a setting is its name.
 impl<'src> Keyed<'src> for Set<'src> {
-    ghost use Rattle.justfile_base.specs.Name.{name_text};
+    ghost use Rattle.justfile_token.specs.Name.{name_text};
 
     ghost key_text = { λ set. name_text set.name };
 

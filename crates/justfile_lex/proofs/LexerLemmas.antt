@@ -2,16 +2,16 @@
 use Rattle.std.proofs.Common.{◌≡◌, ◌≢◌, ◌-◌, ◌*◌, ◌<◌, ⊎_elim, ℕ, ◌+◌, ◌≤◌, List, [], ◌∷◌, ◌++◌, length, drop, refl, sym, ap, subst, ◌∙◌, arith, rules}
 use Rattle.std.specs.Prelude.{map, reverse, Option, Some, Err, option_map, IfSome}
 use Rattle.std.proofs.lemmas.List.{map-append, reverse-append, length-take-le}
-use Rattle.justfile_word.specs.declared.token_kind.TokenKind.{TokenKind}
-use Rattle.justfile_base.specs.declared.token.Token.{Token}
-use Rattle.justfile_word.specs.declared.token_kind.TokenKind.TheVariants.{Eof, Dedent, Indent, InterpolationEnd, InterpolationStart}
+use Rattle.justfile_vocabulary.specs.declared.token_kind.TokenKind.{TokenKind}
+use Rattle.justfile_token.specs.declared.token.Token.{Token}
+use Rattle.justfile_vocabulary.specs.declared.token_kind.TokenKind.TheVariants.{Eof, Dedent, Indent, InterpolationEnd, InterpolationStart}
 use Rattle.justfile_model.proofs.NextLaws.{Moves}
 use Rattle.justfile_lex.specs.declared.lexer.Lexer.{Lexer}
-use Rattle.justfile_base.specs.Slice.{slice_of}
+use Rattle.justfile_token.specs.Slice.{slice_of}
 use Rattle.justfile_model.specs.Places.{line_of_offset, column_at}
 use Rattle.justfile_model.specs.Tok.{Tok, tok_of}
 use Rattle.justfile_model.specs.Modes.{Mode, mode, mode_after, tail_of}
-use Rattle.justfile_model.specs.Answers.{IsFrom}
+use Rattle.justfile_model.specs.LexResult.{IsFrom}
 use Rattle.justfile_lex.specs.Modes.{mode_of, interpolation_start_by}
 use Rattle.justfile_model.specs.LexicalFault.{Unclosed, UnterminatedInterpolation}
 use Rattle.justfile_model.specs.Next.{next, at_end_by}

@@ -1,7 +1,7 @@
 -- The last cases of the layout of a line.
 use Rattle.std.specs.Prelude.{ℕ, List, length, not, nat_eq, Ok, Err, if◌then◌else◌}
 use Rattle.std.specs.List.{starts_with}
-use Rattle.justfile_word.specs.declared.token_kind.TokenKind.TheVariants.{Indent}
+use Rattle.justfile_vocabulary.specs.declared.token_kind.TokenKind.TheVariants.{Indent}
 use Rattle.justfile_model.specs.Bytes.{is_mixed}
 use Rattle.justfile_model.specs.LexicalFault.{Here, InconsistentLeadingWhitespace, MixedLeadingWhitespace}
 use Rattle.justfile_model.specs.Modes.{Mode, innermost}

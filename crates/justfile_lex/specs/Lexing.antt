@@ -1,13 +1,13 @@
 -- The state of the lexer.
 use Rattle.std.specs.Prelude.{◌≡◌, ℕ, ◌+◌, List, ◌∷◌, map, reverse, All, IfSome}
 use Rattle.std.specs.Str.{IsCharBoundary}
-use Rattle.justfile_word.specs.declared.token_kind.TokenKind.{TokenKind}
+use Rattle.justfile_vocabulary.specs.declared.token_kind.TokenKind.{TokenKind}
 use Rattle.justfile_lex.specs.declared.lexer.Lexer.{Lexer}
-use Rattle.justfile_base.specs.Slice.{slice_of}
+use Rattle.justfile_token.specs.Slice.{slice_of}
 use Rattle.justfile_model.specs.Places.{IsPlace}
 use Rattle.justfile_model.specs.Tok.{Tok, tok_of}
 use Rattle.justfile_model.specs.Modes.{mode, mode_after}
-use Rattle.justfile_model.specs.Answers.{IsFrom}
+use Rattle.justfile_model.specs.LexResult.{IsFrom}
 use Rattle.justfile_lex.specs.Modes.{mode_of}
 use Rattle.justfile_model.specs.Lexed.{end_of, IsNext, Begins}
 

@@ -2,7 +2,7 @@
 use Rattle.std.specs.Prelude.{◌≡◌, ℕ, ◌+◌, ◌≤◌, Bool, not, ◌&&◌, ◌==◌, nat_lt, List, length, drop, if◌then◌else◌}
 use Rattle.justfile_model.specs.declared.raw_text.RawText.{RawText}
 use Rattle.justfile_model.specs.declared.raw_text.RawText.TheVariants.{Comment, Body, Literal}
-use Rattle.justfile_base.specs.StringKind.{quote_of}
+use Rattle.justfile_token.specs.StringKind.{quote_of}
 use Rattle.justfile_model.specs.LiteralText.{raw_len}
 
 -- a byte that hides nothing and begins no end, whatever follows it

@@ -1,10 +1,10 @@
 -- What the scanners answer, as the definitions say it.
 use Rattle.std.specs.Prelude.{ℕ, [], ◌∷◌, Result, Ok, Err}
-use Rattle.justfile_word.specs.declared.token_kind.TokenKind.{TokenKind}
-use Rattle.justfile_lex.specs.declared.refusal.Refusal.{Refusal as CodeRefusal}
+use Rattle.justfile_vocabulary.specs.declared.token_kind.TokenKind.{TokenKind}
+use Rattle.justfile_lex.specs.declared.scan_error.ScanError.{ScanError as ScanError}
 use Rattle.justfile_lex.specs.declared.lexical_fault.LexicalFault.{LexicalFault as CodeFault}
 use Rattle.justfile_lex.specs.declared.lexical_fault.LexicalFault.TheVariants as faults
-use Rattle.justfile_model.specs.LexicalFault.{LexicalFault, EscapeEndOfFile, InconsistentLeadingWhitespace, InvalidEscapeSequence, MismatchedClosingDelimiter, MixedLeadingWhitespace, UnexpectedCharacter, UnexpectedClosingDelimiter, UnexpectedEndOfToken, UnknownStartOfToken, UnpairedCarriageReturn, UnterminatedBacktick, UnterminatedString, LexicalRefusal, Here}
+use Rattle.justfile_model.specs.LexicalFault.{LexicalFault, EscapeEndOfFile, InconsistentLeadingWhitespace, InvalidEscapeSequence, MismatchedClosingDelimiter, MixedLeadingWhitespace, UnexpectedCharacter, UnexpectedClosingDelimiter, UnexpectedEndOfToken, UnknownStartOfToken, UnpairedCarriageReturn, UnterminatedBacktick, UnterminatedString, LexicalError, Here}
 use Rattle.justfile_model.specs.Next.{NextToken}
 
 abbrev pub scan_fault : CodeFault → LexicalFault
@@ -21,9 +21,9 @@ scan_fault faults.UnpairedCarriageReturn = UnpairedCarriageReturn
 scan_fault faults.UnterminatedBacktick = UnterminatedBacktick
 scan_fault faults.UnterminatedString = UnterminatedString
 
-abbrev pub scan_refusal : CodeRefusal → LexicalRefusal
+abbrev pub scan_refusal : ScanError → LexicalError
 scan_refusal r = Here (scan_fault r.fault) r.skip r.length
 
-abbrev pub scan_answer : Result (TokenKind × ℕ) CodeRefusal → NextToken
+abbrev pub scan_answer : Result (TokenKind × ℕ) ScanError → NextToken
 scan_answer (Ok x) = Ok x
 scan_answer (Err r) = Err (scan_refusal r)

@@ -3,9 +3,9 @@ ghost use Rattle.std.specs.List.{prefix_len, list_any, starts_with};
 ghost use Rattle.std.specs.Str.{IsCharBoundary};
 ghost use Rattle.justfile_model.specs.Bytes.{blank, in_word, white, line_feed, blank_len, word_len, is_line_end, is_interpolation_start, is_interpolation_end, is_interpolation_escape, is_mixed, first_char};
 
-use justfile_base::ByteClass;
-use justfile_base::byte_class::byte_class;
-use justfile_base::bytes::byte_at;
+use justfile_token::ByteClass;
+use justfile_token::byte_class::byte_class;
+use justfile_token::bytes::byte_at;
 
 /// What follows the first bytes.
 pub(crate) fn skip(bytes: &[u8], count: usize) -> &[u8]

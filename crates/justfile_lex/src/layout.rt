@@ -10,10 +10,10 @@ ghost use Rattle.justfile_lex.specs.WhiteRun.{IsRunOf};
 use crate::bytes::{begins_with, blank_len, is_line_end, is_mixed, skip, take_blanks};
 use crate::lexical_fault::LexicalFault;
 use crate::mode::Mode;
-use crate::refusal::{Scanned, refuse};
 use crate::scan::scan_within_line;
+use crate::scan_error::{Scanned, refuse};
 use crate::white_run::WhiteRun;
-use justfile_base::TokenKind;
+use justfile_token::TokenKind;
 
 /// The token at the end of the text, where no interpolation is open.
 fn scan_end<'src>(mode: &Mode<'src>) -> Scanned<'src>

@@ -1,21 +1,21 @@
 ghost use Rattle.std.specs.Prelude.{◌≡◌, ◌+◌, ◌≤◌, ◌||◌, ◌==◌, length, drop, map, Ok, Err, IfOk, OnOk, IfErr, All, MatchOption, None, Some};
 ghost use Rattle.std.specs.Str.{IsCharBoundary, IsUtf8};
 ghost use Rattle.std.specs.Char.{is_ascii_alphabetic, is_ascii_digit};
-ghost use Rattle.justfile_base.specs.Slice.{IsWithin};
-ghost use Rattle.justfile_word.specs.declared.token_kind.TokenKind.TheVariants.{Unspecified};
+ghost use Rattle.justfile_token.specs.Slice.{IsWithin};
+ghost use Rattle.justfile_vocabulary.specs.declared.token_kind.TokenKind.TheVariants.{Unspecified};
 ghost use Rattle.justfile_model.specs.Next.{next};
 ghost use Rattle.justfile_model.specs.Tok.{tok_of};
 ghost use Rattle.justfile_model.specs.Lexed.{Lexed, StandsAt, end_of};
-ghost use Rattle.justfile_model.specs.Answers.{IsFrom, IsLexicalError, IsLexerFault};
+ghost use Rattle.justfile_model.specs.LexResult.{IsFrom, IsLexicalError, IsLexerFault};
 ghost use Rattle.justfile_lex.specs.Modes.{mode_of};
 ghost use Rattle.justfile_lex.specs.Scanned.{scan_refusal};
 
 use crate::layout;
 use crate::mode::Mode;
 use crate::place::{Place, place_after};
-use crate::refusal::Refusal;
+use crate::scan_error::ScanError;
 use crate::white_run::WhiteRun;
-use justfile_base::{
+use justfile_token::{
     CompileError, CompileErrorKind, CompileResult, Fault, Token, TokenKind, interpolation,
 };
 use std::alloc::{AllocError, Global};
@@ -183,7 +183,7 @@ impl<'src> Lexer<'src> {
     fn make_error(
         &self,
         alloc: Global,
-        refusal: Refusal<'src>,
+        refusal: ScanError<'src>,
     ) -> Result<CompileError<'src>, AllocError>
         requires lexing { IsLexing self.now }
         requires utf8 { IsUtf8 self.now.src.now }
@@ -196,7 +196,7 @@ impl<'src> Lexer<'src> {
     }
 
     /// The fault that a refusal is here.
-    fn make_fault(&self, alloc: Global, refusal: Refusal<'src>) -> Fault<'src>
+    fn make_fault(&self, alloc: Global, refusal: ScanError<'src>) -> Fault<'src>
         requires lexing { IsLexing self.now }
         requires utf8 { IsUtf8 self.now.src.now }
         requires refused { next (mode_of self.now.mode) (drop self.now.offset self.now.src.now) ≡ Err (scan_refusal refusal) }

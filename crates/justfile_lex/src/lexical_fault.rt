@@ -2,7 +2,7 @@ ghost use Rattle.std.specs.Prelude.{◌≡◌, IfOk};
 ghost use Rattle.justfile_model.specs.LexicalFault.{lexical_fault_of};
 ghost use Rattle.justfile_lex.specs.Scanned.{scan_fault};
 
-use justfile_base::{CompileErrorKind, Delimiter};
+use justfile_token::{CompileErrorKind, Delimiter};
 use std::alloc::{AllocError, Global};
 
 /// Why no token comes next, said without memory. An interpolation without an end is found apart.

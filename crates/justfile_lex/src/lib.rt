@@ -9,8 +9,8 @@ mod literal;
 mod mode;
 mod place;
 mod raw_text;
-mod refusal;
 mod scan;
+mod scan_error;
 mod white_run;
 
 pub use crate::lexer::Lexer;

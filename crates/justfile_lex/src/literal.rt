@@ -1,5 +1,5 @@
 ghost use Rattle.std.specs.Prelude.{◌≡◌, ◌≤◌, ◌<◌, length};
-ghost use Rattle.justfile_base.specs.StringKind.{delimiter_len, kind_of};
+ghost use Rattle.justfile_token.specs.StringKind.{delimiter_len, kind_of};
 ghost use Rattle.justfile_model.specs.Next.{unterminated, is_backtick, literal_part, literal_token, is_same, closing_delimiter, format_string_kind, format_kind, brace_by, closing};
 ghost use Rattle.justfile_lex.specs.Modes.{mode_of};
 ghost use Rattle.justfile_lex.specs.Scanned.{scan_fault, scan_answer};
@@ -8,10 +8,10 @@ use crate::bytes::{is_interpolation_end, is_interpolation_start, skip};
 use crate::lexical_fault::LexicalFault;
 use crate::mode::Mode;
 use crate::raw_text::raw_len;
-use crate::refusal::{Scanned, refuse};
-use justfile_base::interpolation::{INTERPOLATION_END, INTERPOLATION_START};
-use justfile_base::{Delimiter, StringDelimiter, StringKind, TokenKind};
+use crate::scan_error::{Scanned, refuse};
 use justfile_model::{OpenDelimiter, RawText};
+use justfile_token::interpolation::{INTERPOLATION_END, INTERPOLATION_START};
+use justfile_token::{Delimiter, StringDelimiter, StringKind, TokenKind};
 
 /// The fault of a literal without an end.
 fn unterminated_fault<'src>(delimiter: StringDelimiter) -> LexicalFault<'src>

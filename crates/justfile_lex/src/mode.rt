@@ -4,8 +4,8 @@ ghost use Rattle.std.specs.Str.{bytes_eq};
 ghost use Rattle.justfile_model.specs.Places.{is_newline};
 ghost use Rattle.justfile_model.specs.Modes.{ends_in_newline};
 
-use justfile_base::{Delimiter, StringKind, Token, TokenKind};
 use justfile_model::OpenDelimiter;
+use justfile_token::{Delimiter, StringKind, Token, TokenKind};
 use std::alloc::{AllocError, Global};
 
 /// What the earlier tokens say of the next.

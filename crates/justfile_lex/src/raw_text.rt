@@ -1,14 +1,14 @@
 ghost use Rattle.std.specs.Prelude.{◌≡◌};
 ghost use Rattle.std.specs.List.{prefix_len};
 ghost use Rattle.justfile_model.specs.declared.raw_text.RawText.TheVariants.{Literal};
-ghost use Rattle.justfile_base.specs.StringKind.{quote_of};
+ghost use Rattle.justfile_token.specs.StringKind.{quote_of};
 ghost use Rattle.justfile_model.specs.LiteralText.{is_delimiter, hides, ends, raw_len};
 ghost use Rattle.justfile_lex.specs.RawTexts.{is_plain, IsPiece};
 
 use crate::bytes::{is_interpolation_escape, is_interpolation_start, is_line_end, skip};
-use justfile_base::bytes::byte_at;
-use justfile_base::{StringDelimiter, StringKind};
 use justfile_model::RawText;
+use justfile_token::bytes::byte_at;
+use justfile_token::{StringDelimiter, StringKind};
 
 /// The byte that the delimiter is made of.
 fn quote_of(delimiter: StringDelimiter) -> u8

@@ -1,6 +1,6 @@
 ghost use Rattle.std.specs.Prelude.{◌≡◌, ◌+◌, ◌<◌, ◌≤◌, length, slice_index};
 ghost use Rattle.std.specs.Str.{IsCharBoundary};
-ghost use Rattle.justfile_word.specs.ByteClass.{class_of};
+ghost use Rattle.justfile_vocabulary.specs.ByteClass.{class_of};
 ghost use Rattle.justfile_model.specs.Next.{doubled_token, fixed_token, opening, line_end_token, unknown, escaped_line_end, multibyte_token, other_token, token_by_class, token_outside_text, body_token, interpolated, token_within_line};
 ghost use Rattle.justfile_lex.specs.Modes.{mode_of};
 ghost use Rattle.justfile_lex.specs.Scanned.{scan_answer};
@@ -10,12 +10,12 @@ use crate::lexical_fault::LexicalFault;
 use crate::literal::{scan_closer, scan_literal};
 use crate::mode::Mode;
 use crate::raw_text::raw_len;
-use crate::refusal::{Scanned, refuse};
-use justfile_base::byte_class::byte_class;
-use justfile_base::bytes::byte_at;
-use justfile_base::interpolation::{INTERPOLATION_END, INTERPOLATION_START};
-use justfile_base::{ByteClass, TokenKind};
+use crate::scan_error::{Scanned, refuse};
 use justfile_model::RawText;
+use justfile_token::byte_class::byte_class;
+use justfile_token::bytes::byte_at;
+use justfile_token::interpolation::{INTERPOLATION_END, INTERPOLATION_START};
+use justfile_token::{ByteClass, TokenKind};
 
 /// The character that may begin a file, as a token of its own.
 const BYTE_ORDER_MARK: char = '\u{feff}';

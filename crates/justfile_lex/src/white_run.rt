@@ -2,8 +2,8 @@ ghost use Rattle.std.specs.Prelude.{◌≡◌, false};
 ghost use Rattle.justfile_model.specs.Bytes.{white, line_feed, closes_levels};
 
 use crate::bytes::{is_line_feed, is_white};
-use justfile_base::byte_class::byte_class;
-use justfile_base::bytes::byte_at;
+use justfile_token::byte_class::byte_class;
+use justfile_token::bytes::byte_at;
 
 /// The run of white bytes that was looked at last. Levels close before each of its blank lines or
 /// before none, so one look serves them all, and lexing stays linear in the text.

@@ -5,7 +5,7 @@ use Rattle.justfile_model.specs.Tok.{Tok, tok_of}
 use Rattle.justfile_model.specs.Tree as tree
 use Rattle.justfile_model.specs.Tree.{lexeme, nothing, over_fragment, over_line}
 use Rattle.justfile_model.specs.Printing.{fragment_text}
-use Rattle.justfile_tree.specs.Expression.{expr_of, expr_cooked}
+use Rattle.justfile_expression.specs.Expression.{expr_of, expr_cooked}
 use Rattle.justfile_line.specs.declared.fragment.Fragment.{Fragment}
 use Rattle.justfile_line.specs.declared.fragment.Fragment.TheVariants.{Interpolation, Text}
 use Rattle.justfile_line.specs.declared.line.Line.{Line}

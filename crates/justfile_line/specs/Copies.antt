@@ -1,7 +1,7 @@
 -- Copies.
 use Rattle.std.specs.Prelude.{◌≡◌}
 use Rattle.std.specs.List.{AllZip}
-use Rattle.justfile_tree.specs.Copies.{IsSameExpression}
+use Rattle.justfile_expression.specs.Copies.{IsSameExpression}
 use Rattle.justfile_line.specs.declared.fragment.Fragment.{Fragment}
 use Rattle.justfile_line.specs.declared.fragment.Fragment.TheVariants.{Interpolation, Text}
 use Rattle.justfile_line.specs.declared.line.Line.{Line}

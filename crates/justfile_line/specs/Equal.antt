@@ -1,7 +1,7 @@
 -- When lines of bodies and their fragments are equal.
 use Rattle.std.specs.Prelude.{Bool, false, ◌&&◌, ◌==◌}
 use Rattle.std.specs.Cmp.Lexicographic.{pointwise}
-use Rattle.justfile_tree.specs.Equal.{expression_eq, token_eq}
+use Rattle.justfile_expression.specs.Equal.{expression_eq, token_eq}
 use Rattle.justfile_line.specs.declared.fragment.Fragment.{Fragment}
 use Rattle.justfile_line.specs.declared.fragment.Fragment.TheVariants.{Interpolation, Text}
 use Rattle.justfile_line.specs.declared.line.Line.{Line}

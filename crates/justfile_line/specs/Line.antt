@@ -2,7 +2,7 @@
 use Rattle.std.specs.Prelude.{◌≡◌, ℕ, ◌-◌, Bool, List, [], ◌++◌, length, Option, Some, None, IsSomeAnd, codes}
 use Rattle.std.specs.List.{slice_get}
 use Rattle.std.specs.Option.{option_and_then}
-use Rattle.justfile_base.specs.Token.{lexeme_of}
+use Rattle.justfile_token.specs.Token.{lexeme_of}
 use Rattle.justfile_line.specs.declared.fragment.Fragment.{Fragment}
 use Rattle.justfile_line.specs.declared.fragment.Fragment.TheVariants.{Interpolation, Text}
 use Rattle.justfile_line.specs.declared.line.Line.{Line}

@@ -2,9 +2,9 @@ ghost use Rattle.std.specs.Prelude.{OnOk, OnErr, ◌++◌, codes};
 ghost use Rattle.justfile_model.specs.Printing.{fixed_text, fragment_text};
 ghost use Rattle.justfile_line.specs.Body.{fragment_shape};
 
-use justfile_base::Token;
-use justfile_header::copied::Copied;
-use justfile_tree::{Expression, Sink, put_piece, write_expression};
+use justfile_expression::{Expression, Sink, put_piece, write_expression};
+use justfile_recipe_header::try_clone::TryClone;
+use justfile_token::Token;
 use std::alloc::{AllocError, Global};
 use std::fmt;
 
@@ -48,12 +48,12 @@ impl<'src> Fragment<'src> {
     }
 }
 
-impl Copied for Fragment<'_> {
+impl TryClone for Fragment<'_> {
     ghost use Rattle.justfile_line.specs.Copies.{IsSameFragment};
 
     ghost is_copy = { IsSameFragment };
 
-    fn copied(&self, alloc: Global) -> Result<Self, AllocError> {
+    fn try_clone(&self, alloc: Global) -> Result<Self, AllocError> {
         self.clone(alloc)
     }
 }

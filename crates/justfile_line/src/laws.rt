@@ -1,6 +1,6 @@
 //! Laws of orders and of equalities, each the contract of a function that does nothing.
 ghost use Rattle.std.specs.Prelude.{◌≡◌};
-ghost use Rattle.justfile_tree.specs.Cases.{IsOrderOf};
+ghost use Rattle.justfile_expression.specs.Cases.{IsOrderOf};
 ghost use Rattle.justfile_line.specs.Equal.{fragment_eq, line_eq};
 ghost use Rattle.justfile_line.specs.Sigil.{sigils_in_order};
 ghost use Rattle.justfile_line.specs.contracts.fragment.FragmentPartialEq.TheImpl as fragment_equality;

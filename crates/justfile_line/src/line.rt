@@ -1,7 +1,7 @@
 ghost use Rattle.std.specs.Prelude.{◌≡◌, ◌↔◌, OnOk, OnErr, IfOk, IsTrue};
 ghost use Rattle.std.specs.List.{Contains};
 ghost use Rattle.std.specs.Option.{option_copied};
-ghost use Rattle.justfile_word.specs.Indentation.{indentation_text};
+ghost use Rattle.justfile_vocabulary.specs.Indentation.{indentation_text};
 ghost use Rattle.justfile_model.specs.Printing.{ends_in_return, line_text, printable_fragments};
 ghost use Rattle.justfile_line.specs.Copies.{IsSameLine};
 ghost use Rattle.justfile_line.specs.Body.{fragment_shapes, fragments_text, line_shape};
@@ -10,9 +10,9 @@ ghost use Rattle.justfile_line.specs.Sigil.{IsSigilOf};
 
 use crate::fragment::{Fragment, write_fragment};
 use crate::sigil::Sigil;
-use justfile_base::Indentation;
-use justfile_header::copied::{Copied, all_copied};
-use justfile_tree::Sink;
+use justfile_expression::Sink;
+use justfile_recipe_header::try_clone::{TryClone, clone_all};
+use justfile_token::Indentation;
 use std::alloc::{AllocError, Global};
 use std::collections::BTreeSet;
 use std::fmt;
@@ -32,7 +32,7 @@ impl<'src> Line<'src> {
         ensures { IfOk result (λ copy. IsSameLine copy self.now) }
     {
         Ok(Line {
-            fragments: all_copied(alloc, &self.fragments)?,
+            fragments: clone_all(alloc, &self.fragments)?,
             number: self.number,
         })
     }
@@ -90,10 +90,10 @@ impl<'src> Line<'src> {
     }
 }
 
-impl Copied for Line<'_> {
+impl TryClone for Line<'_> {
     ghost is_copy = { IsSameLine };
 
-    fn copied(&self, alloc: Global) -> Result<Self, AllocError> {
+    fn try_clone(&self, alloc: Global) -> Result<Self, AllocError> {
         self.clone(alloc)
     }
 }

@@ -5,9 +5,9 @@ use Rattle.std.proofs.lemmas.Str.{encodes-append, encodes-chars}
 use Rattle.justfile_model.specs.Cook.{Cooks, Refused, value_of}
 use Rattle.justfile_model.specs.EscapeFault.{EscapeFault}
 use Rattle.justfile_model.specs.FirstPiece.{first_escaped_piece}
-use Rattle.justfile_literal.proofs.Sound.{Begins, Breaks, Means, piece_means}
+use Rattle.justfile_literal.proofs.PieceSound.{Begins, Breaks, Means, piece_means}
 use Rattle.justfile_literal.proofs.Texts.{broken, cooks, made, refused}
-use Rattle.justfile_literal.proofs.Whole.{Made, begins_shorter, broken_first, made_empty, whole_more}
+use Rattle.justfile_literal.proofs.PieceLists.{Made, begins_shorter, broken_first, made_empty, whole_more}
 
 -- the answer for the rest is the answer for the text, with what is cooked so far before it
 pub record Leads (text done rest : List ℕ) : Type 0 where

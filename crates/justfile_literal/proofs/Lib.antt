@@ -8,7 +8,7 @@ pub mod LiteralTexts
 pub mod Longest
 pub mod LongestRun
 pub mod SharedFronts
-pub mod Sound
+pub mod PieceSound
 pub mod TextLines
 pub mod Texts
-pub mod Whole
+pub mod PieceLists

@@ -3,17 +3,17 @@ use Rattle.std.proofs.Common.{◌≡◌, ℕ, ◌+◌, ◌-◌, ◌<◌, ◌≤�
 use Rattle.std.specs.Str.{IsCharBoundary}
 use Rattle.std.proofs.lemmas.Str.{IsCharBoundary-after_ascii}
 use Rattle.std.proofs.lemmas.Bool.Decides.{nat_tests}
-use Rattle.justfile_base.specs.declared.fault.Fault.{Fault}
-use Rattle.justfile_base.specs.declared.fault.Fault.TheVariants.{Compile, Memory, Numbers}
-use Rattle.justfile_base.specs.declared.string_kind.StringKind.{StringKind}
-use Rattle.justfile_base.specs.declared.token.Token.{Token}
-use Rattle.justfile_base.specs.StringKind.{escapes}
+use Rattle.justfile_token.specs.declared.fault.Fault.{Fault}
+use Rattle.justfile_token.specs.declared.fault.Fault.TheVariants.{Compile, Memory, Numbers}
+use Rattle.justfile_token.specs.declared.string_kind.StringKind.{StringKind}
+use Rattle.justfile_token.specs.declared.token.Token.{Token}
+use Rattle.justfile_token.specs.StringKind.{escapes}
 use Rattle.justfile_model.specs.Cook.{Cooks, IsCookFault}
 use Rattle.justfile_model.specs.FirstPiece as pieces
 use Rattle.justfile_model.specs.Literals.{Escape, by_escapes, escaped}
 use Rattle.justfile_literal.specs.Literal.{IsTextFault, is_framed, literal_fault_of}
-use Rattle.justfile_base.specs.declared.compile_error_kind.CompileErrorKind.{CompileErrorKind}
-use Rattle.justfile_base.specs.declared.compile_error_kind.CompileErrorKind.TheVariants as errors
+use Rattle.justfile_token.specs.declared.compile_error_kind.CompileErrorKind.{CompileErrorKind}
+use Rattle.justfile_token.specs.declared.compile_error_kind.CompileErrorKind.TheVariants as errors
 use Rattle.justfile_model.specs.EscapeFault.{EscapeFault, escape_fault_of}
 use Rattle.justfile_literal.proofs.Texts.{cooked_complete, fault_complete}
 

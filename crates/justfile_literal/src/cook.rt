@@ -6,7 +6,7 @@ ghost use Rattle.justfile_literal.specs.Pieces.{piece_fault};
 
 use crate::escape::{read_piece, split_first};
 use crate::escape_fault::EscapeFault;
-use justfile_base::{CompileResult, Fault, StringKind, Token};
+use justfile_token::{CompileResult, Fault, StringKind, Token};
 use std::alloc::{AllocError, Global};
 
 /// The text with its escapes replaced.

@@ -2,7 +2,7 @@ ghost use Rattle.std.specs.Prelude.{◌≡◌, IfOk, Some};
 ghost use Rattle.justfile_model.specs.EscapeFault.{escape_fault_of};
 ghost use Rattle.justfile_literal.specs.Pieces.{piece_fault};
 
-use justfile_base::CompileErrorKind;
+use justfile_token::CompileErrorKind;
 use std::alloc::{AllocError, Global};
 
 /// Why no piece of a text comes next, said without memory.

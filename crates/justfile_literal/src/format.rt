@@ -1,11 +1,11 @@
 ghost use Rattle.std.specs.Prelude.{◌≡◌, IfErr, IfOk, IsTrue, Ok, string_bytes};
-ghost use Rattle.justfile_base.specs.Token.{lexeme_of};
+ghost use Rattle.justfile_token.specs.Token.{lexeme_of};
 ghost use Rattle.justfile_model.specs.Literals.{between, end_len, format_text, front_len, unescaped_braces};
 ghost use Rattle.justfile_literal.specs.Literal.{IsPartOf, IsTextFault, is_part};
 
 use crate::cook::replace_escapes;
-use justfile_base::interpolation::{INTERPOLATION_END, INTERPOLATION_ESCAPE, INTERPOLATION_START};
-use justfile_base::{CompileResult, FormatStringPart, StringKind, StringLiteral, Token};
+use justfile_token::interpolation::{INTERPOLATION_END, INTERPOLATION_ESCAPE, INTERPOLATION_START};
+use justfile_token::{CompileResult, FormatStringPart, StringKind, StringLiteral, Token};
 use std::alloc::{AllocError, Global};
 
 /// The literal that a part of a format string is. The kind is that of the whole format string.

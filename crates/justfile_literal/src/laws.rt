@@ -2,7 +2,7 @@
 ghost use Rattle.std.specs.Prelude.{◌≡◌, ◌≤◌, ◌++◌, ◌⊎◌, [], false, true, ℕ, List, Err, Ok, encode_utf8_all, flat_map, length};
 ghost use Rattle.std.specs.List.{concat, list_all, list_any};
 ghost use Rattle.std.specs.Str.{IsUtf8};
-ghost use Rattle.justfile_word.specs.Indentation.{is_space_or_tab};
+ghost use Rattle.justfile_vocabulary.specs.Indentation.{is_space_or_tab};
 ghost use Rattle.justfile_model.specs.Cook.{AreEscapedPieces, Cooks, Piece, Refused, raw_of};
 ghost use Rattle.justfile_model.specs.EscapeFault.{EscapeFault};
 ghost use Rattle.justfile_model.specs.FirstPiece.{cooked_from_left};

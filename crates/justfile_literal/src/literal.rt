@@ -1,12 +1,12 @@
 ghost use Rattle.std.specs.Prelude.{◌≡◌, IfErr, IfOk, IsTrue, Ok, string_bytes};
-ghost use Rattle.justfile_base.specs.StringKind.{kind_of};
-ghost use Rattle.justfile_base.specs.Token.{lexeme_of};
+ghost use Rattle.justfile_token.specs.StringKind.{kind_of};
+ghost use Rattle.justfile_token.specs.Token.{lexeme_of};
 ghost use Rattle.justfile_model.specs.Literals.{Expansions, Command, between_quotes, by_answer, cooked_text, flush_text, string_of, string_text};
 ghost use Rattle.justfile_literal.specs.Literal.{IsStringOf, IsTextFault, answers_by, is_quoted};
 
 use crate::cook::replace_escapes;
 use crate::unindent::unindent;
-use justfile_base::{
+use justfile_token::{
     CompileErrorKind, CompileResult, ExpandFault, Expander, Fault, StringKind, StringLiteral, Token,
 };
 use std::alloc::{AllocError, Global};

@@ -1,6 +1,6 @@
 ghost use Rattle.std.specs.Prelude.{◌≡◌, [], ◌∷◌, ◌++◌, false, true, IfOk, OnOk, drop, length, map, nat_eq, string_bytes};
 ghost use Rattle.std.specs.List.{All, common_prefix_len, list_all, prefix_len};
-ghost use Rattle.justfile_word.specs.Indentation.{is_space_or_tab};
+ghost use Rattle.justfile_vocabulary.specs.Indentation.{is_space_or_tab};
 ghost use Rattle.justfile_model.specs.Unindent.{IsFront, IsIndented, indentation, is_blank_line, is_white, joined, leading_blanks, kept_line_end, lines_of_text, later_lines, middle_line, outer_line, shared_front, unindented};
 
 use std::alloc::{AllocError, Global};

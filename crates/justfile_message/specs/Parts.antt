@@ -3,17 +3,17 @@ use Rattle.std.specs.Prelude.{ℕ, List, [], ◌∷◌, ◌^◌, ◌-◌, codes,
 use Rattle.std.specs.Borrow.{Bor}
 use Rattle.std.specs.List.{flat_map}
 use Rattle.std.specs.Fmt.{decimal}
-use Rattle.justfile_word.specs.Count.{numbered_text}
-use Rattle.justfile_word.specs.ItemKind.{item_kind_article, item_kind_text}
-use Rattle.justfile_word.specs.Keyword.{keyword_text}
-use Rattle.justfile_word.specs.List.{or_text, ticked_text}
-use Rattle.justfile_word.specs.Shown.{line_text}
-use Rattle.justfile_word.specs.Text.{◌&◌}
-use Rattle.justfile_word.specs.TokenKind.{kind_text}
-use Rattle.justfile_word.specs.contracts.item_kind.ItemKindPartialEq.TheImpl as item_kinds
-use Rattle.justfile_word.specs.declared.item_kind.ItemKind.{ItemKind}
-use Rattle.justfile_word.specs.declared.keyword.Keyword.{Keyword}
-use Rattle.justfile_word.specs.declared.token_kind.TokenKind.{TokenKind}
+use Rattle.justfile_vocabulary.specs.Count.{numbered_text}
+use Rattle.justfile_vocabulary.specs.ItemKind.{item_kind_article, item_kind_text}
+use Rattle.justfile_vocabulary.specs.Keyword.{keyword_text}
+use Rattle.justfile_vocabulary.specs.List.{or_text, ticked_text}
+use Rattle.justfile_vocabulary.specs.Shown.{line_text}
+use Rattle.justfile_vocabulary.specs.Text.{◌&◌}
+use Rattle.justfile_vocabulary.specs.TokenKind.{kind_text}
+use Rattle.justfile_vocabulary.specs.contracts.item_kind.ItemKindPartialEq.TheImpl as item_kinds
+use Rattle.justfile_vocabulary.specs.declared.item_kind.ItemKind.{ItemKind}
+use Rattle.justfile_vocabulary.specs.declared.keyword.Keyword.{Keyword}
+use Rattle.justfile_vocabulary.specs.declared.token_kind.TokenKind.{TokenKind}
 
 abbrev pub arguments_text : ℕ → List ℕ
 arguments_text count = numbered_text (codes "argument") count

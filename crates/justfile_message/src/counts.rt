@@ -2,11 +2,11 @@
 ghost use Rattle.std.specs.Prelude.{Some, codes};
 ghost use Rattle.std.specs.Fmt.{DisplaysOnOk, ◌++?◌};
 ghost use Rattle.std.specs.Range.{range_inclusive_end, range_inclusive_start};
-ghost use Rattle.justfile_word.specs.Count.{noun_text};
+ghost use Rattle.justfile_vocabulary.specs.Count.{noun_text};
 ghost use Rattle.justfile_message.specs.Parts.{arguments_text, range_text, taken_text};
-ghost use Rattle.justfile_word.specs.Text.{◌&◌};
+ghost use Rattle.justfile_vocabulary.specs.Text.{◌&◌};
 
-use justfile_word::count::Count;
+use justfile_vocabulary::count::Count;
 use std::fmt;
 use std::ops::RangeInclusive;
 

@@ -1,22 +1,22 @@
 //! Messages of more than a value or two.
 ghost use Rattle.std.specs.Prelude.{Some, codes, string_bytes};
 ghost use Rattle.std.specs.Fmt.{DisplaysOnOk, ◌++?◌};
-ghost use Rattle.justfile_word.specs.AttributeKind.{attribute_name};
-ghost use Rattle.justfile_word.specs.ItemKind.{item_kind_text};
-ghost use Rattle.justfile_word.specs.Keyword.{keyword_text};
+ghost use Rattle.justfile_vocabulary.specs.AttributeKind.{attribute_name};
+ghost use Rattle.justfile_vocabulary.specs.ItemKind.{item_kind_text};
+ghost use Rattle.justfile_vocabulary.specs.Keyword.{keyword_text};
 ghost use Rattle.justfile_message.specs.Parts.{duplicate_text, expected_characters, expected_tokens, indefinite_text, redefinition_text};
-ghost use Rattle.justfile_word.specs.Shown.{blanks_text, line_text};
-ghost use Rattle.justfile_word.specs.Text.{◌&◌};
-ghost use Rattle.justfile_word.specs.TokenKind.{kind_text};
-ghost use Rattle.justfile_word.specs.Version.{version_text};
+ghost use Rattle.justfile_vocabulary.specs.Shown.{blanks_text, line_text};
+ghost use Rattle.justfile_vocabulary.specs.Text.{◌&◌};
+ghost use Rattle.justfile_vocabulary.specs.TokenKind.{kind_text};
+ghost use Rattle.justfile_vocabulary.specs.Version.{version_text};
 
-use justfile_word::attribute_kind::AttributeKind;
-use justfile_word::item_kind::ItemKind;
-use justfile_word::keyword::Keyword;
-use justfile_word::list::List;
-use justfile_word::shown::{Blanks, LineNumber};
-use justfile_word::token_kind::TokenKind;
-use justfile_word::version::Version;
+use justfile_vocabulary::attribute_kind::AttributeKind;
+use justfile_vocabulary::item_kind::ItemKind;
+use justfile_vocabulary::keyword::Keyword;
+use justfile_vocabulary::list::List;
+use justfile_vocabulary::shown::{Blanks, LineNumber};
+use justfile_vocabulary::token_kind::TokenKind;
+use justfile_vocabulary::version::Version;
 use std::fmt;
 
 /// A kind of items, with its indefinite article.

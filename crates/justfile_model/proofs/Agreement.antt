@@ -5,67 +5,67 @@ use Rattle.justfile_model.specs.SignificantTokens.{SignificantToken}
 use Rattle.justfile_model.specs.Tok.{Tok}
 use Rattle.justfile_model.specs.Tree.{Tree, WrittenTree}
 use Rattle.justfile_model.specs.Features.{ConstructFeatures, Noted}
-use Rattle.justfile_model.specs.Expressions.{Tokens, Under, Free, Waived}
+use Rattle.justfile_model.specs.Expressions.{Tokens, BelowLimit, AnyDepth, PastLimitAt}
 use Rattle.justfile_model.specs.Grammar.{File}
-use Rattle.justfile_model.specs.Files.{FileDerives, FileTree, Obeys, all_features, all_literals, broken, keeps_tokens, ordered}
-use Rattle.justfile_model.specs.ReadAttribute.{token_sight}
-use Rattle.justfile_model.specs.Reading.{TooDeep}
+use Rattle.justfile_model.specs.Files.{FileDerives, FileTree, Obeys, all_features, all_literals, broken, to_tokens, ordered}
+use Rattle.justfile_model.specs.ReadAttribute.{token_view}
+use Rattle.justfile_model.specs.ReaderState.{TooDeep}
 use Rattle.justfile_model.specs.Rules.{Broken}
-use Rattle.justfile_model.specs.Sight.{Sight}
-use Rattle.justfile_model.specs.TreeReader.{Refusal, tree_of_tokens}
-use Rattle.justfile_model.specs.Refusals.{IsDue}
+use Rattle.justfile_model.specs.LeafView.{LeafView}
+use Rattle.justfile_model.specs.TreeReader.{ReadError, tree_of_tokens}
+use Rattle.justfile_model.specs.ReadErrors.{IsDue}
 use Rattle.justfile_model.proofs.CookedTexts.{all_cook}
 use Rattle.justfile_model.proofs.Complete.{file_reached}
 use Rattle.justfile_model.proofs.Depth.{file_loosened}
 use Rattle.justfile_model.proofs.Reaching.{lacks_none, kept, dropped}
 use Rattle.justfile_model.proofs.ReachingRules.{BreaksOne, DueAmong, ReachesOne, is_refused, only_due, some_read}
-pub use Rattle.justfile_model.proofs.Soundness.{read_derives, sound}
+pub use Rattle.justfile_model.proofs.FileObeys.{read_derives, sound}
 
 -- a written tree with its features, as the reader gives it
 abbrev Found : Type 0
 Found = WrittenTree × List (Noted Tok)
 
-ok_inside : (a b : Found) → ◌≡◌ {A = Result Found Refusal} (Ok a) (Ok b) → a ≡ b
+ok_inside : (a b : Found) → ◌≡◌ {A = Result Found ReadError} (Ok a) (Ok b) → a ≡ b
 ok_inside a b h = cc
 
-same_meaning : (sight : Sight Tok Tok) {written other : WrittenTree} {tree twin : Tree} → written ≡ other → ordered sight written ≡ Some tree
-    → ordered sight other ≡ Some twin → tree ≡ twin
-same_meaning sight {written} {other} same h k = let e = ap (ordered sight) same in cc
+same_meaning : (view : LeafView Tok Tok) {written other : WrittenTree} {tree twin : Tree} → written ≡ other → ordered view written ≡ Some tree
+    → ordered view other ≡ Some twin → tree ≡ twin
+same_meaning view {written} {other} same h k = let e = ap (ordered view) same in cc
 
-no_rule : (rules : List (Broken Tok)) (r : Refusal) → rules ≡ [] → BreaksOne rules r → ⊥
+no_rule : (rules : List (Broken Tok)) (r : ReadError) → rules ≡ [] → BreaksOne rules r → ⊥
 no_rule rules r none h = absurd (omega (arith, h.among.1, ap length none))
 
 module _ (conditions : Conditions) where
   -- what is read or refused where the grammar has this tree
-  abbrev FileReached : (Hit : Option SignificantToken → Type 0) → Result Found Refusal → Found → Type 0
-  FileReached Hit found x = ReachesOne conditions Hit found x (all_literals x.0) (broken conditions.current (token_sight conditions) x.0)
+  abbrev FileReached : (Hit : Option SignificantToken → Type 0) → Result Found ReadError → Found → Type 0
+  FileReached Hit found x = ReachesOne conditions Hit found x (all_literals x.0) (broken conditions.current (token_view conditions) x.0)
 
   -- where all obeys, it is read, or too deep at a token where the limit is waived
-  read_or_deep : (Hit : Option SignificantToken → Type 0) (found : Result Found Refusal) (x : Found) → Obeys conditions x.0 → FileReached Hit found x
+  read_or_deep : (Hit : Option SignificantToken → Type 0) (found : Result Found ReadError) (x : Found) → Obeys conditions x.0 → FileReached Hit found x
       → (found ≡ Ok x) ⊎ ((at : Option SignificantToken) × Hit at × (found ≡ Err (TooDeep at)))
   read_or_deep Hit found x obeys (some_read y a same is) = inl (is ∙ ap (λ z. Ok z) same)
   read_or_deep Hit found x obeys (is_refused (inl (inl h)) is) =
       absurd (lacks_none conditions (all_literals x.0) _ (all_cook conditions.expander (all_literals x.0) obeys.cooked obeys.cooks) h)
   read_or_deep Hit found x obeys (is_refused (inl (inr h)) is) = inr (h.token, h.hit, is ∙ ap (λ r. Err r) h.refusal_is)
-  read_or_deep Hit found x obeys (is_refused {r = r} (inr h) is) = absurd (no_rule (broken conditions.current (token_sight conditions) x.0) r obeys.unbroken h)
+  read_or_deep Hit found x obeys (is_refused {r = r} (inr h) is) = absurd (no_rule (broken conditions.current (token_view conditions) x.0) r obeys.unbroken h)
 
-  is_due : (Hit : Option SignificantToken → Type 0) (written : WrittenTree) (r : Refusal)
-      → DueAmong conditions Hit (all_literals written) (broken conditions.current (token_sight conditions) written) r → IsDue conditions Hit written r
+  is_due : (Hit : Option SignificantToken → Type 0) (written : WrittenTree) (r : ReadError)
+      → DueAmong conditions Hit (all_literals written) (broken conditions.current (token_view conditions) written) r → IsDue conditions Hit written r
   is_due Hit written r (inl (inl h)) = inl h
   is_due Hit written r (inl (inr h)) = inr (inl h)
   is_due Hit written r (inr h) = inr (inr (record { rule = h.rule; among = h.among; refusal_is = h.refusal_is }))
 
   -- what is read of items with these features
   abbrev found_of : WrittenTree → List (ConstructFeatures Tok) → Found
-  found_of written fs = (written, all_features (token_sight conditions) written fs)
+  found_of written fs = (written, all_features (token_view conditions) written fs)
 
   module _ (tokens : Tokens) where
     -- what derives and obeys is read
-    pub reached : (written : WrittenTree) (fs : List (ConstructFeatures Tok)) → File keeps_tokens (Under conditions.limit) written fs tokens
+    pub reached : (written : WrittenTree) (fs : List (ConstructFeatures Tok)) → File to_tokens (BelowLimit conditions.limit) written fs tokens
         → Obeys conditions written → tree_of_tokens conditions tokens ≡ Ok (found_of written fs)
     reached written fs h obeys =
         read (read_or_deep (λ at. ⊥) (tree_of_tokens conditions tokens) (found_of written fs) obeys (file_reached conditions (λ at. ⊥)
-        (file_loosened (Under conditions.limit) (Waived conditions.limit (λ at. ⊥)) (kept conditions.limit) keeps_tokens h)))
+        (file_loosened (BelowLimit conditions.limit) (PastLimitAt conditions.limit (λ at. ⊥)) (kept conditions.limit) to_tokens h)))
       where
         read : (tree_of_tokens conditions tokens ≡ Ok (found_of written fs)) ⊎ ((at : Option SignificantToken) × ⊥ × (tree_of_tokens conditions tokens ≡ Err (TooDeep at)))
             → tree_of_tokens conditions tokens ≡ Ok (found_of written fs)
@@ -79,27 +79,27 @@ module _ (conditions : Conditions) where
         reached h.written h.by_construct h.derives h.obeys ∙ ap (λ (fs : List (Noted Tok)). Ok (h.written, fs)) (sym h.features_are)
 
     pub complete : (tree : Tree) (features : List (Noted Tok)) → FileDerives conditions tokens tree features
-        → (written : WrittenTree) × (ordered (token_sight conditions) written ≡ Some tree) × (tree_of_tokens conditions tokens ≡ Ok (written, features))
+        → (written : WrittenTree) × (ordered (token_view conditions) written ≡ Some tree) × (tree_of_tokens conditions tokens ≡ Ok (written, features))
     complete tree features h = (h.written, h.ordered_is, derived tree features h)
 
     pub one_tree : (tree other : Tree) (features others : List (Noted Tok)) → FileDerives conditions tokens tree features → FileDerives conditions tokens other others → (tree ≡ other) × (features ≡ others)
     one_tree tree other features others h q =
         let same = ok_inside (h.written, features) (q.written, others) (sym (derived tree features h) ∙ derived other others q) in
-        (same_meaning (token_sight conditions) (ap (λ p. p.0) same) h.ordered_is q.ordered_is, ap (λ p. p.1) same)
+        (same_meaning (token_view conditions) (ap (λ p. p.0) same) h.ordered_is q.ordered_is, ap (λ p. p.1) same)
 
   module _ (tokens : Tokens) (written : WrittenTree) (fs : List (ConstructFeatures Tok)) where
     -- where the limit is waived at some tokens
-    module _ (Hit : Option SignificantToken → Bool) (h : File keeps_tokens (Waived conditions.limit (λ at. IsTrue (Hit at))) written fs tokens) where
+    module _ (Hit : Option SignificantToken → Bool) (h : File to_tokens (PastLimitAt conditions.limit (λ at. IsTrue (Hit at))) written fs tokens) where
       pub deep : Obeys conditions written → (tree_of_tokens conditions tokens ≡ Ok (found_of written fs)) ⊎ ((at : Option SignificantToken) × IsTrue (Hit at) × (tree_of_tokens conditions tokens ≡ Err (TooDeep at)))
       deep obeys =
           read_or_deep (λ at. IsTrue (Hit at)) (tree_of_tokens conditions tokens) (found_of written fs) obeys (file_reached conditions (λ at. IsTrue (Hit at)) h)
 
-      pub due : (r : Refusal) → tree_of_tokens conditions tokens ≡ Err r → IsDue conditions (λ at. IsTrue (Hit at)) written r
+      pub due : (r : ReadError) → tree_of_tokens conditions tokens ≡ Err r → IsDue conditions (λ at. IsTrue (Hit at)) written r
       due r is = is_due (λ at. IsTrue (Hit at)) written r (only_due conditions (λ at. IsTrue (Hit at)) is (file_reached conditions (λ at. IsTrue (Hit at)) h))
 
     -- without a limit
     free_found : FileTree tokens written fs → FileReached (λ at. Unit {0}) (tree_of_tokens conditions tokens) (found_of written fs)
-    free_found h = file_reached conditions (λ at. Unit {0}) (file_loosened Free (Waived conditions.limit (λ at. Unit {0})) (dropped conditions.limit) keeps_tokens h)
+    free_found h = file_reached conditions (λ at. Unit {0}) (file_loosened AnyDepth (PastLimitAt conditions.limit (λ at. Unit {0})) (dropped conditions.limit) to_tokens h)
 
     pub free : FileTree tokens written fs → Obeys conditions written → (tree_of_tokens conditions tokens ≡ Ok (found_of written fs)) ⊎ ((at : Option SignificantToken) × (tree_of_tokens conditions tokens ≡ Err (TooDeep at)))
     free h obeys =
@@ -110,14 +110,14 @@ module _ (conditions : Conditions) where
         without (inl is) = inl is
         without (inr x) = inr (x.0, x.2)
 
-    pub refused : FileTree tokens written fs → (r : Refusal) → tree_of_tokens conditions tokens ≡ Err r → IsDue conditions (λ at. Unit {0}) written r
+    pub refused : FileTree tokens written fs → (r : ReadError) → tree_of_tokens conditions tokens ≡ Err r → IsDue conditions (λ at. Unit {0}) written r
     refused h r is = is_due (λ at. Unit {0}) written r (only_due conditions (λ at. Unit {0}) is (free_found h))
 
     -- where anything is read, it is what the grammar alone has
     pub same_found : FileTree tokens written fs → (x : Found) → tree_of_tokens conditions tokens ≡ Ok x → x ≡ found_of written fs
     same_found h x is = go (free_found h)
       where
-        read_or_refused : (found : Result Found Refusal) (r : Refusal) → found ≡ Ok x → found ≡ Err r → ⊥
+        read_or_refused : (found : Result Found ReadError) (r : ReadError) → found ≡ Ok x → found ≡ Err r → ⊥
         read_or_refused found r h k = cc
 
         go : FileReached (λ at. Unit {0}) (tree_of_tokens conditions tokens) (found_of written fs) → x ≡ found_of written fs

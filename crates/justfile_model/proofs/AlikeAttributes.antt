@@ -2,12 +2,12 @@
 -- have the same keys of content, and are in the same order.
 use Rattle.std.proofs.Common.{◌≡◌, ℕ, Bool, true, false, List, codes, Option, refl, subst}
 use denote.Enum.Declared.{tag_of}
-use Rattle.justfile_word.specs.contracts.attribute_kind.AttributeKind as attribute_kinds
-use Rattle.justfile_word.specs.declared.attribute_kind.AttributeKind.{AttributeKind}
-use Rattle.justfile_word.specs.declared.attribute_kind.AttributeKind.TheVariants as attributes
-use Rattle.justfile_word.specs.declared.signal.Signal.{Signal}
-use Rattle.justfile_word.specs.declared.token_kind.TokenKind.{TokenKind}
-use Rattle.justfile_word.specs.declared.token_kind.TokenKind.TheVariants as kinds
+use Rattle.justfile_vocabulary.specs.contracts.attribute_kind.AttributeKind as attribute_kinds
+use Rattle.justfile_vocabulary.specs.declared.attribute_kind.AttributeKind.{AttributeKind}
+use Rattle.justfile_vocabulary.specs.declared.attribute_kind.AttributeKind.TheVariants as attributes
+use Rattle.justfile_vocabulary.specs.declared.signal.Signal.{Signal}
+use Rattle.justfile_vocabulary.specs.declared.token_kind.TokenKind.{TokenKind}
+use Rattle.justfile_vocabulary.specs.declared.token_kind.TokenKind.TheVariants as kinds
 use Rattle.justfile_model.specs.ConditionalOperator.{operator_sign}
 use Rattle.justfile_model.specs.ContentKeys.{attribute_key, attribute_keys, bound_number_key, bound_word_key, entry_cmp, expr_key, exprs_keys, is_optional, kind_of_attribute, literal_key, option_name_key, own_name_key, parts_keys, property_key, quoted_key, rules_keys, single_keys, texts_keys, word_key}
 use Rattle.justfile_model.specs.ContentLeaf.{ContentLeaf, content_cmp, count, literal, operator, text, token, unseen}
@@ -17,7 +17,7 @@ use Rattle.justfile_model.specs.Literals as literals
 use Rattle.justfile_model.specs.Literals.{Literal, string_of}
 use Rattle.justfile_model.specs.Meaning.{KeyArgument, Placed, by_key, by_position, quoted}
 use Rattle.justfile_model.specs.Order.{in_order}
-use Rattle.justfile_model.specs.Sight.{Sight, or_empty}
+use Rattle.justfile_model.specs.LeafView.{LeafView, or_empty}
 use Rattle.justfile_model.specs.Tree as tree
 use Rattle.justfile_model.specs.Tree.{Argument, ArgumentRules, Attribute, Bound, Entry, Expr, Exprs, OptionName, Parts, Property, Quoted, WrittenAttribute}
 use Rattle.justfile_model.proofs.OrderMaps.{each_in_order}
@@ -43,7 +43,7 @@ module _ {R T A B S D R' T' A' B' S' D' : Type 0} (rel : Relations R T A B S D R
         → AlikeLiteral (literals.End s l) (literals.End s' l')
 
   pub data AlikeArgument : Argument A B → Argument A' B' → Type 0 where
-    positional : {b : B} {b' : B'} {e : Expr A B} {e' : Expr A' B'} → rel.spot b b' → Alike rel e e'
+    positional : {b : B} {b' : B'} {e : Expr A B} {e' : Expr A' B'} → rel.position b b' → Alike rel e e'
         → AlikeArgument (tree.Positional b e) (tree.Positional b' e')
     bare : {k : A} {k' : A'} → rel.name k k' → AlikeArgument (tree.Bare k) (tree.Bare k')
     keyed : {k : A} {k' : A'} {e : Expr A B} {e' : Expr A' B'} → rel.name k k' → Alike rel e e' → AlikeArgument (tree.Keyed k e) (tree.Keyed k' e')
@@ -55,7 +55,7 @@ module _ {R T A B S D R' T' A' B' S' D' : Type 0} (rel : Relations R T A B S D R
   -- an argument by position, and one with a key
 
   pub record AlikePlaced (p : Placed A B) (p' : Placed A' B') : Type 0 where
-    pub first : rel.spot p.first p'.first
+    pub first : rel.position p.first p'.first
     pub value : Alike rel p.value p'.value
 
   pub record AlikeKey (k : KeyArgument A B) (k' : KeyArgument A' B') : Type 0 where
@@ -75,26 +75,26 @@ module _ {R T A B S D R' T' A' B' S' D' : Type 0} (rel : Relations R T A B S D R
     arg : {r : ArgumentRules A B} {r' : ArgumentRules A' B'} → AlikeArgumentRules rel r r' → AlikeAttribute (tree.Arg r) (tree.Arg r')
 
   pub record AlikeEntry (e : Entry A B) (e' : Entry A' B') : Type 0 where
-    pub name : rel.spot e.name e'.name
+    pub name : rel.position e.name e'.name
     pub attribute : AlikeAttribute e.attribute e'.attribute
     pub comment : e.comment ≡ e'.comment
 
   -- what is seen of related leaves is the same, and their places are related
-  pub record SeesAlike (sight : Sight A B) (sight' : Sight A' B') : Type 0 where
-    pub bytes : (n : A) (n' : A') → rel.name n n' → sight.bytes n ≡ sight'.bytes n'
-    pub name_place : (n : A) (n' : A') → rel.name n n' → rel.spot (sight.place n) (sight'.place n')
-    pub literal_bytes : (l : Literal (List ℕ)) (t : A) (t' : A') → rel.literal l t t' → sight.bytes t ≡ sight'.bytes t'
-    pub literal_place : (l : Literal (List ℕ)) (t : A) (t' : A') → rel.literal l t t' → rel.spot (sight.place t) (sight'.place t')
-    pub assignment_place : (number : ℕ) (n : A) (n' : A') → rel.assignment number n n' → rel.spot (sight.place n) (sight'.place n')
+  pub record SeesAlike (view : LeafView A B) (view' : LeafView A' B') : Type 0 where
+    pub bytes : (n : A) (n' : A') → rel.name n n' → view.bytes n ≡ view'.bytes n'
+    pub name_place : (n : A) (n' : A') → rel.name n n' → rel.position (view.place n) (view'.place n')
+    pub literal_bytes : (l : Literal (List ℕ)) (t : A) (t' : A') → rel.literal l t t' → view.bytes t ≡ view'.bytes t'
+    pub literal_place : (l : Literal (List ℕ)) (t : A) (t' : A') → rel.literal l t t' → rel.position (view.place t) (view'.place t')
+    pub assignment_place : (number : ℕ) (n : A) (n' : A') → rel.assignment number n n' → rel.position (view.place n) (view'.place n')
     pub parameter_bytes : (number : ℕ) (n : A) (rules : Option (ArgumentRules A B)) (n' : A') (rules' : Option (ArgumentRules A' B'))
-        → rel.parameter number n rules n' rules' → sight.bytes n ≡ sight'.bytes n'
-    pub cooked : (l : Literal A) (l' : Literal A') → AlikeLiteral l l' → sight.cooked l ≡ sight'.cooked l'
-    pub name_content : (n : A) (n' : A') → rel.name n n' → sight.leaf_content kinds.Identifier n ≡ sight'.leaf_content kinds.Identifier n'
+        → rel.parameter number n rules n' rules' → view.bytes n ≡ view'.bytes n'
+    pub cooked : (l : Literal A) (l' : Literal A') → AlikeLiteral l l' → view.cooked l ≡ view'.cooked l'
+    pub name_content : (n : A) (n' : A') → rel.name n n' → view.leaf_content kinds.Identifier n ≡ view'.leaf_content kinds.Identifier n'
     pub command_content : (lexeme : List ℕ) (t : A) (t' : A') → rel.literal (literals.Command lexeme) t t'
-        → sight.leaf_content kinds.Backtick t ≡ sight'.leaf_content kinds.Backtick t'
-    pub spot_content : (kind : TokenKind) (spelled : List ℕ) (b : B) (b' : B') → rel.spot b b'
-        → sight.spot_content kind spelled b ≡ sight'.spot_content kind spelled b'
-    pub literal_content : (l : Literal A) (l' : Literal A') → AlikeLiteral l l' → sight.literal_content l ≡ sight'.literal_content l'
+        → view.leaf_content kinds.Backtick t ≡ view'.leaf_content kinds.Backtick t'
+    pub position_content : (kind : TokenKind) (spelled : List ℕ) (b : B) (b' : B') → rel.position b b'
+        → view.position_content kind spelled b ≡ view'.position_content kind spelled b'
+    pub literal_content : (l : Literal A) (l' : Literal A') → AlikeLiteral l l' → view.literal_content l ≡ view'.literal_content l'
 
   pub string_alike : (expanded : Bool) (lexeme : List ℕ) {l : A} {l' : A'} → rel.literal (string_of expanded lexeme) l l'
       → AlikeLiteral (string_of expanded l) (string_of expanded l')
@@ -151,37 +151,37 @@ module _ {R T A B S D R' T' A' B' S' D' : Type 0} (rel : Relations R T A B S D R
 
   -- ---- keys of content
 
-  module _ (sight : Sight A B) (sight' : Sight A' B') (sees : SeesAlike sight sight') where
-    literal_is : {l : Literal A} {l' : Literal A'} → AlikeLiteral l l' → literal_key sight l ≡ literal_key sight' l'
+  module _ (view : LeafView A B) (view' : LeafView A' B') (sees : SeesAlike view view') where
+    literal_is : {l : Literal A} {l' : Literal A'} → AlikeLiteral l l' → literal_key view l ≡ literal_key view' l'
     literal_is {l} {l'} h i = leaf (literal (sees.literal_content l l' h i))
 
     name_is : {n : A} {n' : A'} → rel.name n n'
-        → ◌≡◌ {A = Key ContentLeaf} (leaf (token (sight.leaf_content kinds.Identifier n))) (leaf (token (sight'.leaf_content kinds.Identifier n')))
+        → ◌≡◌ {A = Key ContentLeaf} (leaf (token (view.leaf_content kinds.Identifier n))) (leaf (token (view'.leaf_content kinds.Identifier n')))
     name_is {n} {n'} h i = leaf (token (sees.name_content n n' h i))
 
-    spot_is : (kind : TokenKind) (spelled : List ℕ) {b : B} {b' : B'} → rel.spot b b'
-        → ◌≡◌ {A = Key ContentLeaf} (leaf (token (sight.spot_content kind spelled b))) (leaf (token (sight'.spot_content kind spelled b')))
-    spot_is kind spelled {b} {b'} h i = leaf (token (sees.spot_content kind spelled b b' h i))
+    position_is : (kind : TokenKind) (spelled : List ℕ) {b : B} {b' : B'} → rel.position b b'
+        → ◌≡◌ {A = Key ContentLeaf} (leaf (token (view.position_content kind spelled b))) (leaf (token (view'.position_content kind spelled b')))
+    position_is kind spelled {b} {b'} h i = leaf (token (sees.position_content kind spelled b b' h i))
 
     command_is : (lexeme : List ℕ) {t : A} {t' : A'} → rel.literal (literals.Command lexeme) t t'
-        → ◌≡◌ {A = Key ContentLeaf} (node 2 (next (leaf (text (or_empty (sight.cooked (literals.Command t)))))
-        (next (leaf (token (sight.leaf_content kinds.Backtick t))) end)))
-        (node 2 (next (leaf (text (or_empty (sight'.cooked (literals.Command t'))))) (next (leaf (token (sight'.leaf_content kinds.Backtick t'))) end)))
+        → ◌≡◌ {A = Key ContentLeaf} (node 2 (next (leaf (text (or_empty (view.cooked (literals.Command t)))))
+        (next (leaf (token (view.leaf_content kinds.Backtick t))) end)))
+        (node 2 (next (leaf (text (or_empty (view'.cooked (literals.Command t'))))) (next (leaf (token (view'.leaf_content kinds.Backtick t'))) end)))
     command_is lexeme {t} {t'} h i =
         node 2 (next (leaf (text (or_empty (sees.cooked (literals.Command t) (literals.Command t') (command_literal h) i))))
         (next (leaf (token (sees.command_content lexeme t t' h i))) end))
 
     mutual
-      pub same_key : {e : Expr A B} {e' : Expr A' B'} → Alike rel e e' → expr_key sight e ≡ expr_key sight' e'
+      pub same_key : {e : Expr A B} {e' : Expr A' B'} → Alike rel e e' → expr_key view e ≡ expr_key view' e'
       same_key (a.or l r) = λ i. node 13 (next (same_key l i) (next (same_key r i) end))
       same_key (a.and l r) = λ i. node 0 (next (same_key l i) (next (same_key r i) end))
       same_key (a.comparison {by =
           by} l b r) = λ i. node 4 (next (same_key l i) (next (leaf (operator by))
-          (next (same_key r i) (next (spot_is (operator_kind by) (operator_sign by) b i) end))))
-      same_key (a.concatenation l b r) = λ i. node 5 (next (same_key l i) (next (spot_is kinds.Plus (codes "+") b i) (next (same_key r i) end)))
-      same_key (a.list_concatenation l b r) = λ i. node 11 (next (same_key l i) (next (spot_is kinds.PlusPlus (codes "++") b i) (next (same_key r i) end)))
-      same_key (a.join l b r) = λ i. node 9 (next (present_key (same_key l i)) (next (spot_is kinds.Slash (codes "/") b i) (next (same_key r i) end)))
-      same_key (a.root b r) = λ i. node 9 (next absent_key (next (spot_is kinds.Slash (codes "/") b i) (next (same_key r i) end)))
+          (next (same_key r i) (next (position_is (operator_kind by) (operator_sign by) b i) end))))
+      same_key (a.concatenation l b r) = λ i. node 5 (next (same_key l i) (next (position_is kinds.Plus (codes "+") b i) (next (same_key r i) end)))
+      same_key (a.list_concatenation l b r) = λ i. node 11 (next (same_key l i) (next (position_is kinds.PlusPlus (codes "++") b i) (next (same_key r i) end)))
+      same_key (a.join l b r) = λ i. node 9 (next (present_key (same_key l i)) (next (position_is kinds.Slash (codes "/") b i) (next (same_key r i) end)))
+      same_key (a.root b r) = λ i. node 9 (next absent_key (next (position_is kinds.Slash (codes "/") b i) (next (same_key r i) end)))
       same_key (a.if_only c e) = λ i. node 6 (next (same_key c i) (next (same_key e i) (next absent_key end)))
       same_key (a.if_else c e o) = λ i. node 6 (next (same_key c i) (next (same_key e i) (next (present_key (same_key o i)) end)))
       same_key (a.not e) = λ i. node 12 (next (same_key e i) end)
@@ -189,31 +189,31 @@ module _ {R T A B S D R' T' A' B' S' D' : Type 0} (rel : Relations R T A B S D R
       same_key (a.format_literal lexeme l) = λ i. node 7 (next (literal_is (single_literal l) i) (next (row end) end))
       same_key (a.format_string lexeme l e ps) = λ i. node 7 (next (literal_is (start_literal l) i) (next (row (same_parts l (same_key e) ps i)) end))
       same_key (a.backtick lexeme l) = command_is lexeme l
-      same_key (a.assert b c) = λ i. node 1 (next (same_key c i) (next absent_key (next (spot_is kinds.Identifier (codes "assert") b i) end)))
+      same_key (a.assert b c) = λ i. node 1 (next (same_key c i) (next absent_key (next (position_is kinds.Identifier (codes "assert") b i) end)))
       same_key (a.assert_message b c m) =
-          λ i. node 1 (next (same_key c i) (next (present_key (same_key m i)) (next (spot_is kinds.Identifier (codes "assert") b i) end)))
+          λ i. node 1 (next (same_key c i) (next (present_key (same_key m i)) (next (position_is kinds.Identifier (codes "assert") b i) end)))
       same_key (a.variable n) = λ i. node 15 (next (name_is n i) (next (leaf unseen) end))
       same_key (a.call n es) = λ i. node 3 (next (name_is n i) (next (row (same_keys es i)) end))
       same_key (a.group e) = λ i. node 8 (next (same_key e i) end)
-      same_key (a.list b es) = λ i. node 10 (next (row (same_keys es i)) (next (spot_is kinds.BracketL (codes "[") b i) end))
+      same_key (a.list b es) = λ i. node 10 (next (row (same_keys es i)) (next (position_is kinds.BracketL (codes "[") b i) end))
 
-      pub same_keys : {es : Exprs A B} {es' : Exprs A' B'} → AlikeAll rel es es' → exprs_keys sight es ≡ exprs_keys sight' es'
+      pub same_keys : {es : Exprs A B} {es' : Exprs A' B'} → AlikeAll rel es es' → exprs_keys view es ≡ exprs_keys view' es'
       same_keys a.none = refl
       same_keys (a.more e es) = λ i. next (same_key e i) (same_keys es i)
 
       -- parts of a format string with this start, after an expression by its key
       pub same_parts : {start : List ℕ} {s : A} {s' : A'} {k k' : Key ContentLeaf} {ps : Parts A B} {ps' : Parts A' B'}
           → rel.literal (literals.Start start) s s' → k ≡ k' → AlikeParts rel start ps ps'
-          → parts_keys sight s k ps ≡ parts_keys sight' s' k' ps'
+          → parts_keys view s k ps ≡ parts_keys view' s' k' ps'
       same_parts s k (a.last lexeme l) = λ i. next (row (next (k i) (next (literal_is (end_literal s l) i) end))) end
       same_parts s k (a.continue lexeme l e ps) = λ i. next (row (next (k i) (next (literal_is (continue_literal s l) i) end))) (same_parts s (same_key e) ps i)
 
     -- ---- attributes
 
-    quoted_is : {q : Quoted A} {q' : Quoted A'} → AlikeQuoted rel q q' → quoted_key sight q ≡ quoted_key sight' q'
+    quoted_is : {q : Quoted A} {q' : Quoted A'} → AlikeQuoted rel q q' → quoted_key view q ≡ quoted_key view' q'
     quoted_is h = literal_is (quoted_literal h)
 
-    each_is : {qs : List (Quoted A)} {qs' : List (Quoted A')} → Each (AlikeQuoted rel) qs qs' → keys_of (quoted_key sight) qs ≡ keys_of (quoted_key sight') qs'
+    each_is : {qs : List (Quoted A)} {qs' : List (Quoted A')} → Each (AlikeQuoted rel) qs qs' → keys_of (quoted_key view) qs ≡ keys_of (quoted_key view') qs'
     each_is a.nil = refl
     each_is (a.cons h hs) = λ i. next (quoted_is h i) (each_is hs i)
 
@@ -224,33 +224,33 @@ module _ {R T A B S D R' T' A' B' S' D' : Type 0} (rel : Relations R T A B S D R
     option_is f g k (present {x = x} {y = y} q) = λ i. present_key (k x y q i)
 
     option_name_is : {q : Quoted A} {q' : Quoted A'} {n : OptionName A B} {n' : OptionName A' B'} → AlikeQuoted rel q q' → AlikeOptionName rel n n'
-        → option_name_key sight q n ≡ option_name_key sight' q' n'
+        → option_name_key view q n ≡ option_name_key view' q' n'
     option_name_is q no_option = refl
     option_name_is q (own_name k) = λ i. present_key (quoted_is q i)
     option_name_is q (option_named n) = λ i. present_key (quoted_is n i)
 
-    own_name_is : (word : List ℕ) {n : OptionName A B} {n' : OptionName A' B'} → AlikeOptionName rel n n' → own_name_key sight word n ≡ own_name_key sight' word n'
+    own_name_is : (word : List ℕ) {n : OptionName A B} {n' : OptionName A' B'} → AlikeOptionName rel n n' → own_name_key view word n ≡ own_name_key view' word n'
     own_name_is word no_option = refl
-    own_name_is word (own_name k) = λ i. present_key (spot_is kinds.Identifier word k i)
+    own_name_is word (own_name k) = λ i. present_key (position_is kinds.Identifier word k i)
     own_name_is word (option_named n) = refl
 
-    word_is : (word : List ℕ) (b : B) (b' : B') → rel.spot b b' → word_key sight word b ≡ word_key sight' word b'
-    word_is word b b' h = spot_is kinds.Identifier word h
+    word_is : (word : List ℕ) (b : B) (b' : B') → rel.position b b' → word_key view word b ≡ word_key view' word b'
+    word_is word b b' h = position_is kinds.Identifier word h
 
-    property_is : (word : List ℕ) (p : Property A B) (p' : Property A' B') → AlikeProperty rel p p' → property_key sight word p ≡ property_key sight' word p'
-    property_is word p p' h = λ i. row (next (spot_is kinds.Identifier word h.key i) (next (same_key h.value i) end))
+    property_is : (word : List ℕ) (p : Property A B) (p' : Property A' B') → AlikeProperty rel p p' → property_key view word p ≡ property_key view' word p'
+    property_is word p p' h = λ i. row (next (position_is kinds.Identifier word h.key i) (next (same_key h.value i) end))
 
-    expression_is : (e : Expr A B) (e' : Expr A' B') → Alike rel e e' → expr_key sight e ≡ expr_key sight' e'
+    expression_is : (e : Expr A B) (e' : Expr A' B') → Alike rel e e' → expr_key view e ≡ expr_key view' e'
     expression_is e e' h = same_key h
 
-    number_is : {o : Option (Bound B)} {o' : Option (Bound B')} → AlikeOption (AlikeBound rel) o o' → bound_number_key sight o ≡ bound_number_key sight' o'
+    number_is : {o : Option (Bound B)} {o' : Option (Bound B')} → AlikeOption (AlikeBound rel) o o' → bound_number_key view o ≡ bound_number_key view' o'
     number_is h = option_is _ _ (λ b b' k i. leaf (count (k.number i))) h
 
     bound_is : (word : List ℕ) {o : Option (Bound B)} {o' : Option (Bound B')} → AlikeOption (AlikeBound rel) o o'
-        → bound_word_key sight word o ≡ bound_word_key sight' word o'
+        → bound_word_key view word o ≡ bound_word_key view' word o'
     bound_is word h = option_is _ _ (λ b b' k. word_is word b.key b'.key k.key) h
 
-    rules_are : {r : ArgumentRules A B} {r' : ArgumentRules A' B'} → AlikeArgumentRules rel r r' → rules_keys sight r ≡ rules_keys sight' r'
+    rules_are : {r : ArgumentRules A B} {r' : ArgumentRules A' B'} → AlikeArgumentRules rel r r' → rules_keys view r ≡ rules_keys view' r'
     rules_are h =
         let flag = option_is _ _ (word_is (codes "flag")) h.flag in
         let help = option_is _ _ (property_is (codes "help")) h.help in
@@ -266,15 +266,15 @@ module _ {R T A B S D R' T' A' B' S' D' : Type 0} (rel : Relations R T A B S D R
         (next (multiple i) (next (quoted_is h.name i) (next (pattern i) (next (short i) (next (own_short i) (next (value i) end))))))))))))))
 
     texts_are : (kind : AttributeKind) {qs : List (Quoted A)} {qs' : List (Quoted A')} → Each (AlikeQuoted rel) qs qs'
-        → texts_keys sight kind qs ≡ texts_keys sight' kind qs'
+        → texts_keys view kind qs ≡ texts_keys view' kind qs'
     texts_are attributes.Script a.nil = refl
     texts_are attributes.Script (a.cons h hs) = λ i. next (present_key (row (next (quoted_is h i) (next (row (each_is hs i)) end)))) end
     texts_are attributes.Metadata h = λ i. next (row (each_is h i)) end
     texts_are kind h = each_is h
 
-    attribute_keys_are : {x : Attribute A B} {x' : Attribute A' B'} → AlikeAttribute x x' → attribute_keys sight x ≡ attribute_keys sight' x'
+    attribute_keys_are : {x : Attribute A B} {x' : Attribute A' B'} → AlikeAttribute x x' → attribute_keys view x ≡ attribute_keys view' x'
     attribute_keys_are (plain kind) = refl
-    attribute_keys_are (single kind e) = λ i. single_keys sight (is_optional sight kind) (same_key e i)
+    attribute_keys_are (single kind e) = λ i. single_keys view (is_optional view kind) (same_key e i)
     attribute_keys_are (texts kind qs) = texts_are kind qs
     attribute_keys_are (env k v) = λ i. next (same_key k i) (next (same_key v i) end)
     attribute_keys_are (signals given) = refl
@@ -285,13 +285,13 @@ module _ {R T A B S D R' T' A' B' S' D' : Type 0} (rel : Relations R T A B S D R
         λ j. next (extra j) (next (inputs j) (next (outputs j) end))
     attribute_keys_are (arg r) = rules_are r
 
-    pub same_attribute_key : {x : Attribute A B} {x' : Attribute A' B'} → AlikeAttribute x x' → attribute_key sight x ≡ attribute_key sight' x'
+    pub same_attribute_key : {x : Attribute A B} {x' : Attribute A' B'} → AlikeAttribute x x' → attribute_key view x ≡ attribute_key view' x'
     same_attribute_key h = λ i. node (tag_of attribute_kinds.the_type (same_kind h i)) (attribute_keys_are h i)
 
     pub same_order : (d : Entry A B) (d' : Entry A' B') (e : Entry A B) (e' : Entry A' B') → AlikeEntry d d' → AlikeEntry e e'
-        → entry_cmp sight d e ≡ entry_cmp sight' d' e'
+        → entry_cmp view d e ≡ entry_cmp view' d' e'
     same_order d d' e e' h k = λ i. key_cmp content_cmp (same_attribute_key h.attribute i) (same_attribute_key k.attribute i)
 
     pub ordered_alike : {es : List (Entry A B)} {es' : List (Entry A' B')} → Each AlikeEntry es es'
-        → Each AlikeEntry (in_order (entry_cmp sight) es) (in_order (entry_cmp sight') es')
-    ordered_alike h = each_in_order (entry_cmp sight) (entry_cmp sight') (λ d e d' e' x y. same_order d d' e e' x y) h
+        → Each AlikeEntry (in_order (entry_cmp view) es) (in_order (entry_cmp view') es')
+    ordered_alike h = each_in_order (entry_cmp view) (entry_cmp view') (λ d e d' e' x y. same_order d d' e e' x y) h

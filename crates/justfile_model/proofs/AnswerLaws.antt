@@ -4,13 +4,13 @@ use Rattle.std.specs.Prelude.{reverse}
 use Rattle.std.specs.Str.{IsUtf8}
 use Rattle.std.proofs.lemmas.List.{reverse-reverse}
 use Rattle.std.proofs.lemmas.Str.{IsUtf8-drop}
-use Rattle.justfile_word.specs.declared.token_kind.TokenKind.{TokenKind}
-use Rattle.justfile_word.specs.declared.token_kind.TokenKind.TheVariants.{Dedent, Eof, Indent, Unspecified}
-use Rattle.justfile_base.specs.Slice.{slice_of}
+use Rattle.justfile_vocabulary.specs.declared.token_kind.TokenKind.{TokenKind}
+use Rattle.justfile_vocabulary.specs.declared.token_kind.TokenKind.TheVariants.{Dedent, Eof, Indent, Unspecified}
+use Rattle.justfile_token.specs.Slice.{slice_of}
 use Rattle.justfile_model.specs.Tok.{Tok}
 use Rattle.justfile_model.specs.Modes.{Mode, mode_after, mode, tail_of}
 use Rattle.justfile_model.specs.Places.{line_of_offset, column_at}
-use Rattle.justfile_model.specs.LexicalFault.{LexicalFault, UnterminatedInterpolation, LexicalRefusal, Here, Unclosed}
+use Rattle.justfile_model.specs.LexicalFault.{LexicalFault, UnterminatedInterpolation, LexicalError, Here, Unclosed}
 use Rattle.justfile_model.specs.Next.{NextToken}
 use Rattle.justfile_model.specs.Lexed.{Begins, IsAnswered, IsFault, IsNext, IsSpan, Lexed, StandsAt, end_of, next_of}
 use Rattle.justfile_model.proofs.NextLaws.{fault_cut, token_cut}
@@ -43,7 +43,7 @@ levels_dedent : (ls : List (List ℕ)) → 0 < length ls → suc (length (tail_o
 levels_dedent [] l = absurd (omega arith)
 levels_dedent (x ∷ ls) l = refl
 
-unfoldable pub fault_of : LexicalRefusal → LexicalFault
+unfoldable pub fault_of : LexicalError → LexicalFault
 fault_of (Here p skip n) = p
 fault_of (Unclosed t) = UnterminatedInterpolation
 
@@ -64,15 +64,15 @@ module _ (text : List ℕ) where
   unfolding at
   next_at e k n l found = record { stands = stands_at k (end_of e) n l; found = found ∙ ap (λ i. let x : NextToken = Ok (k, i) in x) (sym (long k (end_of e) n l)) }
 
-  unfoldable pub span_of : List Tok → LexicalRefusal → Tok
+  unfoldable pub span_of : List Tok → LexicalError → Tok
   span_of e (Here p skip n) = at Unspecified (end_of e + skip) n
   span_of e (Unclosed t) = t
 
-  pub refused_at : (e : List Tok) → Begins text e → IsUtf8 text → (r : LexicalRefusal) → next_of text e ≡ Err r → IsFault text (fault_of r) (span_of e r)
+  pub refused_at : (e : List Tok) → Begins text e → IsUtf8 text → (r : LexicalError) → next_of text e ≡ Err r → IsFault text (fault_of r) (span_of e r)
   unfolding at fault_of span_of
   refused_at e b u r refused = record { earlier = e; begins = b; refusal = r; refused = refused; spans = spans r refused }
     where
-      spans : (r : LexicalRefusal) → next_of text e ≡ Err r → IsSpan text e r (fault_of r) (span_of e r)
+      spans : (r : LexicalError) → next_of text e ≡ Err r → IsSpan text e r (fault_of r) (span_of e r)
       spans (Unclosed t) refused = (refl, refl)
       spans (Here p skip n) refused =
           let cut = end_cuts text e u b in

@@ -2,7 +2,7 @@
 use Rattle.std.proofs.Common.{◌≡◌, ℕ, Bool, true, false, cond, List, [], ◌∷◌, ◌++◌, map, Contains, Option, Some, None, is_some, refl, sym, ap, subst, ◌∙◌, append_assoc, append-nil, arith}
 use Rattle.std.specs.List.{flat_map}
 use Rattle.std.proofs.lemmas.Grind.{flat_map-append}
-use Rattle.justfile_word.specs.declared.token_kind.TokenKind.TheVariants as kinds
+use Rattle.justfile_vocabulary.specs.declared.token_kind.TokenKind.TheVariants as kinds
 use Rattle.justfile_model.specs.AttributeLines as lines
 use Rattle.justfile_model.specs.AttributeRules.{attribute_broken, duplicate_broken, duplicates_broken, of_some, order_broken, repeats_broken}
 use Rattle.justfile_model.specs.Expressions as g
@@ -11,7 +11,7 @@ use Rattle.justfile_model.specs.Features.{Noted}
 use Rattle.justfile_model.specs.Meaning.{KeyArgument, all_of, at_key, by_key, entry_of}
 use Rattle.justfile_model.specs.ReadAttribute.{ReadAttribute, commented_both, entry_read}
 use Rattle.justfile_model.specs.Rules.{AttributePositionalFollowsKeyword, Broken, DuplicateAttributeKey}
-use Rattle.justfile_model.specs.Sight.{Sight}
+use Rattle.justfile_model.specs.LeafView.{LeafView}
 use Rattle.justfile_model.specs.SignificantTokens.{SignificantToken}
 use Rattle.justfile_model.specs.Tok.{Tok}
 use Rattle.justfile_model.specs.Tree as tree
@@ -23,8 +23,8 @@ use Rattle.justfile_model.proofs.TokenAttributes as reader
 
 -- ---- no expression begins with a closing parenthesis, and no argument
 
-module _ {A B : Type 0} (leaf : Tok → A) (spot : Tok → B) (Open : ℕ → Option SignificantToken → Type 0) where
-  value_starts : {d : ℕ} {e : Expr A B} {fs : List (Noted B)} {ts rest : Tokens} → g.Value leaf spot Open d e fs ts rest → NotNext kinds.ParenR ts
+module _ {A B : Type 0} (leaf : Tok → A) (position : Tok → B) (MayEnter : ℕ → Option SignificantToken → Type 0) where
+  value_starts : {d : ℕ} {e : Expr A B} {fs : List (Noted B)} {ts rest : Tokens} → g.Value leaf position MayEnter d e fs ts rest → NotNext kinds.ParenR ts
   value_starts (g.not kind v) = λ e. cc
   value_starts (g.literal kind) = λ e. cc
   value_starts (g.expanded m) = λ e. let k = m.marks.is_name in cc
@@ -38,7 +38,7 @@ module _ {A B : Type 0} (leaf : Tok → A) (spot : Tok → B) (Open : ℕ → Op
   value_starts (g.group kind v kind2) = λ e. cc
   value_starts (g.list kind s) = λ e. cc
 
-  conjunct_starts : {d : ℕ} {e : Expr A B} {fs : List (Noted B)} {ts rest : Tokens} → g.Conjunct leaf spot Open d e fs ts rest → NotNext kinds.ParenR ts
+  conjunct_starts : {d : ℕ} {e : Expr A B} {fs : List (Noted B)} {ts rest : Tokens} → g.Conjunct leaf position MayEnter d e fs ts rest → NotNext kinds.ParenR ts
   conjunct_starts (g.conditional is c) = λ e. let k = is.is_name in cc
   conjunct_starts (g.root kind c) = λ e. cc
   conjunct_starts (g.join nw v kind c) = value_starts v
@@ -46,22 +46,22 @@ module _ {A B : Type 0} (leaf : Tok → A) (spot : Tok → B) (Open : ℕ → Op
   conjunct_starts (g.concatenation nw v kind c) = value_starts v
   conjunct_starts (g.value nw v nx) = value_starts v
 
-  compared_starts : {c : Bool} {d : ℕ} {e : Expr A B} {fs : List (Noted B)} {ts rest : Tokens} → g.Compared leaf spot Open c d e fs ts rest
+  compared_starts : {c : Bool} {d : ℕ} {e : Expr A B} {fs : List (Noted B)} {ts rest : Tokens} → g.Compared leaf position MayEnter c d e fs ts rest
       → NotNext kinds.ParenR ts
   compared_starts (g.compare by l kind r) = conjunct_starts l
   compared_starts (g.conjunct l nx) = conjunct_starts l
 
-  disjunct_starts : {c : Bool} {d : ℕ} {e : Expr A B} {fs : List (Noted B)} {ts rest : Tokens} → g.Disjunct leaf spot Open c d e fs ts rest
+  disjunct_starts : {c : Bool} {d : ℕ} {e : Expr A B} {fs : List (Noted B)} {ts rest : Tokens} → g.Disjunct leaf position MayEnter c d e fs ts rest
       → NotNext kinds.ParenR ts
   disjunct_starts (g.and l kind r) = compared_starts l
   disjunct_starts (g.comparison l nx) = compared_starts l
 
-  expression_starts : {c : Bool} {d : ℕ} {e : Expr A B} {fs : List (Noted B)} {ts rest : Tokens} → g.Expression leaf spot Open c d e fs ts rest
+  expression_starts : {c : Bool} {d : ℕ} {e : Expr A B} {fs : List (Noted B)} {ts rest : Tokens} → g.Expression leaf position MayEnter c d e fs ts rest
       → NotNext kinds.ParenR ts
   expression_starts (g.or o l kind r) = disjunct_starts l
   expression_starts (g.disjunct o l nx) = disjunct_starts l
 
-  pub argument_starts : {keys : Bool} {a : Argument A B} {fs : List (Noted B)} {ts rest : Tokens} → lines.ArgumentOf leaf spot Open keys a fs ts rest
+  pub argument_starts : {keys : Bool} {a : Argument A B} {fs : List (Noted B)} {ts rest : Tokens} → lines.ArgumentOf leaf position MayEnter keys a fs ts rest
       → NotNext kinds.ParenR ts
   argument_starts (lines.positional not e) = expression_starts e
   argument_starts (lines.bare {key = key} {rest = rest} is not) = named rest is
@@ -77,40 +77,40 @@ contains_one : {X : Type 0} (b : Bool) (x : X) → b ≡ true → Contains (cond
 contains_one true x e = (0, omega arith, refl)
 contains_one false x e = cc
 
-module _ (sight : Sight Tok Tok) (name : Tok) where
+module _ (view : LeafView Tok Tok) (name : Tok) where
   -- what these arguments break by their order and their keys, after these keys, is among the rules
   pub record Covers (before : List (KeyArgument Tok Tok)) (all : List (Argument Tok Tok)) (rules : List (Broken Tok)) : Type 0 where
-    pub orders : Among (order_broken sight name (reader.some_key before) all) rules
-    pub repeats : Among (repeats_broken sight name before (by_key all)) rules
+    pub orders : Among (order_broken view name (reader.some_key before) all) rules
+    pub repeats : Among (repeats_broken view name before (by_key all)) rules
 
   pub covers_order : (before : List (KeyArgument Tok Tok)) (first : Tok) (value : Expr Tok Tok) (others : List (Argument Tok Tok)) {rules : List (Broken Tok)}
       → Covers before (tree.Positional first value ∷ others) rules
       → reader.some_key before ≡ true → Contains rules (record { rule = AttributePositionalFollowsKeyword; token = first })
   covers_order before first value others h some =
-      (among_first _ (order_broken sight name (reader.some_key before) others) h.orders).carries _ (contains_one (reader.some_key before) _ some)
+      (among_first _ (order_broken view name (reader.some_key before) others) h.orders).carries _ (contains_one (reader.some_key before) _ some)
 
   repeat_found : (before : List (KeyArgument Tok Tok)) (key : KeyArgument Tok Tok) (keys : List (KeyArgument Tok Tok)) {rules : List (Broken Tok)}
-      → Among (repeats_broken sight name before (key ∷ keys)) rules
-      → is_some (at_key sight (sight.bytes key.key) before) ≡ true
-      → Contains rules (record { rule = DuplicateAttributeKey name (sight.place key.key); token = sight.place key.key })
+      → Among (repeats_broken view name before (key ∷ keys)) rules
+      → is_some (at_key view (view.bytes key.key) before) ≡ true
+      → Contains rules (record { rule = DuplicateAttributeKey name (view.place key.key); token = view.place key.key })
   repeat_found before key keys h repeated =
-      (among_first _ (repeats_broken sight name (before ++ key ∷ []) keys) h).carries _
-      (contains_one (is_some (at_key sight (sight.bytes key.key) before)) _ repeated)
+      (among_first _ (repeats_broken view name (before ++ key ∷ []) keys) h).carries _
+      (contains_one (is_some (at_key view (view.bytes key.key) before)) _ repeated)
 
   pub covers_repeat : (before : List (KeyArgument Tok Tok)) (key : Tok) (value : Option (Expr Tok Tok)) (others : List (Argument Tok Tok))
       {rules : List (Broken Tok)} → Covers before (reader.argument_of_key key value ∷ others) rules
-      → is_some (at_key sight (sight.bytes key) before) ≡ true
-      → Contains rules (record { rule = DuplicateAttributeKey name (sight.place key); token = sight.place key })
+      → is_some (at_key view (view.bytes key) before) ≡ true
+      → Contains rules (record { rule = DuplicateAttributeKey name (view.place key); token = view.place key })
   covers_repeat before key None others h = repeat_found before (record { key = key; value = None }) (by_key others) h.repeats
   covers_repeat before key (Some value) others h = repeat_found before (record { key = key; value = Some value }) (by_key others) h.repeats
 
   after_key : (before : List (KeyArgument Tok Tok)) (key : KeyArgument Tok Tok) (others : List (Argument Tok Tok)) {rules : List (Broken Tok)}
-      → Among (order_broken sight name true others) rules
-      → Among (repeats_broken sight name before (key ∷ by_key others)) rules → Covers (before ++ key ∷ []) others rules
+      → Among (order_broken view name true others) rules
+      → Among (repeats_broken view name before (key ∷ by_key others)) rules → Covers (before ++ key ∷ []) others rules
   after_key before key others {rules = rules} h k = record {
-    orders = subst (λ b. Among (order_broken sight name b others) rules) (sym (key_last before key)) h;
-    repeats = among_others (cond (is_some (at_key sight (sight.bytes key.key) before))
-        (record { rule = DuplicateAttributeKey name (sight.place key.key); token = sight.place key.key } ∷ []) []) _ k;
+    orders = subst (λ b. Among (order_broken view name b others) rules) (sym (key_last before key)) h;
+    repeats = among_others (cond (is_some (at_key view (view.bytes key.key) before))
+        (record { rule = DuplicateAttributeKey name (view.place key.key); token = view.place key.key } ∷ []) []) _ k;
   }
 
   -- what is left after an argument
@@ -126,11 +126,11 @@ module _ (sight : Sight Tok Tok) (name : Tok) where
 
 -- ---- attributes that were read
 
-module _ (sight : Sight Tok Tok) where
+module _ (view : LeafView Tok Tok) where
   -- the attribute that was read is this one as it is written, with what it means
   pub record IsReading (w : WrittenAttribute Tok Tok) (x : ReadAttribute) : Type 0 where
     pub written_is : x.written ≡ w
-    pub means : entry_of sight w ≡ Some x.entry
+    pub means : entry_of view w ≡ Some x.entry
 
   pub data AreReadings : List (WrittenAttribute Tok Tok) → List ReadAttribute → Type 0 where
     none : AreReadings [] []
@@ -143,7 +143,7 @@ module _ (sight : Sight Tok Tok) where
   readings_append (more is h) k = more is (readings_append h k)
 
   reading_commented : (c : List ℕ) {w : WrittenAttribute Tok Tok} {x : ReadAttribute} → IsReading w x → IsReading (commented_attribute c w) (commented_both c x)
-  reading_commented c {w} {x} h = record { written_is = ap (commented_attribute c) h.written_is; means = means_commented sight c w x.entry h.means }
+  reading_commented c {w} {x} h = record { written_is = ap (commented_attribute c) h.written_is; means = means_commented view c w x.entry h.means }
 
   last_commented : (c : List ℕ) {ws : List (WrittenAttribute Tok Tok)} {xs : List ReadAttribute} → AreReadings ws xs
       → AreReadings (at_last (commented_attribute c) ws) (at_last (commented_both c) xs)
@@ -164,7 +164,7 @@ module _ (sight : Sight Tok Tok) where
 
   -- and what they mean
   pub readings_mean : {ws : List (WrittenAttribute Tok Tok)} {xs : List ReadAttribute} → AreReadings ws xs
-      → all_of (entry_of sight) ws ≡ Some (map entry_read xs)
+      → all_of (entry_of view) ws ≡ Some (map entry_read xs)
   readings_mean none = refl
   readings_mean (more is h) = rw (is.means, readings_mean h) refl
 
@@ -172,7 +172,7 @@ module _ (sight : Sight Tok Tok) where
 
   -- the entry of an attribute that has a meaning
   abbrev entry_given : WrittenAttribute Tok Tok → List (Entry Tok Tok)
-  entry_given w = of_some (λ e. e ∷ []) (entry_of sight w)
+  entry_given w = of_some (λ e. e ∷ []) (entry_of view w)
 
   abbrev entries_given : List (WrittenAttribute Tok Tok) → List (Entry Tok Tok)
   entries_given = flat_map entry_given
@@ -182,59 +182,59 @@ module _ (sight : Sight Tok Tok) where
   given_of_readings (more is h) = rw (is.means, given_of_readings h) refl
 
   duplicates_append : (before : List (Entry Tok Tok)) (ws vs : List (WrittenAttribute Tok Tok))
-      → duplicates_broken sight before (ws ++ vs) ≡ duplicates_broken sight before ws ++ duplicates_broken sight (before ++ entries_given ws) vs
-  duplicates_append before [] vs = ap (λ es. duplicates_broken sight es vs) (sym (append-nil before))
+      → duplicates_broken view before (ws ++ vs) ≡ duplicates_broken view before ws ++ duplicates_broken view (before ++ entries_given ws) vs
+  duplicates_append before [] vs = ap (λ es. duplicates_broken view es vs) (sym (append-nil before))
   duplicates_append before (w ∷ ws) vs =
-      let first = of_some (duplicate_broken sight before) (entry_of sight w) in
+      let first = of_some (duplicate_broken view before) (entry_of view w) in
       let between = before ++ entry_given w in
       ap (λ l. first ++ l) (duplicates_append between ws vs
-      ∙ ap (λ es. duplicates_broken sight between ws ++ duplicates_broken sight es vs) (append_assoc before (entry_given w) (entries_given ws)))
-      ∙ sym (append_assoc first (duplicates_broken sight between ws) (duplicates_broken sight (before ++ (entry_given w ++ entries_given ws)) vs))
+      ∙ ap (λ es. duplicates_broken view between ws ++ duplicates_broken view es vs) (append_assoc before (entry_given w) (entries_given ws)))
+      ∙ sym (append_assoc first (duplicates_broken view between ws) (duplicates_broken view (before ++ (entry_given w ++ entries_given ws)) vs))
 
   -- what these attributes break, after those with these entries, is among the rules
   pub record CoversAll (before : List (Entry Tok Tok)) (ws : List (WrittenAttribute Tok Tok)) (rules : List (Broken Tok)) : Type 0 where
-    pub each : Among (flat_map (attribute_broken sight) ws) rules
-    pub repeats : Among (duplicates_broken sight before ws) rules
+    pub each : Among (flat_map (attribute_broken view) ws) rules
+    pub repeats : Among (duplicates_broken view before ws) rules
 
   module _ (before : List (Entry Tok Tok)) (w : WrittenAttribute Tok Tok) (ws : List (WrittenAttribute Tok Tok)) {rules : List (Broken Tok)}
       (h : CoversAll before (w ∷ ws) rules) where
     -- an attribute alone
-    pub covers_one : Among (attribute_broken sight w) rules
-    covers_one = among_first (attribute_broken sight w) (flat_map (attribute_broken sight) ws) h.each
+    pub covers_one : Among (attribute_broken view w) rules
+    covers_one = among_first (attribute_broken view w) (flat_map (attribute_broken view) ws) h.each
 
-    repeats_as : (o : Option (Entry Tok Tok)) → entry_of sight w ≡ o
-        → Among (of_some (duplicate_broken sight before) o ++ duplicates_broken sight (before ++ of_some (λ e. e ∷ []) o) ws) rules
+    repeats_as : (o : Option (Entry Tok Tok)) → entry_of view w ≡ o
+        → Among (of_some (duplicate_broken view before) o ++ duplicates_broken view (before ++ of_some (λ e. e ∷ []) o) ws) rules
     repeats_as o means =
-        subst (λ o. Among (of_some (duplicate_broken sight before) o ++ duplicates_broken sight (before ++ of_some (λ e. e ∷ []) o) ws) rules) means h.repeats
+        subst (λ o. Among (of_some (duplicate_broken view before) o ++ duplicates_broken view (before ++ of_some (λ e. e ∷ []) o) ws) rules) means h.repeats
 
     -- by those before it
-    pub covers_duplicate : (e : Entry Tok Tok) → entry_of sight w ≡ Some e → Among (duplicate_broken sight before e) rules
-    covers_duplicate e means = among_first (duplicate_broken sight before e) (duplicates_broken sight (before ++ e ∷ []) ws) (repeats_as (Some e) means)
+    pub covers_duplicate : (e : Entry Tok Tok) → entry_of view w ≡ Some e → Among (duplicate_broken view before e) rules
+    covers_duplicate e means = among_first (duplicate_broken view before e) (duplicates_broken view (before ++ e ∷ []) ws) (repeats_as (Some e) means)
 
     -- those after it
-    pub covers_after : (e : Entry Tok Tok) → entry_of sight w ≡ Some e → CoversAll (before ++ e ∷ []) ws rules
+    pub covers_after : (e : Entry Tok Tok) → entry_of view w ≡ Some e → CoversAll (before ++ e ∷ []) ws rules
     covers_after e means = record {
-      each = among_others (attribute_broken sight w) (flat_map (attribute_broken sight) ws) h.each;
-      repeats = among_others (duplicate_broken sight before e) (duplicates_broken sight (before ++ e ∷ []) ws) (repeats_as (Some e) means);
+      each = among_others (attribute_broken view w) (flat_map (attribute_broken view) ws) h.each;
+      repeats = among_others (duplicate_broken view before e) (duplicates_broken view (before ++ e ∷ []) ws) (repeats_as (Some e) means);
     }
 
   module _ (before : List (Entry Tok Tok)) (ws vs : List (WrittenAttribute Tok Tok)) {rules : List (Broken Tok)} (h : CoversAll before (ws ++ vs) rules) where
-    both_each : Among (flat_map (attribute_broken sight) ws ++ flat_map (attribute_broken sight) vs) rules
-    both_each = subst (λ l. Among l rules) (flat_map-append (attribute_broken sight) ws vs) h.each
+    both_each : Among (flat_map (attribute_broken view) ws ++ flat_map (attribute_broken view) vs) rules
+    both_each = subst (λ l. Among l rules) (flat_map-append (attribute_broken view) ws vs) h.each
 
-    both_repeat : Among (duplicates_broken sight before ws ++ duplicates_broken sight (before ++ entries_given ws) vs) rules
+    both_repeat : Among (duplicates_broken view before ws ++ duplicates_broken view (before ++ entries_given ws) vs) rules
     both_repeat = subst (λ l. Among l rules) (duplicates_append before ws vs) h.repeats
 
     -- those of a line
     pub covers_line : CoversAll before ws rules
     covers_line = record {
-      each = among_first (flat_map (attribute_broken sight) ws) (flat_map (attribute_broken sight) vs) both_each;
-      repeats = among_first (duplicates_broken sight before ws) (duplicates_broken sight (before ++ entries_given ws) vs) both_repeat;
+      each = among_first (flat_map (attribute_broken view) ws) (flat_map (attribute_broken view) vs) both_each;
+      repeats = among_first (duplicates_broken view before ws) (duplicates_broken view (before ++ entries_given ws) vs) both_repeat;
     }
 
     -- those of the lines after it
     pub covers_lines : (xs : List ReadAttribute) → AreReadings ws xs → CoversAll (before ++ map entry_read xs) vs rules
     covers_lines xs read = subst (λ es. CoversAll (before ++ es) vs rules) (given_of_readings read) (record {
-      each = among_others (flat_map (attribute_broken sight) ws) (flat_map (attribute_broken sight) vs) both_each;
-      repeats = among_others (duplicates_broken sight before ws) (duplicates_broken sight (before ++ entries_given ws) vs) both_repeat;
+      each = among_others (flat_map (attribute_broken view) ws) (flat_map (attribute_broken view) vs) both_each;
+      repeats = among_others (duplicates_broken view before ws) (duplicates_broken view (before ++ entries_given ws) vs) both_repeat;
     })

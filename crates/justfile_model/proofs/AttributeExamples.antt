@@ -1,20 +1,20 @@
 -- Examples of what attributes mean, which rules they break, and how they are printed, computed from the definitions.
 use Rattle.std.proofs.Common.{◌≡◌, ℕ, false, List, [], ◌∷◌, Option, Some, None, codes, refl}
-use Rattle.justfile_word.specs.AttributeKind.{kind_named}
+use Rattle.justfile_vocabulary.specs.AttributeKind.{kind_named}
 use Rattle.justfile_model.specs.Literals.{Expansions}
 use Rattle.justfile_model.specs.Meaning.{entries_of}
 use Rattle.justfile_model.specs.Printing.{entries_text, fixed_text}
-use Rattle.justfile_word.specs.Signal.{signal_named}
+use Rattle.justfile_vocabulary.specs.Signal.{signal_named}
 use Rattle.justfile_model.specs.AttributeKinds.{same_attribute}
-use Rattle.justfile_model.specs.Sight.{Sight, sees_lexemes}
+use Rattle.justfile_model.specs.LeafView.{LeafView, views_lexemes}
 use Rattle.justfile_model.specs.Tree as tree
 use Rattle.justfile_model.specs.Tree.{Argument, WrittenAttribute, Expr, Entry, bare_attribute, commented_attribute}
 
 abbrev unasked : Expansions
 unasked text = None
 
-abbrev sees : Sight (List ℕ) (Unit {0})
-sees = sees_lexemes unasked
+abbrev sees : LeafView (List ℕ) (Unit {0})
+sees = views_lexemes unasked
 
 abbrev plain : List ℕ → WrittenAttribute (List ℕ) (Unit {0})
 plain name = bare_attribute name []

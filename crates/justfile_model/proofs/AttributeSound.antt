@@ -6,9 +6,9 @@ use Rattle.std.specs.Option.{option_map}
 use Rattle.std.specs.Str.{trim_end}
 use Rattle.std.proofs.lemmas.Grind.{flat_map-append}
 use Rattle.std.proofs.lemmas.List.{map-append}
-use Rattle.justfile_word.specs.AttributeKind.{kind_named, takes_keys}
-use Rattle.justfile_word.specs.declared.attribute_kind.AttributeKind.{AttributeKind}
-use Rattle.justfile_word.specs.declared.token_kind.TokenKind.TheVariants as kinds
+use Rattle.justfile_vocabulary.specs.AttributeKind.{kind_named, takes_keys}
+use Rattle.justfile_vocabulary.specs.declared.attribute_kind.AttributeKind.{AttributeKind}
+use Rattle.justfile_vocabulary.specs.declared.token_kind.TokenKind.TheVariants as kinds
 use Rattle.justfile_model.specs.AttributeKinds.{name_takes_keys, named_takes_keys}
 use Rattle.justfile_model.specs.AttributeLines as g
 use Rattle.justfile_model.specs.AttributeLines.{IsKey}
@@ -16,19 +16,19 @@ use Rattle.justfile_model.specs.AttributeReader as r
 use Rattle.justfile_model.specs.AttributeReader.{read_made}
 use Rattle.justfile_model.specs.AttributeRules.{arguments_broken, attribute_broken, attributes_broken, duplicate_broken, named_broken}
 use Rattle.justfile_model.specs.Conditions.{Conditions}
-use Rattle.justfile_model.specs.Expressions.{Tokens, IsKind, NotNext, Under, front}
+use Rattle.justfile_model.specs.Expressions.{Tokens, IsKind, NotNext, BelowLimit, front}
 use Rattle.justfile_model.specs.Features.{Noted}
 use Rattle.justfile_model.specs.Grammar.{NotEmpty}
 use Rattle.justfile_model.specs.Files.{argument_literals, expr_literals, optional_literals, written_literals}
 use Rattle.justfile_model.specs.Meaning.{KeyArgument, all_of, attribute_of, by_key, by_position, entry_of}
 use Rattle.justfile_model.specs.NewAttribute.{Made, new_entry}
-use Rattle.justfile_model.specs.ReadAttribute.{ReadAttribute, commented_both, entry_read, token_sight}
-use Rattle.justfile_model.specs.Reading.{◌>>=◌, at, comment_in}
+use Rattle.justfile_model.specs.ReadAttribute.{ReadAttribute, commented_both, entry_read, token_view}
+use Rattle.justfile_model.specs.ReaderState.{◌>>=◌, at, comment_in}
 use Rattle.justfile_model.specs.SignificantTokens.{SignificantToken}
 use Rattle.justfile_model.specs.Tok.{Tok}
 use Rattle.justfile_model.specs.Tree as tree
 use Rattle.justfile_model.specs.Tree.{Argument, Entry, Expr, WrittenAttribute, bare_attribute, commented, commented_attribute, commented_entry, commented_line, itself}
-use Rattle.justfile_model.specs.TreeReader.{Read, Refusal, State, token_leaves, read_attributes}
+use Rattle.justfile_model.specs.TreeReader.{Read, ReadError, State, token_leaves, read_attributes}
 use Rattle.justfile_model.proofs.AttributeSteps.{AllMade, Follow, Follows, IsNew, key_is_next, key_taken, keys_append, none, more, none_broken, made_append, made_commented, made_mean, none_follow, one_follows}
 use Rattle.justfile_model.proofs.Commented.{commented_after, commented_literals, commented_map, some_bracketed}
 use Rattle.justfile_model.proofs.CookedTexts.{AllCook}
@@ -62,22 +62,22 @@ module _ (conditions : Conditions) where
   Expression = e.Expression conditions false 0
 
   abbrev pub ArgumentOf : Bool → Argument Tok Tok → List (Noted Tok) → Tokens → Tokens → Type 0
-  ArgumentOf = g.ArgumentOf itself itself (Under conditions.limit)
+  ArgumentOf = g.ArgumentOf itself itself (BelowLimit conditions.limit)
 
   abbrev pub Arguments : Bool → List (Argument Tok Tok) → List (Noted Tok) → Tokens → Tokens → Type 0
-  Arguments = g.Arguments itself itself (Under conditions.limit)
+  Arguments = g.Arguments itself itself (BelowLimit conditions.limit)
 
   abbrev pub AttributeOf : WrittenAttribute Tok Tok → List (Noted Tok) → Tokens → Tokens → Type 0
-  AttributeOf = g.AttributeOf itself itself (Under conditions.limit)
+  AttributeOf = g.AttributeOf itself itself (BelowLimit conditions.limit)
 
   abbrev pub Bracketed : List (WrittenAttribute Tok Tok) → List (Noted Tok) → Tokens → Tokens → Type 0
-  Bracketed = g.Bracketed itself itself (Under conditions.limit)
+  Bracketed = g.Bracketed itself itself (BelowLimit conditions.limit)
 
   abbrev pub AttributesEnd : Option (List ℕ) → Tokens → Tokens → Type 0
-  AttributesEnd = g.AttributesEnd itself itself (Under conditions.limit)
+  AttributesEnd = g.AttributesEnd itself itself (BelowLimit conditions.limit)
 
   abbrev pub AttributeLines : List (WrittenAttribute Tok Tok) → List (Noted Tok) → Tokens → Tokens → Type 0
-  AttributeLines = g.AttributeLines itself itself (Under conditions.limit)
+  AttributeLines = g.AttributeLines itself itself (BelowLimit conditions.limit)
 
   -- ---- an argument by position
 
@@ -111,14 +111,14 @@ module _ (conditions : Conditions) where
   -- an argument that may stand after these
   record IsArgument (keys : Bool) (name : Tok) (before : List (Argument Tok Tok)) (s : State) (x : ReadArgument) : Type 0 where
     derived : Derived conditions (ArgumentOf keys x.0) (argument_literals x.0) 0 s x.1
-    follows : Follows (token_sight conditions) name (by_key before) x.0
+    follows : Follows (token_view conditions) name (by_key before) x.0
 
   by_position_derives : {keys : Bool} {a : Argument Tok Tok} {fs : List (Noted Tok)} {ts rest : Tokens} → (keys ≡ true → IsKey ts → ⊥) → IsPlaced a fs ts rest
       → ArgumentOf keys a fs ts rest
   by_position_derives not (placed e) = g.positional not e
 
   placed_follows : (name : Tok) (ks : List (KeyArgument Tok Tok)) {a : Argument Tok Tok} {fs : List (Noted Tok)} {ts rest : Tokens} → reader.some_key ks ≡ false
-      → IsPlaced a fs ts rest → Follows (token_sight conditions) name ks a
+      → IsPlaced a fs ts rest → Follows (token_view conditions) name ks a
   placed_follows name ks first (placed e) = first
 
   after_a_key : (P : ReadArgument → Type 0) {a : Argument Tok Tok} {fs : List (Noted Tok)} {ts rest : Tokens} (s : State) → IsPlaced a fs ts rest
@@ -142,31 +142,31 @@ module _ (conditions : Conditions) where
       (λ x is. ordered_sound keys name before s (reader.some_key (by_key before)) x refl not (known x (PlacedAt s) is (placed_sound s here)))
 
   -- what stands after a key
-  data IsGiven : Option (Expr Tok Tok) → List (Noted Tok) → Tokens → Tokens → Type 0 where
-    nothing : {rest : Tokens} → NotNext kinds.Equals rest → IsGiven None [] rest rest
+  data IsValue : Option (Expr Tok Tok) → List (Noted Tok) → Tokens → Tokens → Type 0 where
+    nothing : {rest : Tokens} → NotNext kinds.Equals rest → IsValue None [] rest rest
     value : {e : Expr Tok Tok} {fs : List (Noted Tok)} {equals : SignificantToken} {tokens rest : Tokens} → IsKind kinds.Equals equals
-        → Expression e fs tokens rest → IsGiven (Some e) fs (equals ∷ tokens) rest
+        → Expression e fs tokens rest → IsValue (Some e) fs (equals ∷ tokens) rest
 
-  abbrev GivenAt : State → Option (Expr Tok Tok) × State → Type 0
-  GivenAt s x = Derived conditions (IsGiven x.0) (optional_literals expr_literals x.0) 0 s x.1
+  abbrev ValueAt : State → Option (Expr Tok Tok) × State → Type 0
+  ValueAt s x = Derived conditions (IsValue x.0) (optional_literals expr_literals x.0) 0 s x.1
 
-  key_value_sound : (s : State) → Here conditions 0 s → IfOk (reader.key_value s) (GivenAt s)
+  key_value_sound : (s : State) → Here conditions 0 s → IfOk (reader.key_value s) (ValueAt s)
   unfolding r.key_value
   key_value_sound s here =
-      let P : Read (Option (Expr Tok Tok)) → Type 0 = λ o. IfOk o (GivenAt s) in
+      let P : Read (Option (Expr Tok Tok)) → Type 0 = λ o. IfOk o (ValueAt s) in
       after_choose kinds.Equals s _ _ P
       (λ not. record { features = []; derives = nothing not; met = nothing_met; stays = here })
       (λ equals rest split kind. after_bind (reader.expression (at s rest)) _ P (λ e. tt) (λ e is.
       let found = expression_derives conditions false 0 (at s rest) e is here in
       record {
         features = found.features;
-        derives = subst (λ (ts : Tokens). IsGiven (Some e.0) found.features ts e.1.left) (sym split) (value kind found.derives);
+        derives = subst (λ (ts : Tokens). IsValue (Some e.0) found.features ts e.1.left) (sym split) (value kind found.derives);
         met = found.met;
         stays = found.stays;
       }))
 
   key_derives : {v : Option (Expr Tok Tok)} {fs : List (Noted Tok)} {key : SignificantToken} {ts rest : Tokens} → IsKey (key ∷ ts) → IsKind kinds.Identifier key
-      → IsGiven v fs ts rest → ArgumentOf true (reader.argument_of_key key.tok v) fs (key ∷ ts) rest
+      → IsValue v fs ts rest → ArgumentOf true (reader.argument_of_key key.tok v) fs (key ∷ ts) rest
   key_derives is kind (nothing not) = g.bare is not
   key_derives is kind (value equals e) = g.keyed kind equals e
 
@@ -174,8 +174,8 @@ module _ (conditions : Conditions) where
   key_literals key None = refl
   key_literals key (Some e) = refl
 
-  key_follows : (name : Tok) (ks : List (KeyArgument Tok Tok)) (key : Tok) (v : Option (Expr Tok Tok)) → IsNew (token_sight conditions) name ks key
-      → Follows (token_sight conditions) name ks (reader.argument_of_key key v)
+  key_follows : (name : Tok) (ks : List (KeyArgument Tok Tok)) (key : Tok) (v : Option (Expr Tok Tok)) → IsNew (token_view conditions) name ks key
+      → Follows (token_view conditions) name ks (reader.argument_of_key key v)
   key_follows name ks key None new = new
   key_follows name ks key (Some e) new = new
 
@@ -186,7 +186,7 @@ module _ (conditions : Conditions) where
       let P : Read (Argument Tok Tok) → Type 0 = λ o. IfOk o (IsArgument true name.tok before s) in
       after_expect kinds.Identifier s _ P (λ e. tt) (λ key t1 split kind.
       after_bind (reader.key_value (at s t1)) _ P (λ e. tt) (λ v is.
-      let found = known v (GivenAt (at s t1)) is (key_value_sound (at s t1) here) in
+      let found = known v (ValueAt (at s t1)) is (key_value_sound (at s t1) here) in
       let here_is = key_derives (subst IsKey split is_key) kind found.derives in
       after_test (reader.is_repeated v.1.run before key) _ _ P (λ _. tt) (λ new. record {
         derived = record {
@@ -220,13 +220,13 @@ module _ (conditions : Conditions) where
     others : List (Argument Tok Tok)
     all_are : y.0 ≡ x.0 ++ others
     derived : Derived conditions (Arguments keys others) (flat_map argument_literals others) 0 x.1 y.1
-    follow : Follow (token_sight conditions) name (by_key x.0) others
+    follow : Follow (token_view conditions) name (by_key x.0) others
 
   follow_last : (name : Tok) (before : List (Argument Tok Tok)) (a : Argument Tok Tok) (others : List (Argument Tok Tok))
-      → Follows (token_sight conditions) name (by_key before) a
-      → Follow (token_sight conditions) name (by_key (before ++ a ∷ [])) others → Follow (token_sight conditions) name (by_key before) (a ∷ others)
+      → Follows (token_view conditions) name (by_key before) a
+      → Follow (token_view conditions) name (by_key (before ++ a ∷ [])) others → Follow (token_view conditions) name (by_key before) (a ∷ others)
   follow_last name before a others follows h =
-      one_follows (token_sight conditions) name (by_key before) a others follows (subst (λ ks. Follow (token_sight conditions) name ks others)
+      one_follows (token_view conditions) name (by_key before) a others follows (subst (λ ks. Follow (token_view conditions) name ks others)
       (keys_append before (a ∷ [])) h)
 
   last_argument : (keys : Bool) (name : Tok) (before : List (Argument Tok Tok)) (s : State) (x : ReadArgument) → IsArgument keys name before s x
@@ -245,7 +245,7 @@ module _ (conditions : Conditions) where
               here.met;
           stays = here.stays;
         };
-        follow = follow_last name before x.0 [] one.follows (none_follow (token_sight conditions) name (by_key (before ++ x.0 ∷ [])));
+        follow = follow_last name before x.0 [] one.follows (none_follow (token_view conditions) name (by_key (before ++ x.0 ∷ [])));
       })
 
   more_arguments : (keys : Bool) (name : Tok) (before : List (Argument Tok Tok)) (s : State) (x : ReadArgument) (comma : SignificantToken) (rest : Tokens)
@@ -291,7 +291,7 @@ module _ (conditions : Conditions) where
           met = nothing_met;
           stays = here;
         };
-        follow = none_follow (token_sight conditions) name.tok (by_key x.0);
+        follow = none_follow (token_view conditions) name.tok (by_key x.0);
       })
 
   arguments_from_sound : (name : SignificantToken) (keys : Bool) (x : reader.ArgumentPlace) → AllArguments keys name.tok x (reader.arguments_from name keys x)
@@ -309,16 +309,16 @@ module _ (conditions : Conditions) where
   abbrev Named : SignificantToken → List (Argument Tok Tok) → List (Noted Tok) → Tokens → Tokens → Type 0
   Named name all fs ts rest = AttributeOf (written_at name all) fs (name ∷ ts) rest
 
-  record AreGiven (name : SignificantToken) (s : State) (x : reader.ArgumentPlace) : Type 0 where
+  record AreArguments (name : SignificantToken) (s : State) (x : reader.ArgumentPlace) : Type 0 where
     derived : Derived conditions (Named name x.0) (flat_map argument_literals x.0) 0 s x.1
-    follow : Follow (token_sight conditions) name.tok [] x.0
+    follow : Follow (token_view conditions) name.tok [] x.0
 
   short_derives : {name colon : SignificantToken} {a : Argument Tok Tok} {fs : List (Noted Tok)} {ts rest : Tokens} → IsKind kinds.Identifier name
       → IsKind kinds.Colon colon → IsPlaced a fs ts rest → Named name (a ∷ []) fs (colon ∷ ts) rest
   short_derives kind kind2 (placed e) = g.short kind kind2 e
 
   long_sound : (name opener : SignificantToken) (s : State) (rest : Tokens) → s.left ≡ opener ∷ rest → IsKind kinds.Identifier name → IsKind kinds.ParenL opener
-      → (x : reader.ArgumentPlace) → AreArguments (name_takes_keys name.tok.lexeme) name.tok ([], at s rest) x → AreGiven name s x
+      → (x : reader.ArgumentPlace) → AreArguments (name_takes_keys name.tok.lexeme) name.tok ([], at s rest) x → AreArguments name s x
   long_sound name opener s rest split kind kind2 x h =
       let found : Derived conditions (Arguments (name_takes_keys name.tok.lexeme) h.others) (flat_map argument_literals h.others) 0 (at s rest) x.1 = h.derived
       in
@@ -332,23 +332,23 @@ module _ (conditions : Conditions) where
               found.met;
           stays = found.stays;
         };
-        follow = subst (Follow (token_sight conditions) name.tok []) same h.follow;
+        follow = subst (Follow (token_view conditions) name.tok []) same h.follow;
       }
 
   arguments_sound : (name : SignificantToken) (s : State) → Here conditions 0 s → IsKind kinds.Identifier name
-      → IfOk (reader.arguments name (name_takes_keys name.tok.lexeme) s) (AreGiven name s)
+      → IfOk (reader.arguments name (name_takes_keys name.tok.lexeme) s) (AreArguments name s)
   unfolding r.arguments
   arguments_sound name s here kind =
-      let P : reader.ReadArguments → Type 0 = λ o. IfOk o (AreGiven name s) in
+      let P : reader.ReadArguments → Type 0 = λ o. IfOk o (AreArguments name s) in
       let keys = name_takes_keys name.tok.lexeme in
       after_choose kinds.Colon s _ _ P
       (λ no_colon. after_choose kinds.ParenL s _ _ P
       (λ no_paren. record {
         derived = record { features = []; derives = g.plain kind no_colon no_paren; met = nothing_met; stays = here };
         follow = none_follow
-            (token_sight conditions) name.tok [];
+            (token_view conditions) name.tok [];
       })
-      (λ opener rest split kind2. weaken (reader.arguments_from name keys ([], at s rest)) (AreArguments keys name.tok ([], at s rest)) (AreGiven name s)
+      (λ opener rest split kind2. weaken (reader.arguments_from name keys ([], at s rest)) (AreArguments keys name.tok ([], at s rest)) (AreArguments name s)
       (long_sound name opener s rest split kind kind2) (arguments_from_sound name keys ([], at s rest) here)))
       (λ colon rest split kind2. after_bind (reader.placed (at s rest)) _ P (λ e. tt) (λ a is.
       let found = known a (PlacedAt (at s rest)) is (placed_sound (at s rest) here) in
@@ -359,8 +359,8 @@ module _ (conditions : Conditions) where
           met = all_met found.met;
           stays = found.stays;
         };
-        follow = one_follows (token_sight conditions) name.tok [] a.0 [] (placed_follows name.tok [] refl found.derives)
-            (none_follow (token_sight conditions) name.tok (by_key (a.0 ∷ [])));
+        follow = one_follows (token_view conditions) name.tok [] a.0 [] (placed_follows name.tok [] refl found.derives)
+            (none_follow (token_view conditions) name.tok (by_key (a.0 ∷ [])));
       }))
 
 module _ (conditions : Conditions) where
@@ -369,12 +369,12 @@ module _ (conditions : Conditions) where
   -- an attribute that breaks no rule after these, with its meaning
   record IsAttribute (before : List ReadAttribute) (s : State) (x : ReadAttribute × State) : Type 0 where
     derived : Derived conditions (AttributeOf conditions x.0.written) (flat_map argument_literals x.0.written.arguments) 0 s x.1
-    means : entry_of (token_sight conditions) x.0.written ≡ Some x.0.entry
-    unbroken : attribute_broken (token_sight conditions) x.0.written ≡ []
-    distinct : duplicate_broken (token_sight conditions) (entries_in before) x.0.entry ≡ []
+    means : entry_of (token_view conditions) x.0.written ≡ Some x.0.entry
+    unbroken : attribute_broken (token_view conditions) x.0.written ≡ []
+    distinct : duplicate_broken (token_view conditions) (entries_in before) x.0.entry ≡ []
 
   -- a name of a kind, or it is refused
-  after_kind : {X : Type 0} (name : SignificantToken) (s : State) (f : AttributeKind × State → Read X) (P : Read X → Type 0) → ((e : Refusal) → P (Err e))
+  after_kind : {X : Type 0} (name : SignificantToken) (s : State) (f : AttributeKind × State → Read X) (P : Read X → Type 0) → ((e : ReadError) → P (Err e))
       → ((kind : AttributeKind) → kind_named name.tok.lexeme ≡ Some kind → P (f (kind, s))) → P (reader.kind_at name s >>= f)
   after_kind name s f P fails goes =
       subst (λ o. P (o >>= f)) (sym (reader.kind_at_is name s)) (go (kind_named name.tok.lexeme) goes)
@@ -384,37 +384,37 @@ module _ (conditions : Conditions) where
       go (Some kind) h = h kind refl
 
   after_made : {X : Type 0} (found : Made Tok (Entry Tok Tok)) (s : State) (f : Entry Tok Tok × State → Read X) (P : Read X → Type 0)
-      → ((e : Refusal) → P (Err e))
+      → ((e : ReadError) → P (Err e))
       → ((e : Entry Tok Tok) → found ≡ Ok e → P (f (e, s))) → P (read_made found s >>= f)
   after_made (Ok e) s f P fails goes = goes e refl
   after_made (Err rule) s f P fails goes = fails _
 
   named_means : (w : WrittenAttribute Tok Tok) (kind : AttributeKind) (e : Entry Tok Tok) → kind_named w.name.lexeme ≡ Some kind → e.name ≡ w.name → e.comment ≡ w.comment
-      → attribute_of (token_sight conditions) kind (by_position w.arguments) (by_key w.arguments) ≡ Some e.attribute
-      → entry_of (token_sight conditions) w ≡ Some e
+      → attribute_of (token_view conditions) kind (by_position w.arguments) (by_key w.arguments) ≡ Some e.attribute
+      → entry_of (token_view conditions) w ≡ Some e
   named_means w kind e is named comment_is means =
       rw (is, means) (λ i. Some (record { name = sym named i; attribute = e.attribute; comment = sym comment_is i }))
 
   named_unbroken : (w : WrittenAttribute Tok Tok) (kind : AttributeKind) → kind_named w.name.lexeme ≡ Some kind
-      → Follow (token_sight conditions) w.name [] w.arguments
-      → arguments_broken (token_sight conditions) w.name kind (by_position w.arguments) (by_key w.arguments) ≡ []
-      → attribute_broken (token_sight conditions) w ≡ []
+      → Follow (token_view conditions) w.name [] w.arguments
+      → arguments_broken (token_view conditions) w.name kind (by_position w.arguments) (by_key w.arguments) ≡ []
+      → attribute_broken (token_view conditions) w ≡ []
   named_unbroken w kind is follow unbroken =
-      ap (named_broken (token_sight conditions) w) is
+      ap (named_broken (token_view conditions) w) is
       ∙ rw (follow.in_order, follow.distinct) unbroken
 
   made_sound : (before : List ReadAttribute) (name : SignificantToken) (kind : AttributeKind) (s t : State) (x : reader.ArgumentPlace) → s.left ≡ name ∷ t.left
       → s.noted ≡ t.noted
-      → kind_named name.tok.lexeme ≡ Some kind → AreGiven conditions name t x
+      → kind_named name.tok.lexeme ≡ Some kind → AreArguments conditions name t x
       → IfOk (reader.made before name kind x.0 x.1) (IsAttribute before s)
   unfolding r.made
   made_sound before name kind s t x split same is h =
       let found : Derived conditions (Named conditions name x.0) (flat_map argument_literals x.0) 0 t x.1 = h.derived in
       let w : WrittenAttribute Tok Tok = written_at conditions name x.0 in
-      let made : Made Tok (Entry Tok Tok) = new_entry (token_sight x.1.run) (entries_in before) name.tok kind (by_position x.0) (by_key x.0) in
+      let made : Made Tok (Entry Tok Tok) = new_entry (token_view x.1.run) (entries_in before) name.tok kind (by_position x.0) (by_key x.0) in
       after_made made x.1 _ (λ o. IfOk o (IsAttribute before s)) (λ e. tt) (λ e made_is.
-      let m = entry_made (token_sight conditions) (entries_in before) name.tok kind (by_position x.0) (by_key x.0) e
-      (subst (λ c. new_entry (token_sight c) (entries_in before) name.tok kind (by_position x.0) (by_key x.0) ≡ Ok e) found.stays.1 made_is) in
+      let m = entry_made (token_view conditions) (entries_in before) name.tok kind (by_position x.0) (by_key x.0) e
+      (subst (λ c. new_entry (token_view c) (entries_in before) name.tok kind (by_position x.0) (by_key x.0) ≡ Ok e) found.stays.1 made_is) in
       record {
         derived = record {
           features = found.features;
@@ -437,9 +437,9 @@ module _ (conditions : Conditions) where
       after_expect kinds.Identifier s _ P (λ e. tt) (λ name rest split kind.
       after_kind name (at s rest) _ P (λ e. tt) (λ k is.
       after_bind (reader.arguments name (takes_keys k) (at s rest)) _ P (λ e. tt) (λ all is2.
-      let found = subst (λ b. IfOk (reader.arguments name b (at s rest)) (AreGiven conditions name (at s rest))) (keys_taken name.tok.lexeme k is)
+      let found = subst (λ b. IfOk (reader.arguments name b (at s rest)) (AreArguments conditions name (at s rest))) (keys_taken name.tok.lexeme k is)
       (arguments_sound conditions name (at s rest) here kind) in
-      made_sound before name k s (at s rest) all split refl is (known all (AreGiven conditions name (at s rest)) is2 found))))
+      made_sound before name k s (at s rest) all split refl is (known all (AreArguments conditions name (at s rest)) is2 found))))
 
   attribute_at : (before : List ReadAttribute) (s : State) (x : ReadAttribute × State) → reader.attribute before s ≡ Ok x → Here conditions 0 s
       → IsAttribute before s x
@@ -455,15 +455,15 @@ module _ (conditions : Conditions) where
     others : List ReadAttribute
     all_are : y.0 ≡ x.0 ++ others
     derived : Derived conditions (rule (written_in others)) (written_literals (written_in others)) 0 x.1 y.1
-    made : AllMade (token_sight conditions) (entries_in x.0) (written_in others) (entries_in others)
+    made : AllMade (token_view conditions) (entries_in x.0) (written_in others) (entries_in others)
 
-  made_after : (before : List ReadAttribute) (x : ReadAttribute) (others : List ReadAttribute) → entry_of (token_sight conditions) x.written ≡ Some x.entry
-      → attribute_broken (token_sight conditions) x.written ≡ []
-      → duplicate_broken (token_sight conditions) (entries_in before) x.entry ≡ []
-      → AllMade (token_sight conditions) (entries_in (before ++ x ∷ [])) (written_in others) (entries_in others)
-      → AllMade (token_sight conditions) (entries_in before) (written_in (x ∷ others)) (entries_in (x ∷ others))
+  made_after : (before : List ReadAttribute) (x : ReadAttribute) (others : List ReadAttribute) → entry_of (token_view conditions) x.written ≡ Some x.entry
+      → attribute_broken (token_view conditions) x.written ≡ []
+      → duplicate_broken (token_view conditions) (entries_in before) x.entry ≡ []
+      → AllMade (token_view conditions) (entries_in (before ++ x ∷ [])) (written_in others) (entries_in others)
+      → AllMade (token_view conditions) (entries_in before) (written_in (x ∷ others)) (entries_in (x ∷ others))
   made_after before x others means unbroken distinct h =
-      more means unbroken distinct (subst (λ es. AllMade (token_sight conditions) es (written_in others) (entries_in others))
+      more means unbroken distinct (subst (λ es. AllMade (token_view conditions) es (written_in others) (entries_in others))
       (map-append entry_read before (x ∷ [])) h)
 
   last_attribute : (before : List ReadAttribute) (s : State) (x : ReadAttribute × State) → IsAttribute before s x
@@ -568,7 +568,7 @@ module _ (conditions : Conditions) where
       let line : List ReadAttribute = commented commented_both comment h.others in
       let all : List ReadAttribute = line ++ k.others in
       let fs : List (Noted Tok) = first.features ++ later.features in
-      let some : NotEmpty h.others = some_written h.others (some_bracketed itself itself (Under conditions.limit) first.derives) in
+      let some : NotEmpty h.others = some_written h.others (some_bracketed itself itself (BelowLimit conditions.limit) first.derives) in
       let line_is : commented commented_both comment ws.0 ≡ x.0 ++ line =
       ap (commented commented_both comment) h.all_are ∙ commented_after commented_both comment x.0 h.others some in
       let written_is : commented_line comment (written_in h.others) ≡ written_in line =
@@ -579,8 +579,8 @@ module _ (conditions : Conditions) where
       ap (λ l. l ++ written_in k.others) written_is ∙ sym (written_append line k.others) in
       let lines : AttributeLines conditions (commented_line comment (written_in h.others) ++ written_in k.others) fs (opener ∷ t1) y.1.left =
       g.line kind first.derives ended.ends later.derives in
-      let line_made : AllMade (token_sight conditions) (entries_in x.0) (written_in line) (entries_in line) =
-      subst₂ (AllMade (token_sight conditions) (entries_in x.0)) written_is entries_are (made_commented (token_sight conditions) comment h.made) in
+      let line_made : AllMade (token_view conditions) (entries_in x.0) (written_in line) (entries_in line) =
+      subst₂ (AllMade (token_view conditions) (entries_in x.0)) written_is entries_are (made_commented (token_view conditions) comment h.made) in
       let met : Met conditions.expander fs (written_literals (commented_line comment (written_in h.others)) ++ written_literals (written_in k.others)) x.1.noted
       y.1.noted =
       both_met (subst (λ ls. Met conditions.expander first.features ls x.1.noted ws.1.noted) (sym (commented_literals comment (written_in h.others))) first.met)
@@ -597,8 +597,8 @@ module _ (conditions : Conditions) where
               written_literals same) met;
           stays = later.stays;
         };
-        made = subst₂ (AllMade (token_sight conditions) (entries_in x.0)) (sym (written_append line k.others)) (sym (map-append entry_read line k.others))
-            (made_append (token_sight conditions) line_made (subst (λ es. AllMade (token_sight conditions) es (written_in k.others) (entries_in k.others))
+        made = subst₂ (AllMade (token_view conditions) (entries_in x.0)) (sym (written_append line k.others)) (sym (map-append entry_read line k.others))
+            (made_append (token_view conditions) line_made (subst (λ es. AllMade (token_view conditions) es (written_in k.others) (entries_in k.others))
             (ap entries_in line_is ∙ map-append entry_read x.0 line) k.made));
       }
 
@@ -634,16 +634,16 @@ module _ (conditions : Conditions) where
   -- the lines of attributes that were read: they derive, each has its meaning, and no rule is broken
   pub record IsRead (s : State) (x : List ReadAttribute × State) : Type 0 where
     pub derived : Derived conditions (AttributeLines conditions (written_in x.0)) (written_literals (written_in x.0)) 0 s x.1
-    pub means : all_of (entry_of (token_sight conditions)) (written_in x.0) ≡ Some (entries_in x.0)
-    pub unbroken : attributes_broken (token_sight conditions) (written_in x.0) ≡ []
+    pub means : all_of (entry_of (token_view conditions)) (written_in x.0) ≡ Some (entries_in x.0)
+    pub unbroken : attributes_broken (token_view conditions) (written_in x.0) ≡ []
 
   whole : (s : State) (x : reader.AttributePlace) → AreAttributes (AttributeLines conditions) ([], s) x → IsRead s x
   whole s x h =
       let P : List ReadAttribute → Type 0 = λ all. IsRead s (all, x.1) in
       subst P (sym h.all_are) (record {
         derived = h.derived;
-        means = made_mean (token_sight conditions) h.made;
-        unbroken = none_broken (token_sight conditions)
+        means = made_mean (token_view conditions) h.made;
+        unbroken = none_broken (token_view conditions)
             h.made;
       })
 

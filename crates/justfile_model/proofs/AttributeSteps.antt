@@ -2,13 +2,13 @@
 use Rattle.std.proofs.Common.{◌≡◌, ℕ, Bool, true, false, not, cond, List, [], ◌∷◌, ◌++◌, Option, Some, None, is_some, refl, sym, ap, subst, append_assoc, append-nil, codes}
 use Rattle.std.specs.List.{flat_map}
 use Rattle.std.proofs.lemmas.Bool.{and_parts}
-use Rattle.justfile_word.specs.declared.token_kind.TokenKind.TheVariants as kinds
+use Rattle.justfile_vocabulary.specs.declared.token_kind.TokenKind.TheVariants as kinds
 use Rattle.justfile_model.specs.AttributeLines.{IsKey}
 use Rattle.justfile_model.specs.AttributeRules.{attribute_broken, attributes_broken, duplicate_broken, duplicates_broken, order_broken, repeats_broken}
 use Rattle.justfile_model.specs.Expressions.{Tokens}
 use Rattle.justfile_model.specs.Meaning.{KeyArgument, all_of, at_key, by_key, entry_of}
-use Rattle.justfile_model.specs.Reading.{accept_marked, next_are}
-use Rattle.justfile_model.specs.Sight.{Sight}
+use Rattle.justfile_model.specs.ReaderState.{accept_marked, next_are}
+use Rattle.justfile_model.specs.LeafView.{LeafView}
 use Rattle.justfile_model.specs.Tree as tree
 use Rattle.justfile_model.specs.Tree.{Argument, Entry, WrittenAttribute, at_last, commented, commented_attribute, commented_entry, commented_line}
 use Rattle.justfile_model.specs.TreeReader.{State, Taken, token_leaves}
@@ -74,9 +74,9 @@ both_empty : {X : Type 0} (b : Bool) (x : X) (xs : List X) → b ≡ false → x
 both_empty true x xs e h = cc
 both_empty false x xs e h = h
 
-module _ {A B : Type 0} (sight : Sight A B) (at : B) where
+module _ {A B : Type 0} (view : LeafView A B) (at : B) where
   abbrev pub IsNew : (before : List (KeyArgument A B)) → A → Type 0
-  IsNew before key = is_some (at_key sight (sight.bytes key) before) ≡ false
+  IsNew before key = is_some (at_key view (view.bytes key) before) ≡ false
 
   -- an argument that may stand after these keys
   abbrev pub Follows : (before : List (KeyArgument A B)) → Argument A B → Type 0
@@ -86,17 +86,17 @@ module _ {A B : Type 0} (sight : Sight A B) (at : B) where
 
   -- arguments that may stand after these keys
   pub record Follow (before : List (KeyArgument A B)) (all : List (Argument A B)) : Type 0 where
-    pub in_order : order_broken sight at (reader.some_key before) all ≡ []
-    pub distinct : repeats_broken sight at before (by_key all) ≡ []
+    pub in_order : order_broken view at (reader.some_key before) all ≡ []
+    pub distinct : repeats_broken view at before (by_key all) ≡ []
 
   pub none_follow : (before : List (KeyArgument A B)) → Follow before []
   none_follow before = record { in_order = refl; distinct = refl }
 
   key_follows : (before : List (KeyArgument A B)) (key : KeyArgument A B) (all : List (Argument A B)) → IsNew before key.key → Follow (before ++ key ∷ []) all
-      → (order_broken sight at true all ≡ []) × (repeats_broken sight at before (key ∷ by_key all) ≡ [])
+      → (order_broken view at true all ≡ []) × (repeats_broken view at before (key ∷ by_key all) ≡ [])
   key_follows before key all new h = (
-    subst (λ b. order_broken sight at b all ≡ []) (key_last before key) h.in_order,
-    both_empty (is_some (at_key sight (sight.bytes key.key) before)) _ (repeats_broken sight at (before ++ key ∷ []) (by_key all)) new h.distinct,
+    subst (λ b. order_broken view at b all ≡ []) (key_last before key) h.in_order,
+    both_empty (is_some (at_key view (view.bytes key.key) before)) _ (repeats_broken view at (before ++ key ∷ []) (by_key all)) new h.distinct,
   )
 
   -- an argument before others
@@ -104,7 +104,7 @@ module _ {A B : Type 0} (sight : Sight A B) (at : B) where
       → Follow before (a ∷ all)
   one_follows before (tree.Positional first value) all follows h =
       let k : Follow before all = subst (λ ks. Follow ks all) (append-nil before) h in
-      record { in_order = both_empty (reader.some_key before) _ (order_broken sight at (reader.some_key before) all) follows k.in_order; distinct = k.distinct }
+      record { in_order = both_empty (reader.some_key before) _ (order_broken view at (reader.some_key before) all) follows k.in_order; distinct = k.distinct }
   one_follows before (tree.Bare key) all follows h =
       let k = key_follows before (record { key = key; value = None }) all follows h in
       record { in_order = k.0; distinct = k.1 }
@@ -114,13 +114,13 @@ module _ {A B : Type 0} (sight : Sight A B) (at : B) where
 
 -- ---- attributes after others
 
-module _ {A B : Type 0} (sight : Sight A B) where
+module _ {A B : Type 0} (view : LeafView A B) where
   -- attributes that break no rule after those before them, and what they mean
   pub data AllMade : (before : List (Entry A B)) → List (WrittenAttribute A B) → List (Entry A B) → Type 0 where
     none : {before : List (Entry A B)} → AllMade before [] []
     more : {before : List (Entry A B)} {w : WrittenAttribute A B} {ws : List (WrittenAttribute A B)} {e : Entry A B} {es : List (Entry A B)}
-        → entry_of sight w ≡ Some e → attribute_broken sight w ≡ []
-        → duplicate_broken sight before e ≡ [] → AllMade (before ++ e ∷ []) ws es → AllMade before (w ∷ ws) (e ∷ es)
+        → entry_of view w ≡ Some e → attribute_broken view w ≡ []
+        → duplicate_broken view before e ≡ [] → AllMade (before ++ e ∷ []) ws es → AllMade before (w ∷ ws) (e ∷ es)
 
   pub made_append : {before : List (Entry A B)} {ws vs : List (WrittenAttribute A B)} {es ds : List (Entry A B)} → AllMade before ws es
       → AllMade (before ++ es) vs ds → AllMade before (ws ++ vs) (es ++ ds)
@@ -131,7 +131,7 @@ module _ {A B : Type 0} (sight : Sight A B) where
   last_made : (c : List ℕ) {before : List (Entry A B)} {ws : List (WrittenAttribute A B)} {es : List (Entry A B)} → AllMade before ws es
       → AllMade before (at_last (commented_attribute c) ws) (at_last (commented_entry c) es)
   last_made c none = none
-  last_made c (more {w = w} {e = e} means unbroken distinct none) = more (means_commented sight c w e means) unbroken distinct none
+  last_made c (more {w = w} {e = e} means unbroken distinct none) = more (means_commented view c w e means) unbroken distinct none
   last_made c (more means unbroken distinct (more means2 unbroken2 distinct2 h)) =
       more means unbroken distinct (last_made c (more means2 unbroken2 distinct2 h))
 
@@ -142,19 +142,19 @@ module _ {A B : Type 0} (sight : Sight A B) where
   made_commented (Some c) h = last_made c h
 
   pub made_mean : {before : List (Entry A B)} {ws : List (WrittenAttribute A B)} {es : List (Entry A B)} → AllMade before ws es
-      → all_of (entry_of sight) ws ≡ Some es
+      → all_of (entry_of view) ws ≡ Some es
   made_mean none = refl
   made_mean (more means unbroken distinct h) = rw (means, made_mean h) refl
 
   made_unbroken : {before : List (Entry A B)} {ws : List (WrittenAttribute A B)} {es : List (Entry A B)} → AllMade before ws es
-      → flat_map (attribute_broken sight) ws ≡ []
+      → flat_map (attribute_broken view) ws ≡ []
   made_unbroken none = refl
   made_unbroken (more means unbroken distinct h) = rw (unbroken, made_unbroken h) refl
 
   made_distinct : {before : List (Entry A B)} {ws : List (WrittenAttribute A B)} {es : List (Entry A B)} → AllMade before ws es
-      → duplicates_broken sight before ws ≡ []
+      → duplicates_broken view before ws ≡ []
   made_distinct none = refl
   made_distinct (more means unbroken distinct h) = rw (means, distinct, made_distinct h) refl
 
-  pub none_broken : {ws : List (WrittenAttribute A B)} {es : List (Entry A B)} → AllMade [] ws es → attributes_broken sight ws ≡ []
+  pub none_broken : {ws : List (WrittenAttribute A B)} {es : List (Entry A B)} → AllMade [] ws es → attributes_broken view ws ≡ []
   none_broken h = rw (made_unbroken h, made_distinct h) refl

@@ -4,8 +4,8 @@ use Rattle.std.specs.Prelude.{◌↔◌, ◌||◌, IsTrue, reverse}
 use Rattle.std.specs.List.{AllByRecursion}
 use Rattle.std.proofs.lemmas.List.{append_assoc, reverse-append, reverse-reverse}
 use Rattle.std.proofs.lemmas.List.Elements.{All-nil, All-push, recursion_from_All}
-use Rattle.justfile_word.specs.declared.token_kind.TokenKind.{TokenKind}
-use Rattle.justfile_word.specs.declared.token_kind.TokenKind.TheVariants as kinds
+use Rattle.justfile_vocabulary.specs.declared.token_kind.TokenKind.{TokenKind}
+use Rattle.justfile_vocabulary.specs.declared.token_kind.TokenKind.TheVariants as kinds
 use Rattle.justfile_model.specs.Bodies.{IsAfterColon, IsInBody}
 use Rattle.justfile_model.specs.Modes.{Mode, mode_after, mode}
 use Rattle.justfile_model.specs.Tok.{Tok}

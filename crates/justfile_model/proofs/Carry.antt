@@ -1,7 +1,7 @@
 -- A derivation of a file carried over to tokens that differ in their places alone, to other leaves and to another limit.
 use Rattle.std.proofs.Common.{◌≡◌, ℕ, false, true, List, [], ◌∷◌, ◌++◌, map, Option, None, Some, refl, sym, subst, ap, ◌∙◌}
 use Rattle.std.specs.Str.{trim_end}
-use Rattle.justfile_word.specs.declared.token_kind.TokenKind.{TokenKind}
+use Rattle.justfile_vocabulary.specs.declared.token_kind.TokenKind.{TokenKind}
 use Rattle.justfile_model.specs.AttributeLines.{AttributeLines}
 use Rattle.justfile_model.specs.SignificantTokens.{SignificantToken}
 use Rattle.justfile_model.specs.Tree as tree
@@ -9,7 +9,7 @@ use Rattle.justfile_model.specs.Tree.{Expr, Fragment, BodyLine, Line, Content, C
 use Rattle.justfile_model.specs.Features.{ConstructFeatures, Noted, over_features, over_noted}
 use Rattle.justfile_model.specs.Expressions.{Tokens, front, IsKind, Expression}
 use Rattle.justfile_model.specs.Grammar as g
-use Rattle.justfile_model.specs.Grammar.{Kept, LineRest, BeforeBody, NotEmpty, BodyLines, OnLine, Block, Items, ItemRest, LineEnd, File}
+use Rattle.justfile_model.specs.Grammar.{TokenProjection, LineRest, BeforeBody, NotEmpty, BodyLines, OnLine, Block, Items, ItemRest, LineEnd, File}
 use Rattle.justfile_model.specs.Headers.{HeaderOf, PathOf}
 use Rattle.justfile_model.specs.ItemParts.{FilePath, Names, ValueOf}
 use Rattle.justfile_model.specs.Settings.{SettingForm}
@@ -22,21 +22,21 @@ use Rattle.justfile_model.proofs.CarryParts as parts
 -- what becomes of what is kept of tokens
 pub record Maps (A B C S D E F G : Type 0) : Type 0 where
   pub leaf : A → D
-  pub spot : B → E
+  pub position : B → E
   pub number : C → F
   pub star : S → G
 
 -- written items with what they keep replaced
 abbrev pub over_items : {A B C S D E F G : Type 0} → Maps A B C S D E F G → List (WrittenItem A B C S) → List (WrittenItem D E F G)
-over_items m = map (over_item m.leaf m.spot m.number m.star (map (over_written_attribute m.leaf m.spot)))
+over_items m = map (over_item m.leaf m.position m.number m.star (map (over_written_attribute m.leaf m.position)))
 
 -- what is kept of related tokens becomes the same
-pub record Alike {A B C S A' B' C' S' D E F G : Type 0} (kept : Kept A B C S) (m : Maps A B C S D E F G) (kept' : Kept A' B' C' S') (m' : Maps A' B' C' S' D E F G)
+pub record Alike {A B C S A' B' C' S' D E F G : Type 0} (projection : TokenProjection A B C S) (m : Maps A B C S D E F G) (kept' : TokenProjection A' B' C' S') (m' : Maps A' B' C' S' D E F G)
     (Rel : SignificantToken → SignificantToken → Type 0) : Type 0 where
-  pub leaves : (t u : SignificantToken) → Rel t u → m'.leaf (kept'.leaf u.tok) ≡ m.leaf (kept.leaf t.tok)
-  pub spots : (t u : SignificantToken) → Rel t u → m'.spot (kept'.spot u.tok) ≡ m.spot (kept.spot t.tok)
-  pub numbers : (t u : SignificantToken) → Rel t u → m'.number (kept'.number u.tok) ≡ m.number (kept.number t.tok)
-  pub stars : (t u : SignificantToken) → Rel t u → m'.star (kept'.star u.tok) ≡ m.star (kept.star t.tok)
+  pub leaves : (t u : SignificantToken) → Rel t u → m'.leaf (kept'.leaf u.tok) ≡ m.leaf (projection.leaf t.tok)
+  pub positions : (t u : SignificantToken) → Rel t u → m'.position (kept'.position u.tok) ≡ m.position (projection.position t.tok)
+  pub numbers : (t u : SignificantToken) → Rel t u → m'.number (kept'.number u.tok) ≡ m.number (projection.number t.tok)
+  pub stars : (t u : SignificantToken) → Rel t u → m'.star (kept'.star u.tok) ≡ m.star (projection.star t.tok)
 
 -- ---- lists that are mapped
 
@@ -76,10 +76,10 @@ record Passed (Rel : SignificantToken → SignificantToken → Type 0) (R : Toke
   derives : R after
   same : Pairs Rel rest after
 
-module _ {A B C S A' B' C' S' D E F G : Type 0} (kept : Kept A B C S) (Open : ℕ → Option SignificantToken → Type 0) (m : Maps A B C S D E F G)
+module _ {A B C S A' B' C' S' D E F G : Type 0} (projection : TokenProjection A B C S) (MayEnter : ℕ → Option SignificantToken → Type 0) (m : Maps A B C S D E F G)
     (Rel : SignificantToken → SignificantToken → Type 0) (weak : (t u : SignificantToken) → Rel t u → Same t u)
-    (kept' : Kept A' B' C' S') (Open' : ℕ → Option SignificantToken → Type 0) (m' : Maps A' B' C' S' D E F G) (kept_alike : Alike kept m kept' m' Rel)
-    (opens : (d : ℕ) (ts us : Tokens) → Pairs Rel ts us → Open d (front ts) → Open' d (front us)) where
+    (kept' : TokenProjection A' B' C' S') (MayEnter' : ℕ → Option SignificantToken → Type 0) (m' : Maps A' B' C' S' D E F G) (kept_alike : Alike projection m kept' m' Rel)
+    (opens : (d : ℕ) (ts us : Tokens) → Pairs Rel ts us → MayEnter d (front ts) → MayEnter' d (front us)) where
   kind_of : {kind : TokenKind} {t u : SignificantToken} → Rel t u → IsKind kind t → IsKind kind u
   kind_of s = same_kind_of (weak _ _ s)
 
@@ -87,63 +87,63 @@ module _ {A B C S A' B' C' S' D E F G : Type 0} (kept : Kept A B C S) (Open : �
   comment_of t u s = let w = weak t u s in ap trim_end (sym w.lexeme)
 
   -- the features of two rows
-  both : (fs gs : List (Noted B)) (fs' gs' : List (Noted B')) → map (over_noted m'.spot) fs' ≡ map (over_noted m.spot) fs → map (over_noted m'.spot) gs' ≡ map (over_noted m.spot) gs
-      → map (over_noted m'.spot) (fs' ++ gs') ≡ map (over_noted m.spot) (fs ++ gs)
-  both = both_alike (over_noted m.spot) (over_noted m'.spot)
+  both : (fs gs : List (Noted B)) (fs' gs' : List (Noted B')) → map (over_noted m'.position) fs' ≡ map (over_noted m.position) fs → map (over_noted m'.position) gs' ≡ map (over_noted m.position) gs
+      → map (over_noted m'.position) (fs' ++ gs') ≡ map (over_noted m.position) (fs ++ gs)
+  both = both_alike (over_noted m.position) (over_noted m'.position)
 
   abbrev FragmentsOf : (List (Fragment A' B') → List (Noted B') → Tokens → Type 0) → List (Fragment A B) → List (Noted B) → Tokens → Type 0
-  FragmentsOf R fragments fs rest = Carried Rel (map (over_fragment m.leaf m.spot)) (map (over_fragment m'.leaf m'.spot)) m.spot m'.spot R fragments fs rest
+  FragmentsOf R fragments fs rest = Carried Rel (map (over_fragment m.leaf m.position)) (map (over_fragment m'.leaf m'.position)) m.position m'.position R fragments fs rest
 
   abbrev LinesOf : (List (BodyLine A' B' C') → List (Noted B') → Tokens → Type 0) → List (BodyLine A B C) → List (Noted B) → Tokens → Type 0
-  LinesOf R lines fs rest = Carried Rel (map (over_line m.leaf m.spot m.number)) (map (over_line m'.leaf m'.spot m'.number)) m.spot m'.spot R lines fs rest
+  LinesOf R lines fs rest = Carried Rel (map (over_line m.leaf m.position m.number)) (map (over_line m'.leaf m'.position m'.number)) m.position m'.position R lines fs rest
 
   abbrev ContentOf : (Content A' B' C' S' → List (Noted B') → Tokens → Type 0) → Content A B C S → List (Noted B) → Tokens → Type 0
-  ContentOf R c fs rest = Carried Rel (over_content m.leaf m.spot m.number m.star) (over_content m'.leaf m'.spot m'.number m'.star) m.spot m'.spot R c fs rest
+  ContentOf R c fs rest = Carried Rel (over_content m.leaf m.position m.number m.star) (over_content m'.leaf m'.position m'.number m'.star) m.position m'.position R c fs rest
 
   abbrev ItemsOf : (List (WrittenItem A' B' C' S') → List (ConstructFeatures B') → Type 0) → List (WrittenItem A B C S) → List (ConstructFeatures B) → Type 0
-  ItemsOf R items fs = Whole (over_items m) (over_items m') m.spot m'.spot R items fs
+  ItemsOf R items fs = Whole (over_items m) (over_items m') m.position m'.position R items fs
 
-  expression : {e : Expr A B} {fs : List (Noted B)} {ts rest : Tokens} → Expression kept.leaf kept.spot Open false 0 e fs ts rest → (us : Tokens) → Pairs Rel ts us
-      → Carried Rel (over_expr m.leaf m.spot) (over_expr m'.leaf m'.spot) m.spot m'.spot (λ x n r. Expression kept'.leaf kept'.spot Open' false 0 x n us r) e fs rest
-  expression e us s = expressions.expression kept.leaf kept.spot Open Rel weak kept'.leaf kept'.spot Open' m.leaf m.spot m'.leaf m'.spot kept_alike.leaves kept_alike.spots opens e us s
+  expression : {e : Expr A B} {fs : List (Noted B)} {ts rest : Tokens} → Expression projection.leaf projection.position MayEnter false 0 e fs ts rest → (us : Tokens) → Pairs Rel ts us
+      → Carried Rel (over_expr m.leaf m.position) (over_expr m'.leaf m'.position) m.position m'.position (λ x n r. Expression kept'.leaf kept'.position MayEnter' false 0 x n us r) e fs rest
+  expression e us s = expressions.expression projection.leaf projection.position MayEnter Rel weak kept'.leaf kept'.position MayEnter' m.leaf m.position m'.leaf m'.position kept_alike.leaves kept_alike.positions opens e us s
 
-  attributes : {ws : List (WrittenAttribute A B)} {fs : List (Noted B)} {ts rest : Tokens} → AttributeLines kept.leaf kept.spot Open ws fs ts rest
+  attributes : {ws : List (WrittenAttribute A B)} {fs : List (Noted B)} {ts rest : Tokens} → AttributeLines projection.leaf projection.position MayEnter ws fs ts rest
       → (us : Tokens) → Pairs Rel ts us
-      → Carried Rel (map (over_written_attribute m.leaf m.spot)) (map (over_written_attribute m'.leaf m'.spot)) m.spot m'.spot
-      (λ x n r. AttributeLines kept'.leaf kept'.spot Open' x n us r) ws fs rest
+      → Carried Rel (map (over_written_attribute m.leaf m.position)) (map (over_written_attribute m'.leaf m'.position)) m.position m'.position
+      (λ x n r. AttributeLines kept'.leaf kept'.position MayEnter' x n us r) ws fs rest
   attributes a us s =
-      attribute_lines kept.leaf kept.spot Open Rel weak kept'.leaf kept'.spot Open' m.leaf m.spot m'.leaf m'.spot kept_alike.leaves kept_alike.spots opens a us s
+      attribute_lines projection.leaf projection.position MayEnter Rel weak kept'.leaf kept'.position MayEnter' m.leaf m.position m'.leaf m'.position kept_alike.leaves kept_alike.positions opens a us s
 
-  header : {x : Header A B S} {fs : List (Noted B)} {ts rest : Tokens} → HeaderOf kept.leaf kept.spot kept.star Open x fs ts rest → (us : Tokens) → Pairs Rel ts us
-      → Carried Rel (over_header m.leaf m.spot m.star) (over_header m'.leaf m'.spot m'.star) m.spot m'.spot
-      (λ x n r. HeaderOf kept'.leaf kept'.spot kept'.star Open' x n us r) x fs rest
+  header : {x : Header A B S} {fs : List (Noted B)} {ts rest : Tokens} → HeaderOf projection.leaf projection.position projection.star MayEnter x fs ts rest → (us : Tokens) → Pairs Rel ts us
+      → Carried Rel (over_header m.leaf m.position m.star) (over_header m'.leaf m'.position m'.star) m.position m'.position
+      (λ x n r. HeaderOf kept'.leaf kept'.position kept'.star MayEnter' x n us r) x fs rest
   header x us s =
-      headers.header kept.leaf kept.spot kept.star Open Rel weak kept'.leaf kept'.spot kept'.star Open' m.leaf m.spot m.star m'.leaf m'.spot m'.star
-      kept_alike.leaves kept_alike.spots kept_alike.stars opens x us s
+      headers.header projection.leaf projection.position projection.star MayEnter Rel weak kept'.leaf kept'.position kept'.star MayEnter' m.leaf m.position m.star m'.leaf m'.position m'.star
+      kept_alike.leaves kept_alike.positions kept_alike.stars opens x us s
 
-  path : {ns : List A} {ts rest : Tokens} → PathOf kept.leaf ns ts rest → (us : Tokens) → Pairs Rel ts us
-      → Carried Rel (map m.leaf) (map m'.leaf) m.spot m'.spot (λ x n r. PathOf kept'.leaf x us r) ns [] rest
+  path : {ns : List A} {ts rest : Tokens} → PathOf projection.leaf ns ts rest → (us : Tokens) → Pairs Rel ts us
+      → Carried Rel (map m.leaf) (map m'.leaf) m.position m'.position (λ x n r. PathOf kept'.leaf x us r) ns [] rest
   path p us s =
-      headers.path kept.leaf kept.spot kept.star Open Rel weak kept'.leaf kept'.spot kept'.star Open' m.leaf m.spot m.star m'.leaf m'.spot m'.star
-      kept_alike.leaves kept_alike.spots kept_alike.stars opens p us s
+      headers.path projection.leaf projection.position projection.star MayEnter Rel weak kept'.leaf kept'.position kept'.star MayEnter' m.leaf m.position m.star m'.leaf m'.position m'.star
+      kept_alike.leaves kept_alike.positions kept_alike.stars opens p us s
 
-  file_path : {p : Quoted A} {ts rest : Tokens} → FilePath kept.leaf p ts rest → (us : Tokens) → Pairs Rel ts us
-      → Carried Rel (over_quoted m.leaf m.spot) (over_quoted m'.leaf m'.spot) m.spot m'.spot (λ x n r. FilePath kept'.leaf x us r) p [] rest
+  file_path : {p : Quoted A} {ts rest : Tokens} → FilePath projection.leaf p ts rest → (us : Tokens) → Pairs Rel ts us
+      → Carried Rel (over_quoted m.leaf m.position) (over_quoted m'.leaf m'.position) m.position m'.position (λ x n r. FilePath kept'.leaf x us r) p [] rest
   file_path p us s =
-      parts.file_path kept.leaf kept.spot Open Rel weak kept'.leaf kept'.spot Open' m.leaf m.spot m'.leaf m'.spot kept_alike.leaves kept_alike.spots opens p us s
+      parts.file_path projection.leaf projection.position MayEnter Rel weak kept'.leaf kept'.position MayEnter' m.leaf m.position m'.leaf m'.position kept_alike.leaves kept_alike.positions opens p us s
 
-  names : {ns : List A} {ts rest : Tokens} → Names kept.leaf ns ts rest → (us : Tokens) → Pairs Rel ts us
-      → Carried Rel (map m.leaf) (map m'.leaf) m.spot m'.spot (λ x n r. Names kept'.leaf x us r) ns [] rest
+  names : {ns : List A} {ts rest : Tokens} → Names projection.leaf ns ts rest → (us : Tokens) → Pairs Rel ts us
+      → Carried Rel (map m.leaf) (map m'.leaf) m.position m'.position (λ x n r. Names kept'.leaf x us r) ns [] rest
   names ns us s =
-      parts.names kept.leaf kept.spot Open Rel weak kept'.leaf kept'.spot Open' m.leaf m.spot m'.leaf m'.spot kept_alike.leaves kept_alike.spots opens ns us s
+      parts.names projection.leaf projection.position MayEnter Rel weak kept'.leaf kept'.position MayEnter' m.leaf m.position m'.leaf m'.position kept_alike.leaves kept_alike.positions opens ns us s
 
-  setting_value : {form : SettingForm} {value : SettingValue A B} {fs : List (Noted B)} {ts rest : Tokens} → ValueOf kept.leaf kept.spot Open form value fs ts rest
+  setting_value : {form : SettingForm} {value : SettingValue A B} {fs : List (Noted B)} {ts rest : Tokens} → ValueOf projection.leaf projection.position MayEnter form value fs ts rest
       → (us : Tokens) → Pairs Rel ts us
-      → Carried Rel (over_setting_value m.leaf m.spot) (over_setting_value m'.leaf m'.spot) m.spot m'.spot (λ x n r. ValueOf kept'.leaf kept'.spot Open' form x n us r) value fs rest
+      → Carried Rel (over_setting_value m.leaf m.position) (over_setting_value m'.leaf m'.position) m.position m'.position (λ x n r. ValueOf kept'.leaf kept'.position MayEnter' form x n us r) value fs rest
   setting_value value us s =
-      parts.setting_value kept.leaf kept.spot Open Rel weak kept'.leaf kept'.spot Open' m.leaf m.spot m'.leaf m'.spot kept_alike.leaves kept_alike.spots opens value us s
+      parts.setting_value projection.leaf projection.position MayEnter Rel weak kept'.leaf kept'.position MayEnter' m.leaf m.position m'.leaf m'.position kept_alike.leaves kept_alike.positions opens value us s
 
-  pub line_rest : {fragments : List (Fragment A B)} {fs : List (Noted B)} {ts rest : Tokens} → LineRest kept.leaf kept.spot Open fragments fs ts rest → (us : Tokens) → Pairs Rel ts us → FragmentsOf (λ x n r. LineRest kept'.leaf kept'.spot Open' x n us r) fragments fs rest
+  pub line_rest : {fragments : List (Fragment A B)} {fs : List (Noted B)} {ts rest : Tokens} → LineRest projection.leaf projection.position MayEnter fragments fs ts rest → (us : Tokens) → Pairs Rel ts us → FragmentsOf (λ x n r. LineRest kept'.leaf kept'.position MayEnter' x n us r) fragments fs rest
   line_rest (g.line_ends kind) us (cons s ss) = record { tree = []; features = []; after = _; derives = g.line_ends (kind_of s kind); alike = refl; noted_alike = refl; same = ss }
   line_rest (g.body_ends kind) us (cons s ss) = record { tree = []; features = []; after = _; derives = g.body_ends (kind_of s kind); alike = refl; noted_alike = refl; same = cons s ss }
   line_rest (g.text {token = t} kind more) us (cons {u = u} s ss) =
@@ -165,7 +165,7 @@ module _ {A B C S A' B' C' S' D E F G : Type 0} (kept : Kept A B C S) (Open : �
         tree = tree.Interpolation x.tree ∷ y.tree;
         features = x.features ++ y.features;
         after = y.after;
-        derives = g.interpolation (kind_of s kind) (subst (λ r. Expression kept'.leaf kept'.spot Open' false 0 x.tree x.features us2 r) end.is x.derives) (kind_of end.related kind2) y.derives;
+        derives = g.interpolation (kind_of s kind) (subst (λ r. Expression kept'.leaf kept'.position MayEnter' false 0 x.tree x.features us2 r) end.is x.derives) (kind_of end.related kind2) y.derives;
         alike = λ i. tree.Interpolation (x.alike i) ∷ y.alike i;
         noted_alike = both es fs x.features y.features x.noted_alike y.noted_alike;
         same = y.same;
@@ -180,7 +180,7 @@ module _ {A B C S A' B' C' S' D E F G : Type 0} (kept : Kept A B C S) (Open : �
         same = ss;
       }
 
-  pub body_lines : {lines : List (BodyLine A B C)} {fs : List (Noted B)} {ts rest : Tokens} → BodyLines kept Open lines fs ts rest → (us : Tokens) → Pairs Rel ts us → LinesOf (λ x n r. BodyLines kept' Open' x n us r) lines fs rest
+  pub body_lines : {lines : List (BodyLine A B C)} {fs : List (Noted B)} {ts rest : Tokens} → BodyLines projection MayEnter lines fs ts rest → (us : Tokens) → Pairs Rel ts us → LinesOf (λ x n r. BodyLines kept' MayEnter' x n us r) lines fs rest
   body_lines (g.no_line kind) us (cons s ss) = record { tree = []; features = []; after = _; derives = g.no_line (kind_of s kind); alike = refl; noted_alike = refl; same = ss }
   body_lines (g.empty_line {token = t} kind more) us (cons {u = u} s ss) =
       let x = body_lines more _ ss in
@@ -195,29 +195,29 @@ module _ {A B C S A' B' C' S' D E F G : Type 0} (kept : Kept A B C S) (Open : �
       }
   body_lines (g.some_line {f = x} {fragments = xs} {fs = fs} {gs = gs} {first = t} l more) us (cons {u = u} {us = us2} s ss) =
       let y = line_rest l (u ∷ us2) (cons s ss) in
-      let full = filled (over_fragment m.leaf m.spot) (over_fragment m'.leaf m'.spot) y.tree x xs y.alike in
+      let full = filled (over_fragment m.leaf m.position) (over_fragment m'.leaf m'.position) y.tree x xs y.alike in
       let z = body_lines more y.after y.same in
       record {
         tree = Line (kept'.number u.tok) (full.one ∷ full.more) ∷ z.tree;
         features = y.features ++ z.features;
         after = z.after;
-        derives = g.some_line (subst (λ a. LineRest kept'.leaf kept'.spot Open' a y.features (u ∷ us2) y.after) full.is y.derives) z.derives;
-        alike = λ i. Line (kept_alike.numbers t u s i) ((ap (map (over_fragment m'.leaf m'.spot)) (sym full.is) ∙ y.alike) i) ∷ z.alike i;
+        derives = g.some_line (subst (λ a. LineRest kept'.leaf kept'.position MayEnter' a y.features (u ∷ us2) y.after) full.is y.derives) z.derives;
+        alike = λ i. Line (kept_alike.numbers t u s i) ((ap (map (over_fragment m'.leaf m'.position)) (sym full.is) ∙ y.alike) i) ∷ z.alike i;
         noted_alike = both fs gs y.features z.features y.noted_alike z.noted_alike;
         same = z.same;
       }
 
   -- lines that are alike are alike without the empty ones at the end
-  trimmed_alike : (lines : List (BodyLine A B C)) (others : List (BodyLine A' B' C')) → map (over_line m'.leaf m'.spot m'.number) others ≡ map (over_line m.leaf m.spot m.number) lines
-      → map (over_line m'.leaf m'.spot m'.number) (trimmed others) ≡ map (over_line m.leaf m.spot m.number) (trimmed lines)
-  trimmed_alike lines others e = sym (trimmed_over m'.leaf m'.spot m'.number others) ∙ ap trimmed e ∙ trimmed_over m.leaf m.spot m.number lines
+  trimmed_alike : (lines : List (BodyLine A B C)) (others : List (BodyLine A' B' C')) → map (over_line m'.leaf m'.position m'.number) others ≡ map (over_line m.leaf m.position m.number) lines
+      → map (over_line m'.leaf m'.position m'.number) (trimmed others) ≡ map (over_line m.leaf m.position m.number) (trimmed lines)
+  trimmed_alike lines others e = sym (trimmed_over m'.leaf m'.position m'.number others) ∙ ap trimmed e ∙ trimmed_over m.leaf m.position m.number lines
 
-  some_left : (lines : List (BodyLine A B C)) (others : List (BodyLine A' B' C')) → map (over_line m'.leaf m'.spot m'.number) others ≡ map (over_line m.leaf m.spot m.number) lines
+  some_left : (lines : List (BodyLine A B C)) (others : List (BodyLine A' B' C')) → map (over_line m'.leaf m'.position m'.number) others ≡ map (over_line m.leaf m.position m.number) lines
       → NotEmpty (trimmed lines) → NotEmpty (trimmed others)
   some_left lines others e n =
-      not_empty_before (over_line m'.leaf m'.spot m'.number) (trimmed others) (subst NotEmpty (sym (trimmed_alike lines others e)) (not_empty_mapped (over_line m.leaf m.spot m.number) (trimmed lines) n))
+      not_empty_before (over_line m'.leaf m'.position m'.number) (trimmed others) (subst NotEmpty (sym (trimmed_alike lines others e)) (not_empty_mapped (over_line m.leaf m.position m.number) (trimmed lines) n))
 
-  pub on_line : {c : Content A B C S} {fs : List (Noted B)} {ts rest : Tokens} → OnLine kept Open c fs ts rest → (us : Tokens) → Pairs Rel ts us → ContentOf (λ x n r. OnLine kept' Open' x n us r) c fs rest
+  pub on_line : {c : Content A B C S} {fs : List (Noted B)} {ts rest : Tokens} → OnLine projection MayEnter c fs ts rest → (us : Tokens) → Pairs Rel ts us → ContentOf (λ x n r. OnLine kept' MayEnter' x n us r) c fs rest
   on_line (g.alias {name = t} is kind kind2 p) us (cons s (cons {u = u} s2 (cons {us = us2} s3 ss))) =
       let x = path p us2 ss in
       record {
@@ -368,7 +368,7 @@ module _ {A B C S A' B' C' S' D E F G : Type 0} (kept : Kept A B C S) (Open : �
         same = x.same;
       }
 
-  pub block : {c : Content A B C S} {fs : List (Noted B)} {ts rest : Tokens} → Block kept Open c fs ts rest → (us : Tokens) → Pairs Rel ts us → ContentOf (λ x n r. Block kept' Open' x n us r) c fs rest
+  pub block : {c : Content A B C S} {fs : List (Noted B)} {ts rest : Tokens} → Block projection MayEnter c fs ts rest → (us : Tokens) → Pairs Rel ts us → ContentOf (λ x n r. Block kept' MayEnter' x n us r) c fs rest
   block (g.recipe {lines = lines} {fs = fs} {gs = gs} {comment = comment} e b ls some) us s =
       let w = header e us s in
       let x = before_body b w.after w.same in
@@ -384,7 +384,7 @@ module _ {A B C S A' B' C' S' D E F G : Type 0} (kept : Kept A B C S) (Open : �
       }
 
   mutual
-    pub items : {all : List (WrittenItem A B C S)} {fs : List (ConstructFeatures B)} {ts : Tokens} → Items kept Open all fs ts → (us : Tokens) → Pairs Rel ts us → ItemsOf (λ x n. Items kept' Open' x n us) all fs
+    pub items : {all : List (WrittenItem A B C S)} {fs : List (ConstructFeatures B)} {ts : Tokens} → Items projection MayEnter all fs ts → (us : Tokens) → Pairs Rel ts us → ItemsOf (λ x n. Items kept' MayEnter' x n us) all fs
     items (g.end kind) us (cons s nil) = record { tree = []; features = []; derives = g.end (kind_of s kind); alike = refl; noted_alike = refl }
     items (g.blank kind more) us (cons s ss) =
         let x = items more _ ss in
@@ -415,7 +415,7 @@ module _ {A B C S A' B' C' S' D E F G : Type 0} (kept : Kept A B C S) (Open : �
           noted_alike = λ i. record { attributes = w.noted_alike i; content = x.noted_alike i } ∷ y.noted_alike i;
         }
 
-    pub following : {all : List (WrittenItem A B C S)} {fs : List (ConstructFeatures B)} {ts : Tokens} → ItemRest kept Open all fs ts → (us : Tokens) → Pairs Rel ts us → ItemsOf (λ x n. ItemRest kept' Open' x n us) all fs
+    pub following : {all : List (WrittenItem A B C S)} {fs : List (ConstructFeatures B)} {ts : Tokens} → ItemRest projection MayEnter all fs ts → (us : Tokens) → Pairs Rel ts us → ItemsOf (λ x n. ItemRest kept' MayEnter' x n us) all fs
     following (g.trailing {token = t} kind e) us (cons {u = u} s ss) =
         let x = line_end e _ ss in
         record { tree = tree.Comment (trim_end u.tok.lexeme) ∷ x.tree; features = x.features; derives = g.trailing (kind_of s kind) x.derives; alike = λ i. tree.Comment (comment_of t u s i) ∷ x.alike i; noted_alike = x.noted_alike }
@@ -423,13 +423,13 @@ module _ {A B C S A' B' C' S' D E F G : Type 0} (kept : Kept A B C S) (Open : �
         let x = line_end e us s in
         record { tree = x.tree; features = x.features; derives = g.bare x.derives; alike = x.alike; noted_alike = x.noted_alike }
 
-    pub line_end : {all : List (WrittenItem A B C S)} {fs : List (ConstructFeatures B)} {ts : Tokens} → LineEnd kept Open all fs ts → (us : Tokens) → Pairs Rel ts us → ItemsOf (λ x n. LineEnd kept' Open' x n us) all fs
+    pub line_end : {all : List (WrittenItem A B C S)} {fs : List (ConstructFeatures B)} {ts : Tokens} → LineEnd projection MayEnter all fs ts → (us : Tokens) → Pairs Rel ts us → ItemsOf (λ x n. LineEnd kept' MayEnter' x n us) all fs
     line_end (g.line_end kind more) us (cons s ss) =
         let x = items more _ ss in
         record { tree = tree.Newline ∷ x.tree; features = x.features; derives = g.line_end (kind_of s kind) x.derives; alike = λ i. tree.Newline ∷ x.alike i; noted_alike = x.noted_alike }
     line_end (g.file_end kind) us (cons s nil) = record { tree = []; features = []; derives = g.file_end (kind_of s kind); alike = refl; noted_alike = refl }
 
-  pub file : {all : List (WrittenItem A B C S)} {fs : List (ConstructFeatures B)} {ts : Tokens} → File kept Open all fs ts → (us : Tokens) → Pairs Rel ts us → ItemsOf (λ x n. File kept' Open' x n us) all fs
+  pub file : {all : List (WrittenItem A B C S)} {fs : List (ConstructFeatures B)} {ts : Tokens} → File projection MayEnter all fs ts → (us : Tokens) → Pairs Rel ts us → ItemsOf (λ x n. File kept' MayEnter' x n us) all fs
   file (g.marked kind more) us (cons s ss) =
       let x = items more _ ss in
       record { tree = x.tree; features = x.features; derives = g.marked (kind_of s kind) x.derives; alike = x.alike; noted_alike = x.noted_alike }

@@ -1,8 +1,8 @@
 -- A derivation of lines of attributes carried over to tokens that differ in their places alone, to other leaves and to another limit.
 use Rattle.std.proofs.Common.{◌≡◌, ℕ, Bool, false, List, [], ◌∷◌, ◌++◌, map, Option, Some, refl, sym, ap, subst, ◌∙◌}
 use Rattle.std.specs.Str.{trim_end}
-use Rattle.justfile_word.specs.declared.token_kind.TokenKind.{TokenKind}
-use Rattle.justfile_word.specs.declared.token_kind.TokenKind.TheVariants as kinds
+use Rattle.justfile_vocabulary.specs.declared.token_kind.TokenKind.{TokenKind}
+use Rattle.justfile_vocabulary.specs.declared.token_kind.TokenKind.TheVariants as kinds
 use Rattle.justfile_model.specs.AttributeKinds.{name_takes_keys}
 use Rattle.justfile_model.specs.AttributeLines as g
 use Rattle.justfile_model.specs.AttributeLines.{IsKey, ArgumentOf, Arguments, AttributeOf, AttributesEnd, AttributeLines, Bracketed}
@@ -16,12 +16,12 @@ use Rattle.justfile_model.proofs.Commented.{commented_map}
 use Rattle.justfile_model.proofs.CarryExpressions as expressions
 use Rattle.justfile_model.proofs.CarryExpressions.{Same, Pairs, nil, cons, Carried, both_alike, same_kind_of, same_marked_of, turned, until}
 
-module _ {A B A' B' C D : Type 0} (leaf : Tok → A) (spot : Tok → B) (Open : ℕ → Option SignificantToken → Type 0)
+module _ {A B A' B' C D : Type 0} (leaf : Tok → A) (position : Tok → B) (MayEnter : ℕ → Option SignificantToken → Type 0)
     (Rel : SignificantToken → SignificantToken → Type 0) (weak : (t u : SignificantToken) → Rel t u → Same t u)
-    (leaf' : Tok → A') (spot' : Tok → B') (Open' : ℕ → Option SignificantToken → Type 0) (f : A → C) (h : B → D) (f' : A' → C) (h' : B' → D)
+    (leaf' : Tok → A') (position' : Tok → B') (MayEnter' : ℕ → Option SignificantToken → Type 0) (f : A → C) (h : B → D) (f' : A' → C) (h' : B' → D)
     (leaves : (t u : SignificantToken) → Rel t u → f' (leaf' u.tok) ≡ f (leaf t.tok))
-    (spots : (t u : SignificantToken) → Rel t u → h' (spot' u.tok) ≡ h (spot t.tok))
-    (opens : (d : ℕ) (ts us : Tokens) → Pairs Rel ts us → Open d (front ts) → Open' d (front us)) where
+    (positions : (t u : SignificantToken) → Rel t u → h' (position' u.tok) ≡ h (position t.tok))
+    (opens : (d : ℕ) (ts us : Tokens) → Pairs Rel ts us → MayEnter d (front ts) → MayEnter' d (front us)) where
   kind_of : {kind : TokenKind} {t u : SignificantToken} → Rel t u → IsKind kind t → IsKind kind u
   kind_of s = same_kind_of (weak _ _ s)
 
@@ -61,22 +61,22 @@ module _ {A B A' B' C D : Type 0} (leaf : Tok → A) (spot : Tok → B) (Open : 
       → map (over_noted h') gs' ≡ map (over_noted h) gs → map (over_noted h') (fs' ++ gs') ≡ map (over_noted h) (fs ++ gs)
   both = both_alike (over_noted h) (over_noted h')
 
-  expression : {e : Expr A B} {fs : List (Noted B)} {ts rest : Tokens} → Expression leaf spot Open false 0 e fs ts rest → (us : Tokens) → Pairs Rel ts us
-      → Carried Rel (over_expr f h) (over_expr f' h') h h' (λ x n r. Expression leaf' spot' Open' false 0 x n us r) e fs rest
-  expression e us s = expressions.expression leaf spot Open Rel weak leaf' spot' Open' f h f' h' leaves spots opens e us s
+  expression : {e : Expr A B} {fs : List (Noted B)} {ts rest : Tokens} → Expression leaf position MayEnter false 0 e fs ts rest → (us : Tokens) → Pairs Rel ts us
+      → Carried Rel (over_expr f h) (over_expr f' h') h h' (λ x n r. Expression leaf' position' MayEnter' false 0 x n us r) e fs rest
+  expression e us s = expressions.expression leaf position MayEnter Rel weak leaf' position' MayEnter' f h f' h' leaves positions opens e us s
 
   -- ---- arguments
 
-  argument : {keys : Bool} {a : Argument A B} {fs : List (Noted B)} {ts rest : Tokens} → ArgumentOf leaf spot Open keys a fs ts rest → (us : Tokens)
-      → Pairs Rel ts us → ArgumentCarried (λ x n r. ArgumentOf leaf' spot' Open' keys x n us r) a fs rest
+  argument : {keys : Bool} {a : Argument A B} {fs : List (Noted B)} {ts rest : Tokens} → ArgumentOf leaf position MayEnter keys a fs ts rest → (us : Tokens)
+      → Pairs Rel ts us → ArgumentCarried (λ x n r. ArgumentOf leaf' position' MayEnter' keys x n us r) a fs rest
   argument (g.positional {first = t} not e) us (cons {u = u} {us = us2} s ss) =
       let x = expression e (u ∷ us2) (cons s ss) in
       record {
-        tree = tree.Positional (spot' u.tok) x.tree;
+        tree = tree.Positional (position' u.tok) x.tree;
         features = x.features;
         after = x.after;
         derives = g.positional (λ is k. not is (key_before (cons s ss) k)) x.derives;
-        alike = λ i. tree.Positional (spots t u s i) (x.alike i);
+        alike = λ i. tree.Positional (positions t u s i) (x.alike i);
         noted_alike = x.noted_alike;
         same = x.same;
       }
@@ -101,8 +101,8 @@ module _ {A B A' B' C D : Type 0} (leaf : Tok → A) (spot : Tok → B) (Open : 
         same = x.same;
       }
 
-  arguments : {keys : Bool} {all : List (Argument A B)} {fs : List (Noted B)} {ts rest : Tokens} → Arguments leaf spot Open keys all fs ts rest
-      → (us : Tokens) → Pairs Rel ts us → ArgumentsCarried (λ x n r. Arguments leaf' spot' Open' keys x n us r) all fs rest
+  arguments : {keys : Bool} {all : List (Argument A B)} {fs : List (Noted B)} {ts rest : Tokens} → Arguments leaf position MayEnter keys all fs ts rest
+      → (us : Tokens) → Pairs Rel ts us → ArgumentsCarried (λ x n r. Arguments leaf' position' MayEnter' keys x n us r) all fs rest
   arguments (g.none kind) us (cons s ss) =
       record { tree = []; features = []; after = _; derives = g.none (kind_of s kind); alike = refl; noted_alike = refl; same = ss }
   arguments (g.last a kind) us s =
@@ -131,8 +131,8 @@ module _ {A B A' B' C D : Type 0} (leaf : Tok → A) (spot : Tok → B) (Open : 
 
   -- ---- attributes
 
-  attribute : {w : WrittenAttribute A B} {fs : List (Noted B)} {ts rest : Tokens} → AttributeOf leaf spot Open w fs ts rest → (us : Tokens)
-      → Pairs Rel ts us → AttributeCarried (λ x n r. AttributeOf leaf' spot' Open' x n us r) w fs rest
+  attribute : {w : WrittenAttribute A B} {fs : List (Noted B)} {ts rest : Tokens} → AttributeOf leaf position MayEnter w fs ts rest → (us : Tokens)
+      → Pairs Rel ts us → AttributeCarried (λ x n r. AttributeOf leaf' position' MayEnter' x n us r) w fs rest
   attribute (g.plain {name = t} kind nc np) us (cons {u = u} s ss) = record {
     tree = bare_attribute (leaf' u.tok) [];
     features = [];
@@ -145,11 +145,11 @@ module _ {A B A' B' C D : Type 0} (leaf : Tok → A) (spot : Tok → B) (Open : 
   attribute (g.short {name = t} {first = first} kind kind2 e) us (cons {u = u} s (cons s2 (cons {u = v} {us = us2} s3 ss))) =
       let x = expression e (v ∷ us2) (cons s3 ss) in
       record {
-        tree = bare_attribute (leaf' u.tok) (tree.Positional (spot' v.tok) x.tree ∷ []);
+        tree = bare_attribute (leaf' u.tok) (tree.Positional (position' v.tok) x.tree ∷ []);
         features = x.features;
         after = x.after;
         derives = g.short (kind_of s kind) (kind_of s2 kind2) x.derives;
-        alike = λ i. bare_attribute (leaves t u s i) (tree.Positional (spots first v s3 i) (x.alike i) ∷ []);
+        alike = λ i. bare_attribute (leaves t u s i) (tree.Positional (positions first v s3 i) (x.alike i) ∷ []);
         noted_alike = x.noted_alike;
         same = x.same;
       }
@@ -160,14 +160,14 @@ module _ {A B A' B' C D : Type 0} (leaf : Tok → A) (spot : Tok → B) (Open : 
         features = x.features;
         after = x.after;
         derives = g.long (kind_of s kind) (kind_of s2 kind2)
-            (subst (λ lexeme. Arguments leaf' spot' Open' (name_takes_keys lexeme) x.tree x.features us2 x.after) (weak t u s).lexeme x.derives);
+            (subst (λ lexeme. Arguments leaf' position' MayEnter' (name_takes_keys lexeme) x.tree x.features us2 x.after) (weak t u s).lexeme x.derives);
         alike = λ i. bare_attribute (leaves t u s i) (x.alike i);
         noted_alike = x.noted_alike;
         same = x.same;
       }
 
-  bracketed : {ws : List (WrittenAttribute A B)} {fs : List (Noted B)} {ts rest : Tokens} → Bracketed leaf spot Open ws fs ts rest → (us : Tokens)
-      → Pairs Rel ts us → AttributesCarried (λ x n r. Bracketed leaf' spot' Open' x n us r) ws fs rest
+  bracketed : {ws : List (WrittenAttribute A B)} {fs : List (Noted B)} {ts rest : Tokens} → Bracketed leaf position MayEnter ws fs ts rest → (us : Tokens)
+      → Pairs Rel ts us → AttributesCarried (λ x n r. Bracketed leaf' position' MayEnter' x n us r) ws fs rest
   bracketed (g.last w kind) us s =
       let x = until (attribute w us s) in
       record {
@@ -197,22 +197,22 @@ module _ {A B A' B' C D : Type 0} (leaf : Tok → A) (spot : Tok → B) (Open : 
   -- the end of a line, with its comment
   record Ended (comment : Option (List ℕ)) (us : Tokens) (rest : Tokens) : Type 0 where
     after : Tokens
-    derives : AttributesEnd leaf' spot' Open' comment us after
+    derives : AttributesEnd leaf' position' MayEnter' comment us after
     same : Pairs Rel rest after
 
-  attributes_end : {comment : Option (List ℕ)} {ts rest : Tokens} → AttributesEnd leaf spot Open comment ts rest → (us : Tokens) → Pairs Rel ts us
+  attributes_end : {comment : Option (List ℕ)} {ts rest : Tokens} → AttributesEnd leaf position MayEnter comment ts rest → (us : Tokens) → Pairs Rel ts us
       → Ended comment us rest
   attributes_end (g.bare kind) us (cons s ss) = record { after = _; derives = g.bare (kind_of s kind); same = ss }
   attributes_end (g.commented {comment = t} kind kind2) us (cons {u = u} s (cons {u = newline} {us = after} s2 ss)) =
       record {
         after = after;
-        derives = subst (λ text. AttributesEnd leaf' spot' Open' (Some text) (u ∷ newline ∷ after) after) (comment_of t u s)
+        derives = subst (λ text. AttributesEnd leaf' position' MayEnter' (Some text) (u ∷ newline ∷ after) after) (comment_of t u s)
             (g.commented (kind_of s kind) (kind_of s2 kind2));
         same = ss;
       }
 
-  pub attribute_lines : {ws : List (WrittenAttribute A B)} {fs : List (Noted B)} {ts rest : Tokens} → AttributeLines leaf spot Open ws fs ts rest
-      → (us : Tokens) → Pairs Rel ts us → AttributesCarried (λ x n r. AttributeLines leaf' spot' Open' x n us r) ws fs rest
+  pub attribute_lines : {ws : List (WrittenAttribute A B)} {fs : List (Noted B)} {ts rest : Tokens} → AttributeLines leaf position MayEnter ws fs ts rest
+      → (us : Tokens) → Pairs Rel ts us → AttributesCarried (λ x n r. AttributeLines leaf' position' MayEnter' x n us r) ws fs rest
   attribute_lines (g.none not) us s =
       record { tree = []; features = []; after = us; derives = g.none (next_of kinds.BracketL s not); alike = refl; noted_alike = refl; same = s }
   attribute_lines (g.line {ws = ws} {others = vs} {fs = fs} {gs = gs} {comment = comment} kind b e others) us (cons {us = us2} s ss) =

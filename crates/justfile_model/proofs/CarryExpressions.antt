@@ -2,9 +2,9 @@
 -- features are the same ones, at the other tokens.
 use Rattle.std.proofs.Common.{◌≡◌, ℕ, Bool, true, false, List, [], ◌∷◌, ◌++◌, map, Option, Some, None, codes, refl, sym, subst, ap, ◌∙◌}
 use Rattle.std.proofs.lemmas.List.{map-append}
-use Rattle.justfile_word.specs.declared.token_kind.TokenKind.{TokenKind}
-use Rattle.justfile_word.specs.declared.list_feature.ListFeature.{ListFeature}
-use Rattle.justfile_word.specs.declared.list_feature.ListFeature.TheVariants as features
+use Rattle.justfile_vocabulary.specs.declared.token_kind.TokenKind.{TokenKind}
+use Rattle.justfile_vocabulary.specs.declared.list_feature.ListFeature.{ListFeature}
+use Rattle.justfile_vocabulary.specs.declared.list_feature.ListFeature.TheVariants as features
 use Rattle.justfile_model.specs.Tok.{Tok}
 use Rattle.justfile_model.specs.SignificantTokens.{SignificantToken}
 use Rattle.justfile_model.specs.Tree as tree
@@ -138,12 +138,12 @@ until {R = R} x =
       same = p.others;
     }
 
-module _ {A B A' B' C D : Type 0} (leaf : Tok → A) (spot : Tok → B) (Open : ℕ → Option SignificantToken → Type 0)
+module _ {A B A' B' C D : Type 0} (leaf : Tok → A) (position : Tok → B) (MayEnter : ℕ → Option SignificantToken → Type 0)
     (Rel : SignificantToken → SignificantToken → Type 0) (weak : (t u : SignificantToken) → Rel t u → Same t u)
-    (leaf' : Tok → A') (spot' : Tok → B') (Open' : ℕ → Option SignificantToken → Type 0)
+    (leaf' : Tok → A') (position' : Tok → B') (MayEnter' : ℕ → Option SignificantToken → Type 0)
     (f : A → C) (h : B → D) (f' : A' → C) (h' : B' → D)
-    (leaves : (t u : SignificantToken) → Rel t u → f' (leaf' u.tok) ≡ f (leaf t.tok)) (spots : (t u : SignificantToken) → Rel t u → h' (spot' u.tok) ≡ h (spot t.tok))
-    (opens : (d : ℕ) (ts us : Tokens) → Pairs Rel ts us → Open d (front ts) → Open' d (front us)) where
+    (leaves : (t u : SignificantToken) → Rel t u → f' (leaf' u.tok) ≡ f (leaf t.tok)) (positions : (t u : SignificantToken) → Rel t u → h' (position' u.tok) ≡ h (position t.tok))
+    (opens : (d : ℕ) (ts us : Tokens) → Pairs Rel ts us → MayEnter d (front ts) → MayEnter' d (front us)) where
   kind_of : {kind : TokenKind} {t u : SignificantToken} → Rel t u → IsKind kind t → IsKind kind u
   kind_of s = same_kind_of (weak _ _ s)
 
@@ -188,8 +188,8 @@ module _ {A B A' B' C D : Type 0} (leaf : Tok → A) (spot : Tok → B) (Open : 
 
   -- a feature, and those after it
   noted_then : (feature : ListFeature) (t u : SignificantToken) → Rel t u → (fs : List (Noted B)) (fs' : List (Noted B')) → map (over_noted h') fs' ≡ map (over_noted h) fs
-      → map (over_noted h') (noted feature (spot' u.tok) ++ fs') ≡ map (over_noted h) (noted feature (spot t.tok) ++ fs)
-  noted_then feature t u s fs fs' e = λ i. (feature, spots t u s i) ∷ e i
+      → map (over_noted h') (noted feature (position' u.tok) ++ fs') ≡ map (over_noted h) (noted feature (position t.tok) ++ fs)
+  noted_then feature t u s fs fs' e = λ i. (feature, positions t u s i) ∷ e i
 
   -- three rows
   three : (fs gs ks : List (Noted B)) (fs' gs' ks' : List (Noted B')) → map (over_noted h') fs' ≡ map (over_noted h) fs → map (over_noted h') gs' ≡ map (over_noted h) gs
@@ -200,21 +200,21 @@ module _ {A B A' B' C D : Type 0} (leaf : Tok → A) (spot : Tok → B) (Open : 
   -- a feature between two rows
   noted_between : (feature : ListFeature) (t u : SignificantToken) → Rel t u → (fs gs : List (Noted B)) (fs' gs' : List (Noted B')) → map (over_noted h') fs' ≡ map (over_noted h) fs
       → map (over_noted h') gs' ≡ map (over_noted h) gs
-      → map (over_noted h') (fs' ++ noted feature (spot' u.tok) ++ gs') ≡ map (over_noted h) (fs ++ noted feature (spot t.tok) ++ gs)
+      → map (over_noted h') (fs' ++ noted feature (position' u.tok) ++ gs') ≡ map (over_noted h) (fs ++ noted feature (position t.tok) ++ gs)
   noted_between feature t u s fs gs fs' gs' e k =
-      three fs (noted feature (spot t.tok)) gs fs' (noted feature (spot' u.tok)) gs' e (noted_then feature t u s [] [] refl) k
+      three fs (noted feature (position t.tok)) gs fs' (noted feature (position' u.tok)) gs' e (noted_then feature t u s [] [] refl) k
 
-  compared_alike : (condition : Bool) (t u : SignificantToken) → Rel t u → map (over_noted h') (compared condition (spot' u.tok)) ≡ map (over_noted h) (compared condition (spot t.tok))
-  compared_alike condition t u s = compared_over h' condition (spot' u.tok) ∙ ap (compared condition) (spots t u s) ∙ sym (compared_over h condition (spot t.tok))
+  compared_alike : (condition : Bool) (t u : SignificantToken) → Rel t u → map (over_noted h') (compared condition (position' u.tok)) ≡ map (over_noted h) (compared condition (position t.tok))
+  compared_alike condition t u s = compared_over h' condition (position' u.tok) ∙ ap (compared condition) (positions t u s) ∙ sym (compared_over h condition (position t.tok))
 
   uncompared_alike : (e : Expr A B) (e' : Expr A' B') → over_expr f' h' e' ≡ over_expr f h e → (t u : SignificantToken) → Rel t u
-      → map (over_noted h') (uncompared e' (spot' u.tok)) ≡ map (over_noted h) (uncompared e (spot t.tok))
-  uncompared_alike e e' k t u s = uncompared_over h' f' e' (spot' u.tok) ∙ (λ i. uncompared (k i) (spots t u s i)) ∙ sym (uncompared_over h f e (spot t.tok))
+      → map (over_noted h') (uncompared e' (position' u.tok)) ≡ map (over_noted h) (uncompared e (position t.tok))
+  uncompared_alike e e' k t u s = uncompared_over h' f' e' (position' u.tok) ∙ (λ i. uncompared (k i) (positions t u s i)) ∙ sym (uncompared_over h f e (position t.tok))
 
-  called_alike : (t u : SignificantToken) → Rel t u → map (over_noted h') (called u.tok.lexeme (spot' u.tok)) ≡ map (over_noted h) (called t.tok.lexeme (spot t.tok))
+  called_alike : (t u : SignificantToken) → Rel t u → map (over_noted h') (called u.tok.lexeme (position' u.tok)) ≡ map (over_noted h) (called t.tok.lexeme (position t.tok))
   called_alike t u s =
       let w = weak t u s in
-      noted_over h' (function_feature u.tok.lexeme) (spot' u.tok) ∙ (λ i. noted_if (function_feature (sym w.lexeme i)) (spots t u s i)) ∙ sym (noted_over h (function_feature t.tok.lexeme) (spot t.tok))
+      noted_over h' (function_feature u.tok.lexeme) (position' u.tok) ∙ (λ i. noted_if (function_feature (sym w.lexeme i)) (positions t u s i)) ∙ sym (noted_over h (function_feature t.tok.lexeme) (position t.tok))
 
   abbrev ExprOf : (Expr A' B' → List (Noted B') → Tokens → Type 0) → Expr A B → List (Noted B) → Tokens → Type 0
   ExprOf R e fs rest = Carried Rel (over_expr f h) (over_expr f' h') h h' R e fs rest
@@ -226,13 +226,13 @@ module _ {A B A' B' C D : Type 0} (leaf : Tok → A) (spot : Tok → B) (Open : 
   PartsOf R e fs rest = Carried Rel (over_parts f h) (over_parts f' h') h h' R e fs rest
 
   mutual
-    pub expression : {c : Bool} {d : ℕ} {e : Expr A B} {fs : List (Noted B)} {ts rest : Tokens} → Expression leaf spot Open c d e fs ts rest → (us : Tokens) → Pairs Rel ts us → ExprOf (λ x n r. Expression leaf' spot' Open' c d x n us r) e fs rest
+    pub expression : {c : Bool} {d : ℕ} {e : Expr A B} {fs : List (Noted B)} {ts rest : Tokens} → Expression leaf position MayEnter c d e fs ts rest → (us : Tokens) → Pairs Rel ts us → ExprOf (λ x n r. Expression leaf' position' MayEnter' c d x n us r) e fs rest
     expression {d = d} {ts = ts} (g.or {ls = ls} {rs = rs} {operator = t} o left kind right) us s =
         let l = until (disjunct left us s) in
         let r = expression right l.after l.same in
         record {
           tree = tree.Or l.tree r.tree;
-          features = l.features ++ noted features.LogicalOperator (spot' l.partner.tok) ++ r.features;
+          features = l.features ++ noted features.LogicalOperator (position' l.partner.tok) ++ r.features;
           after = r.after;
           derives = g.or (opens d ts us s o) l.derives (kind_of l.related kind) r.derives;
           alike = λ i. tree.Or (l.alike i) (r.alike i);
@@ -243,13 +243,13 @@ module _ {A B A' B' C D : Type 0} (leaf : Tok → A) (spot : Tok → B) (Open : 
         let l = disjunct left us s in
         record { tree = l.tree; features = l.features; after = l.after; derives = g.disjunct (opens d ts us s o) l.derives (next_of _ l.same n); alike = l.alike; noted_alike = l.noted_alike; same = l.same }
 
-    pub disjunct : {c : Bool} {d : ℕ} {e : Expr A B} {fs : List (Noted B)} {ts rest : Tokens} → Disjunct leaf spot Open c d e fs ts rest → (us : Tokens) → Pairs Rel ts us → ExprOf (λ x n r. Disjunct leaf' spot' Open' c d x n us r) e fs rest
+    pub disjunct : {c : Bool} {d : ℕ} {e : Expr A B} {fs : List (Noted B)} {ts rest : Tokens} → Disjunct leaf position MayEnter c d e fs ts rest → (us : Tokens) → Pairs Rel ts us → ExprOf (λ x n r. Disjunct leaf' position' MayEnter' c d x n us r) e fs rest
     disjunct (g.and {ls = ls} {rs = rs} {operator = t} left kind right) us s =
         let l = until (comparison left us s) in
         let r = disjunct right l.after l.same in
         record {
           tree = tree.And l.tree r.tree;
-          features = l.features ++ noted features.LogicalOperator (spot' l.partner.tok) ++ r.features;
+          features = l.features ++ noted features.LogicalOperator (position' l.partner.tok) ++ r.features;
           after = r.after;
           derives = g.and l.derives (kind_of l.related kind) r.derives;
           alike = λ i. tree.And (l.alike i) (r.alike i);
@@ -260,39 +260,39 @@ module _ {A B A' B' C D : Type 0} (leaf : Tok → A) (spot : Tok → B) (Open : 
         let l = comparison left us s in
         record { tree = l.tree; features = l.features; after = l.after; derives = g.comparison l.derives (next_of _ l.same n); alike = l.alike; noted_alike = l.noted_alike; same = l.same }
 
-    pub comparison : {c : Bool} {d : ℕ} {e : Expr A B} {fs : List (Noted B)} {ts rest : Tokens} → Compared leaf spot Open c d e fs ts rest → (us : Tokens) → Pairs Rel ts us → ExprOf (λ x n r. Compared leaf' spot' Open' c d x n us r) e fs rest
+    pub comparison : {c : Bool} {d : ℕ} {e : Expr A B} {fs : List (Noted B)} {ts rest : Tokens} → Compared leaf position MayEnter c d e fs ts rest → (us : Tokens) → Pairs Rel ts us → ExprOf (λ x n r. Compared leaf' position' MayEnter' c d x n us r) e fs rest
     comparison {c = c} (g.compare {ls = ls} {rs = rs} {operator = t} by left kind right) us s =
         let l = until (conjunct left us s) in
         let r = conjunct right l.after l.same in
         record {
-          tree = tree.Comparison l.tree by (spot' l.partner.tok) r.tree;
-          features = l.features ++ compared c (spot' l.partner.tok) ++ r.features;
+          tree = tree.Comparison l.tree by (position' l.partner.tok) r.tree;
+          features = l.features ++ compared c (position' l.partner.tok) ++ r.features;
           after = r.after;
           derives = g.compare by l.derives (kind_of l.related kind) r.derives;
-          alike = λ i. tree.Comparison (l.alike i) by (spots t l.partner l.related i) (r.alike i);
-          noted_alike = three ls (compared c (spot t.tok)) rs l.features (compared c (spot' l.partner.tok)) r.features l.noted_alike (compared_alike c t l.partner l.related) r.noted_alike;
+          alike = λ i. tree.Comparison (l.alike i) by (positions t l.partner l.related i) (r.alike i);
+          noted_alike = three ls (compared c (position t.tok)) rs l.features (compared c (position' l.partner.tok)) r.features l.noted_alike (compared_alike c t l.partner l.related) r.noted_alike;
           same = r.same;
         }
     comparison (g.conjunct left n) us s =
         let l = conjunct left us s in
         record { tree = l.tree; features = l.features; after = l.after; derives = g.conjunct l.derives (not_compared_of l.same n); alike = l.alike; noted_alike = l.noted_alike; same = l.same }
 
-    pub conjunct : {d : ℕ} {e : Expr A B} {fs : List (Noted B)} {ts rest : Tokens} → Conjunct leaf spot Open d e fs ts rest → (us : Tokens) → Pairs Rel ts us → ExprOf (λ x n r. Conjunct leaf' spot' Open' d x n us r) e fs rest
+    pub conjunct : {d : ℕ} {e : Expr A B} {fs : List (Noted B)} {ts rest : Tokens} → Conjunct leaf position MayEnter d e fs ts rest → (us : Tokens) → Pairs Rel ts us → ExprOf (λ x n r. Conjunct leaf' position' MayEnter' d x n us r) e fs rest
     conjunct (g.conditional {word = t} w more) us (cons {u = u} s ss) =
         let c = conditional more u s _ ss in
         record { tree = c.tree; features = c.features; after = c.after; derives = g.conditional (word_of s w) c.derives; alike = c.alike; noted_alike = c.noted_alike; same = c.same }
     conjunct (g.root {operator = t} kind right) us (cons {u = u} s ss) =
         let r = conjunct right _ ss in
-        record { tree = tree.Root (spot' u.tok) r.tree; features = r.features; after = r.after; derives = g.root (kind_of s kind) r.derives; alike = λ i. tree.Root (spots t u s i) (r.alike i); noted_alike = r.noted_alike; same = r.same }
+        record { tree = tree.Root (position' u.tok) r.tree; features = r.features; after = r.after; derives = g.root (kind_of s kind) r.derives; alike = λ i. tree.Root (positions t u s i) (r.alike i); noted_alike = r.noted_alike; same = r.same }
     conjunct (g.join {ls = ls} {rs = rs} {operator = t} n left kind right) us s =
         let l = until (value left us s) in
         let r = conjunct right l.after l.same in
         record {
-          tree = tree.Join l.tree (spot' l.partner.tok) r.tree;
+          tree = tree.Join l.tree (position' l.partner.tok) r.tree;
           features = l.features ++ r.features;
           after = r.after;
           derives = g.join (no_word_of _ s n) l.derives (kind_of l.related kind) r.derives;
-          alike = λ i. tree.Join (l.alike i) (spots t l.partner l.related i) (r.alike i);
+          alike = λ i. tree.Join (l.alike i) (positions t l.partner l.related i) (r.alike i);
           noted_alike = both ls rs l.features r.features l.noted_alike r.noted_alike;
           same = r.same;
         }
@@ -300,11 +300,11 @@ module _ {A B A' B' C D : Type 0} (leaf : Tok → A) (spot : Tok → B) (Open : 
         let l = until (value left us s) in
         let r = conjunct right l.after l.same in
         record {
-          tree = tree.ListConcatenation l.tree (spot' l.partner.tok) r.tree;
-          features = l.features ++ noted features.ListConcatenationOperator (spot' l.partner.tok) ++ r.features;
+          tree = tree.ListConcatenation l.tree (position' l.partner.tok) r.tree;
+          features = l.features ++ noted features.ListConcatenationOperator (position' l.partner.tok) ++ r.features;
           after = r.after;
           derives = g.list_concatenation (no_word_of _ s n) l.derives (kind_of l.related kind) r.derives;
-          alike = λ i. tree.ListConcatenation (l.alike i) (spots t l.partner l.related i) (r.alike i);
+          alike = λ i. tree.ListConcatenation (l.alike i) (positions t l.partner l.related i) (r.alike i);
           noted_alike = noted_between features.ListConcatenationOperator t l.partner l.related ls rs l.features r.features l.noted_alike r.noted_alike;
           same = r.same;
         }
@@ -312,11 +312,11 @@ module _ {A B A' B' C D : Type 0} (leaf : Tok → A) (spot : Tok → B) (Open : 
         let l = until (value left us s) in
         let r = conjunct right l.after l.same in
         record {
-          tree = tree.Concatenation l.tree (spot' l.partner.tok) r.tree;
+          tree = tree.Concatenation l.tree (position' l.partner.tok) r.tree;
           features = l.features ++ r.features;
           after = r.after;
           derives = g.concatenation (no_word_of _ s n) l.derives (kind_of l.related kind) r.derives;
-          alike = λ i. tree.Concatenation (l.alike i) (spots t l.partner l.related i) (r.alike i);
+          alike = λ i. tree.Concatenation (l.alike i) (positions t l.partner l.related i) (r.alike i);
           noted_alike = both ls rs l.features r.features l.noted_alike r.noted_alike;
           same = r.same;
         }
@@ -324,36 +324,36 @@ module _ {A B A' B' C D : Type 0} (leaf : Tok → A) (spot : Tok → B) (Open : 
         let x = value v us s in
         record { tree = x.tree; features = x.features; after = x.after; derives = g.value (no_word_of _ s n) x.derives (not_joined_of x.same n2); alike = x.alike; noted_alike = x.noted_alike; same = x.same }
 
-    pub condition : {d : ℕ} {e : Expr A B} {fs : List (Noted B)} {ts rest : Tokens} → Condition leaf spot Open d e fs ts rest → (us : Tokens) → Pairs Rel ts us → ExprOf (λ x n r. Condition leaf' spot' Open' d x n us r) e fs rest
+    pub condition : {d : ℕ} {e : Expr A B} {fs : List (Noted B)} {ts rest : Tokens} → Condition leaf position MayEnter d e fs ts rest → (us : Tokens) → Pairs Rel ts us → ExprOf (λ x n r. Condition leaf' position' MayEnter' d x n us r) e fs rest
     condition (g.condition {e = e} {fs = fs} {first = t} inside) us (cons {u = u} {us = us2} s ss) =
         let x = expression inside (u ∷ us2) (cons s ss) in
         record {
           tree = x.tree;
-          features = x.features ++ uncompared x.tree (spot' u.tok);
+          features = x.features ++ uncompared x.tree (position' u.tok);
           after = x.after;
           derives = g.condition x.derives;
           alike = x.alike;
-          noted_alike = both fs (uncompared e (spot t.tok)) x.features (uncompared x.tree (spot' u.tok)) x.noted_alike (uncompared_alike e x.tree x.alike t u s);
+          noted_alike = both fs (uncompared e (position t.tok)) x.features (uncompared x.tree (position' u.tok)) x.noted_alike (uncompared_alike e x.tree x.alike t u s);
           same = x.same;
         }
 
-    pub braced : {d : ℕ} {e : Expr A B} {fs : List (Noted B)} {ts rest : Tokens} → Braced leaf spot Open d e fs ts rest → (us : Tokens) → Pairs Rel ts us → ExprOf (λ x n r. Braced leaf' spot' Open' d x n us r) e fs rest
+    pub braced : {d : ℕ} {e : Expr A B} {fs : List (Noted B)} {ts rest : Tokens} → Braced leaf position MayEnter d e fs ts rest → (us : Tokens) → Pairs Rel ts us → ExprOf (λ x n r. Braced leaf' position' MayEnter' d x n us r) e fs rest
     braced (g.braces kind inside kind2) us (cons s ss) =
         let x = until (expression inside _ ss) in
         record { tree = x.tree; features = x.features; after = x.after; derives = g.braces (kind_of s kind) x.derives (kind_of x.related kind2); alike = x.alike; noted_alike = x.noted_alike; same = x.same }
 
-    pub conditional : {d : ℕ} {t : SignificantToken} {e : Expr A B} {fs : List (Noted B)} {ts rest : Tokens} → Conditional leaf spot Open d t e fs ts rest → (u : SignificantToken) → Rel t u
-        → (us : Tokens) → Pairs Rel ts us → ExprOf (λ x n r. Conditional leaf' spot' Open' d u x n us r) e fs rest
+    pub conditional : {d : ℕ} {t : SignificantToken} {e : Expr A B} {fs : List (Noted B)} {ts rest : Tokens} → Conditional leaf position MayEnter d t e fs ts rest → (u : SignificantToken) → Rel t u
+        → (us : Tokens) → Pairs Rel ts us → ExprOf (λ x n r. Conditional leaf' position' MayEnter' d u x n us r) e fs rest
     conditional {t = t} (g.if_only {cs = cs} {bs = bs} first_part branch n) u w us s =
         let c = condition first_part us s in
         let b = braced branch c.after c.same in
         record {
           tree = tree.If c.tree b.tree;
-          features = c.features ++ b.features ++ noted features.IfWithoutElse (spot' u.tok);
+          features = c.features ++ b.features ++ noted features.IfWithoutElse (position' u.tok);
           after = b.after;
           derives = g.if_only c.derives b.derives (no_word_of _ b.same n);
           alike = λ i. tree.If (c.alike i) (b.alike i);
-          noted_alike = three cs bs (noted features.IfWithoutElse (spot t.tok)) c.features b.features (noted features.IfWithoutElse (spot' u.tok)) c.noted_alike b.noted_alike (noted_then features.IfWithoutElse t u w [] [] refl);
+          noted_alike = three cs bs (noted features.IfWithoutElse (position t.tok)) c.features b.features (noted features.IfWithoutElse (position' u.tok)) c.noted_alike b.noted_alike (noted_then features.IfWithoutElse t u w [] [] refl);
           same = b.same;
         }
     conditional (g.if_else {o = other} {cs = cs} {bs = bs} {os = os} first_part branch otherwise last n) u w us s =
@@ -378,18 +378,18 @@ module _ {A B A' B' C D : Type 0} (leaf : Tok → A) (spot : Tok → B) (Open : 
           tree = tree.IfElse c.tree b.tree o.tree;
           features = c.features ++ b.features ++ o.features;
           after = o.after;
-          derives = g.else_if c.derives (subst (λ r. Braced leaf' spot' Open' d b.tree b.features c.after (b.partner ∷ r)) word.is b.derives) (word_of b.related otherwise) (word_of word.related again) o.derives;
+          derives = g.else_if c.derives (subst (λ r. Braced leaf' position' MayEnter' d b.tree b.features c.after (b.partner ∷ r)) word.is b.derives) (word_of b.related otherwise) (word_of word.related again) o.derives;
           alike = λ i. tree.IfElse (c.alike i) (b.alike i) (o.alike i);
           noted_alike = three cs bs os c.features b.features o.features c.noted_alike b.noted_alike o.noted_alike;
           same = o.same;
         }
 
-    pub value : {d : ℕ} {e : Expr A B} {fs : List (Noted B)} {ts rest : Tokens} → Value leaf spot Open d e fs ts rest → (us : Tokens) → Pairs Rel ts us → ExprOf (λ x n r. Value leaf' spot' Open' d x n us r) e fs rest
+    pub value : {d : ℕ} {e : Expr A B} {fs : List (Noted B)} {ts rest : Tokens} → Value leaf position MayEnter d e fs ts rest → (us : Tokens) → Pairs Rel ts us → ExprOf (λ x n r. Value leaf' position' MayEnter' d x n us r) e fs rest
     value (g.not {fs = fs} {bang = t} kind v) us (cons {u = u} s ss) =
         let x = value v _ ss in
         record {
           tree = tree.Not x.tree;
-          features = noted features.NegationOperator (spot' u.tok) ++ x.features;
+          features = noted features.NegationOperator (position' u.tok) ++ x.features;
           after = x.after;
           derives = g.not (kind_of s kind) x.derives;
           alike = λ i. tree.Not (x.alike i);
@@ -419,11 +419,11 @@ module _ {A B A' B' C D : Type 0} (leaf : Tok → A) (spot : Tok → B) (Open : 
     value (g.assert {word = t} w kind inside kind2) us (cons {u = u} s (cons s2 ss)) =
         let c = until (condition inside _ ss) in
         record {
-          tree = tree.Assert (spot' u.tok) c.tree;
+          tree = tree.Assert (position' u.tok) c.tree;
           features = c.features;
           after = c.after;
           derives = g.assert (word_of s w) (kind_of s2 kind) c.derives (kind_of c.related kind2);
-          alike = λ i. tree.Assert (spots t u s i) (c.alike i);
+          alike = λ i. tree.Assert (positions t u s i) (c.alike i);
           noted_alike = c.noted_alike;
           same = c.same;
         }
@@ -431,11 +431,11 @@ module _ {A B A' B' C D : Type 0} (leaf : Tok → A) (spot : Tok → B) (Open : 
         let c = until (condition inside _ ss) in
         let m = until (expression message c.after c.same) in
         record {
-          tree = tree.AssertMessage (spot' u.tok) c.tree m.tree;
+          tree = tree.AssertMessage (position' u.tok) c.tree m.tree;
           features = c.features ++ m.features;
           after = m.after;
           derives = g.assert_message (word_of s w) (kind_of s2 kind) c.derives (kind_of c.related kind2) m.derives (kind_of m.related kind3);
-          alike = λ i. tree.AssertMessage (spots t u s i) (c.alike i) (m.alike i);
+          alike = λ i. tree.AssertMessage (positions t u s i) (c.alike i) (m.alike i);
           noted_alike = both fs gs c.features m.features c.noted_alike m.noted_alike;
           same = m.same;
         }
@@ -453,11 +453,11 @@ module _ {A B A' B' C D : Type 0} (leaf : Tok → A) (spot : Tok → B) (Open : 
         let x = sequence arguments _ ss in
         record {
           tree = tree.Call (leaf' u.tok) x.tree;
-          features = x.features ++ called u.tok.lexeme (spot' u.tok);
+          features = x.features ++ called u.tok.lexeme (position' u.tok);
           after = x.after;
           derives = g.call (kind_of s kind) (no_word s n) (kind_of s2 kind2) x.derives;
           alike = λ i. tree.Call (leaves t u s i) (x.alike i);
-          noted_alike = both fs (called t.tok.lexeme (spot t.tok)) x.features (called u.tok.lexeme (spot' u.tok)) x.noted_alike (called_alike t u s);
+          noted_alike = both fs (called t.tok.lexeme (position t.tok)) x.features (called u.tok.lexeme (position' u.tok)) x.noted_alike (called_alike t u s);
           same = x.same;
         }
     value (g.group kind inside kind2) us (cons s ss) =
@@ -466,16 +466,16 @@ module _ {A B A' B' C D : Type 0} (leaf : Tok → A) (spot : Tok → B) (Open : 
     value (g.list {fs = fs} {opener = t} kind elements) us (cons {u = u} s ss) =
         let x = sequence elements _ ss in
         record {
-          tree = tree.ListOf (spot' u.tok) x.tree;
-          features = noted features.ListLiteral (spot' u.tok) ++ x.features;
+          tree = tree.ListOf (position' u.tok) x.tree;
+          features = noted features.ListLiteral (position' u.tok) ++ x.features;
           after = x.after;
           derives = g.list (kind_of s kind) x.derives;
-          alike = λ i. tree.ListOf (spots t u s i) (x.alike i);
+          alike = λ i. tree.ListOf (positions t u s i) (x.alike i);
           noted_alike = noted_then features.ListLiteral t u s fs x.features x.noted_alike;
           same = x.same;
         }
 
-    pub sequence : {closing : TokenKind} {d : ℕ} {e : Exprs A B} {fs : List (Noted B)} {ts rest : Tokens} → Sequence leaf spot Open closing d e fs ts rest → (us : Tokens) → Pairs Rel ts us → ExprsOf (λ x n r. Sequence leaf' spot' Open' closing d x n us r) e fs rest
+    pub sequence : {closing : TokenKind} {d : ℕ} {e : Exprs A B} {fs : List (Noted B)} {ts rest : Tokens} → Sequence leaf position MayEnter closing d e fs ts rest → (us : Tokens) → Pairs Rel ts us → ExprsOf (λ x n r. Sequence leaf' position' MayEnter' closing d x n us r) e fs rest
     sequence (g.none kind) us (cons s ss) = record { tree = tree.none; features = []; after = _; derives = g.none (kind_of s kind); alike = refl; noted_alike = refl; same = ss }
     sequence (g.last n inside kind) us s =
         let x = until (expression inside us s) in
@@ -493,7 +493,7 @@ module _ {A B A' B' C D : Type 0} (leaf : Tok → A) (spot : Tok → B) (Open : 
           same = y.same;
         }
 
-    pub format_parts : {d : ℕ} {e : Parts A B} {fs : List (Noted B)} {ts rest : Tokens} → FormatParts leaf spot Open d e fs ts rest → (us : Tokens) → Pairs Rel ts us → PartsOf (λ x n r. FormatParts leaf' spot' Open' d x n us r) e fs rest
+    pub format_parts : {d : ℕ} {e : Parts A B} {fs : List (Noted B)} {ts rest : Tokens} → FormatParts leaf position MayEnter d e fs ts rest → (us : Tokens) → Pairs Rel ts us → PartsOf (λ x n r. FormatParts leaf' position' MayEnter' d x n us r) e fs rest
     format_parts (g.end {token = t} kind) us (cons {u = u} s ss) =
         record { tree = tree.Last (leaf' u.tok); features = []; after = _; derives = g.end (kind_of s kind); alike = λ i. tree.Last (leaves t u s i); noted_alike = refl; same = ss }
     format_parts (g.next {fs = fs} {gs = gs} {token = t} kind inside parts) us (cons {u = u} s ss) =

@@ -1,7 +1,7 @@
 -- A derivation of a header carried over to tokens that differ in their places alone, to other leaves and to another limit.
 use Rattle.std.proofs.Common.{◌≡◌, ℕ, Bool, false, List, [], ◌∷◌, ◌++◌, map, Option, Some, None, refl, sym, subst, ap, ◌∙◌}
-use Rattle.justfile_word.specs.declared.token_kind.TokenKind.{TokenKind}
-use Rattle.justfile_word.specs.declared.token_kind.TokenKind.TheVariants as kinds
+use Rattle.justfile_vocabulary.specs.declared.token_kind.TokenKind.{TokenKind}
+use Rattle.justfile_vocabulary.specs.declared.token_kind.TokenKind.TheVariants as kinds
 use Rattle.justfile_model.specs.declared.parameter_kind.ParameterKind.{ParameterKind}
 use Rattle.justfile_model.specs.Expressions.{Tokens, front, Expression, Value, IsKind, NotNext}
 use Rattle.justfile_model.specs.Features.{Noted, over_noted}
@@ -13,14 +13,14 @@ use Rattle.justfile_model.specs.Tree.{Dependency, DependencyArgument, Expr, Head
 use Rattle.justfile_model.proofs.CarryExpressions as expressions
 use Rattle.justfile_model.proofs.CarryExpressions.{Same, Pairs, nil, cons, Carried, both_alike, filled, rederived, same_kind_of, turned, until}
 
-module _ {A B S A' B' S' C D T : Type 0} (leaf : Tok → A) (spot : Tok → B) (star : Tok → S) (Open : ℕ → Option SignificantToken → Type 0)
+module _ {A B S A' B' S' C D T : Type 0} (leaf : Tok → A) (position : Tok → B) (star : Tok → S) (MayEnter : ℕ → Option SignificantToken → Type 0)
     (Rel : SignificantToken → SignificantToken → Type 0) (weak : (t u : SignificantToken) → Rel t u → Same t u)
-    (leaf' : Tok → A') (spot' : Tok → B') (star' : Tok → S') (Open' : ℕ → Option SignificantToken → Type 0)
+    (leaf' : Tok → A') (position' : Tok → B') (star' : Tok → S') (MayEnter' : ℕ → Option SignificantToken → Type 0)
     (f : A → C) (h : B → D) (k : S → T) (f' : A' → C) (h' : B' → D) (k' : S' → T)
     (leaves : (t u : SignificantToken) → Rel t u → f' (leaf' u.tok) ≡ f (leaf t.tok))
-    (spots : (t u : SignificantToken) → Rel t u → h' (spot' u.tok) ≡ h (spot t.tok))
+    (positions : (t u : SignificantToken) → Rel t u → h' (position' u.tok) ≡ h (position t.tok))
     (stars : (t u : SignificantToken) → Rel t u → k' (star' u.tok) ≡ k (star t.tok))
-    (opens : (d : ℕ) (ts us : Tokens) → Pairs Rel ts us → Open d (front ts) → Open' d (front us)) where
+    (opens : (d : ℕ) (ts us : Tokens) → Pairs Rel ts us → MayEnter d (front ts) → MayEnter' d (front us)) where
   kind_of : {kind : TokenKind} {t u : SignificantToken} → Rel t u → IsKind kind t → IsKind kind u
   kind_of s = same_kind_of (weak _ _ s)
 
@@ -33,13 +33,13 @@ module _ {A B S A' B' S' C D T : Type 0} (leaf : Tok → A) (spot : Tok → B) (
       → map (over_noted h') gs' ≡ map (over_noted h) gs → map (over_noted h') (fs' ++ gs') ≡ map (over_noted h) (fs ++ gs)
   both = both_alike (over_noted h) (over_noted h')
 
-  expression : {e : Expr A B} {fs : List (Noted B)} {ts rest : Tokens} → Expression leaf spot Open false 0 e fs ts rest → (us : Tokens) → Pairs Rel ts us
-      → Carried Rel (over_expr f h) (over_expr f' h') h h' (λ x n r. Expression leaf' spot' Open' false 0 x n us r) e fs rest
-  expression e us s = expressions.expression leaf spot Open Rel weak leaf' spot' Open' f h f' h' leaves spots opens e us s
+  expression : {e : Expr A B} {fs : List (Noted B)} {ts rest : Tokens} → Expression leaf position MayEnter false 0 e fs ts rest → (us : Tokens) → Pairs Rel ts us
+      → Carried Rel (over_expr f h) (over_expr f' h') h h' (λ x n r. Expression leaf' position' MayEnter' false 0 x n us r) e fs rest
+  expression e us s = expressions.expression leaf position MayEnter Rel weak leaf' position' MayEnter' f h f' h' leaves positions opens e us s
 
-  value : {e : Expr A B} {fs : List (Noted B)} {ts rest : Tokens} → Value leaf spot Open 0 e fs ts rest → (us : Tokens) → Pairs Rel ts us
-      → Carried Rel (over_expr f h) (over_expr f' h') h h' (λ x n r. Value leaf' spot' Open' 0 x n us r) e fs rest
-  value e us s = expressions.value leaf spot Open Rel weak leaf' spot' Open' f h f' h' leaves spots opens e us s
+  value : {e : Expr A B} {fs : List (Noted B)} {ts rest : Tokens} → Value leaf position MayEnter 0 e fs ts rest → (us : Tokens) → Pairs Rel ts us
+      → Carried Rel (over_expr f h) (over_expr f' h') h h' (λ x n r. Value leaf' position' MayEnter' 0 x n us r) e fs rest
+  value e us s = expressions.value leaf position MayEnter Rel weak leaf' position' MayEnter' f h f' h' leaves positions opens e us s
 
   -- ---- paths, which have no features
 
@@ -84,8 +84,8 @@ module _ {A B S A' B' S' C D T : Type 0} (leaf : Tok → A) (spot : Tok → B) (
   ParametersCarried R ps fs rest = Carried Rel (map (over_parameter f h)) (map (over_parameter f' h')) h h' R ps fs rest
 
   named_parameter : {kind : ParameterKind} {export : Bool} {p : Parameter A B} {fs : List (Noted B)} {ts rest : Tokens}
-      → NamedParameter leaf spot Open kind export p fs ts rest → (us : Tokens) → Pairs Rel ts us
-      → ParameterCarried (λ x n r. NamedParameter leaf' spot' Open' kind export x n us r) p fs rest
+      → NamedParameter leaf position MayEnter kind export p fs ts rest → (us : Tokens) → Pairs Rel ts us
+      → ParameterCarried (λ x n r. NamedParameter leaf' position' MayEnter' kind export x n us r) p fs rest
   named_parameter {kind} {export} (g.required {name = t} is not) us (cons {u = u} s ss) = record {
     tree = record { kind = kind; export = export; name = leaf' u.tok; default = None };
     features = [];
@@ -107,8 +107,8 @@ module _ {A B S A' B' S' C D T : Type 0} (leaf : Tok → A) (spot : Tok → B) (
         same = x.same;
       }
 
-  parameter : {kind : ParameterKind} {p : Parameter A B} {fs : List (Noted B)} {ts rest : Tokens} → ParameterOf leaf spot Open kind p fs ts rest
-      → (us : Tokens) → Pairs Rel ts us → ParameterCarried (λ x n r. ParameterOf leaf' spot' Open' kind x n us r) p fs rest
+  parameter : {kind : ParameterKind} {p : Parameter A B} {fs : List (Noted B)} {ts rest : Tokens} → ParameterOf leaf position MayEnter kind p fs ts rest
+      → (us : Tokens) → Pairs Rel ts us → ParameterCarried (λ x n r. ParameterOf leaf' position' MayEnter' kind x n us r) p fs rest
   parameter (g.exported is p) us (cons {us = us2} s ss) =
       let x = named_parameter p us2 ss in rederived x (g.exported (kind_of s is) x.derives)
   parameter (g.unexported p) us s =
@@ -116,10 +116,10 @@ module _ {A B S A' B' S' C D T : Type 0} (leaf : Tok → A) (spot : Tok → B) (
 
   -- the one that takes several arguments, before the colon
   last_parameter : {kind : ParameterKind} {p : Parameter A B} {fs : List (Noted B)} {ts rest : Tokens} {colon : SignificantToken} (us us2 : Tokens)
-      → ParameterOf leaf spot Open kind p fs ts (colon ∷ rest) → IsKind kinds.Colon colon → Pairs Rel ts us2
-      → ((x : Parameter A' B') (gs : List (Noted B')) (after : Tokens) (u : SignificantToken) → ParameterOf leaf' spot' Open' kind x gs us2 (u ∷ after)
-      → IsKind kinds.Colon u → Parameters leaf' spot' Open' (x ∷ []) gs us after)
-      → ParametersCarried (λ x n r. Parameters leaf' spot' Open' x n us r) (p ∷ []) fs rest
+      → ParameterOf leaf position MayEnter kind p fs ts (colon ∷ rest) → IsKind kinds.Colon colon → Pairs Rel ts us2
+      → ((x : Parameter A' B') (gs : List (Noted B')) (after : Tokens) (u : SignificantToken) → ParameterOf leaf' position' MayEnter' kind x gs us2 (u ∷ after)
+      → IsKind kinds.Colon u → Parameters leaf' position' MayEnter' (x ∷ []) gs us after)
+      → ParametersCarried (λ x n r. Parameters leaf' position' MayEnter' x n us r) (p ∷ []) fs rest
   last_parameter us us2 p colon ss derives =
       let x = until (parameter p us2 ss) in
       record {
@@ -132,8 +132,8 @@ module _ {A B S A' B' S' C D T : Type 0} (leaf : Tok → A) (spot : Tok → B) (
         same = x.same;
       }
 
-  parameters : {ps : List (Parameter A B)} {fs : List (Noted B)} {ts rest : Tokens} → Parameters leaf spot Open ps fs ts rest
-      → (us : Tokens) → Pairs Rel ts us → ParametersCarried (λ x n r. Parameters leaf' spot' Open' x n us r) ps fs rest
+  parameters : {ps : List (Parameter A B)} {fs : List (Noted B)} {ts rest : Tokens} → Parameters leaf position MayEnter ps fs ts rest
+      → (us : Tokens) → Pairs Rel ts us → ParametersCarried (λ x n r. Parameters leaf' position' MayEnter' x n us r) ps fs rest
   parameters (g.none is) us (cons s ss) =
       record { tree = []; features = []; after = _; derives = g.none (kind_of s is); alike = refl; noted_alike = refl; same = ss }
   parameters (g.more {fs = fs} {gs = gs} p others) us s =
@@ -164,8 +164,8 @@ module _ {A B S A' B' S' C D T : Type 0} (leaf : Tok → A) (spot : Tok → B) (
   DependenciesCarried R ds fs rest = Carried Rel (map (over_dependency f h k)) (map (over_dependency f' h' k')) h h' R ds fs rest
 
   dependency_arguments : {all : List (DependencyArgument A B S)} {fs : List (Noted B)} {ts rest : Tokens}
-      → DependencyArguments leaf spot star Open all fs ts rest → (us : Tokens) → Pairs Rel ts us
-      → ArgumentsCarried (λ x n r. DependencyArguments leaf' spot' star' Open' x n us r) all fs rest
+      → DependencyArguments leaf position star MayEnter all fs ts rest → (us : Tokens) → Pairs Rel ts us
+      → ArgumentsCarried (λ x n r. DependencyArguments leaf' position' star' MayEnter' x n us r) all fs rest
   dependency_arguments (g.none is) us (cons s ss) =
       record { tree = []; features = []; after = _; derives = g.none (kind_of s is); alike = refl; noted_alike = refl; same = ss }
   dependency_arguments (g.plain {fs = fs} {gs = gs} e others) us s =
@@ -193,8 +193,8 @@ module _ {A B S A' B' S' C D T : Type 0} (leaf : Tok → A) (spot : Tok → B) (
         same = y.same;
       }
 
-  dependency : {d : Dependency A B S} {fs : List (Noted B)} {ts rest : Tokens} → DependencyOf leaf spot star Open d fs ts rest
-      → (us : Tokens) → Pairs Rel ts us → DependencyCarried (λ x n r. DependencyOf leaf' spot' star' Open' x n us r) d fs rest
+  dependency : {d : Dependency A B S} {fs : List (Noted B)} {ts rest : Tokens} → DependencyOf leaf position star MayEnter d fs ts rest
+      → (us : Tokens) → Pairs Rel ts us → DependencyCarried (λ x n r. DependencyOf leaf' position' star' MayEnter' x n us r) d fs rest
   dependency (g.bare p) us s =
       let x = path p us s in
       record {
@@ -231,8 +231,8 @@ module _ {A B S A' B' S' C D T : Type 0} (leaf : Tok → A) (spot : Tok → B) (
         same = y.same;
       }
 
-  dependencies : {ds : List (Dependency A B S)} {fs : List (Noted B)} {ts rest : Tokens} → Dependencies leaf spot star Open ds fs ts rest
-      → (us : Tokens) → Pairs Rel ts us → DependenciesCarried (λ x n r. Dependencies leaf' spot' star' Open' x n us r) ds fs rest
+  dependencies : {ds : List (Dependency A B S)} {fs : List (Noted B)} {ts rest : Tokens} → Dependencies leaf position star MayEnter ds fs ts rest
+      → (us : Tokens) → Pairs Rel ts us → DependenciesCarried (λ x n r. Dependencies leaf' position' star' MayEnter' x n us r) ds fs rest
   dependencies (g.none not not2 not3) us s = record {
     tree = [];
     features = [];
@@ -261,13 +261,13 @@ module _ {A B S A' B' S' C D T : Type 0} (leaf : Tok → A) (spot : Tok → B) (
     subsequents : List (Dependency A' B' S')
     features : List (Noted B')
     after : Tokens
-    derives : AllDependencies leaf' spot' star' Open' priors subsequents features us after
+    derives : AllDependencies leaf' position' star' MayEnter' priors subsequents features us after
     priors_alike : map (over_dependency f' h' k') priors ≡ map (over_dependency f h k) ds
     subsequents_alike : map (over_dependency f' h' k') subsequents ≡ map (over_dependency f h k) ss
     noted_alike : map (over_noted h') features ≡ map (over_noted h) fs
     same : Pairs Rel rest after
 
-  all_dependencies : {ds ss : List (Dependency A B S)} {fs : List (Noted B)} {ts rest : Tokens} → AllDependencies leaf spot star Open ds ss fs ts rest
+  all_dependencies : {ds ss : List (Dependency A B S)} {fs : List (Noted B)} {ts rest : Tokens} → AllDependencies leaf position star MayEnter ds ss fs ts rest
       → (us : Tokens) → Pairs Rel ts us → AllCarried us ds ss fs rest
   all_dependencies (g.priors ds not) us s =
       let x = dependencies ds us s in
@@ -292,7 +292,7 @@ module _ {A B S A' B' S' C D T : Type 0} (leaf : Tok → A) (spot : Tok → B) (
         features = x.features ++ y.features;
         after = y.after;
         derives = g.both x.derives (kind_of x.related is)
-            (subst (λ a. Dependencies leaf' spot' star' Open' a y.features x.after y.after) full.is y.derives);
+            (subst (λ a. Dependencies leaf' position' star' MayEnter' a y.features x.after y.after) full.is y.derives);
         priors_alike = x.alike;
         subsequents_alike = ap (map (over_dependency f' h' k')) (sym full.is) ∙ y.alike;
         noted_alike = both fs gs x.features y.features x.noted_alike y.noted_alike;
@@ -304,8 +304,8 @@ module _ {A B S A' B' S' C D T : Type 0} (leaf : Tok → A) (spot : Tok → B) (
   abbrev HeaderCarried : (Header A' B' S' → List (Noted B') → Tokens → Type 0) → Header A B S → List (Noted B) → Tokens → Type 0
   HeaderCarried R x fs rest = Carried Rel (over_header f h k) (over_header f' h' k') h h' R x fs rest
 
-  named_header : {quiet : Bool} {x : Header A B S} {fs : List (Noted B)} {ts rest : Tokens} → NamedHeader leaf spot star Open quiet x fs ts rest
-      → (us : Tokens) → Pairs Rel ts us → HeaderCarried (λ x n r. NamedHeader leaf' spot' star' Open' quiet x n us r) x fs rest
+  named_header : {quiet : Bool} {x : Header A B S} {fs : List (Noted B)} {ts rest : Tokens} → NamedHeader leaf position star MayEnter quiet x fs ts rest
+      → (us : Tokens) → Pairs Rel ts us → HeaderCarried (λ x n r. NamedHeader leaf' position' star' MayEnter' quiet x n us r) x fs rest
   named_header {quiet} (g.header {fs = fs} {gs = gs} {name = t} is ps ds) us (cons {u = u} {us = us2} s ss) =
       let x = parameters ps us2 ss in
       let y = all_dependencies ds x.after x.same in
@@ -319,8 +319,8 @@ module _ {A B S A' B' S' C D T : Type 0} (leaf : Tok → A) (spot : Tok → B) (
         same = y.same;
       }
 
-  pub header : {x : Header A B S} {fs : List (Noted B)} {ts rest : Tokens} → HeaderOf leaf spot star Open x fs ts rest
-      → (us : Tokens) → Pairs Rel ts us → HeaderCarried (λ x n r. HeaderOf leaf' spot' star' Open' x n us r) x fs rest
+  pub header : {x : Header A B S} {fs : List (Noted B)} {ts rest : Tokens} → HeaderOf leaf position star MayEnter x fs ts rest
+      → (us : Tokens) → Pairs Rel ts us → HeaderCarried (λ x n r. HeaderOf leaf' position' star' MayEnter' x n us r) x fs rest
   header (g.quiet is e) us (cons {us = us2} s ss) =
       let x = named_header e us2 ss in rederived x (g.quiet (kind_of s is) x.derives)
   header (g.loud e) us s =

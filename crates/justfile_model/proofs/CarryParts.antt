@@ -1,7 +1,7 @@
 -- A derivation of a part of an item carried over to tokens that differ in their places alone, to other leaves and to another limit.
 use Rattle.std.proofs.Common.{◌≡◌, ℕ, Bool, true, false, List, [], ◌∷◌, map, Option, refl, sym, subst, ◌∙◌}
-use Rattle.justfile_word.specs.declared.token_kind.TokenKind.{TokenKind}
-use Rattle.justfile_word.specs.declared.token_kind.TokenKind.TheVariants as kinds
+use Rattle.justfile_vocabulary.specs.declared.token_kind.TokenKind.{TokenKind}
+use Rattle.justfile_vocabulary.specs.declared.token_kind.TokenKind.TheVariants as kinds
 use Rattle.justfile_model.specs.Expressions.{Tokens, front, Expression, IsKind, IsWord, NotNext, Sequence}
 use Rattle.justfile_model.specs.Features.{Noted}
 use Rattle.justfile_model.specs.ItemParts as g
@@ -58,13 +58,13 @@ module _ (Rel : SignificantToken → SignificantToken → Type 0) (weak : (t u :
   pub no_path : {ts us : Tokens} → Pairs Rel ts us → NoPath ts → NoPath us
   no_path ss n = record { unmarked = not_next kinds.StringToken ss n.unmarked; marked = not_named ss n.marked }
 
-module _ {A B A' B' C D : Type 0} (leaf : Tok → A) (spot : Tok → B) (Open : ℕ → Option SignificantToken → Type 0)
+module _ {A B A' B' C D : Type 0} (leaf : Tok → A) (position : Tok → B) (MayEnter : ℕ → Option SignificantToken → Type 0)
     (Rel : SignificantToken → SignificantToken → Type 0) (weak : (t u : SignificantToken) → Rel t u → Same t u)
-    (leaf' : Tok → A') (spot' : Tok → B') (Open' : ℕ → Option SignificantToken → Type 0)
+    (leaf' : Tok → A') (position' : Tok → B') (MayEnter' : ℕ → Option SignificantToken → Type 0)
     (f : A → C) (h : B → D) (f' : A' → C) (h' : B' → D)
     (leaves : (t u : SignificantToken) → Rel t u → f' (leaf' u.tok) ≡ f (leaf t.tok))
-    (spots : (t u : SignificantToken) → Rel t u → h' (spot' u.tok) ≡ h (spot t.tok))
-    (opens : (d : ℕ) (ts us : Tokens) → Pairs Rel ts us → Open d (front ts) → Open' d (front us)) where
+    (positions : (t u : SignificantToken) → Rel t u → h' (position' u.tok) ≡ h (position t.tok))
+    (opens : (d : ℕ) (ts us : Tokens) → Pairs Rel ts us → MayEnter d (front ts) → MayEnter' d (front us)) where
   abbrev PathCarried : (Quoted A' → Tokens → Type 0) → Quoted A → Tokens → Type 0
   PathCarried R path rest = Carried Rel (over_quoted f h) (over_quoted f' h') h h' (λ x n r. R x r) path [] rest
 
@@ -118,12 +118,12 @@ module _ {A B A' B' C D : Type 0} (leaf : Tok → A) (spot : Tok → B) (Open : 
   abbrev ValueCarried : (SettingValue A' B' → List (Noted B') → Tokens → Type 0) → SettingValue A B → List (Noted B) → Tokens → Type 0
   ValueCarried R value fs rest = Carried Rel (over_setting_value f h) (over_setting_value f' h') h h' R value fs rest
 
-  expression : {e : Expr A B} {fs : List (Noted B)} {ts rest : Tokens} → Expression leaf spot Open false 0 e fs ts rest → (us : Tokens) → Pairs Rel ts us
-      → Carried Rel (over_expr f h) (over_expr f' h') h h' (λ x n r. Expression leaf' spot' Open' false 0 x n us r) e fs rest
-  expression e us s = expressions.expression leaf spot Open Rel weak leaf' spot' Open' f h f' h' leaves spots opens e us s
+  expression : {e : Expr A B} {fs : List (Noted B)} {ts rest : Tokens} → Expression leaf position MayEnter false 0 e fs ts rest → (us : Tokens) → Pairs Rel ts us
+      → Carried Rel (over_expr f h) (over_expr f' h') h h' (λ x n r. Expression leaf' position' MayEnter' false 0 x n us r) e fs rest
+  expression e us s = expressions.expression leaf position MayEnter Rel weak leaf' position' MayEnter' f h f' h' leaves positions opens e us s
 
-  pub setting_value : {form : SettingForm} {value : SettingValue A B} {fs : List (Noted B)} {ts rest : Tokens} → ValueOf leaf spot Open form value fs ts rest
-      → (us : Tokens) → Pairs Rel ts us → ValueCarried (λ x n r. ValueOf leaf' spot' Open' form x n us r) value fs rest
+  pub setting_value : {form : SettingForm} {value : SettingValue A B} {fs : List (Noted B)} {ts rest : Tokens} → ValueOf leaf position MayEnter form value fs ts rest
+      → (us : Tokens) → Pairs Rel ts us → ValueCarried (λ x n r. ValueOf leaf' position' MayEnter' form x n us r) value fs rest
   setting_value (g.bare ends) us s =
       record { tree = tree.Truth true; features = []; after = us; derives = g.bare (ends_line Rel weak s ends); alike = refl; noted_alike = refl; same = s }
   setting_value (g.yes kind is) us (cons s (cons s2 ss)) = record {
@@ -167,14 +167,14 @@ module _ {A B A' B' C D : Type 0} (leaf : Tok → A) (spot : Tok → B) (Open : 
         same = x.same;
       }
   setting_value (g.interpreter {e = e} {es = es} kind kind2 all) us (cons s (cons {us = us2} s2 ss)) =
-      let x = expressions.sequence leaf spot Open Rel weak leaf' spot' Open' f h f' h' leaves spots opens all us2 ss in
+      let x = expressions.sequence leaf position MayEnter Rel weak leaf' position' MayEnter' f h f' h' leaves positions opens all us2 ss in
       let y = first_element f h f' h' x.tree e es x.alike in
       record {
         tree = tree.Interpreter y.one y.others;
         features = x.features;
         after = x.after;
         derives = g.interpreter (kind_of Rel weak s kind) (kind_of Rel weak s2 kind2)
-            (subst (λ l. Sequence leaf' spot' Open' kinds.BracketR 0 l x.features us2 x.after) y.is x.derives);
+            (subst (λ l. Sequence leaf' position' MayEnter' kinds.BracketR 0 l x.features us2 x.after) y.is x.derives);
         alike = λ i. interpreted ((sym (λ j. over_exprs f' h' (y.is j)) ∙ x.alike) i);
         noted_alike = x.noted_alike;
         same = x.same;

@@ -10,26 +10,26 @@ use Rattle.justfile_model.specs.Conditions.{Conditions}
 use Rattle.justfile_model.specs.ExpressionReader.{accept_operator, assert_rule, backtick, binary_rule, conjunct_rule, cooked, element_rule, format_rule, group_rule, list_rule, literal, literal_string, name_rule, read, sequence_rule, value_rule}
 use Rattle.justfile_model.specs.Features.{Noted}
 use Rattle.justfile_model.specs.Files.{ordered}
-use Rattle.justfile_model.specs.HeaderReader.{bare_dependency, dependency, default_value, dependencies, dependencies_rule, distinct_options, draw_binding, header, last_parameter, named_parameter, parameter, parameters, path, path_rest, path_rest_rule, singulars, singulars_rule, subsequents}
+use Rattle.justfile_model.specs.HeaderReader.{bare_dependency, dependency, default_value, dependencies, dependencies_rule, distinct_options, next_binding_number, header, last_parameter, named_parameter, parameter, parameters, path, path_rest, path_rest_rule, singulars, singulars_rule, subsequents}
 use Rattle.justfile_model.specs.LexicalFault.{LexicalFault}
 use Rattle.justfile_model.specs.LiteralText.{pieces_len}
 use Rattle.justfile_model.specs.NewAttribute.{new_attribute}
 use Rattle.justfile_model.specs.Next.{body_token, fixed_token, layout, literal_part, next, token_by_class, token_within_line}
 use Rattle.justfile_model.specs.NormalShape.{normal}
-use Rattle.justfile_model.specs.PartReader.{accept_before, after_numbered, expansion_mark, expression_value, file_path, interpreter, keyword_at, names, names_end, names_rule, numbered_name, optional_path, plain_value, truth, truth_of}
+use Rattle.justfile_model.specs.PartReader.{accept_keyword_before, after_numbered, expansion_mark, expression_value, file_path, interpreter, setting_keyword, names, names_end, names_rule, numbered_name, optional_path, plain_value, truth, truth_of}
 use Rattle.justfile_model.specs.Places.{column_at, last_line_start, line_of_offset}
 use Rattle.justfile_model.specs.Printing.{fixed_text, text}
-use Rattle.justfile_model.specs.Reader.{alias, any_module, any_recipe, assignment, at_end, attributes, body, body_after, body_line, construct, content, draw_recipe, ended, fragment, function, import, imported, item_rest, items_from, items_rule, line, line_end, line_rest, line_rest_rule, lines, lines_rule, named_module, on_line, optional_body, recipe, setting, unexport, wordless}
-use Rattle.justfile_model.specs.Reading.{accept, accept_marked, accept_word, accepted, begin_with, expect, is_word, prepend, refused, same_kind}
+use Rattle.justfile_model.specs.Reader.{alias, any_module, any_recipe, assignment, at_end, attributes, body, body_after, body_line, construct, content, next_recipe_number, ended, fragment, function, import, imported, item_rest, items_from, items_rule, line, line_end, line_rest, line_rest_rule, lines, lines_rule, named_module, on_line, optional_body, recipe, setting, unexport, wordless}
+use Rattle.justfile_model.specs.ReaderState.{accept, accept_marked, accept_construct_keyword, accepted, begin_with, expect, is_word, prepend, refused, same_kind}
 use Rattle.justfile_model.specs.Recursive.{below, recursive, turns}
-use Rattle.justfile_model.specs.Sight.{sees_tokens}
+use Rattle.justfile_model.specs.LeafView.{views_tokens}
 use Rattle.justfile_model.specs.SignificantTokens.{significant_tokens}
 use Rattle.justfile_model.specs.Tok.{Tok}
 use Rattle.justfile_model.specs.Tree.{Tree, WrittenTree, shape_of}
-use Rattle.justfile_model.specs.TreeReader.{Refusal, tree_of_tokens}
-use Rattle.justfile_word.specs.AttributeKind.{kind_named}
-use Rattle.justfile_word.specs.ByteClass.{class_of}
-use Rattle.justfile_word.specs.Keyword.{keyword_named}
+use Rattle.justfile_model.specs.TreeReader.{ReadError, tree_of_tokens}
+use Rattle.justfile_vocabulary.specs.AttributeKind.{kind_named}
+use Rattle.justfile_vocabulary.specs.ByteClass.{class_of}
+use Rattle.justfile_vocabulary.specs.Keyword.{keyword_named}
 use Rattle.std.specs.Char.{encode_utf8}
 use Rattle.std.specs.Str.{chars, is_utf8, trim_end, trim_start}
 
@@ -44,8 +44,8 @@ reprinted source = of_tokens (answer source (2 * length source + 1) [])
     of_tree None = []
     of_tree (Some t) = text (normal (shape_of t)) (codes "    ")
 
-    of_read : Result (WrittenTree × List (Noted Tok)) Refusal → List ℕ
-    of_read (Ok x) = of_tree (ordered (sees_tokens conditions.expander) x.0)
+    of_read : Result (WrittenTree × List (Noted Tok)) ReadError → List ℕ
+    of_read (Ok x) = of_tree (ordered (views_tokens conditions.expander) x.0)
     of_read (Err refusal) = []
 
     of_tokens : Option (Result (List Tok) (LexicalFault × Tok)) → List ℕ
@@ -54,25 +54,25 @@ reprinted source = of_tokens (answer source (2 * length source + 1) [])
 
 -- a comment after an attribute is kept, and is no doc
 after_attribute : reprinted (codes "#!/usr/bin/env just\nfoo:\n# bar\n[private] # gone\nbaz:\n") ≡ codes "#!/usr/bin/env just\nfoo:\n# bar\n[private] # gone\nbaz:\n"
-unfolding tree_of_tokens reader.file items_from items_rule line on_line construct attributes attribute_lines attribute_lines_from bracketed attribute kind_at arguments made bracket_end attributes_end line_end_after accept begin_with expect refused same_kind below recursive turns new_attribute kind_named same_attribute content wordless recipe any_recipe header distinct_options parameters singulars singulars_rule last_parameter dependencies dependencies_rule dependency bare_dependency subsequents accepted optional_body body_after draw_recipe ended item_rest line_end after_numbered at_end read value_rule conjunct_rule binary_rule accept_operator literal literal_string cooked accept_word accept_marked backtick format_rule list_rule group_rule name_rule is_word assert_rule assignment draw_binding accept_before alias function import imported any_module named_module setting unexport path path_rest path_rest_rule prepend file_path expansion_mark optional_path names names_rule names_end numbered_name keyword_at keyword_named truth truth_of interpreter expression_value plain_value sequence_rule element_rule parameter named_parameter default_value body body_line fragment line_rest line_rest_rule lines lines_rule answer at fault_of is_eof span_of class_of closes_levels pieces_len chars encode_utf8 is_utf8 column_at last_line_start line_of_offset body_token fixed_token token_by_class token_within_line layout literal_part next trim_start trim_end fixed_text
+unfolding tree_of_tokens reader.file items_from items_rule line on_line construct attributes attribute_lines attribute_lines_from bracketed attribute kind_at arguments made bracket_end attributes_end line_end_after accept begin_with expect refused same_kind below recursive turns new_attribute kind_named same_attribute content wordless recipe any_recipe header distinct_options parameters singulars singulars_rule last_parameter dependencies dependencies_rule dependency bare_dependency subsequents accepted optional_body body_after next_recipe_number ended item_rest line_end after_numbered at_end read value_rule conjunct_rule binary_rule accept_operator literal literal_string cooked accept_construct_keyword accept_marked backtick format_rule list_rule group_rule name_rule is_word assert_rule assignment next_binding_number accept_keyword_before alias function import imported any_module named_module setting unexport path path_rest path_rest_rule prepend file_path expansion_mark optional_path names names_rule names_end numbered_name setting_keyword keyword_named truth truth_of interpreter expression_value plain_value sequence_rule element_rule parameter named_parameter default_value body body_line fragment line_rest line_rest_rule lines lines_rule answer at fault_of is_eof span_of class_of closes_levels pieces_len chars encode_utf8 is_utf8 column_at last_line_start line_of_offset body_token fixed_token token_by_class token_within_line layout literal_part next trim_start trim_end fixed_text
 after_attribute = refl
 
 -- so is one between a header and a body
 after_header : reprinted (codes "foo: # dropped\n bar\n") ≡ codes "foo: # dropped\n    bar\n"
-unfolding tree_of_tokens reader.file items_from items_rule line on_line construct attributes attribute_lines attribute_lines_from bracketed attribute kind_at arguments made bracket_end attributes_end line_end_after accept begin_with expect refused same_kind below recursive turns new_attribute kind_named same_attribute content wordless recipe any_recipe header distinct_options parameters singulars singulars_rule last_parameter dependencies dependencies_rule dependency bare_dependency subsequents accepted optional_body body_after draw_recipe ended item_rest line_end after_numbered at_end read value_rule conjunct_rule binary_rule accept_operator literal literal_string cooked accept_word accept_marked backtick format_rule list_rule group_rule name_rule is_word assert_rule assignment draw_binding accept_before alias function import imported any_module named_module setting unexport path path_rest path_rest_rule prepend file_path expansion_mark optional_path names names_rule names_end numbered_name keyword_at keyword_named truth truth_of interpreter expression_value plain_value sequence_rule element_rule parameter named_parameter default_value body body_line fragment line_rest line_rest_rule lines lines_rule answer at fault_of is_eof span_of class_of closes_levels pieces_len chars encode_utf8 is_utf8 column_at last_line_start line_of_offset body_token fixed_token token_by_class token_within_line layout literal_part next trim_start trim_end fixed_text
+unfolding tree_of_tokens reader.file items_from items_rule line on_line construct attributes attribute_lines attribute_lines_from bracketed attribute kind_at arguments made bracket_end attributes_end line_end_after accept begin_with expect refused same_kind below recursive turns new_attribute kind_named same_attribute content wordless recipe any_recipe header distinct_options parameters singulars singulars_rule last_parameter dependencies dependencies_rule dependency bare_dependency subsequents accepted optional_body body_after next_recipe_number ended item_rest line_end after_numbered at_end read value_rule conjunct_rule binary_rule accept_operator literal literal_string cooked accept_construct_keyword accept_marked backtick format_rule list_rule group_rule name_rule is_word assert_rule assignment next_binding_number accept_keyword_before alias function import imported any_module named_module setting unexport path path_rest path_rest_rule prepend file_path expansion_mark optional_path names names_rule names_end numbered_name setting_keyword keyword_named truth truth_of interpreter expression_value plain_value sequence_rule element_rule parameter named_parameter default_value body body_line fragment line_rest line_rest_rule lines lines_rule answer at fault_of is_eof span_of class_of closes_levels pieces_len chars encode_utf8 is_utf8 column_at last_line_start line_of_offset body_token fixed_token token_by_class token_within_line layout literal_part next trim_start trim_end fixed_text
 after_header = refl
 
 -- it is that of the last attribute of its brackets
 after_brackets : reprinted (codes "[private,linux] # c \nfoo:") ≡ codes "[linux] # c\n[private]\nfoo:\n"
-unfolding tree_of_tokens reader.file items_from items_rule line on_line construct attributes attribute_lines attribute_lines_from bracketed attribute kind_at arguments made bracket_end attributes_end line_end_after accept begin_with expect refused same_kind below recursive turns new_attribute kind_named same_attribute content wordless recipe any_recipe header distinct_options parameters singulars singulars_rule last_parameter dependencies dependencies_rule dependency bare_dependency subsequents accepted optional_body body_after draw_recipe ended item_rest line_end after_numbered at_end read value_rule conjunct_rule binary_rule accept_operator literal literal_string cooked accept_word accept_marked backtick format_rule list_rule group_rule name_rule is_word assert_rule assignment draw_binding accept_before alias function import imported any_module named_module setting unexport path path_rest path_rest_rule prepend file_path expansion_mark optional_path names names_rule names_end numbered_name keyword_at keyword_named truth truth_of interpreter expression_value plain_value sequence_rule element_rule parameter named_parameter default_value body body_line fragment line_rest line_rest_rule lines lines_rule answer at fault_of is_eof span_of class_of closes_levels pieces_len chars encode_utf8 is_utf8 column_at last_line_start line_of_offset body_token fixed_token token_by_class token_within_line layout literal_part next trim_start trim_end fixed_text
+unfolding tree_of_tokens reader.file items_from items_rule line on_line construct attributes attribute_lines attribute_lines_from bracketed attribute kind_at arguments made bracket_end attributes_end line_end_after accept begin_with expect refused same_kind below recursive turns new_attribute kind_named same_attribute content wordless recipe any_recipe header distinct_options parameters singulars singulars_rule last_parameter dependencies dependencies_rule dependency bare_dependency subsequents accepted optional_body body_after next_recipe_number ended item_rest line_end after_numbered at_end read value_rule conjunct_rule binary_rule accept_operator literal literal_string cooked accept_construct_keyword accept_marked backtick format_rule list_rule group_rule name_rule is_word assert_rule assignment next_binding_number accept_keyword_before alias function import imported any_module named_module setting unexport path path_rest path_rest_rule prepend file_path expansion_mark optional_path names names_rule names_end numbered_name setting_keyword keyword_named truth truth_of interpreter expression_value plain_value sequence_rule element_rule parameter named_parameter default_value body body_line fragment line_rest line_rest_rule lines lines_rule answer at fault_of is_eof span_of class_of closes_levels pieces_len chars encode_utf8 is_utf8 column_at last_line_start line_of_offset body_token fixed_token token_by_class token_within_line layout literal_part next trim_start trim_end fixed_text
 after_brackets = refl
 
 -- each attribute keeps its own
 all_kept : reprinted (codes "[linux] # a\n[private] # b\nfoo: x # d\n  y # z\n") ≡ codes "[linux] # a\n[private] # b\nfoo: x # d\n    y # z\n"
-unfolding tree_of_tokens reader.file items_from items_rule line on_line construct attributes attribute_lines attribute_lines_from bracketed attribute kind_at arguments made bracket_end attributes_end line_end_after accept begin_with expect refused same_kind below recursive turns new_attribute kind_named same_attribute content wordless recipe any_recipe header distinct_options parameters singulars singulars_rule last_parameter dependencies dependencies_rule dependency bare_dependency subsequents accepted optional_body body_after draw_recipe ended item_rest line_end after_numbered at_end read value_rule conjunct_rule binary_rule accept_operator literal literal_string cooked accept_word accept_marked backtick format_rule list_rule group_rule name_rule is_word assert_rule assignment draw_binding accept_before alias function import imported any_module named_module setting unexport path path_rest path_rest_rule prepend file_path expansion_mark optional_path names names_rule names_end numbered_name keyword_at keyword_named truth truth_of interpreter expression_value plain_value sequence_rule element_rule parameter named_parameter default_value body body_line fragment line_rest line_rest_rule lines lines_rule answer at fault_of is_eof span_of class_of closes_levels pieces_len chars encode_utf8 is_utf8 column_at last_line_start line_of_offset body_token fixed_token token_by_class token_within_line layout literal_part next trim_start trim_end fixed_text
+unfolding tree_of_tokens reader.file items_from items_rule line on_line construct attributes attribute_lines attribute_lines_from bracketed attribute kind_at arguments made bracket_end attributes_end line_end_after accept begin_with expect refused same_kind below recursive turns new_attribute kind_named same_attribute content wordless recipe any_recipe header distinct_options parameters singulars singulars_rule last_parameter dependencies dependencies_rule dependency bare_dependency subsequents accepted optional_body body_after next_recipe_number ended item_rest line_end after_numbered at_end read value_rule conjunct_rule binary_rule accept_operator literal literal_string cooked accept_construct_keyword accept_marked backtick format_rule list_rule group_rule name_rule is_word assert_rule assignment next_binding_number accept_keyword_before alias function import imported any_module named_module setting unexport path path_rest path_rest_rule prepend file_path expansion_mark optional_path names names_rule names_end numbered_name setting_keyword keyword_named truth truth_of interpreter expression_value plain_value sequence_rule element_rule parameter named_parameter default_value body body_line fragment line_rest line_rest_rule lines lines_rule answer at fault_of is_eof span_of class_of closes_levels pieces_len chars encode_utf8 is_utf8 column_at last_line_start line_of_offset body_token fixed_token token_by_class token_within_line layout literal_part next trim_start trim_end fixed_text
 all_kept = refl
 
 -- after a header without a body a comment is an item
 without_body : reprinted (codes "foo: # a\n# b\n") ≡ codes "foo: # a\n# b\n"
-unfolding tree_of_tokens reader.file items_from items_rule line on_line construct attributes attribute_lines attribute_lines_from bracketed attribute kind_at arguments made bracket_end attributes_end line_end_after accept begin_with expect refused same_kind below recursive turns new_attribute kind_named same_attribute content wordless recipe any_recipe header distinct_options parameters singulars singulars_rule last_parameter dependencies dependencies_rule dependency bare_dependency subsequents accepted optional_body body_after draw_recipe ended item_rest line_end after_numbered at_end read value_rule conjunct_rule binary_rule accept_operator literal literal_string cooked accept_word accept_marked backtick format_rule list_rule group_rule name_rule is_word assert_rule assignment draw_binding accept_before alias function import imported any_module named_module setting unexport path path_rest path_rest_rule prepend file_path expansion_mark optional_path names names_rule names_end numbered_name keyword_at keyword_named truth truth_of interpreter expression_value plain_value sequence_rule element_rule parameter named_parameter default_value body body_line fragment line_rest line_rest_rule lines lines_rule answer at fault_of is_eof span_of class_of closes_levels pieces_len chars encode_utf8 is_utf8 column_at last_line_start line_of_offset body_token fixed_token token_by_class token_within_line layout literal_part next trim_start trim_end fixed_text
+unfolding tree_of_tokens reader.file items_from items_rule line on_line construct attributes attribute_lines attribute_lines_from bracketed attribute kind_at arguments made bracket_end attributes_end line_end_after accept begin_with expect refused same_kind below recursive turns new_attribute kind_named same_attribute content wordless recipe any_recipe header distinct_options parameters singulars singulars_rule last_parameter dependencies dependencies_rule dependency bare_dependency subsequents accepted optional_body body_after next_recipe_number ended item_rest line_end after_numbered at_end read value_rule conjunct_rule binary_rule accept_operator literal literal_string cooked accept_construct_keyword accept_marked backtick format_rule list_rule group_rule name_rule is_word assert_rule assignment next_binding_number accept_keyword_before alias function import imported any_module named_module setting unexport path path_rest path_rest_rule prepend file_path expansion_mark optional_path names names_rule names_end numbered_name setting_keyword keyword_named truth truth_of interpreter expression_value plain_value sequence_rule element_rule parameter named_parameter default_value body body_line fragment line_rest line_rest_rule lines lines_rule answer at fault_of is_eof span_of class_of closes_levels pieces_len chars encode_utf8 is_utf8 column_at last_line_start line_of_offset body_token fixed_token token_by_class token_within_line layout literal_part next trim_start trim_end fixed_text
 without_body = refl

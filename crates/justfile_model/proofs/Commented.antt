@@ -2,8 +2,8 @@
 use Rattle.std.proofs.Common.{◌≡◌, ℕ, List, [], ◌∷◌, ◌++◌, map, Option, Some, None, refl, ap}
 use Rattle.std.specs.List.{flat_map}
 use Rattle.std.specs.Option.{option_map}
-use Rattle.justfile_word.specs.AttributeKind.{kind_named}
-use Rattle.justfile_word.specs.declared.attribute_kind.AttributeKind.{AttributeKind}
+use Rattle.justfile_vocabulary.specs.AttributeKind.{kind_named}
+use Rattle.justfile_vocabulary.specs.declared.attribute_kind.AttributeKind.{AttributeKind}
 use Rattle.justfile_model.specs.AttributeLines as g
 use Rattle.justfile_model.specs.AttributeLines.{Bracketed}
 use Rattle.justfile_model.specs.AttributeRules.{attribute_broken, duplicate_broken, duplicates_broken, of_some}
@@ -13,7 +13,7 @@ use Rattle.justfile_model.specs.Grammar.{NotEmpty}
 use Rattle.justfile_model.specs.Files.{argument_literals, written_literals}
 use Rattle.justfile_model.specs.Meaning as meaning
 use Rattle.justfile_model.specs.Meaning.{attribute_of, by_key, by_position, entry_of}
-use Rattle.justfile_model.specs.Sight.{Sight}
+use Rattle.justfile_model.specs.LeafView.{LeafView}
 use Rattle.justfile_model.specs.SignificantTokens.{SignificantToken}
 use Rattle.justfile_model.specs.Tok.{Tok}
 use Rattle.justfile_model.specs.Tree.{Attribute, Entry, WrittenAttribute, at_last, commented, commented_attribute, commented_entry, commented_line}
@@ -60,54 +60,54 @@ module _ {A B : Type 0} where
   pub commented_literals : (comment : Option (List ℕ)) (ws : List (WrittenAttribute A B)) → written_literals (commented_line comment ws) ≡ written_literals ws
   commented_literals comment ws = commented_flat_map (λ w. flat_map argument_literals w.arguments) commented_attribute (λ c w. refl) comment ws
 
-  module _ (sight : Sight A B) where
+  module _ (view : LeafView A B) where
     -- it means the same, with its comment
-    pub commented_means : (c : List ℕ) (w : WrittenAttribute A B) → entry_of sight (commented_attribute c w) ≡ option_map (commented_entry c) (entry_of sight w)
-    commented_means c w = by_kind (kind_named (sight.bytes w.name))
+    pub commented_means : (c : List ℕ) (w : WrittenAttribute A B) → entry_of view (commented_attribute c w) ≡ option_map (commented_entry c) (entry_of view w)
+    commented_means c w = by_kind (kind_named (view.bytes w.name))
       where
         meant : AttributeKind → Option (List ℕ) → Option (Entry A B)
         meant kind comment =
-            meaning.◌>>=◌ (attribute_of sight kind (by_position w.arguments) (by_key w.arguments))
-            (λ a. Some (record { name = sight.place w.name; attribute = a; comment = comment }))
+            meaning.◌>>=◌ (attribute_of view kind (by_position w.arguments) (by_key w.arguments))
+            (λ a. Some (record { name = view.place w.name; attribute = a; comment = comment }))
 
         by_attribute : (o : Option (Attribute A B))
-            → meaning.◌>>=◌ o (λ a. Some (record { name = sight.place w.name; attribute = a; comment = Some c }))
-            ≡ option_map (commented_entry c) (meaning.◌>>=◌ o (λ a. Some (record { name = sight.place w.name; attribute = a; comment = w.comment })))
+            → meaning.◌>>=◌ o (λ a. Some (record { name = view.place w.name; attribute = a; comment = Some c }))
+            ≡ option_map (commented_entry c) (meaning.◌>>=◌ o (λ a. Some (record { name = view.place w.name; attribute = a; comment = w.comment })))
         by_attribute None = refl
         by_attribute (Some a) = refl
 
         by_kind : (o : Option AttributeKind) → meaning.◌>>=◌ o (λ k. meant k (Some c)) ≡ option_map (commented_entry c) (meaning.◌>>=◌ o (λ k. meant k w.comment))
         by_kind None = refl
-        by_kind (Some k) = by_attribute (attribute_of sight k (by_position w.arguments) (by_key w.arguments))
+        by_kind (Some k) = by_attribute (attribute_of view k (by_position w.arguments) (by_key w.arguments))
 
-    pub means_commented : (c : List ℕ) (w : WrittenAttribute A B) (e : Entry A B) → entry_of sight w ≡ Some e
-        → entry_of sight (commented_attribute c w) ≡ Some (commented_entry c e)
+    pub means_commented : (c : List ℕ) (w : WrittenAttribute A B) (e : Entry A B) → entry_of view w ≡ Some e
+        → entry_of view (commented_attribute c w) ≡ Some (commented_entry c e)
     means_commented c w e means = rw (commented_means c w, means) refl
 
     -- it breaks the same rules
     pub commented_broken : (comment : Option (List ℕ)) (ws : List (WrittenAttribute A B))
-        → flat_map (attribute_broken sight) (commented_line comment ws) ≡ flat_map (attribute_broken sight) ws
-    commented_broken comment ws = commented_flat_map (attribute_broken sight) commented_attribute (λ c w. refl) comment ws
+        → flat_map (attribute_broken view) (commented_line comment ws) ≡ flat_map (attribute_broken view) ws
+    commented_broken comment ws = commented_flat_map (attribute_broken view) commented_attribute (λ c w. refl) comment ws
 
     last_repeats : (c : List ℕ) (before : List (Entry A B)) (ws : List (WrittenAttribute A B))
-        → duplicates_broken sight before (at_last (commented_attribute c) ws) ≡ duplicates_broken sight before ws
+        → duplicates_broken view before (at_last (commented_attribute c) ws) ≡ duplicates_broken view before ws
     last_repeats c before [] = refl
-    last_repeats c before (w ∷ []) = rw (commented_means c w) (go (entry_of sight w))
+    last_repeats c before (w ∷ []) = rw (commented_means c w) (go (entry_of view w))
       where
         go : (o : Option (Entry A B))
-            → of_some (duplicate_broken sight before) (option_map (commented_entry c) o) ++ [] ≡ of_some (duplicate_broken sight before) o ++ []
+            → of_some (duplicate_broken view before) (option_map (commented_entry c) o) ++ [] ≡ of_some (duplicate_broken view before) o ++ []
         go None = refl
         go (Some e) = refl
     last_repeats c before (w ∷ v ∷ ws) =
-        ap (λ l. of_some (duplicate_broken sight before) (entry_of sight w) ++ l) (last_repeats c (before ++ of_some (λ e. e ∷ []) (entry_of sight w)) (v ∷ ws))
+        ap (λ l. of_some (duplicate_broken view before) (entry_of view w) ++ l) (last_repeats c (before ++ of_some (λ e. e ∷ []) (entry_of view w)) (v ∷ ws))
 
     pub commented_repeats : (comment : Option (List ℕ)) (before : List (Entry A B)) (ws : List (WrittenAttribute A B))
-        → duplicates_broken sight before (commented_line comment ws) ≡ duplicates_broken sight before ws
+        → duplicates_broken view before (commented_line comment ws) ≡ duplicates_broken view before ws
     commented_repeats None before ws = refl
     commented_repeats (Some c) before ws = last_repeats c before ws
 
 -- brackets have an attribute
-pub some_bracketed : {A B : Type 0} (leaf : Tok → A) (spot : Tok → B) (Open : ℕ → Option SignificantToken → Type 0) {ws : List (WrittenAttribute A B)}
-    {fs : List (Noted B)} {ts rest : Tokens} → Bracketed leaf spot Open ws fs ts rest → NotEmpty ws
-some_bracketed leaf spot Open (g.last w kind) = tt
-some_bracketed leaf spot Open (g.more w kind others) = tt
+pub some_bracketed : {A B : Type 0} (leaf : Tok → A) (position : Tok → B) (MayEnter : ℕ → Option SignificantToken → Type 0) {ws : List (WrittenAttribute A B)}
+    {fs : List (Noted B)} {ts rest : Tokens} → Bracketed leaf position MayEnter ws fs ts rest → NotEmpty ws
+some_bracketed leaf position MayEnter (g.last w kind) = tt
+some_bracketed leaf position MayEnter (g.more w kind others) = tt

@@ -1,18 +1,18 @@
 -- What derives where the limit is waived at some tokens is read, or refused: a literal that has no text, or as too deep at one of these
 -- tokens.
 use Rattle.std.proofs.Common.{◌≡◌, ℕ, ◌+◌, Bool, true, false, ◌||◌, List, [], ◌∷◌, ◌++◌, Option, None, Some, Ok, Err, refl, sym, subst, ap, ◌∙◌, append_assoc, append-nil, arith}
-use Rattle.justfile_word.specs.Keyword.{keyword_named, keyword_text}
-use Rattle.justfile_word.specs.declared.item_kind.ItemKind.TheVariants as item_kinds
-use Rattle.justfile_word.specs.declared.keyword.Keyword.{Keyword}
-use Rattle.justfile_word.specs.declared.token_kind.TokenKind.TheVariants as kinds
-use Rattle.justfile_word.proofs.KeywordLaws.{spelled}
+use Rattle.justfile_vocabulary.specs.Keyword.{keyword_named, keyword_text}
+use Rattle.justfile_vocabulary.specs.declared.item_kind.ItemKind.TheVariants as item_kinds
+use Rattle.justfile_vocabulary.specs.declared.keyword.Keyword.{Keyword}
+use Rattle.justfile_vocabulary.specs.declared.token_kind.TokenKind.TheVariants as kinds
+use Rattle.justfile_vocabulary.proofs.KeywordLaws.{spelled}
 use Rattle.justfile_model.specs.AttributeLines as lines_of
 use Rattle.justfile_model.specs.AttributeLines.{AttributeLines}
 use Rattle.justfile_model.specs.AttributeRules.{allowed_broken, arg_rules, attributes_broken, of_some}
 use Rattle.justfile_model.specs.Conditions.{Conditions}
 use Rattle.justfile_model.specs.ConstructRules.{form_broken, meaning_broken}
 use Rattle.justfile_model.specs.Meaning.{entries_of}
-use Rattle.justfile_model.specs.ReadAttribute.{ReadAttribute, token_sight}
+use Rattle.justfile_model.specs.ReadAttribute.{ReadAttribute, token_view}
 use Rattle.justfile_model.specs.RecipeRules.{exclusions_broken, header_broken, options_broken, parameters_broken, recipe_broken, undefined_broken}
 use Rattle.justfile_model.specs.Rules.{Broken}
 use Rattle.justfile_model.specs.Tok.{Tok}
@@ -20,22 +20,22 @@ use Rattle.justfile_model.specs.SignificantTokens.{SignificantToken}
 use Rattle.justfile_model.specs.Tree as tree
 use Rattle.justfile_model.specs.Tree.{BodyLine, Construct, Content, Entry, Fragment, Expr, Header, Parameter, Quoted, SettingValue, WrittenAttribute, WrittenItem, WrittenTree, bare_recipe, itself, assignment_of, bare_module, trimmed}
 use Rattle.justfile_model.specs.Features.{ConstructFeatures, Noted}
-use Rattle.justfile_model.specs.Expressions.{Tokens, Expression, IsKind, IsWord, NotNext, Waived}
+use Rattle.justfile_model.specs.Expressions.{Tokens, Expression, IsKind, IsWord, NotNext, PastLimitAt}
 use Rattle.justfile_model.specs.Grammar as g
 use Rattle.justfile_model.specs.Grammar.{LineRest, BeforeBody, BodyLines, OnLine, Block, Items, ItemRest, LineEnd, File, NotEmpty}
-use Rattle.justfile_model.specs.HeaderReader.{ReadHeader, draw_binding, obeying}
+use Rattle.justfile_model.specs.HeaderReader.{ReadHeader, next_binding_number, obeying}
 use Rattle.justfile_model.specs.Headers as headers
 use Rattle.justfile_model.specs.Headers.{HeaderOf, NamedHeader, PathOf}
 use Rattle.justfile_model.specs.ItemParts.{FilePath, Names, NoPath, ValueOf}
 use Rattle.justfile_model.specs.SettingRules.{value_broken}
 use Rattle.justfile_model.specs.Settings.{SettingForm, setting_form}
 use Rattle.justfile_model.specs.Literals.{Literal}
-use Rattle.justfile_model.specs.Files.{all_features, all_literals, body_literals, broken, construct_features, content_literals, entries_features, fragments_literals, item_broken, item_literals, keeps_tokens, written_literals}
-use Rattle.justfile_model.specs.Reading.{Counters, ◌>>=◌, accepted, comment_in, next_are, prepend}
+use Rattle.justfile_model.specs.Files.{all_features, all_literals, body_literals, broken, construct_features, content_literals, entries_features, fragments_literals, item_broken, item_literals, to_tokens, written_literals}
+use Rattle.justfile_model.specs.ReaderState.{Counters, ◌>>=◌, accepted, comment_in, next_are, prepend}
 use Rattle.std.specs.Option.{option_map}
 use Rattle.justfile_model.specs.Reader as reader
-use Rattle.justfile_model.specs.PartReader.{after_numbered, keyword_at, setting_value}
-use Rattle.justfile_model.specs.Reader.{alias, any_module, any_recipe, assignment, at_end, attributes, before_item, construct, constructed, content, entries_read, headed, item_rest, body, body_after, optional_body, body_line, comment_item, draw_recipe, ended, fragment, function, has_body, import, imported, items, items_rule, line, line_end, line_rest, line_rest_rule, lines, lines_rule, named_module, no_exclusion, on_line, recipe, setting, some_lines, stands_alone, unexport, with_recipes, wordless}
+use Rattle.justfile_model.specs.PartReader.{after_numbered, setting_keyword, setting_value}
+use Rattle.justfile_model.specs.Reader.{alias, any_module, any_recipe, assignment, at_end, attributes, before_item, construct, constructed, content, entries_read, headed, item_rest, body, body_after, optional_body, body_line, comment_item, next_recipe_number, ended, fragment, function, has_body, import, imported, items, items_rule, line, line_end, line_rest, line_rest_rule, lines, lines_rule, named_module, no_exclusion, on_line, recipe, setting, some_lines, stands_alone, unexport, with_recipes, wordless}
 use Rattle.justfile_model.specs.TreeReader.{Read, State, tree_of_tokens, token_attributes, token_leaves, unnumbered}
 use Rattle.justfile_model.proofs.AttributeComplete.{attributes_reached}
 use Rattle.justfile_model.proofs.AttributeCovers as covers
@@ -51,7 +51,7 @@ use Rattle.justfile_model.proofs.WordsComplete.{alias_read, another_follows, ass
 use Rattle.justfile_model.proofs.Reaching.{Reaches, is_read, by, renoted, then, pass}
 use Rattle.justfile_model.proofs.ReachingRules as r
 use Rattle.justfile_model.proofs.ReachingRules.{Among, IsAt, ReachesOne, ReachesSome, all_among, among_first, among_others}
-use Rattle.justfile_model.proofs.Reading.{items_is, line_rest_is, lines_is}
+use Rattle.justfile_model.proofs.ItemReading.{items_is, line_rest_is, lines_is}
 use Rattle.justfile_model.proofs.Steps.{input, AreNext, accept_taken, accept_left, next_taken, next_left, expect_taken}
 
 -- ---- what comes first
@@ -73,12 +73,12 @@ begins_at kind = record { no_file_end = λ e. cc; no_line_end = λ e. cc; no_com
 begins_bracket : {opener : SignificantToken} {ts : Tokens} → IsKind kinds.BracketL opener → Begins (opener ∷ ts)
 begins_bracket kind = record { no_file_end = λ e. cc; no_line_end = λ e. cc; no_comment = λ e. cc; no_mark = λ e. cc; no_indent = λ e. cc }
 
-module _ {Open : ℕ → Option SignificantToken → Type 0} where
-  header_begins : {h : Header Tok Tok Tok} {fs : List (Noted Tok)} {ts rest : Tokens} → HeaderOf itself itself itself Open h fs ts rest → Begins ts
+module _ {MayEnter : ℕ → Option SignificantToken → Type 0} where
+  header_begins : {h : Header Tok Tok Tok} {fs : List (Noted Tok)} {ts rest : Tokens} → HeaderOf itself itself itself MayEnter h fs ts rest → Begins ts
   header_begins (headers.quiet kind h) = begins_at kind
   header_begins (headers.loud (headers.header kind ps ds)) = begins_name kind
 
-  line_begins : {c : Content Tok Tok ℕ Tok} {fs : List (Noted Tok)} {ts rest : Tokens} → OnLine keeps_tokens Open c fs ts rest → Begins ts
+  line_begins : {c : Content Tok Tok ℕ Tok} {fs : List (Noted Tok)} {ts rest : Tokens} → OnLine to_tokens MayEnter c fs ts rest → Begins ts
   line_begins (g.alias is kind kind2 p) = begins_name is.is_name
   line_begins (g.assignment kind kind2 e) = begins_name kind
   line_begins (g.eager is kind kind2 e) = begins_name is.is_name
@@ -94,33 +94,33 @@ module _ {Open : ℕ → Option SignificantToken → Type 0} where
   line_begins (g.unexport is kind ends) = begins_name is.is_name
   line_begins (g.header h) = header_begins h
 
-  block_begins : {c : Content Tok Tok ℕ Tok} {fs : List (Noted Tok)} {ts rest : Tokens} → Block keeps_tokens Open c fs ts rest → Begins ts
+  block_begins : {c : Content Tok Tok ℕ Tok} {fs : List (Noted Tok)} {ts rest : Tokens} → Block to_tokens MayEnter c fs ts rest → Begins ts
   block_begins (g.recipe h b lines some) = header_begins h
 
   -- with the attributes before it
-  attributes_begin : {ws : List (WrittenAttribute Tok Tok)} {fs : List (Noted Tok)} {ts header : Tokens} → AttributeLines itself itself Open ws fs ts header
+  attributes_begin : {ws : List (WrittenAttribute Tok Tok)} {fs : List (Noted Tok)} {ts header : Tokens} → AttributeLines itself itself MayEnter ws fs ts header
       → Begins header → Begins ts
   attributes_begin (lines_of.none not) b = b
   attributes_begin (lines_of.line kind w e others) b = begins_bracket kind
 
-module _ (conditions : Conditions) (Open : ℕ → Option SignificantToken → Type 0) where
+module _ (conditions : Conditions) (MayEnter : ℕ → Option SignificantToken → Type 0) where
   -- an item without a body
   data Stands : WrittenItem Tok Tok ℕ Tok → List (Noted Tok) → Tokens → Tokens → Type 0 where
     of_comment : {t : SignificantToken} {rest : Tokens} → IsKind kinds.Comment t → Stands (comment_item token_leaves token_attributes t) [] (t ∷ rest) rest
     of_line : {ws : List (WrittenAttribute Tok Tok)} {c : Content Tok Tok ℕ Tok} {gs fs : List (Noted Tok)} {ts header rest : Tokens}
-        → AttributeLines itself itself Open ws gs ts header → OnLine keeps_tokens Open c fs header rest
-        → Stands (Construct ws c) (construct_features (token_sight conditions) ws c (record { attributes = gs; content = fs })) ts rest
+        → AttributeLines itself itself MayEnter ws gs ts header → OnLine to_tokens MayEnter c fs header rest
+        → Stands (Construct ws c) (construct_features (token_view conditions) ws c (record { attributes = gs; content = fs })) ts rest
 
-module _ {conditions : Conditions} {Open : ℕ → Option SignificantToken → Type 0} where
-  no_end_of_file : {i : WrittenItem Tok Tok ℕ Tok} {fs : List (Noted Tok)} {ts rest : Tokens} → Stands conditions Open i fs ts rest → NotNext kinds.Eof ts
+module _ {conditions : Conditions} {MayEnter : ℕ → Option SignificantToken → Type 0} where
+  no_end_of_file : {i : WrittenItem Tok Tok ℕ Tok} {fs : List (Noted Tok)} {ts rest : Tokens} → Stands conditions MayEnter i fs ts rest → NotNext kinds.Eof ts
   no_end_of_file (of_comment kind) = λ e. cc
   no_end_of_file (of_line a o) = (attributes_begin a (line_begins o)).no_file_end
 
-  no_end_of_line : {i : WrittenItem Tok Tok ℕ Tok} {fs : List (Noted Tok)} {ts rest : Tokens} → Stands conditions Open i fs ts rest → NotNext kinds.Eol ts
+  no_end_of_line : {i : WrittenItem Tok Tok ℕ Tok} {fs : List (Noted Tok)} {ts rest : Tokens} → Stands conditions MayEnter i fs ts rest → NotNext kinds.Eol ts
   no_end_of_line (of_comment kind) = λ e. cc
   no_end_of_line (of_line a o) = (attributes_begin a (line_begins o)).no_line_end
 
-  has_none : {i : WrittenItem Tok Tok ℕ Tok} {fs : List (Noted Tok)} {ts rest : Tokens} → Stands conditions Open i fs ts rest → has_body i ≡ false
+  has_none : {i : WrittenItem Tok Tok ℕ Tok} {fs : List (Noted Tok)} {ts rest : Tokens} → Stands conditions MayEnter i fs ts rest → has_body i ≡ false
   has_none (of_comment kind) = refl
   has_none (of_line a (g.alias is kind kind2 p)) = refl
   has_none (of_line a (g.assignment kind kind2 e)) = refl
@@ -137,26 +137,26 @@ module _ {conditions : Conditions} {Open : ℕ → Option SignificantToken → T
   has_none (of_line a (g.unexport is kind ends)) = refl
   has_none (of_line a (g.header h)) = refl
 
-module _ {Open : ℕ → Option SignificantToken → Type 0} where
-  no_comment : {items : WrittenTree} {fs : List (ConstructFeatures Tok)} {ts : Tokens} → LineEnd keeps_tokens Open items fs ts → NotNext kinds.Comment ts
+module _ {MayEnter : ℕ → Option SignificantToken → Type 0} where
+  no_comment : {items : WrittenTree} {fs : List (ConstructFeatures Tok)} {ts : Tokens} → LineEnd to_tokens MayEnter items fs ts → NotNext kinds.Comment ts
   no_comment (g.line_end kind more) = λ e. cc
   no_comment (g.file_end kind) = λ e. cc
 
-  no_mark : {items : WrittenTree} {fs : List (ConstructFeatures Tok)} {ts : Tokens} → Items keeps_tokens Open items fs ts → NotNext kinds.ByteOrderMark ts
+  no_mark : {items : WrittenTree} {fs : List (ConstructFeatures Tok)} {ts : Tokens} → Items to_tokens MayEnter items fs ts → NotNext kinds.ByteOrderMark ts
   no_mark (g.end kind) = λ e. cc
   no_mark (g.blank kind more) = λ e. cc
   no_mark (g.comment kind more) = λ e. cc
   no_mark (g.on_line a o more) = (attributes_begin a (line_begins o)).no_mark
   no_mark (g.block a b more) = (attributes_begin a (block_begins b)).no_mark
 
-  no_indent : {items : WrittenTree} {fs : List (ConstructFeatures Tok)} {ts : Tokens} → Items keeps_tokens Open items fs ts → NotNext kinds.Indent ts
+  no_indent : {items : WrittenTree} {fs : List (ConstructFeatures Tok)} {ts : Tokens} → Items to_tokens MayEnter items fs ts → NotNext kinds.Indent ts
   no_indent (g.end kind) = λ e. cc
   no_indent (g.blank kind more) = λ e. cc
   no_indent (g.comment kind more) = λ e. cc
   no_indent (g.on_line a o more) = (attributes_begin a (line_begins o)).no_indent
   no_indent (g.block a b more) = (attributes_begin a (block_begins b)).no_indent
 
-  no_dedent : {f : Fragment Tok Tok} {fragments : List (Fragment Tok Tok)} {fs : List (Noted Tok)} {ts rest : Tokens} → LineRest itself itself Open (f ∷ fragments) fs ts rest → NotNext kinds.Dedent ts
+  no_dedent : {f : Fragment Tok Tok} {fragments : List (Fragment Tok Tok)} {fs : List (Noted Tok)} {ts rest : Tokens} → LineRest itself itself MayEnter (f ∷ fragments) fs ts rest → NotNext kinds.Dedent ts
   no_dedent (g.text kind l) = λ e. cc
   no_dedent (g.interpolation kind e kind2 l) = λ e. cc
 
@@ -165,19 +165,19 @@ record NoBody (ts : Tokens) : Type 0 where
   at_once : AreNext (kinds.Eol ∷ kinds.Indent ∷ []) ts → ⊥
   commented : AreNext (kinds.Comment ∷ kinds.Eol ∷ kinds.Indent ∷ []) ts → ⊥
 
-module _ {Open : ℕ → Option SignificantToken → Type 0} where
-  no_body_ends : {items : WrittenTree} {fs : List (ConstructFeatures Tok)} {ts : Tokens} → LineEnd keeps_tokens Open items fs ts → NoBody ts
+module _ {MayEnter : ℕ → Option SignificantToken → Type 0} where
+  no_body_ends : {items : WrittenTree} {fs : List (ConstructFeatures Tok)} {ts : Tokens} → LineEnd to_tokens MayEnter items fs ts → NoBody ts
   no_body_ends (g.line_end {rest = rest} kind more) = record { at_once = λ h. not_there kinds.Indent rest (no_indent more) h.1; commented = λ h. cc }
   no_body_ends (g.file_end kind) = record { at_once = λ h. cc; commented = λ h. cc }
 
-  no_body_after : {items : WrittenTree} {fs : List (ConstructFeatures Tok)} {ts : Tokens} → ItemRest keeps_tokens Open items fs ts → NoBody ts
+  no_body_after : {items : WrittenTree} {fs : List (ConstructFeatures Tok)} {ts : Tokens} → ItemRest to_tokens MayEnter items fs ts → NoBody ts
   no_body_after (g.trailing {rest = rest} kind e) = record { at_once = λ h. cc; commented = λ h. (no_body_ends e).at_once h.1 }
   no_body_after (g.bare e) = no_body_ends e
 
 module _ (conditions : Conditions) (Hit : Option SignificantToken → Type 0) where
   -- ---- the reader goes on as the derivation does
 
-  fragments_reached : (ns : List (Noted Tok)) {fragments : List (Fragment Tok Tok)} {fs : List (Noted Tok)} {ts rest : Tokens} → LineRest itself itself (Waived conditions.limit Hit) fragments fs ts rest
+  fragments_reached : (ns : List (Noted Tok)) {fragments : List (Fragment Tok Tok)} {fs : List (Noted Tok)} {ts rest : Tokens} → LineRest itself itself (PastLimitAt conditions.limit Hit) fragments fs ts rest
       → Reaches conditions Hit (line_rest token_leaves (input conditions 0 ts ns)) (fragments, input conditions 0 rest (ns ++ fs)) (fragments_literals fragments)
   unfolding line_rest_rule fragment prepend
   fragments_reached ns (g.line_ends {token = t} {rest = rest} kind) =
@@ -199,7 +199,7 @@ module _ (conditions : Conditions) (Hit : Option SignificantToken → Type 0) wh
       )
       (then conditions Hit _ (pass conditions Hit _ (expression_deep conditions Hit ns false (omega arith) v) (rw (expect_taken kinds.InterpolationEnd end left conditions 0 (ns ++ es) kind2) refl)) (pass conditions Hit _ (fragments_reached (ns ++ es) l) refl))))
 
-  lines_reached : (ns : List (Noted Tok)) {ls : List (BodyLine Tok Tok ℕ)} {fs : List (Noted Tok)} {ts rest : Tokens} → BodyLines keeps_tokens (Waived conditions.limit Hit) ls fs ts rest
+  lines_reached : (ns : List (Noted Tok)) {ls : List (BodyLine Tok Tok ℕ)} {fs : List (Noted Tok)} {ts rest : Tokens} → BodyLines to_tokens (PastLimitAt conditions.limit Hit) ls fs ts rest
       → Reaches conditions Hit (lines token_leaves (input conditions 0 ts ns)) (ls, input conditions 0 rest (ns ++ fs)) (body_literals ls)
   unfolding lines_rule body_line prepend
   lines_reached ns (g.no_line {token = t} {rest = rest} kind) =
@@ -220,7 +220,7 @@ module _ (conditions : Conditions) (Hit : Option SignificantToken → Type 0) wh
   abbrev BodyReached : (State → Read (List (BodyLine Tok Tok ℕ))) → List (BodyLine Tok Tok ℕ) → State → State → Type 0
   BodyReached rule ls s rest = Reaches conditions Hit (rule s) (ls, rest) (body_literals ls)
 
-  body_reached : (ns : List (Noted Tok)) {ls : List (BodyLine Tok Tok ℕ)} {fs : List (Noted Tok)} {ts rest : Tokens} → BodyLines keeps_tokens (Waived conditions.limit Hit) ls fs ts rest → NotEmpty (trimmed ls)
+  body_reached : (ns : List (Noted Tok)) {ls : List (BodyLine Tok Tok ℕ)} {fs : List (Noted Tok)} {ts rest : Tokens} → BodyLines to_tokens (PastLimitAt conditions.limit Hit) ls fs ts rest → NotEmpty (trimmed ls)
       → BodyReached (body token_leaves) (trimmed ls) (input conditions 0 ts ns) (input conditions 0 rest (ns ++ fs))
   unfolding body
   body_reached ns {ls = ls} {fs = fs} {rest = rest} h some = rw (trimmed_literals ls) (pass conditions Hit _ (lines_reached ns h) (some_read (trimmed ls) (input conditions 0 rest (ns ++ fs)) some))
@@ -236,7 +236,7 @@ module _ (conditions : Conditions) (Hit : Option SignificantToken → Type 0) wh
   unfolding body_after
   after_reached token ls s rest h = pass conditions Hit _ h refl
 
-  optional_body_reached : (ns : List (Noted Tok)) {ls : List (BodyLine Tok Tok ℕ)} {fs : List (Noted Tok)} {comment : Option (List ℕ)} {ts between rest : Tokens} → BeforeBody comment ts between → BodyLines keeps_tokens (Waived conditions.limit Hit) ls fs between rest
+  optional_body_reached : (ns : List (Noted Tok)) {ls : List (BodyLine Tok Tok ℕ)} {fs : List (Noted Tok)} {comment : Option (List ℕ)} {ts between rest : Tokens} → BeforeBody comment ts between → BodyLines to_tokens (PastLimitAt conditions.limit Hit) ls fs between rest
       → NotEmpty (trimmed ls) → BodyFound comment (trimmed ls) (input conditions 0 ts ns) (input conditions 0 rest (ns ++ fs))
   unfolding optional_body
   optional_body_reached ns {ls = ls} (g.at_once {newline = t} {indent = u} {rest = between} kind kind2) h some = record {
@@ -269,7 +269,7 @@ module _ (conditions : Conditions) (Hit : Option SignificantToken → Type 0) wh
 
   -- what a construct breaks beside its attributes
   abbrev breaks_by : List ReadAttribute → Content Tok Tok ℕ Tok → List (Broken Tok)
-  breaks_by xs c = meaning_broken (token_sight conditions) c (meant_by xs) ++ form_broken conditions.current (token_sight conditions) c
+  breaks_by xs c = meaning_broken (token_view conditions) c (meant_by xs) ++ form_broken conditions.current (token_view conditions) c
 
   -- what its attributes note at the name of a recipe
   abbrev noted_by : List ReadAttribute → Content Tok Tok ℕ Tok → List (Noted Tok)
@@ -286,10 +286,10 @@ module _ (conditions : Conditions) (Hit : Option SignificantToken → Type 0) wh
       → CoversHeader conditions Hit (arg_rules (meant_by xs)) h (breaks_by xs (recipe_content h comment ls))
   header_covered xs h comment ls =
       let said = arg_rules (meant_by xs) in
-      let options : List (Broken Tok) = options_broken (token_sight conditions) h.name said in
-      let each : List (Broken Tok) = parameters_broken (token_sight conditions) said [] h.parameters in
-      let undefined : List (Broken Tok) = undefined_broken (token_sight conditions) h.parameters said in
-      let exclusions : List (Broken Tok) = exclusions_broken (token_sight conditions) h.name (meant_by xs) in
+      let options : List (Broken Tok) = options_broken (token_view conditions) h.name said in
+      let each : List (Broken Tok) = parameters_broken (token_view conditions) said [] h.parameters in
+      let undefined : List (Broken Tok) = undefined_broken (token_view conditions) h.parameters said in
+      let exclusions : List (Broken Tok) = exclusions_broken (token_view conditions) h.name (meant_by xs) in
       let all = all_among (breaks_by xs (recipe_content h comment ls)) in
       let meaning = among_first (options ++ each ++ undefined ++ exclusions) (header_broken h) all in
       let said_first = among_first (options ++ each ++ undefined) exclusions meaning in
@@ -302,13 +302,13 @@ module _ (conditions : Conditions) (Hit : Option SignificantToken → Type 0) wh
       }
 
   exclusions_covered : (xs : List ReadAttribute) (h : Header Tok Tok Tok) (comment : Option (List ℕ)) (ls : List (BodyLine Tok Tok ℕ))
-      → Among (exclusions_broken (token_sight conditions) h.name (meant_by xs)) (breaks_by xs (recipe_content h comment ls))
+      → Among (exclusions_broken (token_view conditions) h.name (meant_by xs)) (breaks_by xs (recipe_content h comment ls))
   exclusions_covered xs h comment ls =
       let said = arg_rules (meant_by xs) in
-      let others : List (Broken Tok) = options_broken (token_sight conditions) h.name said ++ parameters_broken (token_sight conditions) said [] h.parameters
-      ++ undefined_broken (token_sight conditions) h.parameters said in
-      among_others others (exclusions_broken (token_sight conditions) h.name (meant_by xs))
-      (among_first (recipe_broken (token_sight conditions) h (meant_by xs)) (header_broken h) (all_among (breaks_by xs (recipe_content h comment ls))))
+      let others : List (Broken Tok) = options_broken (token_view conditions) h.name said ++ parameters_broken (token_view conditions) said [] h.parameters
+      ++ undefined_broken (token_view conditions) h.parameters said in
+      among_others others (exclusions_broken (token_view conditions) h.name (meant_by xs))
+      (among_first (recipe_broken (token_view conditions) h (meant_by xs)) (header_broken h) (all_among (breaks_by xs (recipe_content h comment ls))))
 
   -- a recipe after its attributes and its `@`
   abbrev RecipeReached : Bool → List ReadAttribute → Content Tok Tok ℕ Tok → State → State → Type 0
@@ -327,22 +327,22 @@ module _ (conditions : Conditions) (Hit : Option SignificantToken → Type 0) wh
       (noted : List (Noted Tok)) (x : ReadHeader SignificantToken Tok Tok Tok × Counters) → option_map (comment_in token_leaves) token ≡ comment
       → IsHeader conditions Hit (arg_rules (meant_by xs)) quiet h n x
       → ReachesOne conditions Hit
-      (no_exclusion token_leaves token_attributes xs x.0.name (input conditions 0 rest noted) >>= λ checked. draw_recipe token_leaves x.1 checked.1
+      (no_exclusion token_leaves token_attributes xs x.0.name (input conditions 0 rest noted) >>= λ checked. next_recipe_number token_leaves x.1 checked.1
       >>= headed token_leaves token_attributes quiet xs x.0 (token, ls))
       ((Construct (written_in xs) (recipe_content h comment ls), count_content n (recipe_content h comment ls)), input conditions 0 rest noted) []
       (breaks_by xs (recipe_content h comment ls))
-  unfolding draw_recipe
+  unfolding next_recipe_number
   numbered_reached quiet xs n h token comment ls rest noted x says is =
       let end : State = input conditions 0 rest noted in
       let rules : List (Broken Tok) = breaks_by xs (recipe_content h comment ls) in
       r.then_one conditions Hit _ _
-      (obeying_reached conditions Hit (exclusions_broken (token_sight conditions) x.0.name.tok (meant_by xs)) end
-      (subst (λ (name : Tok). Among (exclusions_broken (token_sight conditions) name (meant_by xs)) rules) (sym (ap (λ (h : Header Tok Tok Tok). h.name) is.0))
+      (obeying_reached conditions Hit (exclusions_broken (token_view conditions) x.0.name.tok (meant_by xs)) end
+      (subst (λ (name : Tok). Among (exclusions_broken (token_view conditions) name (meant_by xs)) rules) (sym (ap (λ (h : Header Tok Tok Tok). h.name) is.0))
       (exclusions_covered xs h comment ls)))
       (r.read_now conditions Hit _ (λ i. ((Construct (written_in xs) (recipe_content (is.0 i) (says i) ls), counted_is n x.1 h.parameters is.1 i), end)) refl)
 
   recipe_reached : (quiet : Bool) (xs : List ReadAttribute) (ns : List (Noted Tok)) {h : Header Tok Tok Tok} {fs : List (Noted Tok)} {ts next : Tokens}
-      (rest : Tokens) (noted : List (Noted Tok)) (comment : Option (List ℕ)) (ls : List (BodyLine Tok Tok ℕ)) → NamedHeader itself itself itself (Waived conditions.limit Hit) quiet h fs ts next
+      (rest : Tokens) (noted : List (Noted Tok)) (comment : Option (List ℕ)) (ls : List (BodyLine Tok Tok ℕ)) → NamedHeader itself itself itself (PastLimitAt conditions.limit Hit) quiet h fs ts next
       → BodyFound comment ls (input conditions 0 next (ns ++ (noted_by xs (recipe_content h comment ls) ++ fs))) (input conditions 0 rest noted)
       → RecipeReached quiet xs (recipe_content h comment ls) (input conditions 0 ts ns) (input conditions 0 rest noted)
   unfolding recipe
@@ -352,7 +352,7 @@ module _ (conditions : Conditions) (Hit : Option SignificantToken → Type 0) wh
       r.last_one conditions Hit _ _ (r.plainly conditions Hit b.reached) (λ _. numbered_reached quiet xs n h b.token comment ls rest noted x b.says is))
 
   any_reached : (xs : List ReadAttribute) (ns : List (Noted Tok)) {h : Header Tok Tok Tok} {fs : List (Noted Tok)} {ts next : Tokens}
-      (rest : Tokens) (noted : List (Noted Tok)) (comment : Option (List ℕ)) (ls : List (BodyLine Tok Tok ℕ)) → HeaderOf itself itself itself (Waived conditions.limit Hit) h fs ts next
+      (rest : Tokens) (noted : List (Noted Tok)) (comment : Option (List ℕ)) (ls : List (BodyLine Tok Tok ℕ)) → HeaderOf itself itself itself (PastLimitAt conditions.limit Hit) h fs ts next
       → BodyFound comment ls (input conditions 0 next (ns ++ (noted_by xs (recipe_content h comment ls) ++ fs))) (input conditions 0 rest noted)
       → ContentReached xs (recipe_content h comment ls) (input conditions 0 ts ns) (input conditions 0 rest noted)
   unfolding wordless any_recipe
@@ -364,21 +364,21 @@ module _ (conditions : Conditions) (Hit : Option SignificantToken → Type 0) wh
         accept_taken kinds.At mark ts conditions 0 ns kind,
       ) (recipe_reached true xs ns rest noted comment ls q b n))
   any_reached xs ns rest noted comment ls (headers.loud (headers.header {name = name} {tokens = ts} kind ps ds)) b n =
-      let none = parameters_follow itself itself (Waived conditions.limit Hit) ts ps in
+      let none = parameters_follow itself itself (PastLimitAt conditions.limit Hit) ts ps in
       r.by conditions Hit (none_read conditions ns xs n name ts none)
       (rw (
         next_left (kinds.Identifier ∷ kinds.ParenL ∷ []) (input conditions 0 (name ∷ ts) ns) (λ k. none.called k.1),
         next_left (kinds.Identifier ∷ kinds.ColonEquals ∷ []) (input conditions 0 (name ∷ ts) ns)
-            (λ k. not_there kinds.ColonEquals ts (parameters_start itself itself (Waived conditions.limit Hit) ps) k.1),
+            (λ k. not_there kinds.ColonEquals ts (parameters_start itself itself (PastLimitAt conditions.limit Hit) ps) k.1),
         accept_left kinds.At (name ∷ ts) conditions 0 ns (λ e. cc),
       ) (recipe_reached false xs ns rest noted comment ls (headers.header {name = name} kind ps ds) b n))
 
   -- what the attributes of an item break is among what it breaks
   allowed_reached : (xs : List ReadAttribute) (c : Content Tok Tok ℕ Tok) (s : State)
-      → ReachesOne conditions Hit (obeying (meaning_broken (token_sight conditions) c (meant_by xs)) s) (tt, s) [] (breaks_by xs c)
+      → ReachesOne conditions Hit (obeying (meaning_broken (token_view conditions) c (meant_by xs)) s) (tt, s) [] (breaks_by xs c)
   allowed_reached xs c s =
-      obeying_reached conditions Hit (meaning_broken (token_sight conditions) c (meant_by xs)) s
-      (among_first (meaning_broken (token_sight conditions) c (meant_by xs)) (form_broken conditions.current (token_sight conditions) c) (all_among (breaks_by xs c)))
+      obeying_reached conditions Hit (meaning_broken (token_view conditions) c (meant_by xs)) s
+      (among_first (meaning_broken (token_view conditions) c (meant_by xs)) (form_broken conditions.current (token_view conditions) c) (all_among (breaks_by xs c)))
 
   -- a construct of this content
   abbrev Reached : List ReadAttribute → Content Tok Tok ℕ Tok → Counters → Read (WrittenItem Tok Tok ℕ Tok × Counters) → State → Type 0
@@ -388,10 +388,10 @@ module _ (conditions : Conditions) (Hit : Option SignificantToken → Type 0) wh
   -- an assignment from its name on
   assignment_reached : (eager export : Bool) (xs : List ReadAttribute) (ns : List (Noted Tok)) {e : Expr Tok Tok} {fs : List (Noted Tok)}
       (name operator : SignificantToken) {ts rest : Tokens} → IsKind kinds.Identifier name → IsKind kinds.ColonEquals operator
-      → Expression itself itself (Waived conditions.limit Hit) false 0 e fs ts rest → (n : Counters)
+      → Expression itself itself (PastLimitAt conditions.limit Hit) false 0 e fs ts rest → (n : Counters)
       → Reached xs (tree.Assignment (assignment_of eager export name.tok e)) n
       (assignment token_leaves token_attributes eager export xs n (input conditions 0 (name ∷ operator ∷ ts) ns)) (input conditions 0 rest (ns ++ fs))
-  unfolding assignment draw_binding
+  unfolding assignment next_binding_number
   assignment_reached eager export xs ns {e = e} {fs = fs} name operator {ts = ts} {rest = rest} kind kind2 h n =
       let c : Content Tok Tok ℕ Tok = tree.Assignment (assignment_of eager export name.tok e) in
       rw (expect_taken kinds.Identifier name (operator ∷ ts) conditions 0 ns kind, expect_taken kinds.ColonEquals operator ts conditions 0 ns kind2)
@@ -414,7 +414,7 @@ module _ (conditions : Conditions) (Hit : Option SignificantToken → Type 0) wh
   function_reached : (xs : List ReadAttribute) (ns : List (Noted Tok)) {names : List Tok} {e : Expr Tok Tok} {fs : List (Noted Tok)}
       (name opener operator : SignificantToken) {ts next rest : Tokens} → IsKind kinds.Identifier name → IsKind kinds.ParenL opener
       → Names itself names ts (operator ∷ next) → IsKind kinds.ColonEquals operator
-      → Expression itself itself (Waived conditions.limit Hit) false 0 e fs next rest → (n : Counters)
+      → Expression itself itself (PastLimitAt conditions.limit Hit) false 0 e fs next rest → (n : Counters)
       → Reached xs (tree.Function (record { name = name.tok; parameters = names; body = e })) n
       (function token_leaves token_attributes xs n (input conditions 0 (name ∷ opener ∷ ts) ns)) (input conditions 0 rest (ns ++ fs))
   unfolding function
@@ -438,7 +438,7 @@ module _ (conditions : Conditions) (Hit : Option SignificantToken → Type 0) wh
       r.renoted conditions Hit (sym (append-nil ns))
       (r.last_one conditions Hit _ _ (r.plainly conditions Hit (file_path_reached conditions Hit ns p))
       (λ _. r.pass conditions Hit _
-      (subst (λ (token : Tok). ReachesOne conditions Hit (obeying (allowed_broken (token_sight conditions) item_kinds.Import token (meant_by xs)) (input conditions 0 rest ns)) (tt, input conditions 0 rest ns) [] (breaks_by xs c))
+      (subst (λ (token : Tok). ReachesOne conditions Hit (obeying (allowed_broken (token_view conditions) item_kinds.Import token (meant_by xs)) (input conditions 0 rest ns)) (tt, input conditions 0 rest ns) [] (breaks_by xs c))
       (sym (path_token_is p)) (allowed_reached xs c (input conditions 0 rest ns))) refl))
 
   -- a module from its name on
@@ -464,23 +464,23 @@ module _ (conditions : Conditions) (Hit : Option SignificantToken → Type 0) wh
 
   setting_reached : (xs : List ReadAttribute) (ns : List (Noted Tok)) {keyword : Keyword} {form : SettingForm} {value : SettingValue Tok Tok} {fs : List (Noted Tok)}
       (name : SignificantToken) {ts rest : Tokens} → IsWord (keyword_text keyword) name → setting_form keyword ≡ Some form
-      → ValueOf itself itself (Waived conditions.limit Hit) form value fs ts rest → (n : Counters)
+      → ValueOf itself itself (PastLimitAt conditions.limit Hit) form value fs ts rest → (n : Counters)
       → Reached xs (tree.Setting (record { keyword = keyword; name = name.tok; value = value })) n
       (setting token_leaves token_attributes xs n (input conditions 0 (name ∷ ts) ns)) (input conditions 0 rest (ns ++ fs))
-  unfolding setting keyword_at
+  unfolding setting setting_keyword
   setting_reached xs ns {keyword = keyword} {form = form} {value = value} {fs = fs} name {ts = ts} {rest = rest} is form_is v n =
       let c : Content Tok Tok ℕ Tok = tree.Setting (record { keyword = keyword; name = name.tok; value = value }) in
-      let formed : List (Broken Tok) = value_broken conditions.current (token_sight conditions) (setting_form keyword) keyword name.tok value in
+      let formed : List (Broken Tok) = value_broken conditions.current (token_view conditions) (setting_form keyword) keyword name.tok value in
       let Q : Option SettingForm → Type 0 =
-      λ o. Reached xs c n (setting_value token_leaves token_sight name keyword o (input conditions 0 ts ns) >>= λ value.
+      λ o. Reached xs c n (setting_value token_leaves token_view name keyword o (input conditions 0 ts ns) >>= λ value.
       constructed token_leaves token_attributes xs (tree.Setting (record { keyword = keyword; name = name.tok; value = value.0 })) n value.1)
       (input conditions 0 rest (ns ++ fs))
       in
       rw (expect_taken kinds.Identifier name ts conditions 0 ns is.is_name, ap keyword_named is.spelled ∙ spelled keyword)
       (r.then_one conditions Hit _ _ (allowed_reached xs c (input conditions 0 ts ns))
       (subst Q (sym form_is) (r.pass conditions Hit _ (value_reached conditions Hit name keyword ns v
-      (subst (λ o. Among (value_broken conditions.current (token_sight conditions) o keyword name.tok value) (breaks_by xs c)) form_is
-      (among_others (meaning_broken (token_sight conditions) c (meant_by xs)) formed (all_among (breaks_by xs c))))) refl)))
+      (subst (λ o. Among (value_broken conditions.current (token_view conditions) o keyword name.tok value) (breaks_by xs c)) form_is
+      (among_others (meaning_broken (token_view conditions) c (meant_by xs)) formed (all_among (breaks_by xs c))))) refl)))
 
   unexport_reached : (xs : List ReadAttribute) (ns : List (Noted Tok)) (name : SignificantToken) {rest : Tokens} → IsKind kinds.Identifier name → (n : Counters)
       → Reached xs (tree.Unexport name.tok) n (unexport token_leaves token_attributes xs n (input conditions 0 (name ∷ rest) ns)) (input conditions 0 rest (ns ++ []))
@@ -491,7 +491,7 @@ module _ (conditions : Conditions) (Hit : Option SignificantToken → Type 0) wh
       (r.pass conditions Hit _ (allowed_reached xs (tree.Unexport name.tok) (input conditions 0 rest ns)) refl))
 
   content_reached : (xs : List ReadAttribute) (ns : List (Noted Tok)) {c : Content Tok Tok ℕ Tok} {fs : List (Noted Tok)} {ts rest : Tokens}
-      → OnLine keeps_tokens (Waived conditions.limit Hit) c fs ts rest → NoBody rest
+      → OnLine to_tokens (PastLimitAt conditions.limit Hit) c fs ts rest → NoBody rest
       → ContentReached xs c (input conditions 0 ts ns) (input conditions 0 rest (ns ++ (noted_by xs c ++ fs)))
   unfolding wordless import any_module accepted
   content_reached xs ns (g.assignment {name = name} {operator = operator} {tokens = ts} kind kind2 h) none n =
@@ -583,19 +583,19 @@ module _ (conditions : Conditions) (Hit : Option SignificantToken → Type 0) wh
 
   -- these attributes are read, up to there
   abbrev AreReadAt : List (WrittenAttribute Tok Tok) → State → List ReadAttribute × State → Type 0
-  AreReadAt ws rest = IsAt (AreReadings (token_sight conditions) ws) rest
+  AreReadAt ws rest = IsAt (AreReadings (token_view conditions) ws) rest
 
   attached : (opener : SignificantToken) (ws : List (WrittenAttribute Tok Tok)) (ns : List (Noted Tok)) (header : Tokens) → Begins header
       → (x : List ReadAttribute × State) → AreReadAt ws (input conditions 0 header ns) x
       → ReachesSome conditions Hit (before_item token_leaves token_attributes opener x) (AreReadAt ws (input conditions 0 header ns)) []
-      (attributes_broken (token_sight conditions) ws)
+      (attributes_broken (token_view conditions) ws)
   attached opener ws ns header b x is =
       r.read_now conditions Hit x is (rw (ap (stands_alone token_leaves token_attributes) is.1 ∙ stands_before ns header b) refl)
 
   before_reached : (ns : List (Noted Tok)) {ws : List (WrittenAttribute Tok Tok)} {gs : List (Noted Tok)} {ts header : Tokens}
-      → AttributeLines itself itself (Waived conditions.limit Hit) ws gs ts header → Begins header
+      → AttributeLines itself itself (PastLimitAt conditions.limit Hit) ws gs ts header → Begins header
       → ReachesSome conditions Hit (attributes token_leaves token_attributes (input conditions 0 ts ns))
-      (AreReadAt ws (input conditions 0 header (ns ++ gs))) (written_literals ws) (attributes_broken (token_sight conditions) ws)
+      (AreReadAt ws (input conditions 0 header (ns ++ gs))) (written_literals ws) (attributes_broken (token_view conditions) ws)
   unfolding attributes
   before_reached ns {header = header} (lines_of.none not) b =
       rw (accept_left kinds.BracketL header conditions 0 ns not)
@@ -607,43 +607,43 @@ module _ (conditions : Conditions) (Hit : Option SignificantToken → Type 0) wh
       (λ x is _. attached opener all (ns ++ all_noted) header b x is))
 
   -- what the attributes mean is what is read of them
-  meant : (ws : List (WrittenAttribute Tok Tok)) (c : Content Tok Tok ℕ Tok) (xs : List ReadAttribute) → AreReadings (token_sight conditions) ws xs
-      → breaks_by xs c ≡ of_some (meaning_broken (token_sight conditions) c) (entries_of (token_sight conditions) ws) ++ form_broken conditions.current (token_sight conditions) c
-  meant ws c xs h = rw (readings_mean (token_sight conditions) h) refl
+  meant : (ws : List (WrittenAttribute Tok Tok)) (c : Content Tok Tok ℕ Tok) (xs : List ReadAttribute) → AreReadings (token_view conditions) ws xs
+      → breaks_by xs c ≡ of_some (meaning_broken (token_view conditions) c) (entries_of (token_view conditions) ws) ++ form_broken conditions.current (token_view conditions) c
+  meant ws c xs h = rw (readings_mean (token_view conditions) h) refl
 
-  noted_is : (ws : List (WrittenAttribute Tok Tok)) (c : Content Tok Tok ℕ Tok) (xs : List ReadAttribute) → AreReadings (token_sight conditions) ws xs
-      → noted_by xs c ≡ of_some (entries_features c) (entries_of (token_sight conditions) ws)
-  noted_is ws c xs h = rw (readings_mean (token_sight conditions) h) refl
+  noted_is : (ws : List (WrittenAttribute Tok Tok)) (c : Content Tok Tok ℕ Tok) (xs : List ReadAttribute) → AreReadings (token_view conditions) ws xs
+      → noted_by xs c ≡ of_some (entries_features c) (entries_of (token_view conditions) ws)
+  noted_is ws c xs h = rw (readings_mean (token_view conditions) h) refl
 
   -- the features of a construct, in the order in which they are noted
   abbrev features_of : List (WrittenAttribute Tok Tok) → Content Tok Tok ℕ Tok → (attributes content : List (Noted Tok)) → List (Noted Tok)
-  features_of ws c gs fs = construct_features (token_sight conditions) ws c (record { attributes = gs; content = fs })
+  features_of ws c gs fs = construct_features (token_view conditions) ws c (record { attributes = gs; content = fs })
 
   features_are : (ns : List (Noted Tok)) (ws : List (WrittenAttribute Tok Tok)) (c : Content Tok Tok ℕ Tok) (gs fs : List (Noted Tok))
-      (xs : List ReadAttribute) → AreReadings (token_sight conditions) ws xs → (ns ++ gs) ++ (noted_by xs c ++ fs) ≡ ns ++ features_of ws c gs fs
+      (xs : List ReadAttribute) → AreReadings (token_view conditions) ws xs → (ns ++ gs) ++ (noted_by xs c ++ fs) ≡ ns ++ features_of ws c gs fs
   features_are ns ws c gs fs xs h =
-      let said : List (Noted Tok) = of_some (entries_features c) (entries_of (token_sight conditions) ws) in
+      let said : List (Noted Tok) = of_some (entries_features c) (entries_of (token_view conditions) ws) in
       ap (λ (l : List (Noted Tok)). (ns ++ gs) ++ (l ++ fs)) (noted_is ws c xs h) ∙ append_assoc ns gs (said ++ fs)
       ∙ ap (λ (l : List (Noted Tok)). ns ++ l) (sym (append_assoc gs said fs))
 
   abbrev ItemReached : WrittenItem Tok Tok ℕ Tok → State → State → Type 0
   ItemReached i s rest =
       (n : Counters) → ReachesOne conditions Hit (on_line token_leaves token_attributes n s) ((i, count n i), rest) (item_literals written_literals i)
-      (item_broken conditions.current (token_sight conditions) i)
+      (item_broken conditions.current (token_view conditions) i)
 
   -- the construct after the attributes that were read
   after_attributes : (n : Counters) (ws : List (WrittenAttribute Tok Tok)) (c : Content Tok Tok ℕ Tok) (s rest : State)
       (x : List ReadAttribute × State) → AreReadAt ws s x → ContentReached x.0 c s rest
       → ReachesOne conditions Hit (content token_leaves token_attributes x.0 n x.1) ((Construct ws c, count_content n c), rest) (content_literals c)
-      (of_some (meaning_broken (token_sight conditions) c) (entries_of (token_sight conditions) ws) ++ form_broken conditions.current (token_sight conditions) c)
+      (of_some (meaning_broken (token_view conditions) c) (entries_of (token_view conditions) ws) ++ form_broken conditions.current (token_view conditions) c)
   after_attributes n ws c s rest x is h =
       subst (λ t. ReachesOne conditions Hit (content token_leaves token_attributes x.0 n t) ((Construct ws c, count_content n c), rest) (content_literals c)
-      (of_some (meaning_broken (token_sight conditions) c) (entries_of (token_sight conditions) ws) ++ form_broken conditions.current (token_sight conditions) c)) (sym is.1)
+      (of_some (meaning_broken (token_view conditions) c) (entries_of (token_view conditions) ws) ++ form_broken conditions.current (token_view conditions) c)) (sym is.1)
       (r.same_rules conditions Hit (meant ws c x.0 is.0)
-      (r.same_one conditions Hit (λ i. ((Construct (readings_written (token_sight conditions) is.0 i) c, count_content n c), rest)) (h n)))
+      (r.same_one conditions Hit (λ i. ((Construct (readings_written (token_view conditions) is.0 i) c, count_content n c), rest)) (h n)))
 
   construct_reached : (ns : List (Noted Tok)) {ws : List (WrittenAttribute Tok Tok)} {gs : List (Noted Tok)} {ts header : Tokens}
-      (c : Content Tok Tok ℕ Tok) (fs : List (Noted Tok)) (rest : Tokens) → AttributeLines itself itself (Waived conditions.limit Hit) ws gs ts header
+      (c : Content Tok Tok ℕ Tok) (fs : List (Noted Tok)) (rest : Tokens) → AttributeLines itself itself (PastLimitAt conditions.limit Hit) ws gs ts header
       → Begins header
       → ((xs : List ReadAttribute) → ContentReached xs c (input conditions 0 header (ns ++ gs)) (input conditions 0 rest ((ns ++ gs) ++ (noted_by xs c ++ fs))))
       → ItemReached (Construct ws c) (input conditions 0 ts ns) (input conditions 0 rest (ns ++ features_of ws c gs fs))
@@ -651,15 +651,15 @@ module _ (conditions : Conditions) (Hit : Option SignificantToken → Type 0) wh
   construct_reached ns {ws = ws} {gs = gs} {ts = ts} {header = header} c fs rest a b h n =
       let end : State = input conditions 0 rest (ns ++ features_of ws c gs fs) in
       let y : (WrittenItem Tok Tok ℕ Tok × Counters) × State = ((Construct ws c, count_content n c), end) in
-      let meaning : List (Broken Tok) = of_some (meaning_broken (token_sight conditions) c) (entries_of (token_sight conditions) ws) in
+      let meaning : List (Broken Tok) = of_some (meaning_broken (token_view conditions) c) (entries_of (token_view conditions) ws) in
       rw (accept_left kinds.Comment ts conditions 0 ns (attributes_begin a b).no_comment)
-      (r.same_rules conditions Hit (sym (append_assoc (attributes_broken (token_sight conditions) ws) meaning (form_broken conditions.current (token_sight conditions) c)))
+      (r.same_rules conditions Hit (sym (append_assoc (attributes_broken (token_view conditions) ws) meaning (form_broken conditions.current (token_view conditions) c)))
       (r.then_more conditions Hit _ (λ z. z ≡ y) (before_reached ns a b)
       (λ x is _. after_attributes n ws c (input conditions 0 header (ns ++ gs)) end x is
       (λ m. r.renoted conditions Hit (features_are ns ws c gs fs x.0 is.0) (h x.0 m)))))
 
   on_line_reached : (ns : List (Noted Tok)) {i : WrittenItem Tok Tok ℕ Tok} {fs : List (Noted Tok)} {ts rest : Tokens}
-      → Stands conditions (Waived conditions.limit Hit) i fs ts rest → NoBody rest
+      → Stands conditions (PastLimitAt conditions.limit Hit) i fs ts rest → NoBody rest
       → ItemReached i (input conditions 0 ts ns) (input conditions 0 rest (ns ++ fs))
   unfolding on_line
   on_line_reached ns {rest = rest} (of_comment {t = token} kind) none n =
@@ -670,7 +670,7 @@ module _ (conditions : Conditions) (Hit : Option SignificantToken → Type 0) wh
   -- all items are reached, with what is drawn for them, and their features
   abbrev AllReached : (n : Counters) → Read (WrittenTree × Counters) → WrittenTree → List (Noted Tok) → Type 0
   AllReached n found all noted =
-      ReachesOne conditions Hit found ((all, counted n all), input conditions 0 [] noted) (all_literals all) (broken conditions.current (token_sight conditions) all)
+      ReachesOne conditions Hit found ((all, counted n all), input conditions 0 [] noted) (all_literals all) (broken conditions.current (token_view conditions) all)
 
   -- a part of the line is read, and the items after it are reached
   record Continued (rule : State → Read WrittenTree) (all : WrittenTree) (fs : List (Noted Tok)) (ts : Tokens) (ns : List (Noted Tok)) : Type 0 where
@@ -695,7 +695,7 @@ module _ (conditions : Conditions) (Hit : Option SignificantToken → Type 0) wh
   front_more i l m n noted found h = r.by conditions Hit (front_is i l found) (r.pass conditions Hit _ h refl)
 
   line_reached : (n : Counters) (ns : List (Noted Tok)) (i : WrittenItem Tok Tok ℕ Tok) (all : WrittenTree) (is fs : List (Noted Tok)) (ts rest : Tokens)
-      → Stands conditions (Waived conditions.limit Hit) i is ts rest
+      → Stands conditions (PastLimitAt conditions.limit Hit) i is ts rest
       → ItemReached i (input conditions 0 ts ns) (input conditions 0 rest (ns ++ is))
       → Continued (item_rest token_leaves token_attributes) all fs rest (ns ++ is) → AllReached n (items token_leaves token_attributes n (input conditions 0 ts ns)) (i ∷ all) (ns ++ (is ++ fs))
   unfolding items_rule line
@@ -712,7 +712,7 @@ module _ (conditions : Conditions) (Hit : Option SignificantToken → Type 0) wh
   some_body ws h comment (l ∷ ls) s some = refl
 
   block_content : (xs : List ReadAttribute) (ns : List (Noted Tok)) {c : Content Tok Tok ℕ Tok} {fs : List (Noted Tok)} {ts rest : Tokens}
-      → Block keeps_tokens (Waived conditions.limit Hit) c fs ts rest
+      → Block to_tokens (PastLimitAt conditions.limit Hit) c fs ts rest
       → ContentReached xs c (input conditions 0 ts ns) (input conditions 0 rest (ns ++ (noted_by xs c ++ fs)))
   block_content xs ns {rest = rest} (g.recipe {h = h} {lines = ls} {fs = fs} {gs = gs} {comment = comment} q b lines some) n =
       let said : List (Noted Tok) = noted_by xs (recipe_content h comment (trimmed ls)) in
@@ -722,19 +722,19 @@ module _ (conditions : Conditions) (Hit : Option SignificantToken → Type 0) wh
 
   -- a recipe with a body and its attributes
   block_item : (ns : List (Noted Tok)) {ws : List (WrittenAttribute Tok Tok)} {c : Content Tok Tok ℕ Tok} {gs fs : List (Noted Tok)}
-      {ts header rest : Tokens} → AttributeLines itself itself (Waived conditions.limit Hit) ws gs ts header
-      → Block keeps_tokens (Waived conditions.limit Hit) c fs header rest
+      {ts header rest : Tokens} → AttributeLines itself itself (PastLimitAt conditions.limit Hit) ws gs ts header
+      → Block to_tokens (PastLimitAt conditions.limit Hit) c fs header rest
       → ItemReached (Construct ws c) (input conditions 0 ts ns) (input conditions 0 rest (ns ++ features_of ws c gs fs))
   block_item ns {c = c} {gs = gs} {fs = fs} {rest = rest} a o = construct_reached ns c fs rest a (block_begins o) (λ xs. block_content xs (ns ++ gs) o)
 
   block_ends : (ws : List (WrittenAttribute Tok Tok)) {c : Content Tok Tok ℕ Tok} {is : List (Noted Tok)} {ts rest : Tokens} (s : State)
-      → Block keeps_tokens (Waived conditions.limit Hit) c is ts rest
+      → Block to_tokens (PastLimitAt conditions.limit Hit) c is ts rest
       → ended token_leaves token_attributes (has_body (Construct ws c)) s ≡ Ok (tree.Newline ∷ [], s)
   block_ends ws s (g.recipe {h = h} {lines = ls} {comment = comment} q b lines some) = some_body ws h comment (trimmed ls) s some
 
   block_reached : (n : Counters) (ns : List (Noted Tok)) {ws : List (WrittenAttribute Tok Tok)} {c : Content Tok Tok ℕ Tok} {gs is : List (Noted Tok)}
-      {ts header rest : Tokens} (all : WrittenTree) (fs : List (Noted Tok)) → AttributeLines itself itself (Waived conditions.limit Hit) ws gs ts header
-      → Block keeps_tokens (Waived conditions.limit Hit) c is header rest
+      {ts header rest : Tokens} (all : WrittenTree) (fs : List (Noted Tok)) → AttributeLines itself itself (PastLimitAt conditions.limit Hit) ws gs ts header
+      → Block to_tokens (PastLimitAt conditions.limit Hit) c is header rest
       → ((m : Counters) → AllReached m (items token_leaves token_attributes m (input conditions 0 rest (ns ++ features_of ws c gs is))) all
       ((ns ++ features_of ws c gs is) ++ fs))
       → AllReached n (items token_leaves token_attributes n (input conditions 0 ts ns)) (Construct ws c ∷ tree.Newline ∷ all)
@@ -753,12 +753,12 @@ module _ (conditions : Conditions) (Hit : Option SignificantToken → Type 0) wh
 
   -- the features of items
   abbrev features : WrittenTree → List (ConstructFeatures Tok) → List (Noted Tok)
-  features = all_features (token_sight conditions)
+  features = all_features (token_view conditions)
 
   mutual
     unfolding items_rule line item_rest line_end after_numbered at_end
 
-    pub items_reached : (n : Counters) (ns : List (Noted Tok)) {all : WrittenTree} {fs : List (ConstructFeatures Tok)} {ts : Tokens} → Items keeps_tokens (Waived conditions.limit Hit) all fs ts → AllReached n (items token_leaves token_attributes n (input conditions 0 ts ns)) all (ns ++ features all fs)
+    pub items_reached : (n : Counters) (ns : List (Noted Tok)) {all : WrittenTree} {fs : List (ConstructFeatures Tok)} {ts : Tokens} → Items to_tokens (PastLimitAt conditions.limit Hit) all fs ts → AllReached n (items token_leaves token_attributes n (input conditions 0 ts ns)) all (ns ++ features all fs)
     items_reached n ns (g.end {token = t} kind) =
         r.renoted conditions Hit (sym (append-nil ns)) (r.read_now conditions Hit _ refl (items_is token_leaves token_attributes n (input conditions 0 (t ∷ []) ns) ∙ rw (accept_taken kinds.Eof t [] conditions 0 ns kind) refl))
     items_reached n ns (g.blank {token = t} {rest = rest} kind h) =
@@ -772,7 +772,7 @@ module _ (conditions : Conditions) (Hit : Option SignificantToken → Type 0) wh
     items_reached n ns (g.block {ws = ws} {c = c} {items = more} {gs = gs} {cs = is} {fs = fs} a o h) =
         block_reached n ns more (features more fs) a o (λ m. items_reached m (ns ++ features_of ws c gs is) h)
 
-    item_rest_reached : (ns : List (Noted Tok)) {all : WrittenTree} {fs : List (ConstructFeatures Tok)} {ts : Tokens} → ItemRest keeps_tokens (Waived conditions.limit Hit) all fs ts → Continued (item_rest token_leaves token_attributes) all (features all fs) ts ns
+    item_rest_reached : (ns : List (Noted Tok)) {all : WrittenTree} {fs : List (ConstructFeatures Tok)} {ts : Tokens} → ItemRest to_tokens (PastLimitAt conditions.limit Hit) all fs ts → Continued (item_rest token_leaves token_attributes) all (features all fs) ts ns
     item_rest_reached ns (g.trailing {items = more} {fs = fs} {token = t} {rest = rest} kind e) =
         let c = line_end_reached ns e in
         record {
@@ -785,7 +785,7 @@ module _ (conditions : Conditions) (Hit : Option SignificantToken → Type 0) wh
         let c = line_end_reached ns e in
         record { first = c.first; rest = c.rest; first_read = rw (accept_left kinds.Comment ts conditions 0 ns (no_comment e)) c.first_read; goes_on = c.goes_on }
 
-    line_end_reached : (ns : List (Noted Tok)) {all : WrittenTree} {fs : List (ConstructFeatures Tok)} {ts : Tokens} → LineEnd keeps_tokens (Waived conditions.limit Hit) all fs ts → Continued (line_end token_leaves token_attributes) all (features all fs) ts ns
+    line_end_reached : (ns : List (Noted Tok)) {all : WrittenTree} {fs : List (ConstructFeatures Tok)} {ts : Tokens} → LineEnd to_tokens (PastLimitAt conditions.limit Hit) all fs ts → Continued (line_end token_leaves token_attributes) all (features all fs) ts ns
     line_end_reached ns (g.line_end {token = t} {rest = rest} kind h) =
         record {
           first = tree.Newline ∷ [];
@@ -801,8 +801,8 @@ module _ (conditions : Conditions) (Hit : Option SignificantToken → Type 0) wh
           goes_on = λ n. r.renoted conditions Hit (sym (append-nil ns)) (r.read_now conditions Hit _ refl (rw (items_is token_leaves token_attributes n (input conditions 0 (t ∷ []) ns), accept_taken kinds.Eof t [] conditions 0 ns kind) refl));
         }
 
-  pub file_reached : {all : WrittenTree} {fs : List (ConstructFeatures Tok)} {ts : Tokens} → File keeps_tokens (Waived conditions.limit Hit) all fs ts
-      → ReachesOne conditions Hit (tree_of_tokens conditions ts) (all, features all fs) (all_literals all) (broken conditions.current (token_sight conditions) all)
+  pub file_reached : {all : WrittenTree} {fs : List (ConstructFeatures Tok)} {ts : Tokens} → File to_tokens (PastLimitAt conditions.limit Hit) all fs ts
+      → ReachesOne conditions Hit (tree_of_tokens conditions ts) (all, features all fs) (all_literals all) (broken conditions.current (token_view conditions) all)
   unfolding tree_of_tokens reader.file
   file_reached (g.marked {token = t} {rest = rest} kind h) = rw (accept_taken kinds.ByteOrderMark t rest conditions 0 [] kind) (r.pass conditions Hit _ (items_reached unnumbered [] h) refl)
   file_reached (g.unmarked {tokens = ts} h) = rw (accept_left kinds.ByteOrderMark ts conditions 0 [] (no_mark h)) (r.pass conditions Hit _ (items_reached unnumbered [] h) refl)

@@ -1,19 +1,19 @@
 -- Counters grow by what is read.
 use Rattle.std.proofs.Common.{◌≡◌, ℕ, ◌+◌, Bool, true, false, cond, List, [], ◌∷◌, ◌++◌, length, Option, Some, None, Ok, Err, IfOk, codes, refl, sym, ap, ◌∙◌, arith}
-use Rattle.justfile_word.specs.declared.item_kind.ItemKind.TheVariants as item_kinds
-use Rattle.justfile_word.specs.declared.token_kind.TokenKind.TheVariants as kinds
+use Rattle.justfile_vocabulary.specs.declared.item_kind.ItemKind.TheVariants as item_kinds
+use Rattle.justfile_vocabulary.specs.declared.token_kind.TokenKind.TheVariants as kinds
 use Rattle.justfile_model.specs.Files.{bindings, item_bindings, item_recipes, recipes}
 use Rattle.justfile_model.specs.AttributeReader.{AttributeLeaves}
 use Rattle.justfile_model.specs.declared.parameter_kind.ParameterKind.{ParameterKind}
 use Rattle.justfile_model.specs.declared.parameter_kind.ParameterKind.TheVariants.{Plus, Singular, Star}
 use Rattle.justfile_model.specs.HeaderReader as r
-use Rattle.justfile_model.specs.HeaderReader.{ReadHeader, draw_binding, expression, obeying, with_bindings}
-use Rattle.justfile_model.specs.PartReader.{accept_before, after_numbered, file_path, is_assigned, is_imported, is_module, is_set, keyword_at, line_is, names, names_end, names_rule, no_names, numbered_name, optional_path, setting_value}
+use Rattle.justfile_model.specs.HeaderReader.{ReadHeader, next_binding_number, expression, obeying, with_bindings}
+use Rattle.justfile_model.specs.PartReader.{accept_keyword_before, after_numbered, file_path, peek_assignment, is_imported, is_module, is_set, setting_keyword, line_is, names, names_end, names_rule, no_names, numbered_name, optional_path, setting_value}
 use Rattle.justfile_model.specs.Settings.{setting_form}
-use Rattle.justfile_model.specs.Reader.{CommentedBody, Start, alias, allowed, any_module, any_recipe, argument_rules, assigned, assignment, at_end, attributes, construct, content, draw_recipe, end_of_tokens, ended, function, has_body, headed, import, imported, item_rest, items, items_from, items_rule, line, line_end, named_module, no_exclusion, no_items, on_line, optional_body, recipe, setting, unexport, with_recipes, wordless}
-use Rattle.justfile_model.specs.Reading.{Counters, ◌>>=◌, Leaves, NoNumber, Read, State, Taken, accept, accepted, choose, expect, next_are}
+use Rattle.justfile_model.specs.Reader.{CommentedBody, Start, alias, allowed, any_module, any_recipe, argument_rules, assigned, assignment, at_end, attributes, construct, content, next_recipe_number, end_of_tokens, ended, function, has_body, headed, import, imported, item_rest, items, items_from, items_rule, line, line_end, named_module, no_exclusion, no_items, on_line, optional_body, recipe, setting, unexport, with_recipes, wordless}
+use Rattle.justfile_model.specs.ReaderState.{Counters, ◌>>=◌, Leaves, NoNumber, Read, State, Taken, accept, accepted, choose, expect, next_are}
 use Rattle.justfile_model.specs.RecipeRules.{parameter_broken, undefined_broken}
-use Rattle.justfile_model.specs.Sight.{Sight}
+use Rattle.justfile_model.specs.LeafView.{LeafView}
 use Rattle.justfile_model.specs.Tree as tree
 use Rattle.justfile_model.specs.Tree.{ArgumentRules, BodyLine, Construct, Content, Expr, Item, Parameter}
 use Rattle.justfile_model.proofs.ReadingSteps.{after_test, known}
@@ -125,48 +125,48 @@ module _ {R T A B S : Type 0} (leaves : Leaves R T A B S) where
   after_choice None x f Q h g = h
   after_choice (Some p) x f Q h g = g p
 
-  module _ (sight : R → Sight A B) (rules : List (ArgumentRules A B)) where
+  module _ (view : R → LeafView A B) (rules : List (ArgumentRules A B)) where
     abbrev ParameterPlace : Type 0
-    ParameterPlace = r.ParameterPlace leaves sight rules
+    ParameterPlace = r.ParameterPlace leaves view rules
 
     abbrev Parameters : Type 0
-    Parameters = r.Parameters leaves sight rules
+    Parameters = r.Parameters leaves view rules
 
     -- where these parameters drew their numbers from there on, those that are read do too
     abbrev After : Parameters → Read R T B Parameters → Type 0
     After x found = IfOk found (λ y. (n : Counters) → x.1 ≡ after_parameters n x.0 → y.0.1 ≡ after_parameters n y.0.0)
 
     number_counted : (kind : ParameterKind) (export : Bool) (x : Parameters) (name : T) (default : Option (Expr A B)) (s : State R T B)
-        → After x (draw_binding leaves x.1 s >>= r.numbered leaves sight rules kind export x.0 name default)
-    unfolding draw_binding
+        → After x (next_binding_number leaves x.1 s >>= r.numbered leaves view rules kind export x.0 name default)
+    unfolding next_binding_number
     number_counted kind export x name default s = go (leaves.has_number x.1.bindings)
       where
         go : (b : Bool)
-            → After x (cond b (Ok ((x.1.bindings, with_bindings (x.1.bindings + 1) x.1), s)) (Err (NoNumber x.1)) >>= r.numbered leaves sight rules kind export x.0
+            → After x (cond b (Ok ((x.1.bindings, with_bindings (x.1.bindings + 1) x.1), s)) (Err (NoNumber x.1)) >>= r.numbered leaves view rules kind export x.0
             name default)
         go true = λ n is. ap (λ (m : Counters). with_bindings (m.bindings + 1) m) is ∙ sym (after_more n x.0 _)
         go false = tt
 
     named_parameter_counts : (kind : ParameterKind) (export : Bool) (x : Parameters) (s : State R T B)
-        → After x (r.named_parameter leaves sight rules kind export x s)
+        → After x (r.named_parameter leaves view rules kind export x s)
     unfolding r.named_parameter
     named_parameter_counts kind export x s =
         let Q : Parameters → Type 0 = λ y. (n : Counters) → x.1 ≡ after_parameters n x.0 → y.1 ≡ after_parameters n y.0 in
         after_all (expect leaves kinds.Identifier s) _ Q (λ name _. after_all (r.default_value leaves name.1) _ Q (λ default _.
-        let broken = parameter_broken (sight default.1.run) rules x.0 (r.parameter_of leaves kind export (leaves.name name.0) default.0) in
+        let broken = parameter_broken (view default.1.run) rules x.0 (r.parameter_of leaves kind export (leaves.name name.0) default.0) in
         after_all (obeying broken default.1) _ Q (λ checked _. number_counted kind export x name.0 default.0 checked.1)))
 
-    parameter_counts : (kind : ParameterKind) (x : ParameterPlace) → After x.0 (r.parameter leaves sight rules kind x)
+    parameter_counts : (kind : ParameterKind) (x : ParameterPlace) → After x.0 (r.parameter leaves view rules kind x)
     unfolding r.parameter
     parameter_counts kind x = named_parameter_counts kind (accepted leaves kinds.Dollar x.1).0 x.0 (accepted leaves kinds.Dollar x.1).1
 
     singulars_rule_counts : (f : ParameterPlace → Read R T B Parameters) → ((x : ParameterPlace) → After x.0 (f x)) → (x : ParameterPlace)
-        → After x.0 (r.singulars_rule leaves sight rules f x)
+        → After x.0 (r.singulars_rule leaves view rules f x)
     unfolding r.singulars_rule
     singulars_rule_counts f h x =
         let Q : Parameters → Type 0 = λ y. (n : Counters) → x.0.1 ≡ after_parameters n x.0.0 → y.1 ≡ after_parameters n y.0 in
         after_test (r.begins_parameter leaves x.1) _ _ (After x.0)
-        (λ _. after_all (r.parameter leaves sight rules Singular x) _ Q (λ p is. one_more x.0 p.0 (f p)
+        (λ _. after_all (r.parameter leaves view rules Singular x) _ Q (λ p is. one_more x.0 p.0 (f p)
         (known p (λ y. Q y.0) is (parameter_counts Singular x)) (h p)))
         (λ _ n is. is)
       where
@@ -175,20 +175,20 @@ module _ {R T A B S : Type 0} (leaves : Leaves R T A B S) where
         one_more x p (Ok y) h k = λ n is. k n (h n is)
         one_more x p (Err e) h k = tt
 
-    singulars_count : (x : ParameterPlace) → After x.0 (r.singulars leaves sight rules x)
+    singulars_count : (x : ParameterPlace) → After x.0 (r.singulars leaves view rules x)
     unfolding r.singulars
     singulars_count =
-        recursive_keeps (λ (x : ParameterPlace). length x.1.left) (r.no_parameters leaves sight rules) (r.singulars_rule leaves sight rules)
+        recursive_keeps (λ (x : ParameterPlace). length x.1.left) (r.no_parameters leaves view rules) (r.singulars_rule leaves view rules)
         (λ x found. After x.0 found) (λ x. tt) singulars_rule_counts
 
-    variadic_counts : (kind : ParameterKind) (x : ParameterPlace) → After x.0 (r.variadic leaves sight rules kind x)
+    variadic_counts : (kind : ParameterKind) (x : ParameterPlace) → After x.0 (r.variadic leaves view rules kind x)
     unfolding r.variadic
     variadic_counts kind x =
         let Q : Parameters → Type 0 = λ y. (n : Counters) → x.0.1 ≡ after_parameters n x.0.0 → y.1 ≡ after_parameters n y.0 in
-        after_all (r.parameter leaves sight rules kind x) _ Q (λ p is. after_all (r.nothing_after leaves p.1) _ Q
+        after_all (r.parameter leaves view rules kind x) _ Q (λ p is. after_all (r.nothing_after leaves p.1) _ Q
         (λ end _. known p (λ y. Q y.0) is (parameter_counts kind x)))
 
-    last_parameter_counts : (x : ParameterPlace) → After x.0 (r.last_parameter leaves sight rules x)
+    last_parameter_counts : (x : ParameterPlace) → After x.0 (r.last_parameter leaves view rules x)
     unfolding r.last_parameter
     last_parameter_counts x =
         let Q : Parameters → Type 0 = λ y. (n : Counters) → x.0.1 ≡ after_parameters n x.0.0 → y.1 ≡ after_parameters n y.0 in
@@ -199,23 +199,23 @@ module _ {R T A B S : Type 0} (leaves : Leaves R T A B S) where
     abbrev pub ParametersCounted : Counters → Read R T B Parameters → Type 0
     ParametersCounted n found = IfOk found (λ x. x.0.1 ≡ after_parameters n x.0.0)
 
-    pub parameters_count : (n : Counters) (s : State R T B) → ParametersCounted n (r.parameters leaves sight rules n s)
+    pub parameters_count : (n : Counters) (s : State R T B) → ParametersCounted n (r.parameters leaves view rules n s)
     unfolding r.parameters
     parameters_count n s =
         let Q : Parameters → Type 0 = λ y. y.1 ≡ after_parameters n y.0 in
         let I : Parameters → Parameters → Type 0 = λ x y. (n : Counters) → x.1 ≡ after_parameters n x.0 → y.1 ≡ after_parameters n y.0 in
-        after_all (r.singulars leaves sight rules (([], n), s)) _ Q (λ ps is. after_all (r.last_parameter leaves sight rules ps) _ Q (λ all is2.
+        after_all (r.singulars leaves view rules (([], n), s)) _ Q (λ ps is. after_all (r.last_parameter leaves view rules ps) _ Q (λ all is2.
         after_all (expect leaves kinds.Colon all.1) _ Q (λ colon _.
         known all (λ y. I ps.0 y.0) is2 (last_parameter_counts ps) n (known ps (λ y. I ([], n) y.0) is (singulars_count (([], n), s)) n refl))))
 
     -- a header draws the numbers of its parameters
-    pub header_counts : (n : Counters) (s : State R T B) → IfOk (r.header leaves sight rules n s) (λ x. x.0.1 ≡ after_parameters n x.0.0.parameters)
+    pub header_counts : (n : Counters) (s : State R T B) → IfOk (r.header leaves view rules n s) (λ x. x.0.1 ≡ after_parameters n x.0.0.parameters)
     unfolding r.header
     header_counts n s =
         let Q : ReadHeader T A B S × Counters → Type 0 = λ x. x.1 ≡ after_parameters n x.0.parameters in
-        after_all (expect leaves kinds.Identifier s) _ Q (λ name _. after_all (r.distinct_options leaves sight rules name.0 name.1) _ Q (λ options _.
-        after_all (r.parameters leaves sight rules n options.1) _ Q (λ ps is.
-        after_all (obeying (undefined_broken (sight ps.1.run) ps.0.0 rules) ps.1) _ Q (λ checked _.
+        after_all (expect leaves kinds.Identifier s) _ Q (λ name _. after_all (r.distinct_options leaves view rules name.0 name.1) _ Q (λ options _.
+        after_all (r.parameters leaves view rules n options.1) _ Q (λ ps is.
+        after_all (obeying (undefined_broken (view ps.1.run) ps.0.0 rules) ps.1) _ Q (λ checked _.
         after_all (r.dependencies leaves checked.1) _ Q (λ priors _. after_all (r.subsequents leaves priors.1) _ Q (λ others _.
         known ps (λ x. x.0.1 ≡ after_parameters n x.0.0) is (parameters_count n options.1)))))))
 
@@ -229,7 +229,7 @@ module _ {R T A B S : Type 0} (leaves : Leaves R T A B S) where
   name_with name number = Ok ((leaves.function_parameter number.1.run name number.0.0, number.0.1), number.1)
 
   name_counts : (n : Counters) (s : State R T B) → IfOk (numbered_name leaves n s) (λ x. x.0.1 ≡ with_bindings (n.bindings + 1) n)
-  unfolding numbered_name draw_binding
+  unfolding numbered_name next_binding_number
   name_counts n s =
       let Q : A × Counters → Type 0 = λ x. x.1 ≡ with_bindings (n.bindings + 1) n in
       after_all (expect leaves kinds.Identifier s) _ Q (λ name _. drawn name.0 name.1 (leaves.has_number n.bindings))
@@ -269,8 +269,8 @@ module _ {R T A B S D W : Type 0} (leaves : Leaves R T A B S) (kept : AttributeL
   Uncounted found = IfOk found (λ x. (n : Counters) → counted n x.0 ≡ n)
 
   binding_counted : (eager export : Bool) (ws : List W) (n : Counters) (s : State R T B) (name : T) (value : Expr A B)
-      → ItemCounted n (draw_binding leaves n s >>= assigned leaves kept eager export ws name value)
-  unfolding draw_binding
+      → ItemCounted n (next_binding_number leaves n s >>= assigned leaves kept eager export ws name value)
+  unfolding next_binding_number
   binding_counted eager export ws n s name value = go (leaves.has_number n.bindings)
     where
       go : (b : Bool)
@@ -279,8 +279,8 @@ module _ {R T A B S D W : Type 0} (leaves : Leaves R T A B S) (kept : AttributeL
       go false = tt
 
   recipe_counted : (quiet : Bool) (ws : List W) (n : Counters) (s : State R T B) (h : ReadHeader T A B S) (m : Counters) (b : CommentedBody leaves)
-      → m ≡ after_parameters n h.parameters → ItemCounted n (draw_recipe leaves m s >>= headed leaves kept quiet ws h b)
-  unfolding draw_recipe
+      → m ≡ after_parameters n h.parameters → ItemCounted n (next_recipe_number leaves m s >>= headed leaves kept quiet ws h b)
+  unfolding next_recipe_number
   recipe_counted quiet ws n s h m b is = go (leaves.has_number m.recipes)
     where
       go : (has : Bool) → ItemCounted n (cond has (Ok ((m.recipes, with_recipes (m.recipes + 1) m), s)) (Err (NoNumber m)) >>= headed leaves kept quiet ws h b)
@@ -328,9 +328,9 @@ module _ {R T A B S D W : Type 0} (leaves : Leaves R T A B S) (kept : AttributeL
   setting_counts : (ws : List W) (n : Counters) (s : State R T B) → ItemCounted n (setting leaves kept ws n s)
   unfolding setting
   setting_counts ws n s =
-      after_all leaves (expect leaves kinds.Identifier s) _ (Q n) (λ name _. after_all leaves (keyword_at leaves name.0 name.1) _ (Q n) (λ keyword _.
+      after_all leaves (expect leaves kinds.Identifier s) _ (Q n) (λ name _. after_all leaves (setting_keyword leaves name.0 name.1) _ (Q n) (λ keyword _.
       after_all leaves (allowed leaves kept item_kinds.Setting ws name.0 keyword.1) _ (Q n) (λ checked _.
-      after_all leaves (setting_value leaves kept.sight name.0 keyword.0 (setting_form keyword.0) checked.1) _ (Q n) (λ value _. refl))))
+      after_all leaves (setting_value leaves kept.view name.0 keyword.0 (setting_form keyword.0) checked.1) _ (Q n) (λ value _. refl))))
 
   unexport_counts : (ws : List W) (n : Counters) (s : State R T B) → ItemCounted n (unexport leaves kept ws n s)
   unfolding unexport
@@ -350,10 +350,10 @@ module _ {R T A B S D W : Type 0} (leaves : Leaves R T A B S) (kept : AttributeL
   recipe_counts quiet ws n s =
       let Q : Item A B ℕ S D × Counters → Type 0 = λ x. x.1 ≡ count n x.0 in
       let rules = argument_rules leaves kept s.run ws in
-      after_all leaves (r.header leaves kept.sight rules n s) _ Q (λ h is. after_all leaves (optional_body leaves h.1) _ Q (λ b _.
+      after_all leaves (r.header leaves kept.view rules n s) _ Q (λ h is. after_all leaves (optional_body leaves h.1) _ Q (λ b _.
       after_all leaves (no_exclusion leaves kept ws h.0.0.name b.1) _ Q (λ checked _.
       recipe_counted quiet ws n checked.1 h.0.0 h.0.1 b.0
-      (known h (λ x. x.0.1 ≡ after_parameters n x.0.0.parameters) is (header_counts leaves kept.sight rules n s)))))
+      (known h (λ x. x.0.1 ≡ after_parameters n x.0.0.parameters) is (header_counts leaves kept.view rules n s)))))
 
   pub any_recipe_counts : (ws : List W) (n : Counters) (s : State R T B) → ItemCounted n (any_recipe leaves kept ws n s)
   unfolding any_recipe
@@ -365,18 +365,18 @@ module _ {R T A B S D W : Type 0} (leaves : Leaves R T A B S) (kept : AttributeL
   unfolding wordless
   wordless_counts ws n s =
       after_test (next_are leaves (kinds.Identifier ∷ kinds.ParenL ∷ []) s) _ _ (ItemCounted n) (λ _. function_counts ws n s)
-      (λ _. after_test (is_assigned leaves s) _ _ (ItemCounted n) (λ _. assignment_counts false false ws n s) (λ _. any_recipe_counts ws n s))
+      (λ _. after_test (peek_assignment leaves s) _ _ (ItemCounted n) (λ _. assignment_counts false false ws n s) (λ _. any_recipe_counts ws n s))
 
   content_counts : (ws : List W) (n : Counters) (s : State R T B) → ItemCounted n (content leaves kept ws n s)
   unfolding content
   content_counts ws n s =
-      after_choice leaves (accept_before leaves (codes "alias") (is_assigned leaves) s) _ _ (Q n)
-      (after_choice leaves (accept_before leaves (codes "eager") (is_assigned leaves) s) _ _ (Q n)
-      (after_choice leaves (accept_before leaves (codes "export") (is_assigned leaves) s) _ _ (Q n)
-      (after_choice leaves (accept_before leaves (codes "unexport") (line_is leaves (kinds.Identifier ∷ [])) s) _ _ (Q n)
-      (after_choice leaves (accept_before leaves (codes "import") (is_imported leaves) s) _ _ (Q n)
-      (after_choice leaves (accept_before leaves (codes "mod") (is_module leaves) s) _ _ (Q n)
-      (after_choice leaves (accept_before leaves (codes "set") (is_set leaves) s) _ _ (Q n)
+      after_choice leaves (accept_keyword_before leaves (codes "alias") (peek_assignment leaves) s) _ _ (Q n)
+      (after_choice leaves (accept_keyword_before leaves (codes "eager") (peek_assignment leaves) s) _ _ (Q n)
+      (after_choice leaves (accept_keyword_before leaves (codes "export") (peek_assignment leaves) s) _ _ (Q n)
+      (after_choice leaves (accept_keyword_before leaves (codes "unexport") (line_is leaves (kinds.Identifier ∷ [])) s) _ _ (Q n)
+      (after_choice leaves (accept_keyword_before leaves (codes "import") (is_imported leaves) s) _ _ (Q n)
+      (after_choice leaves (accept_keyword_before leaves (codes "mod") (is_module leaves) s) _ _ (Q n)
+      (after_choice leaves (accept_keyword_before leaves (codes "set") (is_set leaves) s) _ _ (Q n)
       (wordless_counts ws n s)
       (λ word. setting_counts ws n word.1))
       (λ word. any_module_counts ws n word.1))

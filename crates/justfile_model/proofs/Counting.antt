@@ -4,12 +4,12 @@ use Rattle.justfile_model.specs.Tok.{Tok}
 use Rattle.justfile_model.specs.SignificantTokens.{SignificantToken, identifiers}
 use Rattle.justfile_model.specs.Tree.{Fragment, BodyLine, Content, Item, WrittenItem, WrittenTree}
 use Rattle.justfile_model.specs.Features.{ConstructFeatures, Noted}
-use Rattle.justfile_model.specs.Expressions.{Tokens, Under}
+use Rattle.justfile_model.specs.Expressions.{Tokens, BelowLimit}
 use Rattle.justfile_model.specs.Grammar as g
-use Rattle.justfile_model.specs.Grammar.{Kept, LineRest, BeforeBody, BodyLines, OnLine, Block, Items, ItemRest, LineEnd, File}
+use Rattle.justfile_model.specs.Grammar.{TokenProjection, LineRest, BeforeBody, BodyLines, OnLine, Block, Items, ItemRest, LineEnd, File}
 use Rattle.justfile_model.specs.Conditions.{Conditions}
-use Rattle.justfile_model.specs.Files.{content_bindings, bindings, content_recipes, recipes, keeps_tokens}
-use Rattle.justfile_model.specs.Reading.{Counters}
+use Rattle.justfile_model.specs.Files.{content_bindings, bindings, content_recipes, recipes, to_tokens}
+use Rattle.justfile_model.specs.ReaderState.{Counters}
 use Rattle.justfile_model.specs.Reader.{items}
 use Rattle.justfile_model.specs.TreeReader.{State, tree_of_tokens, token_attributes, token_leaves}
 use Rattle.justfile_model.proofs.AttributeProgress.{attribute_lines_count}
@@ -18,7 +18,7 @@ use Rattle.justfile_model.proofs.ExpressionProgress.{expression_counts, fewer}
 use Rattle.justfile_model.proofs.HeaderProgress.{counts_one, header_counts, path_left}
 use Rattle.justfile_model.proofs.PartProgress.{file_path_left, names_count, value_left}
 use Rattle.justfile_model.proofs.ReadingSteps.{known}
-use Rattle.justfile_model.proofs.Sound.{file_at}
+use Rattle.justfile_model.proofs.FileSound.{file_at}
 
 pub bindings_append : {A B C S D : Type 0} (is js : List (Item A B C S D)) → bindings (is ++ js) ≡ bindings is + bindings js
 bindings_append [] js = omega arith
@@ -30,60 +30,60 @@ recipes_append (i ∷ is) js = omega (arith, recipes_append is js)
 
 -- ---- what derives
 
-module _ {A B : Type 0} (leaf : Tok → A) (spot : Tok → B) (Open : ℕ → Option SignificantToken → Type 0) where
-  line_rest_counts : {fragments : List (Fragment A B)} {fs : List (Noted B)} {ts rest : Tokens} → LineRest leaf spot Open fragments fs ts rest → identifiers rest ≤ identifiers ts
+module _ {A B : Type 0} (leaf : Tok → A) (position : Tok → B) (MayEnter : ℕ → Option SignificantToken → Type 0) where
+  line_rest_counts : {fragments : List (Fragment A B)} {fs : List (Noted B)} {ts rest : Tokens} → LineRest leaf position MayEnter fragments fs ts rest → identifiers rest ≤ identifiers ts
   line_rest_counts (g.line_ends kind) = omega arith
   line_rest_counts (g.body_ends kind) = omega arith
   line_rest_counts (g.text kind l) = omega (arith, line_rest_counts l)
-  line_rest_counts (g.interpolation kind e kind2 l) = omega (arith, expression_counts leaf spot Open e, line_rest_counts l)
+  line_rest_counts (g.interpolation kind e kind2 l) = omega (arith, expression_counts leaf position MayEnter e, line_rest_counts l)
 
 before_counts : {comment : Option (List ℕ)} {ts rest : Tokens} → BeforeBody comment ts rest → identifiers rest ≤ identifiers ts
 before_counts (g.at_once kind kind2) = omega arith
 before_counts (g.commented kind kind2 kind3) = omega arith
 
-module _ {A B C S : Type 0} (kept : Kept A B C S) (Open : ℕ → Option SignificantToken → Type 0) where
-  body_lines_count : {lines : List (BodyLine A B C)} {fs : List (Noted B)} {ts rest : Tokens} → BodyLines kept Open lines fs ts rest → identifiers rest ≤ identifiers ts
+module _ {A B C S : Type 0} (projection : TokenProjection A B C S) (MayEnter : ℕ → Option SignificantToken → Type 0) where
+  body_lines_count : {lines : List (BodyLine A B C)} {fs : List (Noted B)} {ts rest : Tokens} → BodyLines projection MayEnter lines fs ts rest → identifiers rest ≤ identifiers ts
   body_lines_count (g.no_line kind) = omega arith
   body_lines_count (g.empty_line kind h) = omega (arith, body_lines_count h)
-  body_lines_count (g.some_line l h) = omega (arith, line_rest_counts kept.leaf kept.spot Open l, body_lines_count h)
+  body_lines_count (g.some_line l h) = omega (arith, line_rest_counts projection.leaf projection.position MayEnter l, body_lines_count h)
 
-  pub on_line_counts : {c : Content A B C S} {fs : List (Noted B)} {ts rest : Tokens} → OnLine kept Open c fs ts rest → content_bindings c + content_recipes c + identifiers rest ≤ identifiers ts
-  on_line_counts (g.alias is kind kind2 p) = omega (arith, fewer (path_left kept.leaf p))
-  on_line_counts (g.assignment {name = name} kind kind2 e) = omega (arith, counts_one name.tok.kind kind, expression_counts kept.leaf kept.spot Open e)
-  on_line_counts (g.eager {name = name} is kind kind2 e) = omega (arith, counts_one name.tok.kind kind, expression_counts kept.leaf kept.spot Open e)
-  on_line_counts (g.export {name = name} is kind kind2 e) = omega (arith, counts_one name.tok.kind kind, expression_counts kept.leaf kept.spot Open e)
-  on_line_counts (g.function kind kind2 ns kind3 e) = omega (arith, names_count kept.leaf ns, expression_counts kept.leaf kept.spot Open e)
-  on_line_counts (g.import is p) = omega (arith, fewer (file_path_left kept.leaf p))
-  on_line_counts (g.optional_import is kind p) = omega (arith, fewer (file_path_left kept.leaf p))
+  pub on_line_counts : {c : Content A B C S} {fs : List (Noted B)} {ts rest : Tokens} → OnLine projection MayEnter c fs ts rest → content_bindings c + content_recipes c + identifiers rest ≤ identifiers ts
+  on_line_counts (g.alias is kind kind2 p) = omega (arith, fewer (path_left projection.leaf p))
+  on_line_counts (g.assignment {name = name} kind kind2 e) = omega (arith, counts_one name.tok.kind kind, expression_counts projection.leaf projection.position MayEnter e)
+  on_line_counts (g.eager {name = name} is kind kind2 e) = omega (arith, counts_one name.tok.kind kind, expression_counts projection.leaf projection.position MayEnter e)
+  on_line_counts (g.export {name = name} is kind kind2 e) = omega (arith, counts_one name.tok.kind kind, expression_counts projection.leaf projection.position MayEnter e)
+  on_line_counts (g.function kind kind2 ns kind3 e) = omega (arith, names_count projection.leaf ns, expression_counts projection.leaf projection.position MayEnter e)
+  on_line_counts (g.import is p) = omega (arith, fewer (file_path_left projection.leaf p))
+  on_line_counts (g.optional_import is kind p) = omega (arith, fewer (file_path_left projection.leaf p))
   on_line_counts (g.module_alone is kind ends) = omega arith
-  on_line_counts (g.module_at is kind p) = omega (arith, fewer (file_path_left kept.leaf p))
+  on_line_counts (g.module_at is kind p) = omega (arith, fewer (file_path_left projection.leaf p))
   on_line_counts (g.optional_module_alone is kind kind2 none) = omega arith
-  on_line_counts (g.optional_module_at is kind kind2 p) = omega (arith, fewer (file_path_left kept.leaf p))
+  on_line_counts (g.optional_module_at is kind kind2 p) = omega (arith, fewer (file_path_left projection.leaf p))
   on_line_counts (g.setting {word = word} {name = name} {tokens = tokens} {rest = rest} is is2 form value) =
-      omega (arith, fewer (value_left kept.leaf kept.spot Open {t = name} value))
+      omega (arith, fewer (value_left projection.leaf projection.position MayEnter {t = name} value))
   on_line_counts (g.unexport is kind ends) = omega arith
-  on_line_counts (g.header h) = header_counts kept.leaf kept.spot kept.star Open h
+  on_line_counts (g.header h) = header_counts projection.leaf projection.position projection.star MayEnter h
 
-  pub block_counts : {c : Content A B C S} {fs : List (Noted B)} {ts rest : Tokens} → Block kept Open c fs ts rest → content_bindings c + content_recipes c + identifiers rest ≤ identifiers ts
-  block_counts (g.recipe h b lines some) = omega (arith, header_counts kept.leaf kept.spot kept.star Open h, before_counts b, body_lines_count lines)
+  pub block_counts : {c : Content A B C S} {fs : List (Noted B)} {ts rest : Tokens} → Block projection MayEnter c fs ts rest → content_bindings c + content_recipes c + identifiers rest ≤ identifiers ts
+  block_counts (g.recipe h b lines some) = omega (arith, header_counts projection.leaf projection.position projection.star MayEnter h, before_counts b, body_lines_count lines)
 
   mutual
-    pub all_count : {all : List (WrittenItem A B C S)} {fs : List (ConstructFeatures B)} {ts : Tokens} → Items kept Open all fs ts → bindings all + recipes all ≤ identifiers ts
+    pub all_count : {all : List (WrittenItem A B C S)} {fs : List (ConstructFeatures B)} {ts : Tokens} → Items projection MayEnter all fs ts → bindings all + recipes all ≤ identifiers ts
     all_count (g.end kind) = omega arith
     all_count (g.blank kind h) = omega (arith, all_count h)
     all_count (g.comment kind h) = omega (arith, item_rest_counts h)
-    all_count (g.on_line a o b) = omega (arith, attribute_lines_count kept.leaf kept.spot Open a, on_line_counts o, item_rest_counts b)
-    all_count (g.block a o h) = omega (arith, attribute_lines_count kept.leaf kept.spot Open a, block_counts o, all_count h)
+    all_count (g.on_line a o b) = omega (arith, attribute_lines_count projection.leaf projection.position MayEnter a, on_line_counts o, item_rest_counts b)
+    all_count (g.block a o h) = omega (arith, attribute_lines_count projection.leaf projection.position MayEnter a, block_counts o, all_count h)
 
-    item_rest_counts : {all : List (WrittenItem A B C S)} {fs : List (ConstructFeatures B)} {ts : Tokens} → ItemRest kept Open all fs ts → bindings all + recipes all ≤ identifiers ts
+    item_rest_counts : {all : List (WrittenItem A B C S)} {fs : List (ConstructFeatures B)} {ts : Tokens} → ItemRest projection MayEnter all fs ts → bindings all + recipes all ≤ identifiers ts
     item_rest_counts (g.trailing kind e) = omega (arith, line_end_counts e)
     item_rest_counts (g.bare e) = line_end_counts e
 
-    line_end_counts : {all : List (WrittenItem A B C S)} {fs : List (ConstructFeatures B)} {ts : Tokens} → LineEnd kept Open all fs ts → bindings all + recipes all ≤ identifiers ts
+    line_end_counts : {all : List (WrittenItem A B C S)} {fs : List (ConstructFeatures B)} {ts : Tokens} → LineEnd projection MayEnter all fs ts → bindings all + recipes all ≤ identifiers ts
     line_end_counts (g.line_end kind h) = omega (arith, all_count h)
     line_end_counts (g.file_end kind) = omega arith
 
-  pub file_counts : {all : List (WrittenItem A B C S)} {fs : List (ConstructFeatures B)} {ts : Tokens} → File kept Open all fs ts → bindings all + recipes all ≤ identifiers ts
+  pub file_counts : {all : List (WrittenItem A B C S)} {fs : List (ConstructFeatures B)} {ts : Tokens} → File projection MayEnter all fs ts → bindings all + recipes all ≤ identifiers ts
   file_counts (g.marked kind h) = omega (arith, all_count h)
   file_counts (g.unmarked h) = all_count h
 
@@ -91,7 +91,7 @@ module _ {A B C S : Type 0} (kept : Kept A B C S) (Open : ℕ → Option Signifi
 
 -- a tree has at most as many bindings and recipes as its tokens have identifiers
 pub file_numbers : (conditions : Conditions) (ts : Tokens) (x : WrittenTree × List (Noted Tok)) → tree_of_tokens conditions ts ≡ Ok x → bindings x.0 + recipes x.0 ≤ identifiers ts
-file_numbers conditions ts x is = file_counts keeps_tokens (Under conditions.limit) (file_at conditions ts x is).derives
+file_numbers conditions ts x is = file_counts to_tokens (BelowLimit conditions.limit) (file_at conditions ts x is).derives
 
 -- counters grow by what the tree holds
 

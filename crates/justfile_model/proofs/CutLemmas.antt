@@ -10,16 +10,16 @@ use Rattle.std.proofs.lemmas.Bool.Decides.{nat_tests}
 use Rattle.std.proofs.lemmas.List.Sums.{prefix_len_passes, prefix_len-le-length}
 use Rattle.std.proofs.lemmas.Str.{IsCharBoundary-start, IsCharBoundary-end, IsCharBoundary-before_ascii, IsCharBoundary-after_ascii, IsCharBoundary-past_char, encodes-chars}
 use Rattle.std.proofs.Math.Utf8.{encodes}
-use Rattle.justfile_word.specs.declared.byte_class.ByteClass.{ByteClass}
-use Rattle.justfile_word.specs.declared.byte_class.ByteClass.TheVariants.{Blank, LineFeed, CarriageReturn, IdentifierStart, IdentifierContinue, Quote, Opener, Closer, Fixed, Lead, Other}
-use Rattle.justfile_base.specs.declared.string_kind.StringDelimiter.{StringDelimiter}
-use Rattle.justfile_base.specs.declared.string_kind.StringDelimiter.TheVariants.{Backtick, QuoteDouble, QuoteSingle}
-use Rattle.justfile_base.specs.declared.string_kind.StringKind.{StringKind}
+use Rattle.justfile_vocabulary.specs.declared.byte_class.ByteClass.{ByteClass}
+use Rattle.justfile_vocabulary.specs.declared.byte_class.ByteClass.TheVariants.{Blank, LineFeed, CarriageReturn, IdentifierStart, IdentifierContinue, Quote, Opener, Closer, Fixed, Lead, Other}
+use Rattle.justfile_token.specs.declared.string_kind.StringDelimiter.{StringDelimiter}
+use Rattle.justfile_token.specs.declared.string_kind.StringDelimiter.TheVariants.{Backtick, QuoteDouble, QuoteSingle}
+use Rattle.justfile_token.specs.declared.string_kind.StringKind.{StringKind}
 use Rattle.justfile_model.specs.declared.raw_text.RawText.{RawText}
 use Rattle.justfile_model.specs.declared.raw_text.RawText.TheVariants.{Comment, Body, Literal}
-use Rattle.justfile_word.specs.ByteClass.{begins_fixed, class_of}
+use Rattle.justfile_vocabulary.specs.ByteClass.{begins_fixed, class_of}
 use Rattle.justfile_model.specs.Bytes.{in_word, line_feed, is_blank, is_name_byte, is_line_end, is_interpolation_start, is_interpolation_escape, first_char}
-use Rattle.justfile_base.specs.StringKind.{delimiter_len, kind_of, quote_of}
+use Rattle.justfile_token.specs.StringKind.{delimiter_len, kind_of, quote_of}
 use Rattle.justfile_model.specs.LiteralText.{pieces_len, is_delimiter, hides, ends, raw_len}
 
 -- A class says that a byte is ASCII.

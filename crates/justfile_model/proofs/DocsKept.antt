@@ -3,17 +3,17 @@
 use Rattle.std.proofs.Common.{◌≡◌, ◌∙◌, ℕ, ◌+◌, Bool, true, false, cond, not, ◌&&◌, ◌||◌, List, [], ◌∷◌, ◌++◌, map, Option, Some, None, is_some, refl, sym, ap, arith}
 use Rattle.std.specs.List.{list_any}
 use Rattle.std.specs.Option.{option_map}
-use Rattle.justfile_word.specs.declared.attribute_kind.AttributeKind.{AttributeKind}
-use Rattle.justfile_word.specs.declared.attribute_kind.AttributeKind.TheVariants.{Doc}
+use Rattle.justfile_vocabulary.specs.declared.attribute_kind.AttributeKind.{AttributeKind}
+use Rattle.justfile_vocabulary.specs.declared.attribute_kind.AttributeKind.TheVariants.{Doc}
 use Rattle.justfile_model.specs.AttributeKinds.{same_attribute}
 use Rattle.justfile_model.specs.ContentKeys.{kind_of_attribute}
 use Rattle.justfile_model.specs.Docs.{Before, LineEnd, Other, comment_taken, doc_in, doc_or_comment, documented, item_with_doc, redocumented, taken, wants_doc}
 use Rattle.justfile_model.specs.Files.{bindings, content_bindings, content_literals, content_recipes, items_literals, recipes, says_doc}
 use Rattle.justfile_model.specs.Literals.{Literal}
 use Rattle.justfile_model.specs.Printing.{printable, printable_content, shown_doc}
-use Rattle.justfile_model.specs.Rewritten.{after_doc, docs_written}
+use Rattle.justfile_model.specs.PrintedAttributes.{after_doc, docs_written}
 use Rattle.justfile_model.specs.Tree.{Alias, Assignment, Comment, Construct, Content, Entry, Function, Import, Item, Module, Newline, OrderedItem, Recipe, Setting, Tree, Unexport, lexeme, nothing, over_content, over_entry, over_item, shape_of}
-use Rattle.justfile_model.proofs.SeesRules.{kind_over}
+use Rattle.justfile_model.proofs.SameViewRules.{kind_over}
 
 -- ---- what counts constructs
 

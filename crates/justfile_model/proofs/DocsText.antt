@@ -1,10 +1,10 @@
 -- The text of a shape is that of the shape whose docs are written as comments.
 use Rattle.std.proofs.Common.{◌≡◌, ℕ, Bool, true, false, cond, List, [], ◌∷◌, ◌++◌, Option, Some, None, codes, refl, sym, ap, ◌∙◌}
-use Rattle.justfile_word.specs.declared.attribute_kind.AttributeKind.TheVariants.{Doc}
+use Rattle.justfile_vocabulary.specs.declared.attribute_kind.AttributeKind.TheVariants.{Doc}
 use Rattle.justfile_model.specs.ContentKeys.{has_attribute}
 use Rattle.justfile_model.specs.Docs.{doc_of, redocumented}
 use Rattle.justfile_model.specs.Printing.{content_text, doc_comment, doc_line, entries_text, fixed_text, if_some, item_end, item_text, shown_doc, text}
-use Rattle.justfile_model.specs.Rewritten.{after_doc, docs_written}
+use Rattle.justfile_model.specs.PrintedAttributes.{after_doc, docs_written}
 use Rattle.justfile_model.specs.Tree.{Alias, Assignment, Comment, Construct, Content, Entry, Function, Import, Module, Newline, OrderedItem, Recipe, Setting, Shape, Unexport}
 
 abbrev ShapeContent : Type 0

@@ -1,16 +1,16 @@
 -- A file keeps its tree where an expander answers more.
 use Rattle.std.proofs.Common.{◌≡◌, ℕ, true, false, List, [], ◌∷◌, map, Option, Some, None, Result, Ok, Err, is_some, refl, sym, subst, ap, ◌∙◌, ⊎_elim}
 use Rattle.std.specs.List.{AllByRecursion}
-use Rattle.justfile_base.specs.StringKind.{kind_of}
-use Rattle.justfile_word.specs.declared.format_string_part.FormatStringPart.TheVariants as parts
-use Rattle.justfile_word.specs.declared.token_kind.TokenKind.{TokenKind}
-use Rattle.justfile_word.specs.declared.token_kind.TokenKind.TheVariants as kinds
+use Rattle.justfile_token.specs.StringKind.{kind_of}
+use Rattle.justfile_vocabulary.specs.declared.format_string_part.FormatStringPart.TheVariants as parts
+use Rattle.justfile_vocabulary.specs.declared.token_kind.TokenKind.{TokenKind}
+use Rattle.justfile_vocabulary.specs.declared.token_kind.TokenKind.TheVariants as kinds
 use Rattle.justfile_model.specs.Conditions.{Conditions, with_expander}
 use Rattle.justfile_model.specs.ContentLeaf.{TokenContent}
 use Rattle.justfile_model.specs.Features.{Noted}
 use Rattle.justfile_model.specs.Files.{Obeys, FileDerives, ShapeDerives, all_literals}
 use Rattle.justfile_model.specs.Literals.{Literal, Plain, Expanded, Command, Single, Start, Continue, End, LiteralFault, Unasked, Expansions, Within, over_literal, by_answer, string_text, expanded_text, cooked_text, AreCookedTexts}
-use Rattle.justfile_model.specs.Sight.{content_as_read, or_empty, sees_lexemes, sees_tokens, text_or_none, text_under, tok_content}
+use Rattle.justfile_model.specs.LeafView.{content_as_read, or_empty, views_lexemes, views_tokens, text_or_none, text_under, tok_content}
 use Rattle.justfile_model.specs.SignificantTokens.{SignificantToken}
 use Rattle.justfile_model.specs.Tok.{Tok}
 use Rattle.justfile_model.specs.Tree.{Tree, Shape, lexeme}
@@ -85,10 +85,10 @@ module _ (conditions : Conditions) (all : Expansions) (within : Within condition
   some = conditions.expander
 
   token_contents : (l : Literal Tok) → text_under some lexeme l ≡ text_under all lexeme l
-      → (sees_tokens some).literal_content l ≡ (sees_tokens all).literal_content l
+      → (views_tokens some).literal_content l ≡ (views_tokens all).literal_content l
   token_contents = contents_same some all within lexeme (λ kind t. tok_content t)
 
-  tokens_seen : SeeSame (sees_tokens some) (sees_tokens all).cooked (sees_tokens all).literal_content
+  tokens_seen : SeeSame (views_tokens some) (views_tokens all).cooked (views_tokens all).literal_content
   tokens_seen = record {
     plain = λ t. refl;
     command = λ t. refl;
@@ -100,10 +100,10 @@ module _ (conditions : Conditions) (all : Expansions) (within : Within condition
   }
 
   lexeme_contents : (l : Literal (List ℕ)) → text_under some (λ l. l) l ≡ text_under all (λ l. l) l
-      → (sees_lexemes some).literal_content l ≡ (sees_lexemes all).literal_content l
+      → (views_lexemes some).literal_content l ≡ (views_lexemes all).literal_content l
   lexeme_contents = contents_same some all within (λ l. l) (λ kind l. record { kind = kind; lexeme = l })
 
-  lexemes_seen : SeeSame (sees_lexemes some) (sees_lexemes all).cooked (sees_lexemes all).literal_content
+  lexemes_seen : SeeSame (views_lexemes some) (views_lexemes all).cooked (views_lexemes all).literal_content
   lexemes_seen = record {
     plain = λ t. refl;
     command = λ t. refl;
@@ -117,7 +117,7 @@ module _ (conditions : Conditions) (all : Expansions) (within : Within condition
   pub tree_kept : (tree : Tree) (features : List (Noted Tok)) → FileDerives conditions tokens tree features → FileDerives (with_expander all conditions) tokens tree features
   tree_kept tree features h =
       let ls = all_literals h.written in
-      let kept = items_kept (sees_tokens some) (sees_tokens all).cooked (sees_tokens all).literal_content tokens_seen conditions.current h.written tree
+      let kept = items_kept (views_tokens some) (views_tokens all).cooked (views_tokens all).literal_content tokens_seen conditions.current h.written tree
       (agreed some all within lexeme (λ kind t. tok_content t) ls h.obeys.cooked h.obeys.cooks)
       (texted some all within lexeme (λ kind t. tok_content t) ls h.obeys.cooked h.obeys.cooks) h.ordered_is h.obeys.unbroken in
       let obeys : Obeys (with_expander all conditions) h.written =
@@ -126,7 +126,7 @@ module _ (conditions : Conditions) (all : Expansions) (within : Within condition
         written = h.written;
         by_construct = h.by_construct;
         derives = h.derives;
-        features_are = h.features_are ∙ features_same (sees_tokens some) (sees_tokens all) h.written tree h.ordered_is kept.means h.by_construct;
+        features_are = h.features_are ∙ features_same (views_tokens some) (views_tokens all) h.written tree h.ordered_is kept.means h.by_construct;
         obeys = obeys;
         ordered_is = kept.means;
       }
@@ -145,14 +145,14 @@ module _ (conditions : Conditions) (all : Expansions) (within : Within condition
       let ls = all_literals h.written in
       let cooks : AreCookedTexts some (map (over_literal (λ x. x)) ls) h.cooked =
       subst (λ m. AreCookedTexts some m h.cooked) (sym (map_same (over_literal (λ x. x)) same_lexemes ls)) h.cooks in
-      let kept = items_kept (sees_lexemes some) (sees_lexemes all).cooked (sees_lexemes all).literal_content lexemes_seen conditions.current h.written shape
+      let kept = items_kept (views_lexemes some) (views_lexemes all).cooked (views_lexemes all).literal_content lexemes_seen conditions.current h.written shape
       (agreed some all within (λ l. l) (λ kind l. record { kind = kind; lexeme = l }) ls h.cooked cooks)
       (texted some all within (λ l. l) (λ kind l. record { kind = kind; lexeme = l }) ls h.cooked cooks) h.ordered_is h.unbroken in
       record {
         written = h.written;
         by_construct = h.by_construct;
         derives = h.derives;
-        features_are = h.features_are ∙ features_same (sees_lexemes some) (sees_lexemes all) h.written shape h.ordered_is kept.means h.by_construct;
+        features_are = h.features_are ∙ features_same (views_lexemes some) (views_lexemes all) h.written shape h.ordered_is kept.means h.by_construct;
         cooked = h.cooked;
         cooks = texts_kept some all within _ h.cooked h.cooks;
         unbroken = kept.unbroken;

@@ -1,10 +1,10 @@
 -- What derives where the limit is waived at some tokens is read, or refused: a literal that has no text, or as too deep at one of these
 -- tokens.
 use Rattle.std.proofs.Common.{◌≡◌, ◌≢◌, ℕ, ◌+◌, ◌-◌, ◌<◌, ◌≤◌, Bool, true, false, List, [], ◌∷◌, ◌++◌, Option, Ok, refl, sym, ap, ◌∙◌, append_assoc, append-nil, codes, get_or, arith}
-use Rattle.justfile_word.specs.declared.token_kind.TokenKind.{TokenKind}
-use Rattle.justfile_word.specs.declared.token_kind.TokenKind.TheVariants as kinds
+use Rattle.justfile_vocabulary.specs.declared.token_kind.TokenKind.{TokenKind}
+use Rattle.justfile_vocabulary.specs.declared.token_kind.TokenKind.TheVariants as kinds
 use Rattle.justfile_model.specs.declared.level.Level.TheVariants as levels
-use Rattle.justfile_word.specs.declared.list_feature.ListFeature.TheVariants as features
+use Rattle.justfile_vocabulary.specs.declared.list_feature.ListFeature.TheVariants as features
 use Rattle.justfile_model.specs.declared.operator.Operator.TheVariants as operators
 use Rattle.justfile_model.specs.Conditions.{Conditions}
 use Rattle.justfile_model.specs.Tok.{Tok}
@@ -13,11 +13,11 @@ use Rattle.justfile_model.specs.Tree as tree
 use Rattle.justfile_model.specs.Tree.{Expr, Exprs, Parts, itself}
 use Rattle.justfile_model.specs.Features.{Noted, noted, compared, uncompared, called}
 use Rattle.justfile_model.specs.Expressions as g
-use Rattle.justfile_model.specs.Expressions.{Tokens, IsKind, IsWord, NotWord, NotNext, IsMarked, NotMarked, Waived, ends_open, Expression, Disjunct, Compared, Conjunct, Condition, Braced, Conditional, Value, Sequence, FormatParts}
+use Rattle.justfile_model.specs.Expressions.{Tokens, IsKind, IsWord, NotWord, NotNext, IsMarked, NotMarked, PastLimitAt, ends_open, Expression, Disjunct, Compared, Conjunct, Condition, Braced, Conditional, Value, Sequence, FormatParts}
 use Rattle.justfile_model.specs.Literals as literal
 use Rattle.justfile_model.specs.Literals.{Literal}
 use Rattle.justfile_model.specs.Files.{expr_literals, exprs_literals, parts_literals}
-use Rattle.justfile_model.specs.Reading.{shallower}
+use Rattle.justfile_model.specs.ReaderState.{shallower}
 use Rattle.justfile_model.specs.ExpressionReader as r
 use Rattle.justfile_model.specs.ExpressionReader.{assert_rule, backtick, binary_rule, braced_rule, condition_rule, conditional_rule, conjunct_rule, element_rule, ended_by, format_rest_rule, format_rule, format_string_rule, group_rule, list_rule, name_rule, otherwise_rule, part, parts_rule, read, sequence_rule, whole_format_string, literal_string, value_rule}
 use Rattle.justfile_model.specs.TreeReader.{State, token_leaves}
@@ -85,9 +85,9 @@ closes : (b : Bool) (ts : Tokens) (C : Conditions) (d : ℕ) (ns : List (Noted T
 closes false ts E d ns e h = refl
 closes true ts E d ns e h = rw (word_left (codes "else") ts E d ns (h refl)) refl
 
-module _ (Open : ℕ → Option SignificantToken → Type 0) where
+module _ (MayEnter : ℕ → Option SignificantToken → Type 0) where
   -- a value does not begin with an operator
-  no_slash : {d : ℕ} {e : Expr Tok Tok} {fs : List (Noted Tok)} {ts rest : Tokens} → Value itself itself Open d e fs ts rest → NotNext kinds.Slash ts
+  no_slash : {d : ℕ} {e : Expr Tok Tok} {fs : List (Noted Tok)} {ts rest : Tokens} → Value itself itself MayEnter d e fs ts rest → NotNext kinds.Slash ts
   no_slash (g.not kind v) = λ e. cc
   no_slash (g.literal kind) = λ e. cc
   no_slash (g.expanded m) = λ e. let n = m.marks.is_name in cc
@@ -102,7 +102,7 @@ module _ (Open : ℕ → Option SignificantToken → Type 0) where
   no_slash (g.list kind s) = λ e. cc
 
   -- braces are no word
-  braced_no_word : {d : ℕ} {e : Expr Tok Tok} {fs : List (Noted Tok)} {ts rest : Tokens} → Braced itself itself Open d e fs ts rest → NotWord (codes "if") ts
+  braced_no_word : {d : ℕ} {e : Expr Tok Tok} {fs : List (Noted Tok)} {ts rest : Tokens} → Braced itself itself MayEnter d e fs ts rest → NotWord (codes "if") ts
   braced_no_word (g.braces kind e kind2) = λ i. let n = i.is_name in cc
 
 one_more : {limit d : ℕ} → d < limit → d + 1 ≤ limit
@@ -182,7 +182,7 @@ module _ (conditions : Conditions) (Hit : Option SignificantToken → Type 0) wh
   mutual
     unfolding binary_rule conjunct_rule condition_rule braced_rule conditional_rule value_rule r.literal literal_string whole_format_string backtick format_rule format_string_rule format_rest_rule assert_rule name_rule group_rule list_rule sequence_rule parts_rule
 
-    pub expression_deep : (ns : List (Noted Tok)) (c : Bool) {d : ℕ} (within : d ≤ conditions.limit) {e : Expr Tok Tok} {fs : List (Noted Tok)} {ts rest : Tokens} → Expression itself itself (Waived conditions.limit Hit) c d e fs ts rest
+    pub expression_deep : (ns : List (Noted Tok)) (c : Bool) {d : ℕ} (within : d ≤ conditions.limit) {e : Expr Tok Tok} {fs : List (Noted Tok)} {ts rest : Tokens} → Expression itself itself (PastLimitAt conditions.limit Hit) c d e fs ts rest
         → Reaches conditions Hit (read token_leaves (r.At levels.Expression c (input conditions d ts ns))) (e, input conditions d rest (ns ++ fs)) (expr_literals e)
     expression_deep ns c {d} within {ts = ts} {rest = rest} (g.or {l = l'} {r = r'} {ls = ls} {rs = rs} {operator = op} {following = following} o l kind q) =
         renoted conditions Hit (three ns ls (noted features.LogicalOperator op.tok) rs) (by conditions Hit (level_is token_leaves levels.Expression c (input conditions d ts ns))
@@ -193,7 +193,7 @@ module _ (conditions : Conditions) (Hit : Option SignificantToken → Type 0) wh
         (entered conditions Hit d (input conditions d ts ns) within o (λ lt. pass conditions Hit _ (disjunct_deep ns c (one_more lt) l)
         (rw (operator_left levels.Expression rest conditions (d + 1) (ns ++ fs) (no_or rest nx)) (closed_is e' d rest (ns ++ fs)))))
 
-    pub disjunct_deep : (ns : List (Noted Tok)) (c : Bool) {d : ℕ} (within : d ≤ conditions.limit) {e : Expr Tok Tok} {fs : List (Noted Tok)} {ts rest : Tokens} → Disjunct itself itself (Waived conditions.limit Hit) c d e fs ts rest
+    pub disjunct_deep : (ns : List (Noted Tok)) (c : Bool) {d : ℕ} (within : d ≤ conditions.limit) {e : Expr Tok Tok} {fs : List (Noted Tok)} {ts rest : Tokens} → Disjunct itself itself (PastLimitAt conditions.limit Hit) c d e fs ts rest
         → Reaches conditions Hit (read token_leaves (r.At levels.Disjunct c (input conditions d ts ns))) (e, input conditions d rest (ns ++ fs)) (expr_literals e)
     disjunct_deep ns c {d} within {ts = ts} (g.and {ls = ls} {rs = rs} {operator = op} {following = following} l kind q) =
         renoted conditions Hit (three ns ls (noted features.LogicalOperator op.tok) rs) (by conditions Hit (level_is token_leaves levels.Disjunct c (input conditions d ts ns))
@@ -202,7 +202,7 @@ module _ (conditions : Conditions) (Hit : Option SignificantToken → Type 0) wh
     disjunct_deep ns c {d} within {fs = fs} {ts = ts} {rest = rest} (g.comparison l nx) =
         by conditions Hit (level_is token_leaves levels.Disjunct c (input conditions d ts ns)) (pass conditions Hit _ (compared_deep ns c within l) (rw (operator_left levels.Disjunct rest conditions d (ns ++ fs) (no_and rest nx)) refl))
 
-    pub compared_deep : (ns : List (Noted Tok)) (c : Bool) {d : ℕ} (within : d ≤ conditions.limit) {e : Expr Tok Tok} {fs : List (Noted Tok)} {ts rest : Tokens} → Compared itself itself (Waived conditions.limit Hit) c d e fs ts rest
+    pub compared_deep : (ns : List (Noted Tok)) (c : Bool) {d : ℕ} (within : d ≤ conditions.limit) {e : Expr Tok Tok} {fs : List (Noted Tok)} {ts rest : Tokens} → Compared itself itself (PastLimitAt conditions.limit Hit) c d e fs ts rest
         → Reaches conditions Hit (read token_leaves (r.At levels.Compared c (input conditions d ts ns))) (e, input conditions d rest (ns ++ fs)) (expr_literals e)
     compared_deep ns c {d} within {ts = ts} (g.compare {ls = ls} {rs = rs} {operator = op} {following = following} by_operator l kind q) =
         renoted conditions Hit (three ns ls (compared c op.tok) rs) (by conditions Hit (level_is token_leaves levels.Compared c (input conditions d ts ns))
@@ -211,7 +211,7 @@ module _ (conditions : Conditions) (Hit : Option SignificantToken → Type 0) wh
     compared_deep ns c {d} within {fs = fs} {ts = ts} {rest = rest} (g.conjunct l nx) =
         by conditions Hit (level_is token_leaves levels.Compared c (input conditions d ts ns)) (pass conditions Hit _ (conjunct_deep ns c within l) (rw (operator_left levels.Compared rest conditions d (ns ++ fs) (no_comparison rest nx)) refl))
 
-    pub conjunct_deep : (ns : List (Noted Tok)) (c : Bool) {d : ℕ} (within : d ≤ conditions.limit) {e : Expr Tok Tok} {fs : List (Noted Tok)} {ts rest : Tokens} → Conjunct itself itself (Waived conditions.limit Hit) d e fs ts rest
+    pub conjunct_deep : (ns : List (Noted Tok)) (c : Bool) {d : ℕ} (within : d ≤ conditions.limit) {e : Expr Tok Tok} {fs : List (Noted Tok)} {ts rest : Tokens} → Conjunct itself itself (PastLimitAt conditions.limit Hit) d e fs ts rest
         → Reaches conditions Hit (read token_leaves (r.At levels.Conjunct c (input conditions d ts ns))) (e, input conditions d rest (ns ++ fs)) (expr_literals e)
     conjunct_deep ns c {d} within {ts = ts} (g.conditional {word = w} {tokens = tokens} is k) =
         by conditions Hit (level_is token_leaves levels.Conjunct c (input conditions d ts ns)) (rw (word_taken (codes "if") w tokens conditions d ns is) (conditional_deep ns within k))
@@ -220,35 +220,35 @@ module _ (conditions : Conditions) (Hit : Option SignificantToken → Type 0) wh
         (rw (word_left (codes "if") ts conditions d ns (no_word (codes "if") op kind (λ e. cc)), accept_taken kinds.Slash op tokens conditions d ns kind) (pass conditions Hit _ (conjunct_deep ns false within q) refl))
     conjunct_deep ns c {d} within {ts = ts} (g.join {ls = ls} {rs = rs} {operator = op} {following = following} nx l kind q) =
         renoted conditions Hit (append_assoc ns ls rs) (by conditions Hit (level_is token_leaves levels.Conjunct c (input conditions d ts ns))
-        (rw (word_left (codes "if") ts conditions d ns nx, accept_left kinds.Slash ts conditions d ns (no_slash (Waived conditions.limit Hit) l))
+        (rw (word_left (codes "if") ts conditions d ns nx, accept_left kinds.Slash ts conditions d ns (no_slash (PastLimitAt conditions.limit Hit) l))
         (then conditions Hit _ (value_deep ns c within l) (rw (operator_taken levels.Conjunct operators.Join op following conditions d (ns ++ ls) refl kind, append-nil (ns ++ ls))
         (pass conditions Hit _ (conjunct_deep (ns ++ ls) false within q) refl)))))
     conjunct_deep ns c {d} within {ts = ts} (g.list_concatenation {ls = ls} {rs = rs} {operator = op} {following = following} nx l kind q) =
         renoted conditions Hit (three ns ls (noted features.ListConcatenationOperator op.tok) rs) (by conditions Hit (level_is token_leaves levels.Conjunct c (input conditions d ts ns))
-        (rw (word_left (codes "if") ts conditions d ns nx, accept_left kinds.Slash ts conditions d ns (no_slash (Waived conditions.limit Hit) l))
+        (rw (word_left (codes "if") ts conditions d ns nx, accept_left kinds.Slash ts conditions d ns (no_slash (PastLimitAt conditions.limit Hit) l))
         (then conditions Hit _ (value_deep ns c within l) (rw (operator_taken levels.Conjunct operators.ListConcatenation op following conditions d (ns ++ ls) refl kind)
         (pass conditions Hit _ (conjunct_deep ((ns ++ ls) ++ noted features.ListConcatenationOperator op.tok) false within q) refl)))))
     conjunct_deep ns c {d} within {ts = ts} (g.concatenation {ls = ls} {rs = rs} {operator = op} {following = following} nx l kind q) =
         renoted conditions Hit (append_assoc ns ls rs) (by conditions Hit (level_is token_leaves levels.Conjunct c (input conditions d ts ns))
-        (rw (word_left (codes "if") ts conditions d ns nx, accept_left kinds.Slash ts conditions d ns (no_slash (Waived conditions.limit Hit) l))
+        (rw (word_left (codes "if") ts conditions d ns nx, accept_left kinds.Slash ts conditions d ns (no_slash (PastLimitAt conditions.limit Hit) l))
         (then conditions Hit _ (value_deep ns c within l) (rw (operator_taken levels.Conjunct operators.Concatenation op following conditions d (ns ++ ls) refl kind, append-nil (ns ++ ls))
         (pass conditions Hit _ (conjunct_deep (ns ++ ls) false within q) refl)))))
     conjunct_deep ns c {d} within {fs = fs} {ts = ts} {rest = rest} (g.value nx l nj) =
         by conditions Hit (level_is token_leaves levels.Conjunct c (input conditions d ts ns))
-        (rw (word_left (codes "if") ts conditions d ns nx, accept_left kinds.Slash ts conditions d ns (no_slash (Waived conditions.limit Hit) l))
+        (rw (word_left (codes "if") ts conditions d ns nx, accept_left kinds.Slash ts conditions d ns (no_slash (PastLimitAt conditions.limit Hit) l))
         (pass conditions Hit _ (value_deep ns c within l) (rw (operator_left levels.Conjunct rest conditions d (ns ++ fs) (no_joined rest nj)) refl)))
 
-    pub condition_deep : (ns : List (Noted Tok)) {d : ℕ} (within : d ≤ conditions.limit) {e : Expr Tok Tok} {fs : List (Noted Tok)} {ts rest : Tokens} → Condition itself itself (Waived conditions.limit Hit) d e fs ts rest
+    pub condition_deep : (ns : List (Noted Tok)) {d : ℕ} (within : d ≤ conditions.limit) {e : Expr Tok Tok} {fs : List (Noted Tok)} {ts rest : Tokens} → Condition itself itself (PastLimitAt conditions.limit Hit) d e fs ts rest
         → Reaches conditions Hit (condition_rule token_leaves (read token_leaves) (input conditions d ts ns)) (e, input conditions d rest (ns ++ fs)) (expr_literals e)
     condition_deep ns {d} within {e = e} (g.condition {fs = fs} {first = first} q) =
         renoted conditions Hit (append_assoc ns fs (uncompared e first.tok)) (pass conditions Hit _ (expression_deep ns true within q) refl)
 
-    pub braced_deep : (ns : List (Noted Tok)) {d : ℕ} (within : d ≤ conditions.limit) {e : Expr Tok Tok} {fs : List (Noted Tok)} {ts rest : Tokens} → Braced itself itself (Waived conditions.limit Hit) d e fs ts rest
+    pub braced_deep : (ns : List (Noted Tok)) {d : ℕ} (within : d ≤ conditions.limit) {e : Expr Tok Tok} {fs : List (Noted Tok)} {ts rest : Tokens} → Braced itself itself (PastLimitAt conditions.limit Hit) d e fs ts rest
         → Reaches conditions Hit (braced_rule token_leaves (read token_leaves) (input conditions d ts ns)) (e, input conditions d rest (ns ++ fs)) (expr_literals e)
     braced_deep ns {d} within {fs = fs} {rest = rest} (g.braces {opener = opener} {closer = closer} {following = following} kind q kind2) =
         rw (expect_taken kinds.BraceL opener following conditions d ns kind) (pass conditions Hit _ (expression_deep ns false within q) (rw (expect_taken kinds.BraceR closer rest conditions d (ns ++ fs) kind2) refl))
 
-    pub conditional_deep : (ns : List (Noted Tok)) {d : ℕ} (within : d ≤ conditions.limit) {w : SignificantToken} {e : Expr Tok Tok} {fs : List (Noted Tok)} {ts rest : Tokens} → Conditional itself itself (Waived conditions.limit Hit) d w e fs ts rest
+    pub conditional_deep : (ns : List (Noted Tok)) {d : ℕ} (within : d ≤ conditions.limit) {w : SignificantToken} {e : Expr Tok Tok} {fs : List (Noted Tok)} {ts rest : Tokens} → Conditional itself itself (PastLimitAt conditions.limit Hit) d w e fs ts rest
         → Reaches conditions Hit (read token_leaves (r.Conditional w (input conditions d ts ns))) (e, input conditions d rest (ns ++ fs)) (expr_literals e)
     conditional_deep ns {d} within {w} {ts = ts} {rest = rest} (g.if_only {cs = cs} {bs = bs} c b nx) =
         renoted conditions Hit (three ns cs bs (noted features.IfWithoutElse w.tok)) (by conditions Hit (conditional_is token_leaves w (input conditions d ts ns))
@@ -257,14 +257,14 @@ module _ (conditions : Conditions) (Hit : Option SignificantToken → Type 0) wh
         renoted conditions Hit (three ns cs bs os) (regrouped conditions Hit (sym (append_assoc (expr_literals c') (expr_literals b') (expr_literals o'))) (by conditions Hit (conditional_is token_leaves w (input conditions d ts ns))
         (then conditions Hit _ (condition_deep ns within c) (then conditions Hit _ (braced_deep (ns ++ cs) within b)
         (rw (word_taken (codes "else") w' other conditions d ((ns ++ cs) ++ bs) is)
-        (pass conditions Hit _ (branch_reached d other rest ((ns ++ cs) ++ bs) (((ns ++ cs) ++ bs) ++ os) o' (braced_no_word (Waived conditions.limit Hit) o) nx (braced_deep ((ns ++ cs) ++ bs) within o)) refl))))))
+        (pass conditions Hit _ (branch_reached d other rest ((ns ++ cs) ++ bs) (((ns ++ cs) ++ bs) ++ os) o' (braced_no_word (PastLimitAt conditions.limit Hit) o) nx (braced_deep ((ns ++ cs) ++ bs) within o)) refl))))))
     conditional_deep ns {d} within {w} {ts = ts} {rest = rest} (g.else_if {c = c'} {b = b'} {o = o'} {cs = cs} {bs = bs} {os = os} {otherwise = w'} {again = again} {other = other} c b is is2 o) =
         renoted conditions Hit (three ns cs bs os) (regrouped conditions Hit (sym (append_assoc (expr_literals c') (expr_literals b') (expr_literals o'))) (by conditions Hit (conditional_is token_leaves w (input conditions d ts ns))
         (then conditions Hit _ (condition_deep ns within c) (then conditions Hit _ (braced_deep (ns ++ cs) within b)
         (rw (word_taken (codes "else") w' (again ∷ other) conditions d ((ns ++ cs) ++ bs) is)
         (pass conditions Hit _ (again_reached d again other rest ((ns ++ cs) ++ bs) (((ns ++ cs) ++ bs) ++ os) o' is2 (conditional_deep ((ns ++ cs) ++ bs) within o)) refl))))))
 
-    pub value_deep : (ns : List (Noted Tok)) (condition : Bool) {d : ℕ} (within : d ≤ conditions.limit) {e : Expr Tok Tok} {fs : List (Noted Tok)} {ts rest : Tokens} → Value itself itself (Waived conditions.limit Hit) d e fs ts rest
+    pub value_deep : (ns : List (Noted Tok)) (condition : Bool) {d : ℕ} (within : d ≤ conditions.limit) {e : Expr Tok Tok} {fs : List (Noted Tok)} {ts rest : Tokens} → Value itself itself (PastLimitAt conditions.limit Hit) d e fs ts rest
         → Reaches conditions Hit (read token_leaves (r.At levels.Value condition (input conditions d ts ns))) (e, input conditions d rest (ns ++ fs)) (expr_literals e)
     value_deep ns condition {d} within {ts = ts} (g.not {fs = fs} {bang = bang} {tokens = tokens} kind v) =
         renoted conditions Hit (append_assoc ns (noted features.NegationOperator bang.tok) fs) (by conditions Hit (level_is token_leaves levels.Value condition (input conditions d ts ns))
@@ -337,7 +337,7 @@ module _ (conditions : Conditions) (Hit : Option SignificantToken → Type 0) wh
         (pass conditions Hit _ (sequence_deep (ns ++ noted features.ListLiteral opener.tok) within (λ e. cc) s) refl)))
 
     -- the closing delimiter is no comma
-    pub sequence_deep : (ns : List (Noted Tok)) {k : TokenKind} {d : ℕ} (within : d ≤ conditions.limit) {e : Exprs Tok Tok} {fs : List (Noted Tok)} {ts rest : Tokens} → k ≢ kinds.Comma → Sequence itself itself (Waived conditions.limit Hit) k d e fs ts rest
+    pub sequence_deep : (ns : List (Noted Tok)) {k : TokenKind} {d : ℕ} (within : d ≤ conditions.limit) {e : Exprs Tok Tok} {fs : List (Noted Tok)} {ts rest : Tokens} → k ≢ kinds.Comma → Sequence itself itself (PastLimitAt conditions.limit Hit) k d e fs ts rest
         → Reaches conditions Hit (read token_leaves (r.Sequence k (input conditions d ts ns))) (e, input conditions d rest (ns ++ fs)) (exprs_literals e)
     sequence_deep ns {k} {d} within {ts = ts} {rest = rest} nc (g.none {closer = closer} kind) =
         renoted conditions Hit (sym (append-nil ns)) (by conditions Hit (sequence_is token_leaves k (input conditions d ts ns)) (rw (accept_taken k closer rest conditions d ns kind) (is_read tt refl)))
@@ -348,7 +348,7 @@ module _ (conditions : Conditions) (Hit : Option SignificantToken → Type 0) wh
         renoted conditions Hit (append_assoc ns fs gs) (by conditions Hit (sequence_is token_leaves k (input conditions d ts ns)) (rw (accept_left k ts conditions d ns nx)
         (then conditions Hit _ (element_reached k d (input conditions d ts ns) e comma following (ns ++ fs) kind (expression_deep ns false within q)) (pass conditions Hit _ (sequence_deep (ns ++ fs) within nc s) refl))))
 
-    pub parts_deep : (ns : List (Noted Tok)) (start : Tok) {d : ℕ} (within : d ≤ conditions.limit) {e : Parts Tok Tok} {fs : List (Noted Tok)} {ts rest : Tokens} → FormatParts itself itself (Waived conditions.limit Hit) d e fs ts rest
+    pub parts_deep : (ns : List (Noted Tok)) (start : Tok) {d : ℕ} (within : d ≤ conditions.limit) {e : Parts Tok Tok} {fs : List (Noted Tok)} {ts rest : Tokens} → FormatParts itself itself (PastLimitAt conditions.limit Hit) d e fs ts rest
         → Reaches conditions Hit (read token_leaves (r.FormatParts start.lexeme (input conditions d ts ns))) (e, input conditions d rest (ns ++ fs)) (parts_literals start e)
     parts_deep ns start {d} within {ts = ts} {rest = rest} (g.end {token = token} kind) =
         renoted conditions Hit (sym (append-nil ns)) (by conditions Hit (parts_is token_leaves start.lexeme (input conditions d ts ns))

@@ -1,12 +1,12 @@
 -- What is read derives, with the features that are noted on the way, and its literals have texts.
 use Rattle.std.proofs.Common.{◌≡◌, ℕ, ◌+◌, ◌<◌, Bool, true, false, cond, nat_lt, List, [], ◌∷◌, ◌++◌, Option, Result, Ok, Err, IfOk, refl, sym, subst, ap, ◌∙◌, codes, arith}
 use Rattle.std.proofs.lemmas.Bool.Decides.{nat_tests}
-use Rattle.justfile_word.specs.declared.token_kind.TokenKind.{TokenKind}
-use Rattle.justfile_word.specs.declared.token_kind.TokenKind.TheVariants as kinds
+use Rattle.justfile_vocabulary.specs.declared.token_kind.TokenKind.{TokenKind}
+use Rattle.justfile_vocabulary.specs.declared.token_kind.TokenKind.TheVariants as kinds
 use Rattle.justfile_model.specs.declared.conditional_operator.ConditionalOperator.{ConditionalOperator}
 use Rattle.justfile_model.specs.declared.level.Level.{Level}
 use Rattle.justfile_model.specs.declared.level.Level.TheVariants as levels
-use Rattle.justfile_word.specs.declared.list_feature.ListFeature.TheVariants as features
+use Rattle.justfile_vocabulary.specs.declared.list_feature.ListFeature.TheVariants as features
 use Rattle.justfile_model.specs.declared.operator.Operator.TheVariants as operators
 use Rattle.justfile_model.specs.Conditions.{Conditions}
 use Rattle.justfile_model.specs.Tok.{Tok}
@@ -15,15 +15,15 @@ use Rattle.justfile_model.specs.Tree as tree
 use Rattle.justfile_model.specs.Tree.{Expr, Exprs, Parts, itself, lexeme}
 use Rattle.justfile_model.specs.Features.{Noted, noted, noted_if, compared, uncompared, called}
 use Rattle.justfile_model.specs.Expressions as g
-use Rattle.justfile_model.specs.Expressions.{Tokens, IsKind, IsWord, NotWord, NotNext, NotMarked, Unmarked, Under, ends_open}
+use Rattle.justfile_model.specs.Expressions.{Tokens, IsKind, IsWord, NotWord, NotNext, NotMarked, Unmarked, BelowLimit, ends_open}
 use Rattle.justfile_model.specs.Literals as literal
 use Rattle.justfile_model.specs.Literals.{Literal, LiteralFault, over_literal, cooked_text}
 use Rattle.justfile_model.specs.Files.{expr_literals, exprs_literals, parts_literals}
 use Rattle.justfile_model.specs.Operators.{feature_of}
-use Rattle.justfile_model.specs.Reading.{◌>>=◌, NotCooked, at, deeper, note, shallower, with}
+use Rattle.justfile_model.specs.ReaderState.{◌>>=◌, NotCooked, at, deeper, note, shallower, with}
 use Rattle.justfile_model.specs.ExpressionReader as r
 use Rattle.justfile_model.specs.ExpressionReader.{Out, Place, accept_operator, assert_rule, backtick, binary_rule, braced_rule, by_text, condition_rule, conditional_rule, conjunct_rule, cooked, element_rule, ended_by, format_rest_rule, format_rule, format_string_rule, found, group_rule, list_rule, literal_or, name_rule, note_uncompared, otherwise_rule, part, parts_rule, read, rule, sequence_rule, whole_format_string, stop_expression, literal_string, value_rule}
-use Rattle.justfile_model.specs.TreeReader.{Read, Refusal, State, token_leaves}
+use Rattle.justfile_model.specs.TreeReader.{Read, ReadError, State, token_leaves}
 use Rattle.justfile_model.proofs.ExpressionProgress.{LeftOf, none_left, expression_left}
 use Rattle.justfile_model.proofs.Meets.{Met, nothing_met, literal_met, features_met, unnoted_met, all_met, both_met, noted_met}
 use Rattle.justfile_model.proofs.ReadingSteps.{after_test, known}
@@ -36,34 +36,34 @@ ReadExpr = Read (Expr Tok Tok)
 module _ (conditions : Conditions) where
   -- trees with their tokens, under the limit
   abbrev pub Expression : Bool → ℕ → Expr Tok Tok → List (Noted Tok) → Tokens → Tokens → Type 0
-  Expression = g.Expression itself itself (Under conditions.limit)
+  Expression = g.Expression itself itself (BelowLimit conditions.limit)
 
   abbrev pub Disjunct : Bool → ℕ → Expr Tok Tok → List (Noted Tok) → Tokens → Tokens → Type 0
-  Disjunct = g.Disjunct itself itself (Under conditions.limit)
+  Disjunct = g.Disjunct itself itself (BelowLimit conditions.limit)
 
   abbrev pub Compared : Bool → ℕ → Expr Tok Tok → List (Noted Tok) → Tokens → Tokens → Type 0
-  Compared = g.Compared itself itself (Under conditions.limit)
+  Compared = g.Compared itself itself (BelowLimit conditions.limit)
 
   abbrev pub Conjunct : ℕ → Expr Tok Tok → List (Noted Tok) → Tokens → Tokens → Type 0
-  Conjunct = g.Conjunct itself itself (Under conditions.limit)
+  Conjunct = g.Conjunct itself itself (BelowLimit conditions.limit)
 
   abbrev pub Condition : ℕ → Expr Tok Tok → List (Noted Tok) → Tokens → Tokens → Type 0
-  Condition = g.Condition itself itself (Under conditions.limit)
+  Condition = g.Condition itself itself (BelowLimit conditions.limit)
 
   abbrev pub Braced : ℕ → Expr Tok Tok → List (Noted Tok) → Tokens → Tokens → Type 0
-  Braced = g.Braced itself itself (Under conditions.limit)
+  Braced = g.Braced itself itself (BelowLimit conditions.limit)
 
   abbrev pub Conditional : ℕ → SignificantToken → Expr Tok Tok → List (Noted Tok) → Tokens → Tokens → Type 0
-  Conditional = g.Conditional itself itself (Under conditions.limit)
+  Conditional = g.Conditional itself itself (BelowLimit conditions.limit)
 
   abbrev pub Value : ℕ → Expr Tok Tok → List (Noted Tok) → Tokens → Tokens → Type 0
-  Value = g.Value itself itself (Under conditions.limit)
+  Value = g.Value itself itself (BelowLimit conditions.limit)
 
   abbrev pub Sequence : TokenKind → ℕ → Exprs Tok Tok → List (Noted Tok) → Tokens → Tokens → Type 0
-  Sequence = g.Sequence itself itself (Under conditions.limit)
+  Sequence = g.Sequence itself itself (BelowLimit conditions.limit)
 
   abbrev pub FormatParts : ℕ → Parts Tok Tok → List (Noted Tok) → Tokens → Tokens → Type 0
-  FormatParts = g.FormatParts itself itself (Under conditions.limit)
+  FormatParts = g.FormatParts itself itself (BelowLimit conditions.limit)
 
   -- an expression of a level
   abbrev pub At : Level → Bool → ℕ → Expr Tok Tok → List (Noted Tok) → Tokens → Tokens → Type 0
@@ -94,7 +94,7 @@ module _ (conditions : Conditions) where
   compared_is by false token = refl
 
   -- after the other branch
-  ended_keeps : (b : Bool) (s : State) (e : Expr Tok Tok) (P : ReadExpr → Type 0) → ((x : Refusal) → P (Err x)) → ((b ≡ true → NotWord (codes "else") s.left) → P (Ok (e, s))) → P (ended_by token_leaves b e s)
+  ended_keeps : (b : Bool) (s : State) (e : Expr Tok Tok) (P : ReadExpr → Type 0) → ((x : ReadError) → P (Err x)) → ((b ≡ true → NotWord (codes "else") s.left) → P (Ok (e, s))) → P (ended_by token_leaves b e s)
   ended_keeps false s e P fails goes = goes (λ h. cc)
   ended_keeps true s e P fails goes = after_choose_word (codes "else") s _ _ P (λ nx. goes (λ h. nx)) (λ t rest split is. fails _)
 
@@ -282,7 +282,7 @@ module _ (conditions : Conditions) where
 
     -- a condition that is no comparison
     uncompared_keeps : (d : ℕ) (s : State) (x : Expr Tok Tok × State) (from : Tokens) → s.left ≡ from → Derives (Expression true d) d s x → Derives (Condition d) d s (x.0, note_uncompared token_leaves x.0 from x.1)
-    uncompared_keeps d s x [] split E = absurd (none_left (subst (λ (ts : Tokens). LeftOf x.1.left ts) split (expression_left itself itself (Under conditions.limit) E.derives)))
+    uncompared_keeps d s x [] split E = absurd (none_left (subst (λ (ts : Tokens). LeftOf x.1.left ts) split (expression_left itself itself (BelowLimit conditions.limit) E.derives)))
     uncompared_keeps d s x (t ∷ ts) split E = record {
       features = E.features ++ uncompared x.0 t.tok;
       derives = subst (λ (us : Tokens). Condition d x.0 (E.features ++ uncompared x.0 t.tok) us x.1.left) (sym split) (g.condition (subst (λ (us : Tokens). Expression true d x.0 E.features us x.1.left) split E.derives));

@@ -6,7 +6,7 @@ use Rattle.justfile_model.specs.Docs.{Before, Nothing, after, doc_in, doc_or_com
 use Rattle.justfile_model.specs.Features.{ConstructFeatures, Noted}
 use Rattle.justfile_model.specs.Files.{all_features, entries_features, if_both, ordered, says_doc, undocumented, with_entries}
 use Rattle.justfile_model.specs.Meaning.{entries_of}
-use Rattle.justfile_model.specs.Sight.{Sight}
+use Rattle.justfile_model.specs.LeafView.{LeafView}
 use Rattle.justfile_model.specs.Tree.{Alias, Assignment, Comment, Construct, Content, Entry, Function, Import, Item, Module, Newline, OrderedItem, Recipe, Setting, Unexport, WrittenAttribute, WrittenItem, starless}
 use Rattle.justfile_model.proofs.Binds.{never_some, some_back}
 
@@ -34,34 +34,34 @@ starless_features (Setting parts) entries = refl
 starless_features (Unexport name) entries = refl
 starless_features (Recipe parts) entries = refl
 
-module _ {A B C S : Type 0} (sight : Sight A B) where
+module _ {A B C S : Type 0} (view : LeafView A B) where
   -- the others have these features
   abbrev Meant : List (WrittenItem A B C S) → Type 0
-  Meant items = (all : List (OrderedItem A B C)) → undocumented sight items ≡ Some all → (fs : List (ConstructFeatures B)) → all_features sight items fs ≡ meant_features all fs
+  Meant items = (all : List (OrderedItem A B C)) → undocumented view items ≡ Some all → (fs : List (ConstructFeatures B)) → all_features view items fs ≡ meant_features all fs
 
   newline_meant : (items : List (WrittenItem A B C S)) → Meant items → Meant (Newline ∷ items)
-  newline_meant items more all h fs = go (undocumented sight items) refl h
+  newline_meant items more all h fs = go (undocumented view items) refl h
     where
-      go : (o : Option (List (OrderedItem A B C))) → undocumented sight items ≡ o → if_both (Some Newline) o ≡ Some all
-          → all_features sight items fs ≡ meant_features all fs
+      go : (o : Option (List (OrderedItem A B C))) → undocumented view items ≡ o → if_both (Some Newline) o ≡ Some all
+          → all_features view items fs ≡ meant_features all fs
       go None e k = never_some all k
       go (Some others) e k = more others e fs ∙ ap (λ x. meant_features x fs) (some_back (Newline ∷ others) all k)
 
   comment_meant : (text : List ℕ) (items : List (WrittenItem A B C S)) → Meant items → Meant (Comment text ∷ items)
-  comment_meant text items more all h fs = go (undocumented sight items) refl h
+  comment_meant text items more all h fs = go (undocumented view items) refl h
     where
-      go : (o : Option (List (OrderedItem A B C))) → undocumented sight items ≡ o → if_both (Some (Comment text)) o ≡ Some all
-          → all_features sight items fs ≡ meant_features all fs
+      go : (o : Option (List (OrderedItem A B C))) → undocumented view items ≡ o → if_both (Some (Comment text)) o ≡ Some all
+          → all_features view items fs ≡ meant_features all fs
       go None e k = never_some all k
       go (Some others) e k = more others e fs ∙ ap (λ x. meant_features x fs) (some_back (Comment text ∷ others) all k)
 
   construct_meant : (ws : List (WrittenAttribute A B)) (content : Content A B C S) (items : List (WrittenItem A B C S)) → Meant items
       → Meant (Construct ws content ∷ items)
-  construct_meant ws content items more all h fs = go (entries_of sight ws) (undocumented sight items) refl refl h fs
+  construct_meant ws content items more all h fs = go (entries_of view ws) (undocumented view items) refl refl h fs
     where
-      go : (o : Option (List (Entry A B))) (os : Option (List (OrderedItem A B C))) → entries_of sight ws ≡ o → undocumented sight items ≡ os
+      go : (o : Option (List (Entry A B))) (os : Option (List (OrderedItem A B C))) → entries_of view ws ≡ o → undocumented view items ≡ os
           → if_both (with_entries content o) os ≡ Some all → (gs : List (ConstructFeatures B))
-          → all_features sight (Construct ws content ∷ items) gs ≡ meant_features all gs
+          → all_features view (Construct ws content ∷ items) gs ≡ meant_features all gs
       go None os e es k gs = never_some all k
       go (Some entries) None e es k gs = never_some all k
       go (Some entries) (Some others) e es k [] = ap (λ x. meant_features x []) (some_back (Construct entries (starless content) ∷ others) all k)
@@ -70,8 +70,8 @@ module _ {A B C S : Type 0} (sight : Sight A B) where
           ∙ (λ i. (f.attributes ++ sym (starless_features content entries) i ++ f.content) ++ meant_features others gs)
           ∙ ap (λ x. meant_features x (f ∷ gs)) (some_back (Construct entries (starless content) ∷ others) all k)
 
-  features_meant : (items : List (WrittenItem A B C S)) (all : List (OrderedItem A B C)) → undocumented sight items ≡ Some all
-      → (fs : List (ConstructFeatures B)) → all_features sight items fs ≡ meant_features all fs
+  features_meant : (items : List (WrittenItem A B C S)) (all : List (OrderedItem A B C)) → undocumented view items ≡ Some all
+      → (fs : List (ConstructFeatures B)) → all_features view items fs ≡ meant_features all fs
   features_meant [] all h fs = ap (λ x. meant_features x fs) (some_back [] all h)
   features_meant (Newline ∷ items) all h fs = newline_meant items (features_meant items) all h fs
   features_meant (Comment text ∷ items) all h fs = comment_meant text items (features_meant items) all h fs
@@ -137,18 +137,18 @@ module _ {A B C S : Type 0} (has_doc : List (Entry A B) → Bool) where
       ∙ same_after i (documented has_doc (after has_doc i) all) all (features_documented (after has_doc i) all) fs
 
 -- the features of a file are those of what it means
-features_ordered : {A B C S : Type 0} (sight : Sight A B) (items : List (WrittenItem A B C S)) (all : List (OrderedItem A B C)) → ordered sight items ≡ Some all
-    → (fs : List (ConstructFeatures B)) → all_features sight items fs ≡ meant_features all fs
-features_ordered {A} {B} {C} {S} sight items all h fs = go (undocumented sight items) refl h
+features_ordered : {A B C S : Type 0} (view : LeafView A B) (items : List (WrittenItem A B C S)) (all : List (OrderedItem A B C)) → ordered view items ≡ Some all
+    → (fs : List (ConstructFeatures B)) → all_features view items fs ≡ meant_features all fs
+features_ordered {A} {B} {C} {S} view items all h fs = go (undocumented view items) refl h
   where
-    go : (o : Option (List (OrderedItem A B C))) → undocumented sight items ≡ o → option_map (documented says_doc Nothing) o ≡ Some all
-        → all_features sight items fs ≡ meant_features all fs
+    go : (o : Option (List (OrderedItem A B C))) → undocumented view items ≡ o → option_map (documented says_doc Nothing) o ≡ Some all
+        → all_features view items fs ≡ meant_features all fs
     go None e k = never_some all k
     go (Some others) e k =
-        features_meant sight items others e fs ∙ sym (features_documented says_doc Nothing others fs)
+        features_meant view items others e fs ∙ sym (features_documented says_doc Nothing others fs)
         ∙ ap (λ x. meant_features x fs) (some_back (documented says_doc Nothing others) all k)
 
 -- what means the same has the same features, however it is seen
-pub features_same : {A B C S : Type 0} (sight other : Sight A B) (items : List (WrittenItem A B C S)) (all : List (OrderedItem A B C))
-    → ordered sight items ≡ Some all → ordered other items ≡ Some all → (fs : List (ConstructFeatures B)) → all_features sight items fs ≡ all_features other items fs
-features_same sight other items all h k fs = features_ordered sight items all h fs ∙ sym (features_ordered other items all k fs)
+pub features_same : {A B C S : Type 0} (view other : LeafView A B) (items : List (WrittenItem A B C S)) (all : List (OrderedItem A B C))
+    → ordered view items ≡ Some all → ordered other items ≡ Some all → (fs : List (ConstructFeatures B)) → all_features view items fs ≡ all_features other items fs
+features_same view other items all h k fs = features_ordered view items all h fs ∙ sym (features_ordered other items all k fs)

@@ -3,21 +3,21 @@ use Rattle.std.proofs.Common.{zero, suc, ◌≡◌, ◌≢◌, ℕ, Bool, true, 
 use Rattle.std.specs.Prelude.{◌&&◌, not, is_some, nat_eq}
 use Rattle.std.specs.List.{starts_with}
 use Rattle.std.specs.Str.{bytes_eq}
-use Rattle.justfile_word.specs.declared.byte_class.ByteClass.{ByteClass}
-use Rattle.justfile_word.specs.declared.byte_class.ByteClass.TheVariants as classes
-use Rattle.justfile_base.specs.declared.delimiter.Delimiter.{Delimiter}
-use Rattle.justfile_base.specs.declared.delimiter.Delimiter.TheVariants.{Brace, Bracket, FormatString, Paren}
-use Rattle.justfile_base.specs.declared.string_kind.StringDelimiter.{StringDelimiter}
-use Rattle.justfile_base.specs.declared.string_kind.StringDelimiter.TheVariants as delimiters
-use Rattle.justfile_base.specs.declared.string_kind.StringKind.{StringKind}
-use Rattle.justfile_word.specs.declared.token_kind.TokenKind.{TokenKind}
-use Rattle.justfile_word.specs.declared.token_kind.TokenKind.TheVariants.{BraceR, BracketR, Dedent, FormatStringContinue, FormatStringEnd, InterpolationEnd, InterpolationStart, ParenR}
-use Rattle.justfile_word.specs.ByteClass.{class_of}
-use Rattle.justfile_base.specs.StringKind.{kind_of, token_kind_of}
+use Rattle.justfile_vocabulary.specs.declared.byte_class.ByteClass.{ByteClass}
+use Rattle.justfile_vocabulary.specs.declared.byte_class.ByteClass.TheVariants as classes
+use Rattle.justfile_token.specs.declared.delimiter.Delimiter.{Delimiter}
+use Rattle.justfile_token.specs.declared.delimiter.Delimiter.TheVariants.{Brace, Bracket, FormatString, Paren}
+use Rattle.justfile_token.specs.declared.string_kind.StringDelimiter.{StringDelimiter}
+use Rattle.justfile_token.specs.declared.string_kind.StringDelimiter.TheVariants as delimiters
+use Rattle.justfile_token.specs.declared.string_kind.StringKind.{StringKind}
+use Rattle.justfile_vocabulary.specs.declared.token_kind.TokenKind.{TokenKind}
+use Rattle.justfile_vocabulary.specs.declared.token_kind.TokenKind.TheVariants.{BraceR, BracketR, Dedent, FormatStringContinue, FormatStringEnd, InterpolationEnd, InterpolationStart, ParenR}
+use Rattle.justfile_vocabulary.specs.ByteClass.{class_of}
+use Rattle.justfile_token.specs.StringKind.{kind_of, token_kind_of}
 use Rattle.justfile_model.specs.declared.open_delimiter.OpenDelimiter.{OpenDelimiter}
 use Rattle.justfile_model.specs.declared.raw_text.RawText.TheVariants as raw_texts
 use Rattle.justfile_model.specs.Bytes.{is_interpolation_start, is_interpolation_end, is_mixed, closes_levels, first_char}
-use Rattle.justfile_model.specs.LexicalFault.{LexicalRefusal}
+use Rattle.justfile_model.specs.LexicalFault.{LexicalError}
 use Rattle.justfile_model.specs.LiteralText.{raw_len}
 use Rattle.justfile_model.specs.Modes.{Mode, head_of, innermost, innermost_of, is_empty, nested}
 use Rattle.justfile_model.specs.Next.{NextToken, at_end_by, blanks_or, body_token, brace_by, closing_delimiter, closing, escaped_line_end, fixed_token, format_kind, format_string_kind, token_by_class, token_within_line, begins_blank_line, is_level, is_same, layout, line_end_token, literal_token, literal_part, next, next_by, opening, region_by, tested_blanks, text_or, token_in_region, doubled_token}
@@ -55,7 +55,7 @@ module _ (m : Mode) (rest : List ℕ) where
   token : (k : TokenKind) (n : ℕ) → Fits m k → Finds m (Ok (k, n))
   token k n f = record { fits = f }
 
-  refused : {r : LexicalRefusal} → Finds m (Err r)
+  refused : {r : LexicalError} → Finds m (Err r)
   refused = record { fits = tt }
 
   twice_fits : (b : ℕ) (k : TokenKind) → Fits m k → Finds m (doubled_token b k rest)

@@ -4,22 +4,22 @@ use Rattle.std.proofs.Common.{◌≡◌, ℕ, ◌+◌, Bool, true, false, List, 
 use Rattle.std.specs.List.{flat_map}
 use Rattle.std.specs.Option.{option_map}
 use Rattle.std.proofs.lemmas.List.{map-append}
-use Rattle.justfile_word.specs.declared.token_kind.TokenKind.TheVariants as kinds
+use Rattle.justfile_vocabulary.specs.declared.token_kind.TokenKind.TheVariants as kinds
 use Rattle.justfile_model.specs.declared.parameter_kind.ParameterKind.{ParameterKind}
 use Rattle.justfile_model.specs.declared.parameter_kind.ParameterKind.TheVariants.{Plus, Singular, Star}
 use Rattle.justfile_model.specs.Conditions.{Conditions}
 use Rattle.justfile_model.specs.ExpressionReader as expressions
-use Rattle.justfile_model.specs.Expressions.{Tokens, Expression, IsKind, NotNext, Value, Waived}
+use Rattle.justfile_model.specs.Expressions.{Tokens, Expression, IsKind, NotNext, Value, PastLimitAt}
 use Rattle.justfile_model.specs.Features.{Noted, rules_features}
 use Rattle.justfile_model.specs.Files.{dependency_literals, expr_literals, header_literals, parameter_literals}
 use Rattle.justfile_model.specs.HeaderReader as r
-use Rattle.justfile_model.specs.HeaderReader.{ReadHeader, draw_binding, obeying, with_bindings}
+use Rattle.justfile_model.specs.HeaderReader.{ReadHeader, next_binding_number, obeying, with_bindings}
 use Rattle.justfile_model.specs.Headers as g
 use Rattle.justfile_model.specs.Headers.{AllDependencies, Dependencies, DependencyArguments, DependencyOf, NamedHeader, NamedParameter, ParameterOf, Parameters, PathOf, PathRest}
 use Rattle.justfile_model.specs.Literals.{Literal}
-use Rattle.justfile_model.specs.ReadAttribute.{token_sight}
+use Rattle.justfile_model.specs.ReadAttribute.{token_view}
 use Rattle.justfile_model.specs.Reader.{header_kept}
-use Rattle.justfile_model.specs.Reading.{◌>>=◌, Counters, accepted, expect, prepend}
+use Rattle.justfile_model.specs.ReaderState.{◌>>=◌, Counters, accepted, expect, prepend}
 use Rattle.justfile_model.specs.RecipeRules.{dependency_broken, header_broken, misplaced_broken, options_broken, parameter_broken, parameters_broken, second_broken, stars, undefined_broken}
 use Rattle.justfile_model.specs.Rules.{Broken}
 use Rattle.justfile_model.specs.SignificantTokens.{SignificantToken}
@@ -65,8 +65,8 @@ after_both (Ok x) f g = refl
 after_both (Err e) f g = refl
 
 module _ (conditions : Conditions) (Hit : Option SignificantToken → Type 0) where
-  abbrev Open : ℕ → Option SignificantToken → Type 0
-  Open = Waived conditions.limit Hit
+  abbrev MayEnter : ℕ → Option SignificantToken → Type 0
+  MayEnter = PastLimitAt conditions.limit Hit
 
   -- rules that are among those that are broken
   pub obeying_reached : (broken : List (Broken Tok)) (s : State) {rules : List (Broken Tok)} → Among broken rules
@@ -74,7 +74,7 @@ module _ (conditions : Conditions) (Hit : Option SignificantToken → Type 0) wh
   obeying_reached [] s h = read_now conditions Hit (tt, s) refl refl
   obeying_reached (b ∷ bs) s h = breaks_one conditions Hit b (h.carries b (0, omega arith, refl)) refl
 
-  value_reached : (ns : List (Noted Tok)) {e : Expr Tok Tok} {fs : List (Noted Tok)} {ts rest : Tokens} → Value itself itself Open 0 e fs ts rest
+  value_reached : (ns : List (Noted Tok)) {e : Expr Tok Tok} {fs : List (Noted Tok)} {ts rest : Tokens} → Value itself itself MayEnter 0 e fs ts rest
       → Reaches conditions Hit (expressions.value token_leaves (input conditions 0 ts ns)) (e, input conditions 0 rest (ns ++ fs)) (expr_literals e)
   value_reached ns {ts = ts} v = plain.by conditions Hit (value_is token_leaves (input conditions 0 ts ns)) (value_deep conditions Hit ns false (omega arith) v)
 
@@ -101,16 +101,16 @@ module _ (conditions : Conditions) (Hit : Option SignificantToken → Type 0) wh
   -- ---- arguments of a dependency
 
   plain_reached : (before : List ReadArgument) (ns : List (Noted Tok)) {e : Expr Tok Tok} {fs : List (Noted Tok)} {ts rest : Tokens}
-      {rules : List (Broken Tok)} → Expression itself itself Open false 0 e fs ts rest
+      {rules : List (Broken Tok)} → Expression itself itself MayEnter false 0 e fs ts rest
       → ReachesOne conditions Hit (r.dependency_argument token_leaves before (input conditions 0 ts ns))
       (record { star = None; value = e }, input conditions 0 rest (ns ++ fs)) (expr_literals e) rules
   unfolding r.dependency_argument r.plain_argument
   plain_reached before ns {ts = ts} h =
-      rw (accept_left kinds.Asterisk ts conditions 0 ns (expression_starts itself itself Open h).no_star)
+      rw (accept_left kinds.Asterisk ts conditions 0 ns (expression_starts itself itself MayEnter h).no_star)
       (pass conditions Hit _ (plainly conditions Hit (expression_deep conditions Hit ns false (omega arith) h)) refl)
 
   starred_reached : (before : List ReadArgument) (ns : List (Noted Tok)) (mark : SignificantToken) (others : List Tok) {e : Expr Tok Tok}
-      {fs : List (Noted Tok)} {ts rest : Tokens} {rules : List (Broken Tok)} → IsKind kinds.Asterisk mark → Value itself itself Open 0 e fs ts rest
+      {fs : List (Noted Tok)} {ts rest : Tokens} {rules : List (Broken Tok)} → IsKind kinds.Asterisk mark → Value itself itself MayEnter 0 e fs ts rest
       → Among (second_broken (stars_read before ++ mark.tok ∷ others)) rules
       → ReachesOne conditions Hit (r.dependency_argument token_leaves before (input conditions 0 (mark ∷ ts) ns))
       (record { star = Some mark; value = e }, input conditions 0 rest (ns ++ fs)) (expr_literals e) rules
@@ -124,7 +124,7 @@ module _ (conditions : Conditions) (Hit : Option SignificantToken → Type 0) wh
       (pass conditions Hit _ (plainly conditions Hit (value_reached ns v)) refl))
 
   arguments_reached : (before : List ReadArgument) (ns : List (Noted Tok)) {arguments : List (DependencyArgument Tok Tok Tok)} {fs : List (Noted Tok)}
-      {ts rest : Tokens} {rules : List (Broken Tok)} → DependencyArguments itself itself itself Open arguments fs ts rest
+      {ts rest : Tokens} {rules : List (Broken Tok)} → DependencyArguments itself itself itself MayEnter arguments fs ts rest
       → Among (second_broken (stars_read before ++ stars arguments)) rules
       → ReachesSome conditions Hit (r.dependency_arguments token_leaves (before, input conditions 0 ts ns))
       (IsAt (AreAfter before arguments) (input conditions 0 rest (ns ++ fs))) (arguments_literals arguments) rules
@@ -136,7 +136,7 @@ module _ (conditions : Conditions) (Hit : Option SignificantToken → Type 0) wh
   arguments_reached before ns {ts = ts} {rest = rest} (g.plain {e = e} {others = others} {fs = fs} {gs = gs} first later) h =
       let a : ReadArgument = record { star = None; value = e } in
       by conditions Hit (dependency_arguments_is token_leaves (before, input conditions 0 ts ns))
-      (rw (accept_left kinds.ParenR ts conditions 0 ns (expression_starts itself itself Open first).no_closer)
+      (rw (accept_left kinds.ParenR ts conditions 0 ns (expression_starts itself itself MayEnter first).no_closer)
       (then_one conditions Hit _ _ (plain_reached before ns first)
       (read_as conditions Hit (AreAfter before (kept a ∷ others)) (after_one before a others) (λ i. input conditions 0 rest (append_assoc ns fs gs i))
       (arguments_reached (before ++ a ∷ []) (ns ++ fs) later (stars_regrouped before a (stars others) h)))))
@@ -173,7 +173,7 @@ module _ (conditions : Conditions) (Hit : Option SignificantToken → Type 0) wh
 
   parenthesized_reached : (star : Option SignificantToken) (ns : List (Noted Tok)) {names : List Tok} {arguments : List (DependencyArgument Tok Tok Tok)}
       {fs : List (Noted Tok)} (opener : SignificantToken) {ts next rest : Tokens} {rules : List (Broken Tok)} → IsKind kinds.ParenL opener
-      → PathOf itself names ts next → DependencyArguments itself itself itself Open arguments fs next rest
+      → PathOf itself names ts next → DependencyArguments itself itself itself MayEnter arguments fs next rest
       → Among (dependency_broken (dependency_with star names arguments)) rules
       → DependencyReached (r.parenthesized token_leaves star) ns (dependency_with star names arguments) fs (opener ∷ ts) rest rules
   unfolding r.parenthesized
@@ -189,7 +189,7 @@ module _ (conditions : Conditions) (Hit : Option SignificantToken → Type 0) wh
       (read_now conditions Hit (r.dependency_of token_leaves star names all, end) (λ i. (read_is star names arguments all is i, end)) refl))))
 
   dependency_reached : (ns : List (Noted Tok)) {d : Dependency Tok Tok Tok} {fs : List (Noted Tok)} {ts rest : Tokens} {rules : List (Broken Tok)}
-      → DependencyOf itself itself itself Open d fs ts rest → Among (dependency_broken d) rules
+      → DependencyOf itself itself itself MayEnter d fs ts rest → Among (dependency_broken d) rules
       → DependencyReached (r.dependency token_leaves) ns d fs ts rest rules
   unfolding r.dependency r.bare_dependency
   dependency_reached ns {rest = rest} (g.bare (g.path {name = name} {tokens = ts} kind others)) h =
@@ -233,7 +233,7 @@ module _ (conditions : Conditions) (Hit : Option SignificantToken → Type 0) wh
       ReachesOne conditions Hit (rule (input conditions 0 ts ns)) (ds, input conditions 0 rest (ns ++ fs)) (flat_map dependency_literals ds) rules
 
   dependencies_reached : (ns : List (Noted Tok)) {ds : List (Dependency Tok Tok Tok)} {fs : List (Noted Tok)} {ts rest : Tokens} {rules : List (Broken Tok)}
-      → Dependencies itself itself itself Open ds fs ts rest → Among (flat_map dependency_broken ds) rules
+      → Dependencies itself itself itself MayEnter ds fs ts rest → Among (flat_map dependency_broken ds) rules
       → DependenciesReached (r.dependencies token_leaves) ns ds fs ts rest rules
   unfolding r.dependencies_rule prepend
   dependencies_reached ns {rest = rest} (g.none no_name no_star no_opener) h =
@@ -243,7 +243,7 @@ module _ (conditions : Conditions) (Hit : Option SignificantToken → Type 0) wh
   dependencies_reached ns {ts = ts} (g.more {d = d} {ds = ds} {fs = fs} {gs = gs} first later) h =
       renoted conditions Hit (append_assoc ns fs gs)
       (by conditions Hit (dependencies_is token_leaves (input conditions 0 ts ns))
-      (rw (begins ns (dependency_starts itself itself itself Open first))
+      (rw (begins ns (dependency_starts itself itself itself MayEnter first))
       (then_one conditions Hit _ _ (dependency_reached ns first (among_first (dependency_broken d) (flat_map dependency_broken ds) h))
       (pass conditions Hit _ (dependencies_reached (ns ++ fs) later (among_others (dependency_broken d) (flat_map dependency_broken ds) h)) refl))))
 
@@ -254,7 +254,7 @@ module _ (conditions : Conditions) (Hit : Option SignificantToken → Type 0) wh
   both_from make s = r.dependencies token_leaves s >>= λ priors. r.subsequents token_leaves priors.1 >>= λ others. Ok (make priors.0 others.0, others.1)
 
   both_reached : {X : Type 0} (make : List (Dependency Tok Tok Tok) → List (Dependency Tok Tok Tok) → X) (ns : List (Noted Tok)) {ds ss : List (Dependency Tok Tok Tok)} {fs : List (Noted Tok)} {ts rest : Tokens} {rules : List (Broken Tok)}
-      → AllDependencies itself itself itself Open ds ss fs ts rest → Among (flat_map dependency_broken ds ++ flat_map dependency_broken ss) rules
+      → AllDependencies itself itself itself MayEnter ds ss fs ts rest → Among (flat_map dependency_broken ds ++ flat_map dependency_broken ss) rules
       → ReachesOne conditions Hit (both_from make (input conditions 0 ts ns)) (make ds ss, input conditions 0 rest (ns ++ fs))
       (flat_map dependency_literals ds ++ flat_map dependency_literals ss) rules
   unfolding r.subsequents
@@ -279,14 +279,14 @@ module _ (conditions : Conditions) (Hit : Option SignificantToken → Type 0) wh
     drawn n = with_bindings (n.bindings + 1) n
 
     abbrev broken_by : (before : List (Parameter Tok Tok)) → Parameter Tok Tok → List (Broken Tok)
-    broken_by = parameter_broken (token_sight conditions) said
+    broken_by = parameter_broken (token_view conditions) said
 
     named_reached : (kind : ParameterKind) (export : Bool) (before : List (Parameter Tok Tok)) (n : Counters) (ns : List (Noted Tok)) {p : Parameter Tok Tok}
-        {fs : List (Noted Tok)} {ts rest : Tokens} {rules : List (Broken Tok)} → NamedParameter itself itself Open kind export p fs ts rest
+        {fs : List (Noted Tok)} {ts rest : Tokens} {rules : List (Broken Tok)} → NamedParameter itself itself MayEnter kind export p fs ts rest
         → Among (broken_by before p) rules
-        → ReachesOne conditions Hit (r.named_parameter token_leaves token_sight said kind export (before, n) (input conditions 0 ts ns))
+        → ReachesOne conditions Hit (r.named_parameter token_leaves token_view said kind export (before, n) (input conditions 0 ts ns))
         ((before ++ p ∷ [], drawn n), input conditions 0 rest (ns ++ fs)) (parameter_literals p) rules
-    unfolding r.named_parameter r.default_value draw_binding
+    unfolding r.named_parameter r.default_value next_binding_number
     named_reached kind export before n ns {p = p} {rest = rest} (g.required {name = name} is nx) h =
         renoted conditions Hit (sym (append-nil ns))
         (rw (expect_taken kinds.Identifier name rest conditions 0 ns is, accept_left kinds.Equals rest conditions 0 ns nx)
@@ -302,17 +302,17 @@ module _ (conditions : Conditions) (Hit : Option SignificantToken → Type 0) wh
     abbrev ParameterReached : ParameterKind → List (Parameter Tok Tok) → Counters → List (Noted Tok) → Parameter Tok Tok → List (Noted Tok) → Tokens → Tokens
         → List (Broken Tok) → Type 0
     ParameterReached kind before n ns p fs ts rest rules =
-        ReachesOne conditions Hit (r.parameter token_leaves token_sight said kind ((before, n), input conditions 0 ts ns))
+        ReachesOne conditions Hit (r.parameter token_leaves token_view said kind ((before, n), input conditions 0 ts ns))
         ((before ++ p ∷ [], drawn n), input conditions 0 rest (ns ++ fs)) (parameter_literals p) rules
 
     parameter_reached : (kind : ParameterKind) (before : List (Parameter Tok Tok)) (n : Counters) (ns : List (Noted Tok)) {p : Parameter Tok Tok}
-        {fs : List (Noted Tok)} {ts rest : Tokens} {rules : List (Broken Tok)} → ParameterOf itself itself Open kind p fs ts rest
+        {fs : List (Noted Tok)} {ts rest : Tokens} {rules : List (Broken Tok)} → ParameterOf itself itself MayEnter kind p fs ts rest
         → Among (broken_by before p) rules → ParameterReached kind before n ns p fs ts rest rules
     unfolding r.parameter accepted
     parameter_reached kind before n ns (g.exported {dollar = dollar} {tokens = ts} is p) h =
         rw (accept_taken kinds.Dollar dollar ts conditions 0 ns is) (named_reached kind true before n ns p h)
     parameter_reached kind before n ns {ts = ts} (g.unexported p) h =
-        rw (accept_left kinds.Dollar ts conditions 0 ns (named_starts itself itself Open p).0) (named_reached kind false before n ns p h)
+        rw (accept_left kinds.Dollar ts conditions 0 ns (named_starts itself itself MayEnter p).0) (named_reached kind false before n ns p h)
 
     begins_one : (ns : List (Noted Tok)) {ts : Tokens} → StartsParameter ts → r.begins_parameter token_leaves (input conditions 0 ts ns) ≡ true
     begins_one ns {ts = ts} (by_name is) = rw (next_taken (kinds.Identifier ∷ []) (input conditions 0 ts ns) (is, tt)) refl
@@ -327,21 +327,21 @@ module _ (conditions : Conditions) (Hit : Option SignificantToken → Type 0) wh
     -- what follows those that take one argument
     abbrev ending : Numbered × State → Read Numbered
     ending ps =
-        r.last_parameter token_leaves token_sight said ps >>= λ all. expect token_leaves kinds.Colon all.1 >>= λ colon. Ok (all.0, colon.1)
+        r.last_parameter token_leaves token_view said ps >>= λ all. expect token_leaves kinds.Colon all.1 >>= λ colon. Ok (all.0, colon.1)
 
     abbrev parameters_from : Numbered × State → Read Numbered
-    parameters_from x = r.singulars token_leaves token_sight said x >>= ending
+    parameters_from x = r.singulars token_leaves token_view said x >>= ending
 
     goes_on : (x : Numbered × State) → r.begins_parameter token_leaves x.1 ≡ true
-        → parameters_from x ≡ (r.parameter token_leaves token_sight said Singular x >>= parameters_from)
+        → parameters_from x ≡ (r.parameter token_leaves token_view said Singular x >>= parameters_from)
     unfolding r.singulars_rule
     goes_on x is =
-        rw (singulars_is token_leaves token_sight said x, is)
-        (after_both (r.parameter token_leaves token_sight said Singular x) (r.singulars token_leaves token_sight said) ending)
+        rw (singulars_is token_leaves token_view said x, is)
+        (after_both (r.parameter token_leaves token_view said Singular x) (r.singulars token_leaves token_view said) ending)
 
     stops : (x : Numbered × State) → r.begins_parameter token_leaves x.1 ≡ false → parameters_from x ≡ ending x
     unfolding r.singulars_rule
-    stops x is = rw (singulars_is token_leaves token_sight said x, is) refl
+    stops x is = rw (singulars_is token_leaves token_view said x, is) refl
 
     no_parameter : (ns : List (Noted Tok)) (ts : Tokens) → NotNext kinds.Identifier ts → NotNext kinds.Dollar ts
         → r.begins_parameter token_leaves (input conditions 0 ts ns) ≡ false
@@ -354,8 +354,8 @@ module _ (conditions : Conditions) (Hit : Option SignificantToken → Type 0) wh
     -- the colon comes after the last parameter
     variadic_reached : (kind : ParameterKind) (before : List (Parameter Tok Tok)) (n : Counters) (ns : List (Noted Tok)) (p : Parameter Tok Tok)
         (colon : SignificantToken) {fs : List (Noted Tok)} {ts rest : Tokens} {rules : List (Broken Tok)}
-        → ParameterOf itself itself Open kind p fs ts (colon ∷ rest) → IsKind kinds.Colon colon → Among (broken_by before p) rules
-        → ReachesOne conditions Hit (r.variadic token_leaves token_sight said kind ((before, n), input conditions 0 ts ns))
+        → ParameterOf itself itself MayEnter kind p fs ts (colon ∷ rest) → IsKind kinds.Colon colon → Among (broken_by before p) rules
+        → ReachesOne conditions Hit (r.variadic token_leaves token_view said kind ((before, n), input conditions 0 ts ns))
         ((before ++ p ∷ [], drawn n), input conditions 0 (colon ∷ rest) (ns ++ fs)) (parameter_literals p) rules
     unfolding r.variadic r.nothing_after
     variadic_reached kind before n ns p colon {fs = fs} {rest = rest} h is among =
@@ -369,8 +369,8 @@ module _ (conditions : Conditions) (Hit : Option SignificantToken → Type 0) wh
         ((before ++ ps, after_parameters n ps), input conditions 0 rest (ns ++ fs)) (flat_map parameter_literals ps) rules
 
     parameters_reached : (before : List (Parameter Tok Tok)) (n : Counters) (ns : List (Noted Tok)) {ps : List (Parameter Tok Tok)} {fs : List (Noted Tok)}
-        {ts rest : Tokens} {rules : List (Broken Tok)} → Parameters itself itself Open ps fs ts rest
-        → Among (parameters_broken (token_sight conditions) said before ps) rules → ParametersReached before n ns ps fs ts rest rules
+        {ts rest : Tokens} {rules : List (Broken Tok)} → Parameters itself itself MayEnter ps fs ts rest
+        → Among (parameters_broken (token_view conditions) said before ps) rules → ParametersReached before n ns ps fs ts rest rules
     unfolding r.last_parameter
     parameters_reached before n ns {rest = rest} (g.none {colon = colon} is) h =
         let ts : Tokens = colon ∷ rest in
@@ -381,28 +381,28 @@ module _ (conditions : Conditions) (Hit : Option SignificantToken → Type 0) wh
           expect_taken kinds.Colon colon rest conditions 0 ns is,
         ) (read_now conditions Hit _ (λ i. ((sym (append-nil before) i, n), input conditions 0 rest (sym (append-nil ns) i))) refl))
     parameters_reached before n ns {ts = ts} {rest = rest} (g.more {p = p} {ps = ps} {fs = fs} {gs = gs} first others) h =
-        by conditions Hit (goes_on ((before, n), input conditions 0 ts ns) (begins_one ns (parameter_starts itself itself Open first)))
+        by conditions Hit (goes_on ((before, n), input conditions 0 ts ns) (begins_one ns (parameter_starts itself itself MayEnter first)))
         (then_one conditions Hit _ _
-        (parameter_reached Singular before n ns first (parameter_first (token_sight conditions) said before p ps h))
+        (parameter_reached Singular before n ns first (parameter_first (token_view conditions) said before p ps h))
         (same_one conditions Hit (λ i. ((append_assoc before (p ∷ []) ps i, after_parameters (drawn n) ps), input conditions 0 rest (append_assoc ns fs gs i)))
-        (parameters_reached (before ++ p ∷ []) (drawn n) (ns ++ fs) others (parameters_after (token_sight conditions) said before p ps h))))
+        (parameters_reached (before ++ p ∷ []) (drawn n) (ns ++ fs) others (parameters_after (token_view conditions) said before p ps h))))
     parameters_reached before n ns {rest = rest} (g.plus {p = p} {fs = fs} {prefix = prefix} {colon = colon} {tokens = ts} is q is2) h =
         by conditions Hit (stops ((before, n), input conditions 0 (prefix ∷ ts) ns) (no_parameter ns (prefix ∷ ts) (λ k. cc) (λ k. cc)))
         (rw (accept_taken kinds.Plus prefix ts conditions 0 ns is)
         (then_one conditions Hit _ _
-        (variadic_reached Plus before n ns p colon q is2 (parameter_first (token_sight conditions) said before p [] h))
+        (variadic_reached Plus before n ns p colon q is2 (parameter_first (token_view conditions) said before p [] h))
         (read_now conditions Hit _ refl (rw (expect_taken kinds.Colon colon rest conditions 0 (ns ++ fs) is2) refl))))
     parameters_reached before n ns {rest = rest} (g.star {p = p} {fs = fs} {prefix = prefix} {colon = colon} {tokens = ts} is q is2) h =
         by conditions Hit (stops ((before, n), input conditions 0 (prefix ∷ ts) ns) (no_parameter ns (prefix ∷ ts) (λ k. cc) (λ k. cc)))
         (rw (accept_left kinds.Plus (prefix ∷ ts) conditions 0 ns (λ k. cc), accept_taken kinds.Asterisk prefix ts conditions 0 ns is)
         (then_one conditions Hit _ _
-        (variadic_reached Star before n ns p colon q is2 (parameter_first (token_sight conditions) said before p [] h))
+        (variadic_reached Star before n ns p colon q is2 (parameter_first (token_view conditions) said before p [] h))
         (read_now conditions Hit _ refl (rw (expect_taken kinds.Colon colon rest conditions 0 (ns ++ fs) is2) refl))))
 
     all_parameters_reached : (n : Counters) (ns : List (Noted Tok)) {ps : List (Parameter Tok Tok)} {fs : List (Noted Tok)} {ts rest : Tokens}
-        {rules : List (Broken Tok)} → Parameters itself itself Open ps fs ts rest
-        → Among (parameters_broken (token_sight conditions) said [] ps) rules
-        → ReachesOne conditions Hit (r.parameters token_leaves token_sight said n (input conditions 0 ts ns))
+        {rules : List (Broken Tok)} → Parameters itself itself MayEnter ps fs ts rest
+        → Among (parameters_broken (token_view conditions) said [] ps) rules
+        → ReachesOne conditions Hit (r.parameters token_leaves token_view said n (input conditions 0 ts ns))
         ((ps, after_parameters n ps), input conditions 0 rest (ns ++ fs)) (flat_map parameter_literals ps) rules
     unfolding r.parameters
     all_parameters_reached n ns q h = parameters_reached [] n ns q h
@@ -411,9 +411,9 @@ module _ (conditions : Conditions) (Hit : Option SignificantToken → Type 0) wh
 
     -- what a header breaks of what is said of its parameters, and by its stars, is among the rules
     pub record CoversHeader (h : Header Tok Tok Tok) (rules : List (Broken Tok)) : Type 0 where
-      pub options : Among (options_broken (token_sight conditions) h.name said) rules
-      pub each : Among (parameters_broken (token_sight conditions) said [] h.parameters) rules
-      pub undefined : Among (undefined_broken (token_sight conditions) h.parameters said) rules
+      pub options : Among (options_broken (token_view conditions) h.name said) rules
+      pub each : Among (parameters_broken (token_view conditions) said [] h.parameters) rules
+      pub undefined : Among (undefined_broken (token_view conditions) h.parameters said) rules
       pub starred : Among (header_broken h) rules
 
     -- the header was read, with the token of its name and the numbers of its parameters
@@ -423,26 +423,26 @@ module _ (conditions : Conditions) (Hit : Option SignificantToken → Type 0) wh
     -- a header whose parameters are read, up to its end
     abbrev after_parameters_read : SignificantToken → Numbered × State → Read (ReadHeader SignificantToken Tok Tok Tok × Counters)
     after_parameters_read name ps =
-        obeying (undefined_broken (token_sight ps.1.run) ps.0.0 said) ps.1 >>= λ checked.
-        both_from (λ priors others. (r.header_of token_leaves token_sight said name ps.0.0 priors others, ps.0.1)) checked.1
+        obeying (undefined_broken (token_view ps.1.run) ps.0.0 said) ps.1 >>= λ checked.
+        both_from (λ priors others. (r.header_of token_leaves token_view said name ps.0.0 priors others, ps.0.1)) checked.1
 
     header_is : (n : Counters) (name : SignificantToken) (ts : Tokens) (ns : List (Noted Tok)) → IsKind kinds.Identifier name
-        → r.header token_leaves token_sight said n (input conditions 0 (name ∷ ts) ns)
-        ≡ (obeying (options_broken (token_sight conditions) name.tok said) (input conditions 0 ts (ns ++ flat_map rules_features said)) >>= λ options.
-        r.parameters token_leaves token_sight said n options.1 >>= after_parameters_read name)
+        → r.header token_leaves token_view said n (input conditions 0 (name ∷ ts) ns)
+        ≡ (obeying (options_broken (token_view conditions) name.tok said) (input conditions 0 ts (ns ++ flat_map rules_features said)) >>= λ options.
+        r.parameters token_leaves token_view said n options.1 >>= after_parameters_read name)
     unfolding r.header r.distinct_options
     header_is n name ts ns is = rw (expect_taken kinds.Identifier name ts conditions 0 ns is) refl
 
     header_after : (name : SignificantToken) (ps : List (Parameter Tok Tok)) (n : Counters) (ns : List (Noted Tok)) {ds ss : List (Dependency Tok Tok Tok)}
-        {fs : List (Noted Tok)} {ts rest : Tokens} {rules : List (Broken Tok)} → AllDependencies itself itself itself Open ds ss fs ts rest
-        → Among (undefined_broken (token_sight conditions) ps said) rules
+        {fs : List (Noted Tok)} {ts rest : Tokens} {rules : List (Broken Tok)} → AllDependencies itself itself itself MayEnter ds ss fs ts rest
+        → Among (undefined_broken (token_view conditions) ps said) rules
         → Among (flat_map dependency_broken ds ++ flat_map dependency_broken ss) rules
         → ReachesOne conditions Hit (after_parameters_read name ((ps, n), input conditions 0 ts ns))
-        ((r.header_of token_leaves token_sight said name ps ds ss, n), input conditions 0 rest (ns ++ fs))
+        ((r.header_of token_leaves token_view said name ps ds ss, n), input conditions 0 rest (ns ++ fs))
         (flat_map dependency_literals ds ++ flat_map dependency_literals ss) rules
     header_after name ps n ns {ts = ts} k undefined starred =
-        then_one conditions Hit _ _ (obeying_reached (undefined_broken (token_sight conditions) ps said) (input conditions 0 ts ns) undefined)
-        (both_reached (λ priors others. (r.header_of token_leaves token_sight said name ps priors others, n)) ns k starred)
+        then_one conditions Hit _ _ (obeying_reached (undefined_broken (token_view conditions) ps said) (input conditions 0 ts ns) undefined)
+        (both_reached (λ priors others. (r.header_of token_leaves token_view said name ps priors others, n)) ns k starred)
 
     as_header : (noted : List (Noted Tok)) (quiet : Bool) (h : Header Tok Tok Tok) (n : Counters) (found : ReadHeader SignificantToken Tok Tok Tok) (rest : Tokens)
         (x : (ReadHeader SignificantToken Tok Tok Tok × Counters) × State)
@@ -454,12 +454,12 @@ module _ (conditions : Conditions) (Hit : Option SignificantToken → Type 0) wh
 
     -- a header from its name on
     pub header_reached : (quiet : Bool) (n : Counters) (ns : List (Noted Tok)) {h : Header Tok Tok Tok} {fs : List (Noted Tok)} {ts rest : Tokens}
-        {rules : List (Broken Tok)} → NamedHeader itself itself itself Open quiet h fs ts rest → CoversHeader h rules
-        → ReachesSome conditions Hit (r.header token_leaves token_sight said n (input conditions 0 ts ns))
+        {rules : List (Broken Tok)} → NamedHeader itself itself itself MayEnter quiet h fs ts rest → CoversHeader h rules
+        → ReachesSome conditions Hit (r.header token_leaves token_view said n (input conditions 0 ts ns))
         (IsAt (IsHeader quiet h n) (input conditions 0 rest (ns ++ (flat_map rules_features said ++ fs)))) (header_literals h) rules
     header_reached quiet n ns {h = h} {rest = rest} (g.header {ps = ps} {ds = ds} {ss = ss} {fs = fs} {gs = gs} {name = name} {tokens = ts} is q k) covers =
         let features : List (Noted Tok) = flat_map rules_features said in
-        let found : ReadHeader SignificantToken Tok Tok Tok = r.header_of token_leaves token_sight said name ps ds ss in
+        let found : ReadHeader SignificantToken Tok Tok Tok = r.header_of token_leaves token_view said name ps ds ss in
         let regroups : ((ns ++ features) ++ fs) ++ gs ≡ ns ++ (features ++ (fs ++ gs)) =
         append_assoc (ns ++ features) fs gs ∙ append_assoc ns features (fs ++ gs) in
         known_as conditions Hit (IsAt (IsHeader quiet h n) (input conditions 0 rest (ns ++ (features ++ (fs ++ gs)))))
@@ -469,6 +469,6 @@ module _ (conditions : Conditions) (Hit : Option SignificantToken → Type 0) wh
         (renoted conditions Hit regroups
         (by conditions Hit (header_is n name ts ns is)
         (then_one conditions Hit _ _
-        (obeying_reached (options_broken (token_sight conditions) name.tok said) (input conditions 0 ts (ns ++ features)) covers.options)
+        (obeying_reached (options_broken (token_view conditions) name.tok said) (input conditions 0 ts (ns ++ features)) covers.options)
         (then_one conditions Hit _ _ (all_parameters_reached n (ns ++ features) q covers.each)
         (header_after name ps (after_parameters n ps) ((ns ++ features) ++ fs) k covers.undefined covers.starred))))))

@@ -3,8 +3,8 @@ use Rattle.std.proofs.Common.{◌≡◌, ℕ, Bool, List, [], ◌∷◌, ◌++�
 use Rattle.std.specs.List.{cons_option}
 use Rattle.std.specs.Option.{option_map}
 use Rattle.std.proofs.lemmas.List.Elements.{filter_map-append}
-use Rattle.justfile_word.specs.declared.token_kind.TokenKind.{TokenKind}
-use Rattle.justfile_word.specs.declared.token_kind.TokenKind.TheVariants as kinds
+use Rattle.justfile_vocabulary.specs.declared.token_kind.TokenKind.{TokenKind}
+use Rattle.justfile_vocabulary.specs.declared.token_kind.TokenKind.TheVariants as kinds
 use Rattle.justfile_model.specs.declared.parameter_kind.ParameterKind.{ParameterKind}
 use Rattle.justfile_model.specs.Expressions as e
 use Rattle.justfile_model.specs.Expressions.{IsKind, NotNext, Tokens}
@@ -12,7 +12,7 @@ use Rattle.justfile_model.specs.Features.{Noted}
 use Rattle.justfile_model.specs.Headers as g
 use Rattle.justfile_model.specs.RecipeRules.{parameter_broken, parameters_broken, second_broken, stars}
 use Rattle.justfile_model.specs.Rules.{Broken}
-use Rattle.justfile_model.specs.Sight.{Sight}
+use Rattle.justfile_model.specs.LeafView.{LeafView}
 use Rattle.justfile_model.specs.SignificantTokens.{SignificantToken}
 use Rattle.justfile_model.specs.Tok.{Tok}
 use Rattle.justfile_model.specs.Tree.{ArgumentRules, Dependency, DependencyArgument, Expr, Parameter}
@@ -31,8 +31,8 @@ pub record StartsValue (ts : Tokens) : Type 0 where
   pub no_closer : NotNext kinds.ParenR ts
   pub no_star : NotNext kinds.Asterisk ts
 
-module _ {A B : Type 0} (leaf : Tok → A) (spot : Tok → B) (Open : ℕ → Option SignificantToken → Type 0) where
-  value_starts : {d : ℕ} {v : Expr A B} {fs : List (Noted B)} {ts rest : Tokens} → e.Value leaf spot Open d v fs ts rest → StartsValue ts
+module _ {A B : Type 0} (leaf : Tok → A) (position : Tok → B) (MayEnter : ℕ → Option SignificantToken → Type 0) where
+  value_starts : {d : ℕ} {v : Expr A B} {fs : List (Noted B)} {ts rest : Tokens} → e.Value leaf position MayEnter d v fs ts rest → StartsValue ts
   value_starts (e.not kind v) = record { no_closer = λ k. cc; no_star = λ k. cc }
   value_starts (e.literal kind) = record { no_closer = λ k. cc; no_star = λ k. cc }
   value_starts (e.expanded m) = let is = m.marks.is_name in record { no_closer = λ k. cc; no_star = λ k. cc }
@@ -46,7 +46,7 @@ module _ {A B : Type 0} (leaf : Tok → A) (spot : Tok → B) (Open : ℕ → Op
   value_starts (e.group kind v kind2) = record { no_closer = λ k. cc; no_star = λ k. cc }
   value_starts (e.list kind s) = record { no_closer = λ k. cc; no_star = λ k. cc }
 
-  conjunct_starts : {d : ℕ} {v : Expr A B} {fs : List (Noted B)} {ts rest : Tokens} → e.Conjunct leaf spot Open d v fs ts rest → StartsValue ts
+  conjunct_starts : {d : ℕ} {v : Expr A B} {fs : List (Noted B)} {ts rest : Tokens} → e.Conjunct leaf position MayEnter d v fs ts rest → StartsValue ts
   conjunct_starts (e.conditional w c) = let is = w.is_name in record { no_closer = λ k. cc; no_star = λ k. cc }
   conjunct_starts (e.root kind c) = record { no_closer = λ k. cc; no_star = λ k. cc }
   conjunct_starts (e.join nw v kind c) = value_starts v
@@ -54,15 +54,15 @@ module _ {A B : Type 0} (leaf : Tok → A) (spot : Tok → B) (Open : ℕ → Op
   conjunct_starts (e.concatenation nw v kind c) = value_starts v
   conjunct_starts (e.value nw v nx) = value_starts v
 
-  compared_starts : {c : Bool} {d : ℕ} {v : Expr A B} {fs : List (Noted B)} {ts rest : Tokens} → e.Compared leaf spot Open c d v fs ts rest → StartsValue ts
+  compared_starts : {c : Bool} {d : ℕ} {v : Expr A B} {fs : List (Noted B)} {ts rest : Tokens} → e.Compared leaf position MayEnter c d v fs ts rest → StartsValue ts
   compared_starts (e.compare by l kind r) = conjunct_starts l
   compared_starts (e.conjunct l nx) = conjunct_starts l
 
-  disjunct_starts : {c : Bool} {d : ℕ} {v : Expr A B} {fs : List (Noted B)} {ts rest : Tokens} → e.Disjunct leaf spot Open c d v fs ts rest → StartsValue ts
+  disjunct_starts : {c : Bool} {d : ℕ} {v : Expr A B} {fs : List (Noted B)} {ts rest : Tokens} → e.Disjunct leaf position MayEnter c d v fs ts rest → StartsValue ts
   disjunct_starts (e.and l kind r) = compared_starts l
   disjunct_starts (e.comparison l nx) = compared_starts l
 
-  pub expression_starts : {c : Bool} {d : ℕ} {v : Expr A B} {fs : List (Noted B)} {ts rest : Tokens} → e.Expression leaf spot Open c d v fs ts rest
+  pub expression_starts : {c : Bool} {d : ℕ} {v : Expr A B} {fs : List (Noted B)} {ts rest : Tokens} → e.Expression leaf position MayEnter c d v fs ts rest
       → StartsValue ts
   expression_starts (e.or o l kind r) = disjunct_starts l
   expression_starts (e.disjunct o l nx) = disjunct_starts l
@@ -106,14 +106,14 @@ stars_more before a = filter_map-append (λ (a : ReadArgument). a.star) before (
 
 -- ---- rules of parameters after others
 
-module _ (sight : Sight Tok Tok) (said : List (ArgumentRules Tok Tok)) where
+module _ (view : LeafView Tok Tok) (said : List (ArgumentRules Tok Tok)) where
   pub parameter_first : (before : List (Parameter Tok Tok)) (p : Parameter Tok Tok) (ps : List (Parameter Tok Tok)) {rules : List (Broken Tok)}
-      → Among (parameters_broken sight said before (p ∷ ps)) rules → Among (parameter_broken sight said before p) rules
-  parameter_first before p ps h = among_first (parameter_broken sight said before p) (parameters_broken sight said (before ++ p ∷ []) ps) h
+      → Among (parameters_broken view said before (p ∷ ps)) rules → Among (parameter_broken view said before p) rules
+  parameter_first before p ps h = among_first (parameter_broken view said before p) (parameters_broken view said (before ++ p ∷ []) ps) h
 
   pub parameters_after : (before : List (Parameter Tok Tok)) (p : Parameter Tok Tok) (ps : List (Parameter Tok Tok)) {rules : List (Broken Tok)}
-      → Among (parameters_broken sight said before (p ∷ ps)) rules → Among (parameters_broken sight said (before ++ p ∷ []) ps) rules
-  parameters_after before p ps h = among_others (parameter_broken sight said before p) (parameters_broken sight said (before ++ p ∷ []) ps) h
+      → Among (parameters_broken view said before (p ∷ ps)) rules → Among (parameters_broken view said (before ++ p ∷ []) ps) rules
+  parameters_after before p ps h = among_others (parameter_broken view said before p) (parameters_broken view said (before ++ p ∷ []) ps) h
 
 -- ---- where the parts of a header begin
 
@@ -132,30 +132,30 @@ no_operator : {ts : Tokens} → StartsParameter ts → NotNext kinds.ColonEquals
 no_operator (by_name is) = λ k. cc
 no_operator (by_dollar is) = λ k. cc
 
-module _ {A B : Type 0} (leaf : Tok → A) (spot : Tok → B) (Open : ℕ → Option SignificantToken → Type 0) where
+module _ {A B : Type 0} (leaf : Tok → A) (position : Tok → B) (MayEnter : ℕ → Option SignificantToken → Type 0) where
   pub named_starts : {kind : ParameterKind} {export : Bool} {p : Parameter A B} {fs : List (Noted B)} {ts rest : Tokens}
-      → g.NamedParameter leaf spot Open kind export p fs ts rest → NotNext kinds.Dollar ts × StartsParameter ts
+      → g.NamedParameter leaf position MayEnter kind export p fs ts rest → NotNext kinds.Dollar ts × StartsParameter ts
   named_starts (g.required is nx) = ((λ k. cc), by_name is)
   named_starts (g.optional is is2 v) = ((λ k. cc), by_name is)
 
   pub parameter_starts : {kind : ParameterKind} {p : Parameter A B} {fs : List (Noted B)} {ts rest : Tokens}
-      → g.ParameterOf leaf spot Open kind p fs ts rest → StartsParameter ts
+      → g.ParameterOf leaf position MayEnter kind p fs ts rest → StartsParameter ts
   parameter_starts (g.exported is p) = by_dollar is
   parameter_starts (g.unexported p) = (named_starts p).1
 
   -- no assignment begins so
-  pub parameters_start : {ps : List (Parameter A B)} {fs : List (Noted B)} {ts rest : Tokens} → g.Parameters leaf spot Open ps fs ts rest
+  pub parameters_start : {ps : List (Parameter A B)} {fs : List (Noted B)} {ts rest : Tokens} → g.Parameters leaf position MayEnter ps fs ts rest
       → NotNext kinds.ColonEquals ts
   parameters_start (g.none is) = λ k. cc
   parameters_start (g.more p others) = no_operator (parameter_starts p)
   parameters_start (g.plus is p is2) = λ k. cc
   parameters_start (g.star is p is2) = λ k. cc
 
-module _ {A B S : Type 0} (leaf : Tok → A) (spot : Tok → B) (star : Tok → S) (Open : ℕ → Option SignificantToken → Type 0) where
+module _ {A B S : Type 0} (leaf : Tok → A) (position : Tok → B) (star : Tok → S) (MayEnter : ℕ → Option SignificantToken → Type 0) where
   path_starts : {names : List A} {ts rest : Tokens} → g.PathOf leaf names ts rest → StartsDependency ts
   path_starts (g.path kind others) = by_name kind
 
-  pub dependency_starts : {d : Dependency A B S} {fs : List (Noted B)} {ts rest : Tokens} → g.DependencyOf leaf spot star Open d fs ts rest
+  pub dependency_starts : {d : Dependency A B S} {fs : List (Noted B)} {ts rest : Tokens} → g.DependencyOf leaf position star MayEnter d fs ts rest
       → StartsDependency ts
   dependency_starts (g.bare p) = path_starts p
   dependency_starts (g.plain kind p a) = by_opener kind

@@ -1,7 +1,7 @@
 -- What derives of a header takes a token or more, and has no more parameters than identifiers; dependencies may be none.
 use Rattle.std.proofs.Common.{◌≡◌, ℕ, ◌+◌, ◌<◌, ◌≤◌, cond, Bool, List, ◌∷◌, length, Option, ap, arith}
-use Rattle.justfile_word.specs.declared.token_kind.TokenKind.{TokenKind}
-use Rattle.justfile_word.specs.declared.token_kind.TokenKind.TheVariants as kinds
+use Rattle.justfile_vocabulary.specs.declared.token_kind.TokenKind.{TokenKind}
+use Rattle.justfile_vocabulary.specs.declared.token_kind.TokenKind.TheVariants as kinds
 use Rattle.justfile_model.specs.declared.parameter_kind.ParameterKind.{ParameterKind}
 use Rattle.justfile_model.specs.Expressions.{Tokens}
 use Rattle.justfile_model.specs.Features.{Noted}
@@ -25,18 +25,18 @@ module _ {A : Type 0} (leaf : Tok → A) where
   pub path_left : {names : List A} {ts rest : Tokens} → PathOf leaf names ts rest → LeftOf rest ts
   path_left (g.path kind more) = path_rest_left more
 
-module _ {A B : Type 0} (leaf : Tok → A) (spot : Tok → B) (Open : ℕ → Option SignificantToken → Type 0) where
+module _ {A B : Type 0} (leaf : Tok → A) (position : Tok → B) (MayEnter : ℕ → Option SignificantToken → Type 0) where
   named_parameter_left : {kind : ParameterKind} {export : Bool} {p : Parameter A B} {fs : List (Noted B)} {ts rest : Tokens}
-      → NamedParameter leaf spot Open kind export p fs ts rest → LeftOf rest ts
+      → NamedParameter leaf position MayEnter kind export p fs ts rest → LeftOf rest ts
   named_parameter_left (g.required kind not) = next
-  named_parameter_left (g.optional kind kind2 e) = later (later (value_left leaf spot Open e))
+  named_parameter_left (g.optional kind kind2 e) = later (later (value_left leaf position MayEnter e))
 
-  parameter_left : {kind : ParameterKind} {p : Parameter A B} {fs : List (Noted B)} {ts rest : Tokens} → ParameterOf leaf spot Open kind p fs ts rest
+  parameter_left : {kind : ParameterKind} {p : Parameter A B} {fs : List (Noted B)} {ts rest : Tokens} → ParameterOf leaf position MayEnter kind p fs ts rest
       → LeftOf rest ts
   parameter_left (g.exported kind p) = later (named_parameter_left p)
   parameter_left (g.unexported p) = named_parameter_left p
 
-  parameters_left : {ps : List (Parameter A B)} {fs : List (Noted B)} {ts rest : Tokens} → Parameters leaf spot Open ps fs ts rest → LeftOf rest ts
+  parameters_left : {ps : List (Parameter A B)} {fs : List (Noted B)} {ts rest : Tokens} → Parameters leaf position MayEnter ps fs ts rest → LeftOf rest ts
   parameters_left (g.none kind) = next
   parameters_left (g.more p ps) = then (parameter_left p) (parameters_left ps)
   parameters_left (g.plus kind p kind2) = later (past (parameter_left p))
@@ -44,75 +44,75 @@ module _ {A B : Type 0} (leaf : Tok → A) (spot : Tok → B) (Open : ℕ → Op
 
   -- a parameter has an identifier
   named_parameter_counts : {kind : ParameterKind} {export : Bool} {p : Parameter A B} {fs : List (Noted B)} {ts rest : Tokens}
-      → NamedParameter leaf spot Open kind export p fs ts rest → 1 + identifiers rest ≤ identifiers ts
+      → NamedParameter leaf position MayEnter kind export p fs ts rest → 1 + identifiers rest ≤ identifiers ts
   named_parameter_counts (g.required {name = name} kind not) = omega (arith, counts_one name.tok.kind kind)
   named_parameter_counts (g.optional {name = name} kind kind2 e) =
-      omega (arith, counts_one name.tok.kind kind, fewer (value_left leaf spot Open e))
+      omega (arith, counts_one name.tok.kind kind, fewer (value_left leaf position MayEnter e))
 
-  parameter_counts : {kind : ParameterKind} {p : Parameter A B} {fs : List (Noted B)} {ts rest : Tokens} → ParameterOf leaf spot Open kind p fs ts rest
+  parameter_counts : {kind : ParameterKind} {p : Parameter A B} {fs : List (Noted B)} {ts rest : Tokens} → ParameterOf leaf position MayEnter kind p fs ts rest
       → 1 + identifiers rest ≤ identifiers ts
   parameter_counts (g.exported kind p) = omega (arith, named_parameter_counts p)
   parameter_counts (g.unexported p) = named_parameter_counts p
 
-  parameters_count : {ps : List (Parameter A B)} {fs : List (Noted B)} {ts rest : Tokens} → Parameters leaf spot Open ps fs ts rest
+  parameters_count : {ps : List (Parameter A B)} {fs : List (Noted B)} {ts rest : Tokens} → Parameters leaf position MayEnter ps fs ts rest
       → length ps + identifiers rest ≤ identifiers ts
   parameters_count (g.none kind) = omega arith
   parameters_count (g.more p ps) = omega (arith, parameter_counts p, parameters_count ps)
   parameters_count (g.plus kind p kind2) = omega (arith, parameter_counts p)
   parameters_count (g.star kind p kind2) = omega (arith, parameter_counts p)
 
-module _ {A B S : Type 0} (leaf : Tok → A) (spot : Tok → B) (star : Tok → S) (Open : ℕ → Option SignificantToken → Type 0) where
+module _ {A B S : Type 0} (leaf : Tok → A) (position : Tok → B) (star : Tok → S) (MayEnter : ℕ → Option SignificantToken → Type 0) where
   dependency_arguments_left : {arguments : List (DependencyArgument A B S)} {fs : List (Noted B)} {ts rest : Tokens}
-      → DependencyArguments leaf spot star Open arguments fs ts rest → LeftOf rest ts
+      → DependencyArguments leaf position star MayEnter arguments fs ts rest → LeftOf rest ts
   dependency_arguments_left (g.none kind) = next
-  dependency_arguments_left (g.plain e others) = then (expression_left leaf spot Open e) (dependency_arguments_left others)
-  dependency_arguments_left (g.starred kind e others) = later (then (value_left leaf spot Open e) (dependency_arguments_left others))
+  dependency_arguments_left (g.plain e others) = then (expression_left leaf position MayEnter e) (dependency_arguments_left others)
+  dependency_arguments_left (g.starred kind e others) = later (then (value_left leaf position MayEnter e) (dependency_arguments_left others))
 
-  dependency_left : {d : Dependency A B S} {fs : List (Noted B)} {ts rest : Tokens} → DependencyOf leaf spot star Open d fs ts rest → LeftOf rest ts
+  dependency_left : {d : Dependency A B S} {fs : List (Noted B)} {ts rest : Tokens} → DependencyOf leaf position star MayEnter d fs ts rest → LeftOf rest ts
   dependency_left (g.bare p) = path_left leaf p
   dependency_left (g.plain kind p arguments) = later (then (path_left leaf p) (dependency_arguments_left arguments))
   dependency_left (g.starred kind kind2 p arguments) = later (later (then (path_left leaf p) (dependency_arguments_left arguments)))
 
   -- after what was taken
   dependencies_left : {ds : List (Dependency A B S)} {fs : List (Noted B)} {before ts rest : Tokens} → LeftOf ts before
-      → Dependencies leaf spot star Open ds fs ts rest → LeftOf rest before
+      → Dependencies leaf position star MayEnter ds fs ts rest → LeftOf rest before
   dependencies_left h (g.none ni na np) = h
   dependencies_left h (g.more d ds) = dependencies_left (then h (dependency_left d)) ds
 
   all_dependencies_left : {ds ss : List (Dependency A B S)} {fs : List (Noted B)} {before ts rest : Tokens} → LeftOf ts before
-      → AllDependencies leaf spot star Open ds ss fs ts rest → LeftOf rest before
+      → AllDependencies leaf position star MayEnter ds ss fs ts rest → LeftOf rest before
   all_dependencies_left h (g.priors ds not) = dependencies_left h ds
   all_dependencies_left h (g.both ds kind ss) = dependencies_left (past (dependencies_left h ds)) ss
 
-  named_header_left : {quiet : Bool} {h : Header A B S} {fs : List (Noted B)} {ts rest : Tokens} → NamedHeader leaf spot star Open quiet h fs ts rest
+  named_header_left : {quiet : Bool} {h : Header A B S} {fs : List (Noted B)} {ts rest : Tokens} → NamedHeader leaf position star MayEnter quiet h fs ts rest
       → LeftOf rest ts
-  named_header_left (g.header kind ps ds) = later (all_dependencies_left (parameters_left leaf spot Open ps) ds)
+  named_header_left (g.header kind ps ds) = later (all_dependencies_left (parameters_left leaf position MayEnter ps) ds)
 
-  pub header_left : {h : Header A B S} {fs : List (Noted B)} {ts rest : Tokens} → HeaderOf leaf spot star Open h fs ts rest → LeftOf rest ts
+  pub header_left : {h : Header A B S} {fs : List (Noted B)} {ts rest : Tokens} → HeaderOf leaf position star MayEnter h fs ts rest → LeftOf rest ts
   header_left (g.quiet kind h) = later (named_header_left h)
   header_left (g.loud h) = named_header_left h
 
-  pub header_progress : {h : Header A B S} {fs : List (Noted B)} {ts rest : Tokens} → HeaderOf leaf spot star Open h fs ts rest → length rest < length ts
+  pub header_progress : {h : Header A B S} {fs : List (Noted B)} {ts rest : Tokens} → HeaderOf leaf position star MayEnter h fs ts rest → length rest < length ts
   header_progress h = shorter (header_left h)
 
   -- dependencies add no identifier
-  dependencies_count : {ds : List (Dependency A B S)} {fs : List (Noted B)} {ts rest : Tokens} → Dependencies leaf spot star Open ds fs ts rest
+  dependencies_count : {ds : List (Dependency A B S)} {fs : List (Noted B)} {ts rest : Tokens} → Dependencies leaf position star MayEnter ds fs ts rest
       → identifiers rest ≤ identifiers ts
   dependencies_count (g.none ni na np) = omega arith
   dependencies_count (g.more d ds) = omega (arith, fewer (dependency_left d), dependencies_count ds)
 
-  all_dependencies_count : {ds ss : List (Dependency A B S)} {fs : List (Noted B)} {ts rest : Tokens} → AllDependencies leaf spot star Open ds ss fs ts rest
+  all_dependencies_count : {ds ss : List (Dependency A B S)} {fs : List (Noted B)} {ts rest : Tokens} → AllDependencies leaf position star MayEnter ds ss fs ts rest
       → identifiers rest ≤ identifiers ts
   all_dependencies_count (g.priors ds not) = dependencies_count ds
   all_dependencies_count (g.both ds kind ss) = omega (arith, dependencies_count ds, dependencies_count ss)
 
-  named_header_counts : {quiet : Bool} {h : Header A B S} {fs : List (Noted B)} {ts rest : Tokens} → NamedHeader leaf spot star Open quiet h fs ts rest
+  named_header_counts : {quiet : Bool} {h : Header A B S} {fs : List (Noted B)} {ts rest : Tokens} → NamedHeader leaf position star MayEnter quiet h fs ts rest
       → length h.parameters + 1 + identifiers rest ≤ identifiers ts
   named_header_counts (g.header {name = name} kind ps ds) =
-      omega (arith, counts_one name.tok.kind kind, parameters_count leaf spot Open ps, all_dependencies_count ds)
+      omega (arith, counts_one name.tok.kind kind, parameters_count leaf position MayEnter ps, all_dependencies_count ds)
 
   -- the name of a recipe is one more
-  pub header_counts : {h : Header A B S} {fs : List (Noted B)} {ts rest : Tokens} → HeaderOf leaf spot star Open h fs ts rest
+  pub header_counts : {h : Header A B S} {fs : List (Noted B)} {ts rest : Tokens} → HeaderOf leaf position star MayEnter h fs ts rest
       → length h.parameters + 1 + identifiers rest ≤ identifiers ts
   header_counts (g.quiet kind h) = omega (arith, named_header_counts h)
   header_counts (g.loud h) = named_header_counts h

@@ -1,19 +1,19 @@
 -- The reader of headers, one rule at a time, and as a loop goes over them.
 use Rattle.std.proofs.Common.{◌≡◌, ℕ, ◌<◌, Bool, true, false, List, [], ◌∷◌, ◌++◌, length, map, Option, Some, None, Ok, Err, refl, sym, ap, ◌∙◌}
 use Rattle.std.specs.Option.{option_map}
-use Rattle.justfile_word.specs.declared.token_kind.TokenKind.{TokenKind}
-use Rattle.justfile_word.specs.declared.token_kind.TokenKind.TheVariants as kinds
+use Rattle.justfile_vocabulary.specs.declared.token_kind.TokenKind.{TokenKind}
+use Rattle.justfile_vocabulary.specs.declared.token_kind.TokenKind.TheVariants as kinds
 use Rattle.justfile_model.specs.declared.level.Level.TheVariants.{Expression, Value}
 use Rattle.justfile_model.specs.declared.parameter_kind.ParameterKind.{ParameterKind}
 use Rattle.justfile_model.specs.declared.parameter_kind.ParameterKind.TheVariants.{Plus, Singular, Star}
 use Rattle.justfile_model.specs.ExpressionReader as expressions
 use Rattle.justfile_model.specs.HeaderReader as r
-use Rattle.justfile_model.specs.HeaderReader.{ReadHeader, draw_binding, obeying}
-use Rattle.justfile_model.specs.Reading.{Counters, Leaves, Read, Refusal, State, Taken, accept, accepted, expect, next_are, prepend, taken_or}
+use Rattle.justfile_model.specs.HeaderReader.{ReadHeader, next_binding_number, obeying}
+use Rattle.justfile_model.specs.ReaderState.{Counters, Leaves, Read, ReadError, State, Taken, accept, accepted, expect, next_are, prepend, taken_or}
 use Rattle.justfile_model.specs.RecipeRules.{misplaced_broken, parameter_broken, second_broken, stars, undefined_broken}
 use Rattle.justfile_model.specs.Recursive.{below}
 use Rattle.justfile_model.specs.Rules.{Broken}
-use Rattle.justfile_model.specs.Sight.{Sight}
+use Rattle.justfile_model.specs.LeafView.{LeafView}
 use Rattle.justfile_model.specs.Tree.{ArgumentRules, Dependency, DependencyArgument}
 use Rattle.justfile_model.proofs.ExpressionReading.{advances, level_is}
 use Rattle.justfile_model.proofs.Prepended.{after_keeps, after_nothing, after_refused, after_regroups}
@@ -47,8 +47,8 @@ module _ {R T A B S : Type 0} (leaves : Leaves R T A B S) where
       go (Some p) h = weaken s p.1 (h p refl)
 
   -- a number takes no token
-  pub binding_keeps : (n : Counters) (s : State R T B) → Keeps s (draw_binding leaves n s)
-  unfolding draw_binding
+  pub binding_keeps : (n : Counters) (s : State R T B) → Keeps s (next_binding_number leaves n s)
+  unfolding next_binding_number
   binding_keeps n s = after_test (leaves.has_number n.bindings) _ _ (Keeps {X = ℕ × Counters} s) (λ _. there s) (λ _. tt)
 
   -- ---- paths
@@ -101,7 +101,7 @@ module _ {R T A B S : Type 0} (leaves : Leaves R T A B S) where
   pub starred_argument_goes : (before : List (DependencyArgument A B T)) (star : T) (s : State R T B) → Goes s (r.starred_argument leaves before star s)
   unfolding r.starred_argument
   starred_argument_goes before star s =
-      let broken = second_broken (map leaves.spot (stars before ++ star ∷ [])) in
+      let broken = second_broken (map leaves.position (stars before ++ star ∷ [])) in
       then_goes s (obeying broken s) _ (obeying_keeps broken s)
       (λ checked. first checked.1 (expressions.value leaves checked.1) _ (value_goes checked.1) (λ e. there e.1))
 
@@ -162,7 +162,7 @@ module _ {R T A B S : Type 0} (leaves : Leaves R T A B S) where
       first s (expect leaves kinds.ParenL s) _ (expects leaves kinds.ParenL s) (λ opener.
       then opener.1 (r.path leaves opener.1) _ (keeps opener.1 _ (path_goes opener.1)) (λ names.
       then names.1 (r.dependency_arguments leaves ([], names.1)) _ (keeps names.1 _ (dependency_arguments_go ([], names.1))) (λ arguments.
-      let broken = misplaced_broken (option_map leaves.spot star) (map leaves.spot (stars arguments.0)) in
+      let broken = misplaced_broken (option_map leaves.position star) (map leaves.position (stars arguments.0)) in
       then arguments.1 (obeying broken arguments.1) _ (obeying_keeps broken arguments.1) (λ checked. there checked.1))))
 
   pub bare_dependency_goes : (s : State R T B) → Goes s (r.bare_dependency leaves s)
@@ -235,74 +235,74 @@ module _ {R T A B S : Type 0} (leaves : Leaves R T A B S) where
   unfolding r.nothing_after
   nothing_after_keeps s = either s (accept leaves kinds.Identifier s) _ _ (accepts leaves kinds.Identifier s) (there s) (λ name. tt)
 
-  module _ (sight : R → Sight A B) (rules : List (ArgumentRules A B)) where
+  module _ (view : R → LeafView A B) (rules : List (ArgumentRules A B)) where
     abbrev pub ParameterPlace : Type 0
-    ParameterPlace = r.ParameterPlace leaves sight rules
+    ParameterPlace = r.ParameterPlace leaves view rules
 
     abbrev pub Parameters : Type 0
-    Parameters = r.Parameters leaves sight rules
+    Parameters = r.Parameters leaves view rules
 
     pub named_parameter_goes : (kind : ParameterKind) (export : Bool) (x : Parameters) (s : State R T B)
-        → Goes s (r.named_parameter leaves sight rules kind export x s)
+        → Goes s (r.named_parameter leaves view rules kind export x s)
     unfolding r.named_parameter
     named_parameter_goes kind export x s =
         first s (expect leaves kinds.Identifier s) _ (expects leaves kinds.Identifier s) (λ name.
         then name.1 (r.default_value leaves name.1) _ (default_value_keeps name.1) (λ default.
-        let broken = parameter_broken (sight default.1.run) rules x.0 (r.parameter_of leaves kind export (leaves.name name.0) default.0) in
+        let broken = parameter_broken (view default.1.run) rules x.0 (r.parameter_of leaves kind export (leaves.name name.0) default.0) in
         then default.1 (obeying broken default.1) _ (obeying_keeps broken default.1) (λ checked.
-        then checked.1 (draw_binding leaves x.1 checked.1) _ (binding_keeps x.1 checked.1) (λ number. there number.1))))
+        then checked.1 (next_binding_number leaves x.1 checked.1) _ (binding_keeps x.1 checked.1) (λ number. there number.1))))
 
-    pub parameter_goes : (kind : ParameterKind) (x : ParameterPlace) → Goes x.1 (r.parameter leaves sight rules kind x)
+    pub parameter_goes : (kind : ParameterKind) (x : ParameterPlace) → Goes x.1 (r.parameter leaves view rules kind x)
     unfolding r.parameter
     parameter_goes kind x =
         let dollar : Bool × State R T B = accepted leaves kinds.Dollar x.1 in
         goes_after x.1 dollar.1 _ (accepted_keeps kinds.Dollar x.1) (named_parameter_goes kind dollar.0 x.0 dollar.1)
 
     singulars_rule_keeps : (f : ParameterPlace → Read R T B Parameters) → ((x : ParameterPlace) → Keeps x.1 (f x)) → (x : ParameterPlace)
-        → Keeps x.1 (r.singulars_rule leaves sight rules f x)
+        → Keeps x.1 (r.singulars_rule leaves view rules f x)
     unfolding r.singulars_rule
     singulars_rule_keeps f h x =
         after_test (r.begins_parameter leaves x.1) _ _ (Keeps {X = Parameters} x.1)
-        (λ _. then x.1 (r.parameter leaves sight rules Singular x) _ (keeps x.1 _ (parameter_goes Singular x)) (λ p. h p))
+        (λ _. then x.1 (r.parameter leaves view rules Singular x) _ (keeps x.1 _ (parameter_goes Singular x)) (λ p. h p))
         (λ _. there x.1)
 
-    pub singulars_keep : (x : ParameterPlace) → Keeps x.1 (r.singulars leaves sight rules x)
+    pub singulars_keep : (x : ParameterPlace) → Keeps x.1 (r.singulars leaves view rules x)
     unfolding r.singulars
     singulars_keep =
-        recursive_keeps (λ (x : ParameterPlace). length x.1.left) (r.no_parameters leaves sight rules) (r.singulars_rule leaves sight rules)
+        recursive_keeps (λ (x : ParameterPlace). length x.1.left) (r.no_parameters leaves view rules) (r.singulars_rule leaves view rules)
         (λ x found. Keeps x.1 found) (λ x. tt) singulars_rule_keeps
 
     inside_parameters : ParameterPlace → ParameterPlace → Read R T B Parameters
     inside_parameters x =
-        below (λ (x : ParameterPlace). length x.1.left) (r.no_parameters leaves sight rules) (r.singulars_rule leaves sight rules) x
-        (r.singulars leaves sight rules)
+        below (λ (x : ParameterPlace). length x.1.left) (r.no_parameters leaves view rules) (r.singulars_rule leaves view rules) x
+        (r.singulars leaves view rules)
 
-    parameters_unfolded : (x : ParameterPlace) → r.singulars leaves sight rules x ≡ r.singulars_rule leaves sight rules (inside_parameters x) x
+    parameters_unfolded : (x : ParameterPlace) → r.singulars leaves view rules x ≡ r.singulars_rule leaves view rules (inside_parameters x) x
     unfolding r.singulars inside_parameters
     parameters_unfolded x =
-        recursive_is (λ (x : ParameterPlace). length x.1.left) (r.no_parameters leaves sight rules) (r.singulars_rule leaves sight rules) x
+        recursive_is (λ (x : ParameterPlace). length x.1.left) (r.no_parameters leaves view rules) (r.singulars_rule leaves view rules) x
 
-    inside_parameters_is : (x y : ParameterPlace) → length y.1.left < length x.1.left → inside_parameters x y ≡ r.singulars leaves sight rules y
+    inside_parameters_is : (x y : ParameterPlace) → length y.1.left < length x.1.left → inside_parameters x y ≡ r.singulars leaves view rules y
     unfolding inside_parameters
     inside_parameters_is x y h =
-        below_smaller (λ (x : ParameterPlace). length x.1.left) (r.no_parameters leaves sight rules) (r.singulars_rule leaves sight rules) x
-        (r.singulars leaves sight rules) y h
+        below_smaller (λ (x : ParameterPlace). length x.1.left) (r.no_parameters leaves view rules) (r.singulars_rule leaves view rules) x
+        (r.singulars leaves view rules) y h
 
-    pub singulars_is : (x : ParameterPlace) → r.singulars leaves sight rules x ≡ r.singulars_rule leaves sight rules (r.singulars leaves sight rules) x
+    pub singulars_is : (x : ParameterPlace) → r.singulars leaves view rules x ≡ r.singulars_rule leaves view rules (r.singulars leaves view rules) x
     unfolding r.singulars_rule
     singulars_is x =
         parameters_unfolded x ∙ test_alike (r.begins_parameter leaves x.1) _ _ _ _
-        (λ _. bind_alike (r.parameter leaves sight rules Singular x) _ _
+        (λ _. bind_alike (r.parameter leaves view rules Singular x) _ _
         (λ p is. inside_parameters_is x p (past x.1 _ p (parameter_goes Singular x) is).0))
         (λ _. refl)
 
-    pub variadic_goes : (kind : ParameterKind) (x : ParameterPlace) → Goes x.1 (r.variadic leaves sight rules kind x)
+    pub variadic_goes : (kind : ParameterKind) (x : ParameterPlace) → Goes x.1 (r.variadic leaves view rules kind x)
     unfolding r.variadic
     variadic_goes kind x =
-        first x.1 (r.parameter leaves sight rules kind x) _ (parameter_goes kind x) (λ p.
+        first x.1 (r.parameter leaves view rules kind x) _ (parameter_goes kind x) (λ p.
         then p.1 (r.nothing_after leaves p.1) _ (nothing_after_keeps p.1) (λ end. there end.1))
 
-    pub last_parameter_keeps : (x : ParameterPlace) → Keeps x.1 (r.last_parameter leaves sight rules x)
+    pub last_parameter_keeps : (x : ParameterPlace) → Keeps x.1 (r.last_parameter leaves view rules x)
     unfolding r.last_parameter
     last_parameter_keeps x =
         either x.1 (accept leaves kinds.Plus x.1) _ _ (accepts leaves kinds.Plus x.1)
@@ -310,26 +310,26 @@ module _ {R T A B S : Type 0} (leaves : Leaves R T A B S) where
         (λ prefix. keeps prefix.1 _ (variadic_goes Star (x.0, prefix.1))))
         (λ prefix. keeps prefix.1 _ (variadic_goes Plus (x.0, prefix.1)))
 
-    pub parameters_go : (n : Counters) (s : State R T B) → Goes s (r.parameters leaves sight rules n s)
+    pub parameters_go : (n : Counters) (s : State R T B) → Goes s (r.parameters leaves view rules n s)
     unfolding r.parameters
     parameters_go n s =
-        then_goes s (r.singulars leaves sight rules (([], n), s)) _ (singulars_keep (([], n), s)) (λ ps.
-        then_goes ps.1 (r.last_parameter leaves sight rules ps) _ (last_parameter_keeps ps) (λ all.
+        then_goes s (r.singulars leaves view rules (([], n), s)) _ (singulars_keep (([], n), s)) (λ ps.
+        then_goes ps.1 (r.last_parameter leaves view rules ps) _ (last_parameter_keeps ps) (λ all.
         first all.1 (expect leaves kinds.Colon all.1) _ (expects leaves kinds.Colon all.1) (λ colon. there colon.1)))
 
     -- ---- headers
 
-    pub distinct_options_keep : (name : T) (s : State R T B) → Keeps s (r.distinct_options leaves sight rules name s)
+    pub distinct_options_keep : (name : T) (s : State R T B) → Keeps s (r.distinct_options leaves view rules name s)
     unfolding r.distinct_options
     distinct_options_keep name s = obeying_keeps _ _
 
-    pub header_goes : (n : Counters) (s : State R T B) → Goes s (r.header leaves sight rules n s)
+    pub header_goes : (n : Counters) (s : State R T B) → Goes s (r.header leaves view rules n s)
     unfolding r.header
     header_goes n s =
         first s (expect leaves kinds.Identifier s) _ (expects leaves kinds.Identifier s) (λ name.
-        then name.1 (r.distinct_options leaves sight rules name.0 name.1) _ (distinct_options_keep name.0 name.1) (λ options.
-        then options.1 (r.parameters leaves sight rules n options.1) _ (keeps options.1 _ (parameters_go n options.1)) (λ ps.
-        let broken = undefined_broken (sight ps.1.run) ps.0.0 rules in
+        then name.1 (r.distinct_options leaves view rules name.0 name.1) _ (distinct_options_keep name.0 name.1) (λ options.
+        then options.1 (r.parameters leaves view rules n options.1) _ (keeps options.1 _ (parameters_go n options.1)) (λ ps.
+        let broken = undefined_broken (view ps.1.run) ps.0.0 rules in
         then ps.1 (obeying broken ps.1) _ (obeying_keeps broken ps.1) (λ checked.
         then checked.1 (r.dependencies leaves checked.1) _ (dependencies_keep checked.1) (λ priors.
         then priors.1 (r.subsequents leaves priors.1) _ (subsequents_keep priors.1) (λ others. there others.1))))))
@@ -350,7 +350,7 @@ module _ {R T A B S : Type 0} (leaves : Leaves R T A B S) where
     path_rest_end h = rw (path_rest_is s, h) (after_nothing done s)
 
     -- a name is missing
-    pub path_rest_fail : (colons : T) (next : State R T B) (e : Refusal T B) → accept leaves kinds.ColonColon s ≡ Some (colons, next)
+    pub path_rest_fail : (colons : T) (next : State R T B) (e : ReadError T B) → accept leaves kinds.ColonColon s ≡ Some (colons, next)
         → expect leaves kinds.Identifier next ≡ Err e → prepend done (r.path_rest leaves s) ≡ Err e
     unfolding r.path_rest_rule
     path_rest_fail colons next e h1 h2 = rw (path_rest_is s, h1, h2) (after_refused done e)
@@ -368,7 +368,7 @@ module _ {R T A B S : Type 0} (leaves : Leaves R T A B S) where
     dependencies_end h = rw (dependencies_is s, h) (after_nothing done s)
 
     -- a dependency is refused
-    pub dependencies_fail : (e : Refusal T B) → r.begins_dependency leaves s ≡ true → r.dependency leaves s ≡ Err e
+    pub dependencies_fail : (e : ReadError T B) → r.begins_dependency leaves s ≡ true → r.dependency leaves s ≡ Err e
         → prepend done (r.dependencies leaves s) ≡ Err e
     unfolding r.dependencies_rule
     dependencies_fail e h1 h2 = rw (dependencies_is s, h1, h2) (after_refused done e)
@@ -387,25 +387,25 @@ module _ {R T A B S : Type 0} (leaves : Leaves R T A B S) where
     dependency_arguments_end closer rest h = rw (dependency_arguments_is x, h) refl
 
     -- an argument is refused
-    pub dependency_arguments_fail : (e : Refusal T B) → accept leaves kinds.ParenR x.1 ≡ None → r.dependency_argument leaves x.0 x.1 ≡ Err e
+    pub dependency_arguments_fail : (e : ReadError T B) → accept leaves kinds.ParenR x.1 ≡ None → r.dependency_argument leaves x.0 x.1 ≡ Err e
         → r.dependency_arguments leaves x ≡ Err e
     unfolding r.dependency_arguments_rule
     dependency_arguments_fail e h1 h2 = rw (dependency_arguments_is x, h1, h2) refl
 
-  module _ (sight : R → Sight A B) (rules : List (ArgumentRules A B)) (x : ParameterPlace sight rules) where
+  module _ (view : R → LeafView A B) (rules : List (ArgumentRules A B)) (x : ParameterPlace view rules) where
     -- a parameter is read
-    pub singulars_go_on : (p : ParameterPlace sight rules) → r.begins_parameter leaves x.1 ≡ true → r.parameter leaves sight rules Singular x ≡ Ok p
-        → r.singulars leaves sight rules x ≡ r.singulars leaves sight rules p
+    pub singulars_go_on : (p : ParameterPlace view rules) → r.begins_parameter leaves x.1 ≡ true → r.parameter leaves view rules Singular x ≡ Ok p
+        → r.singulars leaves view rules x ≡ r.singulars leaves view rules p
     unfolding r.singulars_rule
-    singulars_go_on p h1 h2 = rw (singulars_is sight rules x, h1, h2) refl
+    singulars_go_on p h1 h2 = rw (singulars_is view rules x, h1, h2) refl
 
     -- no parameter that takes one argument follows
-    pub singulars_end : r.begins_parameter leaves x.1 ≡ false → r.singulars leaves sight rules x ≡ Ok x
+    pub singulars_end : r.begins_parameter leaves x.1 ≡ false → r.singulars leaves view rules x ≡ Ok x
     unfolding r.singulars_rule
-    singulars_end h = rw (singulars_is sight rules x, h) refl
+    singulars_end h = rw (singulars_is view rules x, h) refl
 
     -- a parameter is refused
-    pub singulars_fail : (e : Refusal T B) → r.begins_parameter leaves x.1 ≡ true → r.parameter leaves sight rules Singular x ≡ Err e
-        → r.singulars leaves sight rules x ≡ Err e
+    pub singulars_fail : (e : ReadError T B) → r.begins_parameter leaves x.1 ≡ true → r.parameter leaves view rules Singular x ≡ Err e
+        → r.singulars leaves view rules x ≡ Err e
     unfolding r.singulars_rule
-    singulars_fail e h1 h2 = rw (singulars_is sight rules x, h1, h2) refl
+    singulars_fail e h1 h2 = rw (singulars_is view rules x, h1, h2) refl

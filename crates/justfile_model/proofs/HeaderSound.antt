@@ -4,28 +4,28 @@ use Rattle.std.proofs.Common.{◌≡◌, Bool, true, false, ◌||◌, List, [], 
 use Rattle.std.specs.List.{flat_map}
 use Rattle.std.specs.Option.{option_map}
 use Rattle.std.proofs.lemmas.Grind.{flat_map-append}
-use Rattle.justfile_word.specs.declared.token_kind.TokenKind.{TokenKind}
-use Rattle.justfile_word.specs.declared.token_kind.TokenKind.TheVariants as kinds
+use Rattle.justfile_vocabulary.specs.declared.token_kind.TokenKind.{TokenKind}
+use Rattle.justfile_vocabulary.specs.declared.token_kind.TokenKind.TheVariants as kinds
 use Rattle.justfile_model.specs.declared.level.Level.TheVariants as levels
 use Rattle.justfile_model.specs.declared.parameter_kind.ParameterKind.{ParameterKind}
 use Rattle.justfile_model.specs.declared.parameter_kind.ParameterKind.TheVariants.{Plus, Singular, Star}
 use Rattle.justfile_model.specs.Conditions.{Conditions}
 use Rattle.justfile_model.specs.ExpressionReader as expressions
-use Rattle.justfile_model.specs.Expressions.{Tokens, IsKind, NotNext, Under}
+use Rattle.justfile_model.specs.Expressions.{Tokens, IsKind, NotNext, BelowLimit}
 use Rattle.justfile_model.specs.Features.{Noted, rules_features}
 use Rattle.justfile_model.specs.Files.{dependency_literals, expr_literals, header_literals, optional_literals, parameter_literals}
 use Rattle.justfile_model.specs.HeaderReader as r
-use Rattle.justfile_model.specs.HeaderReader.{ReadHeader, draw_binding, obeying}
+use Rattle.justfile_model.specs.HeaderReader.{ReadHeader, next_binding_number, obeying}
 use Rattle.justfile_model.specs.Headers as g
 use Rattle.justfile_model.specs.Literals.{Literal}
-use Rattle.justfile_model.specs.ReadAttribute.{token_sight}
-use Rattle.justfile_model.specs.Reading.{◌>>=◌, BreaksRule, Counters, accepted, at, next_are, prepend, taken_or, with}
+use Rattle.justfile_model.specs.ReadAttribute.{token_view}
+use Rattle.justfile_model.specs.ReaderState.{◌>>=◌, BreaksRule, Counters, accepted, at, next_are, prepend, taken_or, with}
 use Rattle.justfile_model.specs.RecipeRules.{dependency_broken, header_broken, misplaced_broken, options_broken, parameter_broken, parameters_broken, second_broken, stars, undefined_broken}
 use Rattle.justfile_model.specs.Rules.{Broken}
 use Rattle.justfile_model.specs.SignificantTokens.{SignificantToken}
 use Rattle.justfile_model.specs.Tok.{Tok}
 use Rattle.justfile_model.specs.Tree.{ArgumentRules, Dependency, DependencyArgument, Expr, Header, Parameter, itself}
-use Rattle.justfile_model.specs.TreeReader.{Read, Refusal, State, token_leaves}
+use Rattle.justfile_model.specs.TreeReader.{Read, ReadError, State, token_leaves}
 use Rattle.justfile_model.proofs.ExpressionSound as e
 use Rattle.justfile_model.proofs.ExpressionSound.{Derived, Here, expression_derives, level_at}
 use Rattle.justfile_model.proofs.HeaderCovers.{ReadArgument, kept, stars_more, stars_of_kept}
@@ -37,7 +37,7 @@ use Rattle.justfile_model.proofs.Turns.{recursive_keeps}
 use Rattle.justfile_model.proofs.Unchanged.{arguments_are}
 
 -- rules that are obeyed are none that are broken
-pub after_obeying : {X : Type 0} (rules : List (Broken Tok)) (s : State) (f : Unit {0} × State → Read X) (P : Read X → Type 0) → ((e : Refusal) → P (Err e))
+pub after_obeying : {X : Type 0} (rules : List (Broken Tok)) (s : State) (f : Unit {0} × State → Read X) (P : Read X → Type 0) → ((e : ReadError) → P (Err e))
     → (rules ≡ [] → P (f (tt, s))) → P (obeying rules s >>= f)
 after_obeying [] s f P fails goes = goes refl
 after_obeying (b ∷ bs) s f P fails goes = fails (BreaksRule b)
@@ -57,16 +57,16 @@ is_left kind s = go s.left (next_taken (kind ∷ []) s)
 
 -- no second star stands in these arguments
 abbrev AreFew : List ReadArgument → Type 0
-AreFew arguments = second_broken (map token_leaves.spot (stars arguments)) ≡ []
+AreFew arguments = second_broken (map token_leaves.position (stars arguments)) ≡ []
 
 plain_few : (before : List ReadArgument) (value : Expr Tok Tok) → AreFew before → AreFew (before ++ record { star = None; value = value } ∷ [])
 plain_few before value h =
-    subst (λ (ts : List SignificantToken). second_broken (map token_leaves.spot ts) ≡ []) (sym (stars_more before _ ∙ append-nil (stars before))) h
+    subst (λ (ts : List SignificantToken). second_broken (map token_leaves.position ts) ≡ []) (sym (stars_more before _ ∙ append-nil (stars before))) h
 
-starred_few : (before : List ReadArgument) (star : SignificantToken) (value : Expr Tok Tok) → second_broken (map token_leaves.spot (stars before ++ star ∷ [])) ≡ []
+starred_few : (before : List ReadArgument) (star : SignificantToken) (value : Expr Tok Tok) → second_broken (map token_leaves.position (stars before ++ star ∷ [])) ≡ []
     → AreFew (before ++ record { star = Some star; value = value } ∷ [])
 starred_few before star value h =
-    subst (λ (ts : List SignificantToken). second_broken (map token_leaves.spot ts) ≡ []) (sym (stars_more before _)) h
+    subst (λ (ts : List SignificantToken). second_broken (map token_leaves.position ts) ≡ []) (sym (stars_more before _)) h
 
 -- ---- a token may stand before others
 
@@ -86,13 +86,13 @@ none_of false false false h = (refl, refl, refl)
 
 -- the rules of more parameters
 parameters_append : (conditions : Conditions) (rules : List (ArgumentRules Tok Tok)) (before ps qs : List (Parameter Tok Tok))
-    → parameters_broken (token_sight conditions) rules before ps ≡ [] → parameters_broken (token_sight conditions) rules (before ++ ps) qs ≡ []
-    → parameters_broken (token_sight conditions) rules before (ps ++ qs) ≡ []
-parameters_append conditions rules before [] qs h k = subst (λ l. parameters_broken (token_sight conditions) rules l qs ≡ []) (append-nil before) k
+    → parameters_broken (token_view conditions) rules before ps ≡ [] → parameters_broken (token_view conditions) rules (before ++ ps) qs ≡ []
+    → parameters_broken (token_view conditions) rules before (ps ++ qs) ≡ []
+parameters_append conditions rules before [] qs h k = subst (λ l. parameters_broken (token_view conditions) rules l qs ≡ []) (append-nil before) k
 parameters_append conditions rules before (p ∷ ps) qs h k =
-    let parts = both_none (parameter_broken (token_sight conditions) rules before p) (parameters_broken (token_sight conditions) rules (before ++ p ∷ []) ps) h in
+    let parts = both_none (parameter_broken (token_view conditions) rules before p) (parameters_broken (token_view conditions) rules (before ++ p ∷ []) ps) h in
     rw (parts.0) (parameters_append conditions rules (before ++ p ∷ []) ps qs parts.1
-    (subst (λ l. parameters_broken (token_sight conditions) rules l qs ≡ []) (sym (append_assoc before (p ∷ []) ps)) k))
+    (subst (λ l. parameters_broken (token_view conditions) rules l qs ≡ []) (sym (append_assoc before (p ∷ []) ps)) k))
   where
     both_none : {X : Type 0} (xs ys : List X) → xs ++ ys ≡ [] → (xs ≡ []) × (ys ≡ [])
     both_none [] ys h = (refl, h)
@@ -107,31 +107,31 @@ module _ (conditions : Conditions) where
   PathOf = g.PathOf itself
 
   abbrev NamedParameter : ParameterKind → Bool → Parameter Tok Tok → List (Noted Tok) → Tokens → Tokens → Type 0
-  NamedParameter = g.NamedParameter itself itself (Under conditions.limit)
+  NamedParameter = g.NamedParameter itself itself (BelowLimit conditions.limit)
 
   abbrev ParameterOf : ParameterKind → Parameter Tok Tok → List (Noted Tok) → Tokens → Tokens → Type 0
-  ParameterOf = g.ParameterOf itself itself (Under conditions.limit)
+  ParameterOf = g.ParameterOf itself itself (BelowLimit conditions.limit)
 
   abbrev Parameters : List (Parameter Tok Tok) → List (Noted Tok) → Tokens → Tokens → Type 0
-  Parameters = g.Parameters itself itself (Under conditions.limit)
+  Parameters = g.Parameters itself itself (BelowLimit conditions.limit)
 
   abbrev DependencyArguments : List (DependencyArgument Tok Tok Tok) → List (Noted Tok) → Tokens → Tokens → Type 0
-  DependencyArguments = g.DependencyArguments itself itself itself (Under conditions.limit)
+  DependencyArguments = g.DependencyArguments itself itself itself (BelowLimit conditions.limit)
 
   abbrev DependencyOf : Dependency Tok Tok Tok → List (Noted Tok) → Tokens → Tokens → Type 0
-  DependencyOf = g.DependencyOf itself itself itself (Under conditions.limit)
+  DependencyOf = g.DependencyOf itself itself itself (BelowLimit conditions.limit)
 
   abbrev Dependencies : List (Dependency Tok Tok Tok) → List (Noted Tok) → Tokens → Tokens → Type 0
-  Dependencies = g.Dependencies itself itself itself (Under conditions.limit)
+  Dependencies = g.Dependencies itself itself itself (BelowLimit conditions.limit)
 
   abbrev AllDependencies : (priors subsequents : List (Dependency Tok Tok Tok)) → List (Noted Tok) → Tokens → Tokens → Type 0
-  AllDependencies = g.AllDependencies itself itself itself (Under conditions.limit)
+  AllDependencies = g.AllDependencies itself itself itself (BelowLimit conditions.limit)
 
   abbrev pub NamedHeader : Bool → Header Tok Tok Tok → List (Noted Tok) → Tokens → Tokens → Type 0
-  NamedHeader = g.NamedHeader itself itself itself (Under conditions.limit)
+  NamedHeader = g.NamedHeader itself itself itself (BelowLimit conditions.limit)
 
   abbrev pub HeaderOf : Header Tok Tok Tok → List (Noted Tok) → Tokens → Tokens → Type 0
-  HeaderOf = g.HeaderOf itself itself itself (Under conditions.limit)
+  HeaderOf = g.HeaderOf itself itself itself (BelowLimit conditions.limit)
 
   abbrev Value : Expr Tok Tok → List (Noted Tok) → Tokens → Tokens → Type 0
   Value = e.Value conditions 0
@@ -217,7 +217,7 @@ module _ (conditions : Conditions) where
         derived = record { features = found.features; derives = λ more gs rest h. g.plain found.derives h; met = found.met; stays = found.stays };
         few = plain_few before e.0 few;
       }))
-      (λ star t1 split kind. after_obeying (second_broken (map token_leaves.spot (stars before ++ star ∷ []))) (at s t1) _ P (λ e. tt) (λ none.
+      (λ star t1 split kind. after_obeying (second_broken (map token_leaves.position (stars before ++ star ∷ []))) (at s t1) _ P (λ e. tt) (λ none.
       after_bind (expressions.value token_leaves (at s t1)) _ P (λ e. tt) (λ e is.
       let found = value_derives (at s t1) e is here in
       record {
@@ -319,12 +319,12 @@ module _ (conditions : Conditions) where
       let path = path_at (at s t1) names is here in
       after_bind (r.dependency_arguments token_leaves ([], names.1)) _ P (λ e. tt) (λ arguments is2.
       let found = known arguments (AreArguments ([], names.1)) is2 (arguments_sound ([], names.1) path.stays refl) in
-      after_obeying (misplaced_broken (option_map token_leaves.spot star) (map token_leaves.spot (stars arguments.0))) arguments.1 _ P (λ e. tt) (λ placed.
+      after_obeying (misplaced_broken (option_map token_leaves.position star) (map token_leaves.position (stars arguments.0))) arguments.1 _ P (λ e. tt) (λ placed.
       parenthesized_is star is_star s opener t1 names arguments split kind path found placed))))
     where
       parenthesized_is : (star : Option SignificantToken) → IsStar star → (s : State) (opener : SignificantToken) (t1 : Tokens) (names : List Tok × State)
           (arguments : DependencyPlace) → s.left ≡ opener ∷ t1 → IsKind kinds.ParenL opener → IsPath (at s t1) names → AreArguments ([], names.1) arguments
-          → misplaced_broken (option_map token_leaves.spot star) (map token_leaves.spot (stars arguments.0)) ≡ []
+          → misplaced_broken (option_map token_leaves.position star) (map token_leaves.position (stars arguments.0)) ≡ []
           → IsStarred star s (r.dependency_of token_leaves star names.0 arguments.0, arguments.1)
       parenthesized_is star is_star s opener t1 names arguments split kind path found placed =
           let later : Derived conditions (DependencyArguments (map kept found.others)) (arguments_literals (map kept found.others)) 0 names.1 arguments.1 =
@@ -515,18 +515,18 @@ module _ (conditions : Conditions) where
       one : Parameter Tok Tok
       all_are : y.0.0 ≡ before ++ one ∷ []
       derived : Derived conditions (rule one) (parameter_literals one) 0 s y.1
-      unbroken : parameter_broken (token_sight conditions) rules before one ≡ []
+      unbroken : parameter_broken (token_view conditions) rules before one ≡ []
 
     named_sound : (kind : ParameterKind) (export : Bool) (x : ReadParameters) (s : State) → Here conditions 0 s
-        → IfOk (r.named_parameter token_leaves token_sight rules kind export x s) (IsOne (NamedParameter kind export) x.0 s)
-    unfolding r.named_parameter draw_binding
+        → IfOk (r.named_parameter token_leaves token_view rules kind export x s) (IsOne (NamedParameter kind export) x.0 s)
+    unfolding r.named_parameter next_binding_number
     named_sound kind export x s here =
         let P : Read ReadParameters → Type 0 = λ o. IfOk o (IsOne (NamedParameter kind export) x.0 s) in
         after_expect kinds.Identifier s _ P (λ e. tt) (λ name t1 split is_name.
         after_bind (r.default_value token_leaves (at s t1)) _ P (λ e. tt) (λ default is.
         let found = known default (IsDefault (at s t1)) is (default_sound (at s t1) here) in
         let p = r.parameter_of token_leaves kind export name.tok default.0 in
-        after_obeying (parameter_broken (token_sight default.1.run) rules x.0 p) default.1 _ P (λ e. tt) (λ none.
+        after_obeying (parameter_broken (token_view default.1.run) rules x.0 p) default.1 _ P (λ e. tt) (λ none.
         record {
           one = p;
           all_are = refl;
@@ -536,7 +536,7 @@ module _ (conditions : Conditions) where
             met = found.met;
             stays = found.stays;
           };
-          unbroken = subst (λ run. parameter_broken (token_sight run) rules x.0 p ≡ []) found.stays.1 none;
+          unbroken = subst (λ run. parameter_broken (token_view run) rules x.0 p ≡ []) found.stays.1 none;
         })))
 
     exported_one : (kind : ParameterKind) (before : List (Parameter Tok Tok)) (s : State) (dollar : SignificantToken) (rest : Tokens) → s.left ≡ dollar ∷ rest
@@ -567,17 +567,17 @@ module _ (conditions : Conditions) where
         }
 
     parameter_sound : (kind : ParameterKind) (x : ParameterPlace) → Here conditions 0 x.1
-        → IfOk (r.parameter token_leaves token_sight rules kind x) (IsOne (ParameterOf kind) x.0.0 x.1)
+        → IfOk (r.parameter token_leaves token_view rules kind x) (IsOne (ParameterOf kind) x.0.0 x.1)
     unfolding r.parameter accepted
     parameter_sound kind x here =
-        let next = r.named_parameter token_leaves token_sight rules kind in
+        let next = r.named_parameter token_leaves token_view rules kind in
         after_accept kinds.Dollar x.1 (λ o. IfOk (next (taken_or x.1 o).0 x.0 (taken_or x.1 o).1) (IsOne (ParameterOf kind) x.0.0 x.1))
         (λ not. weaken (next false x.0 x.1) (IsOne (NamedParameter kind false) x.0.0 x.1) (IsOne (ParameterOf kind) x.0.0 x.1)
         (unexported_one kind x.0.0 x.1) (named_sound kind false x.0 x.1 here))
         (λ dollar rest split is_dollar. weaken (next true x.0 (at x.1 rest)) (IsOne (NamedParameter kind true) x.0.0 (at x.1 rest))
         (IsOne (ParameterOf kind) x.0.0 x.1) (exported_one kind x.0.0 x.1 dollar rest split is_dollar) (named_sound kind true x.0 (at x.1 rest) here))
 
-    parameter_at : (kind : ParameterKind) (x : ParameterPlace) (y : ParameterPlace) → r.parameter token_leaves token_sight rules kind x ≡ Ok y
+    parameter_at : (kind : ParameterKind) (x : ParameterPlace) (y : ParameterPlace) → r.parameter token_leaves token_view rules kind x ≡ Ok y
         → Here conditions 0 x.1 → IsOne (ParameterOf kind) x.0.0 x.1 y
     parameter_at kind x y is here = known y (IsOne (ParameterOf kind) x.0.0 x.1) is (parameter_sound kind x here)
 
@@ -586,7 +586,7 @@ module _ (conditions : Conditions) where
       others : List (Parameter Tok Tok)
       all_are : y.0.0 ≡ x.0.0 ++ others
       derived : Derived conditions (rule others) (flat_map parameter_literals others) 0 x.1 y.1
-      unbroken : parameters_broken (token_sight conditions) rules x.0.0 others ≡ []
+      unbroken : parameters_broken (token_view conditions) rules x.0.0 others ≡ []
 
     -- before any that may follow
     abbrev Leading : List (Parameter Tok Tok) → List (Noted Tok) → Tokens → Tokens → Type 0
@@ -612,19 +612,19 @@ module _ (conditions : Conditions) where
             met = both_met found.met later.met;
             stays = later.stays;
           };
-          unbroken = rw (h.unbroken) (subst (λ before. parameters_broken (token_sight conditions) rules before k.others ≡ []) h.all_are k.unbroken);
+          unbroken = rw (h.unbroken) (subst (λ before. parameters_broken (token_view conditions) rules before k.others ≡ []) h.all_are k.unbroken);
         }
 
     abbrev AllSingulars : ParameterPlace → Read ReadParameters → Type 0
     AllSingulars x found = Here conditions 0 x.1 → IfOk found (AreMore Leading x)
 
     singulars_keep : (f : ParameterPlace → Read ReadParameters) → ((x : ParameterPlace) → AllSingulars x (f x)) → (x : ParameterPlace)
-        → AllSingulars x (r.singulars_rule token_leaves token_sight rules f x)
+        → AllSingulars x (r.singulars_rule token_leaves token_view rules f x)
     unfolding r.singulars_rule
     singulars_keep f h x here =
         let P : Read ReadParameters → Type 0 = λ o. IfOk o (AreMore Leading x) in
         after_test (r.begins_parameter token_leaves x.1) _ _ P
-        (λ _. after_bind (r.parameter token_leaves token_sight rules Singular x) _ P (λ e. tt) (λ p is.
+        (λ _. after_bind (r.parameter token_leaves token_view rules Singular x) _ P (λ e. tt) (λ p is.
         let one = parameter_at Singular x p is here in
         weaken (f p) (AreMore Leading p) (AreMore Leading x) (λ z k. one_before x p z one k) (h p one.derived.stays)))
         (λ _. record {
@@ -634,10 +634,10 @@ module _ (conditions : Conditions) where
           unbroken = refl;
         })
 
-    singulars_sound : (x : ParameterPlace) → AllSingulars x (r.singulars token_leaves token_sight rules x)
+    singulars_sound : (x : ParameterPlace) → AllSingulars x (r.singulars token_leaves token_view rules x)
     unfolding r.singulars
     singulars_sound =
-        recursive_keeps (λ (x : ParameterPlace). length x.1.left) (r.no_parameters token_leaves token_sight rules) (r.singulars_rule token_leaves token_sight rules)
+        recursive_keeps (λ (x : ParameterPlace). length x.1.left) (r.no_parameters token_leaves token_view rules) (r.singulars_rule token_leaves token_view rules)
         AllSingulars (λ x here. tt) singulars_keep
 
     -- a parameter that takes several arguments, before the colon
@@ -645,11 +645,11 @@ module _ (conditions : Conditions) where
         → ((p : Parameter Tok Tok) (fs : List (Noted Tok)) (tokens : Tokens) (colon : SignificantToken) (rest : Tokens)
         → ParameterOf kind p fs tokens (colon ∷ rest) → IsKind kinds.Colon colon → Parameters (p ∷ []) fs (prefix ∷ tokens) rest)
         → (x : ReadParameters) (s : State) (t1 : Tokens) → s.left ≡ prefix ∷ t1 → Here conditions 0 s
-        → IfOk (r.variadic token_leaves token_sight rules kind (x, at s t1)) (AreMore Ending (x, s))
+        → IfOk (r.variadic token_leaves token_view rules kind (x, at s t1)) (AreMore Ending (x, s))
     unfolding r.variadic r.nothing_after
     variadic_derives kind prefix_kind prefix is_prefix derive x s t1 split here =
         let P : Read ReadParameters → Type 0 = λ o. IfOk o (AreMore Ending (x, s)) in
-        after_bind (r.parameter token_leaves token_sight rules kind (x, at s t1)) _ P (λ e. tt) (λ p is.
+        after_bind (r.parameter token_leaves token_view rules kind (x, at s t1)) _ P (λ e. tt) (λ p is.
         let h = parameter_at kind (x, at s t1) p is here in
         let found : Derived conditions (ParameterOf kind h.one) (parameter_literals h.one) 0 (at s t1) p.1 = h.derived in
         after_choose kinds.Identifier p.1 _ _ (λ (o : Read (Unit {0})). P (o >>= λ (end : Unit {0} × State). Ok (p.0, end.1)))
@@ -668,7 +668,7 @@ module _ (conditions : Conditions) where
         })
         (λ name rest split2 is_name. tt))
 
-    last_sound : (x : ParameterPlace) → Here conditions 0 x.1 → IfOk (r.last_parameter token_leaves token_sight rules x) (AreMore Ending x)
+    last_sound : (x : ParameterPlace) → Here conditions 0 x.1 → IfOk (r.last_parameter token_leaves token_view rules x) (AreMore Ending x)
     unfolding r.last_parameter
     last_sound x here =
         let P : Read ReadParameters → Type 0 = λ o. IfOk o (AreMore Ending x) in
@@ -691,7 +691,7 @@ module _ (conditions : Conditions) where
     -- all parameters, and the colon
     record AreParameters (s : State) (y : ParameterPlace) : Type 0 where
       derived : Derived conditions (Parameters y.0.0) (flat_map parameter_literals y.0.0) 0 s y.1
-      unbroken : parameters_broken (token_sight conditions) rules [] y.0.0 ≡ []
+      unbroken : parameters_broken (token_view conditions) rules [] y.0.0 ≡ []
 
     all_parameters : (n : Counters) (s : State) (ps : ParameterPlace) → AreMore Leading (([], n), s) ps → (all : ParameterPlace) → AreMore Ending ps all
         → (colon : SignificantToken) (rest : Tokens) → all.1.left ≡ colon ∷ rest → IsKind kinds.Colon colon → AreParameters s (all.0, at all.1 rest)
@@ -708,16 +708,16 @@ module _ (conditions : Conditions) where
             stays = later.stays;
           };
           unbroken = parameters_append conditions rules [] h.others k.others h.unbroken
-              (subst (λ before. parameters_broken (token_sight conditions) rules before k.others ≡ []) h.all_are k.unbroken);
+              (subst (λ before. parameters_broken (token_view conditions) rules before k.others ≡ []) h.all_are k.unbroken);
         })
 
-    parameters_sound : (n : Counters) (s : State) → Here conditions 0 s → IfOk (r.parameters token_leaves token_sight rules n s) (AreParameters s)
+    parameters_sound : (n : Counters) (s : State) → Here conditions 0 s → IfOk (r.parameters token_leaves token_view rules n s) (AreParameters s)
     unfolding r.parameters
     parameters_sound n s here =
         let P : Read ReadParameters → Type 0 = λ o. IfOk o (AreParameters s) in
-        after_bind (r.singulars token_leaves token_sight rules (([], n), s)) _ P (λ e. tt) (λ ps is.
+        after_bind (r.singulars token_leaves token_view rules (([], n), s)) _ P (λ e. tt) (λ ps is.
         let first = known ps (AreMore Leading (([], n), s)) is (singulars_sound (([], n), s) here) in
-        after_bind (r.last_parameter token_leaves token_sight rules ps) _ P (λ e. tt) (λ all is2.
+        after_bind (r.last_parameter token_leaves token_view rules ps) _ P (λ e. tt) (λ all is2.
         let last = known all (AreMore Ending ps) is2 (last_sound ps first.derived.stays) in
         after_expect kinds.Colon all.1 _ P (λ e. tt) (λ colon rest split is_colon. all_parameters n s ps first all last colon rest split is_colon)))
 
@@ -733,22 +733,22 @@ module _ (conditions : Conditions) where
       pub derives : (quiet : Bool) → NamedHeader quiet (header_of quiet x.0.0) features s.left x.1.left
       pub met : Met conditions.expander (flat_map rules_features rules ++ features) (header_literals (header_of true x.0.0)) s.noted x.1.noted
       pub stays : Here conditions 0 x.1
-      pub options_unbroken : options_broken (token_sight conditions) x.0.0.name.tok rules ≡ []
-      pub parameters_unbroken : parameters_broken (token_sight conditions) rules [] x.0.0.parameters ≡ []
-      pub none_undefined : undefined_broken (token_sight conditions) x.0.0.parameters rules ≡ []
+      pub options_unbroken : options_broken (token_view conditions) x.0.0.name.tok rules ≡ []
+      pub parameters_unbroken : parameters_broken (token_view conditions) rules [] x.0.0.parameters ≡ []
+      pub none_undefined : undefined_broken (token_view conditions) x.0.0.parameters rules ≡ []
       pub stars_unbroken : header_broken (header_of true x.0.0) ≡ []
 
-    pub header_sound : (n : Counters) (s : State) → Here conditions 0 s → IfOk (r.header token_leaves token_sight rules n s) (IsHeader s)
+    pub header_sound : (n : Counters) (s : State) → Here conditions 0 s → IfOk (r.header token_leaves token_view rules n s) (IsHeader s)
     unfolding r.header r.distinct_options
     header_sound n s here =
         let P : Read (ReadHeader SignificantToken Tok Tok Tok × Counters) → Type 0 = λ o. IfOk o (IsHeader s) in
         let said : List (Noted Tok) = flat_map rules_features rules in
         after_expect kinds.Identifier s _ P (λ e. tt) (λ name t1 split is_name.
-        after_obeying (options_broken (token_sight s.run) name.tok rules) (with said (at s t1)) _ P (λ e. tt) (λ apart.
-        after_bind (r.parameters token_leaves token_sight rules n (with said (at s t1))) _ P (λ e. tt) (λ ps is.
+        after_obeying (options_broken (token_view s.run) name.tok rules) (with said (at s t1)) _ P (λ e. tt) (λ apart.
+        after_bind (r.parameters token_leaves token_view rules n (with said (at s t1))) _ P (λ e. tt) (λ ps is.
         let parameters = known ps (AreParameters (with said (at s t1))) is (parameters_sound n (with said (at s t1)) here) in
         let p : Derived conditions (Parameters ps.0.0) (flat_map parameter_literals ps.0.0) 0 (with said (at s t1)) ps.1 = parameters.derived in
-        after_obeying (undefined_broken (token_sight ps.1.run) ps.0.0 rules) ps.1 _ P (λ e. tt) (λ defined.
+        after_obeying (undefined_broken (token_view ps.1.run) ps.0.0 rules) ps.1 _ P (λ e. tt) (λ defined.
         after_bind (r.dependencies token_leaves ps.1) _ P (λ e. tt) (λ priors is2.
         let before = dependencies_at ps.1 priors is2 p.stays in
         after_bind (r.subsequents token_leaves priors.1) _ P (λ e. tt) (λ others is3.
@@ -759,14 +759,14 @@ module _ (conditions : Conditions) where
         record {
           features = p.features ++ d.features;
           derives = λ quiet.
-              subst (λ (ts : Tokens). NamedHeader quiet (header_of quiet (r.header_of token_leaves token_sight rules name ps.0.0 priors.0 others.0)) (p.features ++ d.features) ts others.1.left)
+              subst (λ (ts : Tokens). NamedHeader quiet (header_of quiet (r.header_of token_leaves token_view rules name ps.0.0 priors.0 others.0)) (p.features ++ d.features) ts others.1.left)
               (sym split) (g.header is_name p.derives d.derives);
           met = subst (λ ls. Met conditions.expander (said ++ (p.features ++ d.features)) ls s.noted others.1.noted)
               (sym (append_assoc (flat_map parameter_literals ps.0.0) (flat_map dependency_literals priors.0) (flat_map dependency_literals others.0)))
               (both_met (features_met said) (both_met p.met d.met));
           stays = d.stays;
-          options_unbroken = subst (λ run. options_broken (token_sight run) name.tok rules ≡ []) here.1 apart;
+          options_unbroken = subst (λ run. options_broken (token_view run) name.tok rules ≡ []) here.1 apart;
           parameters_unbroken = parameters.unbroken;
-          none_undefined = subst (λ run. undefined_broken (token_sight run) ps.0.0 rules ≡ []) p.stays.1 defined;
+          none_undefined = subst (λ run. undefined_broken (token_view run) ps.0.0 rules ≡ []) p.stays.1 defined;
           stars_unbroken = all.unbroken;
         }))))))

@@ -2,13 +2,13 @@
 use Rattle.std.proofs.Common.{◌≡◌, ◌∙◌, ℕ, Bool, true, false, cond, not, ◌||◌, List, [], ◌∷◌, ◌++◌, map, Option, Some, None, Result, Ok, refl, sym, subst, ap}
 use Rattle.std.specs.Prelude.{IfSome, if◌then◌else◌}
 use Rattle.std.specs.Option.{option_map}
-use Rattle.justfile_word.proofs.IndentationLemmas.{indentation_read}
-use Rattle.justfile_word.specs.AttributeKind.{is_enabler_kind}
-use Rattle.justfile_word.specs.Indentation.{IsIndentation, indentation_refusal}
-use Rattle.justfile_word.specs.declared.attribute_kind.AttributeKind.TheVariants.{Linux, Unix}
-use Rattle.justfile_word.specs.declared.keyword.Keyword.{Keyword}
-use Rattle.justfile_word.specs.declared.keyword.Keyword.TheVariants as words
-use Rattle.justfile_base.specs.StringKind.{kind_of}
+use Rattle.justfile_vocabulary.proofs.IndentationLemmas.{indentation_read}
+use Rattle.justfile_vocabulary.specs.AttributeKind.{is_enabler_kind}
+use Rattle.justfile_vocabulary.specs.Indentation.{IsIndentation, indentation_refusal}
+use Rattle.justfile_vocabulary.specs.declared.attribute_kind.AttributeKind.TheVariants.{Linux, Unix}
+use Rattle.justfile_vocabulary.specs.declared.keyword.Keyword.{Keyword}
+use Rattle.justfile_vocabulary.specs.declared.keyword.Keyword.TheVariants as words
+use Rattle.justfile_token.specs.StringKind.{kind_of}
 use Rattle.justfile_model.specs.AttributeKinds.{same_attribute}
 use Rattle.justfile_model.specs.AttributeRules.{attributes_broken, of_some}
 use Rattle.justfile_model.specs.Conditions.{Conditions, VersionNumbers}
@@ -21,19 +21,19 @@ use Rattle.justfile_model.specs.Literals.{Expansions, string_text}
 use Rattle.justfile_model.specs.Meaning.{entries_of, quoted_text}
 use Rattle.justfile_model.specs.NormalShape.{normal}
 use Rattle.justfile_model.specs.RecipeRules.{or_else}
-use Rattle.justfile_model.specs.Rewritten.{rewritten_entries}
+use Rattle.justfile_model.specs.PrintedAttributes.{rewritten_entries}
 use Rattle.justfile_model.specs.Rules.{Broken, InvalidIndentation, SettingExpression, broken_if}
 use Rattle.justfile_model.specs.SettingRules.{literal_broken, setting_broken, text_broken}
-use Rattle.justfile_model.specs.Sight.{text_or_none}
+use Rattle.justfile_model.specs.LeafView.{text_or_none}
 use Rattle.justfile_model.specs.SignificantTokens.{SignificantToken}
 use Rattle.justfile_model.specs.Tree as tree
 use Rattle.justfile_model.specs.Tree.{Comment, Construct, Content, Entry, Expr, Newline, OrderedItem, Quoted, SettingParts, SettingValue, Shape, Tree, lexeme, nothing, over_content, over_entry, over_item, over_setting_value, shape_of}
 use Rattle.justfile_model.proofs.Binds.{never_nil, nothing_in}
 use Rattle.justfile_model.proofs.DocsKept.{any_kind_over}
 use Rattle.justfile_model.proofs.Normal.{normal_seen}
-use Rattle.justfile_model.proofs.RewrittenEntries.{sees}
-use Rattle.justfile_model.proofs.RewrittenItems.{AllPrintAgain, PrintsAgain, ShapeItem, shape_again}
-use Rattle.justfile_model.proofs.RewrittenLiterals.{HasText, HaveTexts, parts, texts_are_there}
+use Rattle.justfile_model.proofs.PrintedEntries.{sees}
+use Rattle.justfile_model.proofs.PrintedItems.{AllPrintAgain, PrintsAgain, ShapeItem, shape_again}
+use Rattle.justfile_model.proofs.PrintedLiterals.{HasText, HaveTexts, parts, texts_are_there}
 
 -- ---- over other leaves
 

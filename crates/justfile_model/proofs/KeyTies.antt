@@ -10,14 +10,14 @@ use Rattle.std.specs.declared.cmp.Ordering.{Ordering}
 use Rattle.std.specs.declared.cmp.Ordering.TheVariants.{Equal}
 use Rattle.std.proofs.lemmas.Cmp.{tied_itself}
 use Rattle.std.proofs.lemmas.Map.Lookups.{CmpEqualImpliesEq, exact_bytes, exact_unsigned}
-use Rattle.justfile_word.specs.contracts.format_string_part.FormatStringPart as parts
-use Rattle.justfile_word.specs.contracts.format_string_part.FormatStringPartOrd.TheImpl as part_order
-use Rattle.justfile_base.specs.contracts.string_kind.StringDelimiter as delimiters
-use Rattle.justfile_base.specs.contracts.string_kind.StringDelimiterOrd.TheImpl as delimiter_order
-use Rattle.justfile_word.specs.contracts.signal.Signal as signals
-use Rattle.justfile_word.specs.contracts.signal.SignalOrd.TheImpl as signal_order
-use Rattle.justfile_word.specs.contracts.token_kind.TokenKind as kinds
-use Rattle.justfile_word.specs.contracts.token_kind.TokenKindOrd.TheImpl as kind_order
+use Rattle.justfile_vocabulary.specs.contracts.format_string_part.FormatStringPart as parts
+use Rattle.justfile_vocabulary.specs.contracts.format_string_part.FormatStringPartOrd.TheImpl as part_order
+use Rattle.justfile_token.specs.contracts.string_kind.StringDelimiter as delimiters
+use Rattle.justfile_token.specs.contracts.string_kind.StringDelimiterOrd.TheImpl as delimiter_order
+use Rattle.justfile_vocabulary.specs.contracts.signal.Signal as signals
+use Rattle.justfile_vocabulary.specs.contracts.signal.SignalOrd.TheImpl as signal_order
+use Rattle.justfile_vocabulary.specs.contracts.token_kind.TokenKind as kinds
+use Rattle.justfile_vocabulary.specs.contracts.token_kind.TokenKindOrd.TheImpl as kind_order
 use Rattle.justfile_model.specs.contracts.conditional_operator.ConditionalOperator as operators
 use Rattle.justfile_model.specs.contracts.conditional_operator.ConditionalOperatorOrd.TheImpl as operator_order
 use Rattle.justfile_model.specs.ContentLeaf.{ContentLeaf, token, literal, operator, text, count, signal, unseen, content_cmp, token_content_cmp, literal_content_cmp, string_kind_cmp}

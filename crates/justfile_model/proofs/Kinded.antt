@@ -1,8 +1,8 @@
 -- A tree that is derived from tokens has at each place a token of the kind, and where it is fixed with the lexeme, that the grammar asks for.
 use Rattle.std.proofs.Common.{◌≡◌, ℕ, Bool, List, [], ◌∷◌, ◌++◌, Option, Some, None, codes, subst}
 use Rattle.std.specs.List.{AllByRecursion}
-use Rattle.justfile_word.specs.declared.token_kind.TokenKind.{TokenKind}
-use Rattle.justfile_word.specs.declared.token_kind.TokenKind.TheVariants as kinds
+use Rattle.justfile_vocabulary.specs.declared.token_kind.TokenKind.{TokenKind}
+use Rattle.justfile_vocabulary.specs.declared.token_kind.TokenKind.TheVariants as kinds
 use Rattle.justfile_model.specs.declared.conditional_operator.ConditionalOperator.{ConditionalOperator}
 use Rattle.justfile_model.specs.declared.conditional_operator.ConditionalOperator.TheVariants.{Equality, Inequality, RegexMatch, RegexMismatch}
 use Rattle.justfile_model.specs.ConditionalOperator.{operator_sign}
@@ -89,10 +89,10 @@ pub record Kinds (Kinded : Type 0) (rest : Tokens) : Type 0 where
   pub kinded : Kinded
   pub after : AllSpelled rest
 
-module _ (Open : ℕ → Option SignificantToken → Type 0) where
+module _ (MayEnter : ℕ → Option SignificantToken → Type 0) where
   mutual
     pub expression_kinded : {condition : Bool} {depth : ℕ} {e : Expr Tok Tok} {fs : List (Noted Tok)} {tokens rest : Tokens}
-        → Expression itself itself Open condition depth e fs tokens rest → AllSpelled tokens → Kinds (KindedExpr e) rest
+        → Expression itself itself MayEnter condition depth e fs tokens rest → AllSpelled tokens → Kinds (KindedExpr e) rest
     expression_kinded (g.or o l k r) s =
         let x = disjunct_kinded l s in
         let y = expression_kinded r x.after.1 in
@@ -100,7 +100,7 @@ module _ (Open : ℕ → Option SignificantToken → Type 0) where
     expression_kinded (g.disjunct o l n) s = disjunct_kinded l s
 
     disjunct_kinded : {condition : Bool} {depth : ℕ} {e : Expr Tok Tok} {fs : List (Noted Tok)} {tokens rest : Tokens}
-        → Disjunct itself itself Open condition depth e fs tokens rest → AllSpelled tokens → Kinds (KindedExpr e) rest
+        → Disjunct itself itself MayEnter condition depth e fs tokens rest → AllSpelled tokens → Kinds (KindedExpr e) rest
     disjunct_kinded (g.and l k r) s =
         let x = compared_kinded l s in
         let y = disjunct_kinded r x.after.1 in
@@ -108,7 +108,7 @@ module _ (Open : ℕ → Option SignificantToken → Type 0) where
     disjunct_kinded (g.comparison l n) s = compared_kinded l s
 
     compared_kinded : {condition : Bool} {depth : ℕ} {e : Expr Tok Tok} {fs : List (Noted Tok)} {tokens rest : Tokens}
-        → Compared itself itself Open condition depth e fs tokens rest → AllSpelled tokens → Kinds (KindedExpr e) rest
+        → Compared itself itself MayEnter condition depth e fs tokens rest → AllSpelled tokens → Kinds (KindedExpr e) rest
     compared_kinded (g.compare {operator = operator} by l k r) s =
         let x = conjunct_kinded l s in
         let y = conjunct_kinded r x.after.1 in
@@ -119,7 +119,7 @@ module _ (Open : ℕ → Option SignificantToken → Type 0) where
     compared_kinded (g.conjunct l n) s = conjunct_kinded l s
 
     conjunct_kinded : {depth : ℕ} {e : Expr Tok Tok} {fs : List (Noted Tok)} {tokens rest : Tokens}
-        → Conjunct itself itself Open depth e fs tokens rest → AllSpelled tokens → Kinds (KindedExpr e) rest
+        → Conjunct itself itself MayEnter depth e fs tokens rest → AllSpelled tokens → Kinds (KindedExpr e) rest
     conjunct_kinded (g.conditional w c) s = conditional_kinded c s.1
     conjunct_kinded (g.root {operator = operator} k r) s =
         let x = conjunct_kinded r s.1 in record { kinded = (is_spelled kinds.Slash (codes "/") operator (λ e. e) k s.0, x.kinded); after = x.after }
@@ -138,15 +138,15 @@ module _ (Open : ℕ → Option SignificantToken → Type 0) where
     conjunct_kinded (g.value n l j) s = value_kinded l s
 
     condition_kinded : {depth : ℕ} {e : Expr Tok Tok} {fs : List (Noted Tok)} {tokens rest : Tokens}
-        → Condition itself itself Open depth e fs tokens rest → AllSpelled tokens → Kinds (KindedExpr e) rest
+        → Condition itself itself MayEnter depth e fs tokens rest → AllSpelled tokens → Kinds (KindedExpr e) rest
     condition_kinded (g.condition e) s = expression_kinded e s
 
     braced_kinded : {depth : ℕ} {e : Expr Tok Tok} {fs : List (Noted Tok)} {tokens rest : Tokens}
-        → Braced itself itself Open depth e fs tokens rest → AllSpelled tokens → Kinds (KindedExpr e) rest
+        → Braced itself itself MayEnter depth e fs tokens rest → AllSpelled tokens → Kinds (KindedExpr e) rest
     braced_kinded (g.braces o e c) s = let x = expression_kinded e s.1 in record { kinded = x.kinded; after = x.after.1 }
 
     conditional_kinded : {depth : ℕ} {word : SignificantToken} {e : Expr Tok Tok} {fs : List (Noted Tok)} {tokens rest : Tokens}
-        → Conditional itself itself Open depth word e fs tokens rest → AllSpelled tokens → Kinds (KindedExpr e) rest
+        → Conditional itself itself MayEnter depth word e fs tokens rest → AllSpelled tokens → Kinds (KindedExpr e) rest
     conditional_kinded (g.if_only c b n) s =
         let x = condition_kinded c s in
         let y = braced_kinded b x.after in
@@ -163,7 +163,7 @@ module _ (Open : ℕ → Option SignificantToken → Type 0) where
         record { kinded = (x.kinded, y.kinded, z.kinded); after = z.after }
 
     pub value_kinded : {depth : ℕ} {e : Expr Tok Tok} {fs : List (Noted Tok)} {tokens rest : Tokens}
-        → Value itself itself Open depth e fs tokens rest → AllSpelled tokens → Kinds (KindedExpr e) rest
+        → Value itself itself MayEnter depth e fs tokens rest → AllSpelled tokens → Kinds (KindedExpr e) rest
     value_kinded (g.not k e) s = value_kinded e s.1
     value_kinded (g.literal k) s = record { kinded = k; after = s.1 }
     value_kinded (g.expanded m) s = record { kinded = m.is_string; after = s.1.1 }
@@ -186,7 +186,7 @@ module _ (Open : ℕ → Option SignificantToken → Type 0) where
         let x = sequence_kinded es s.1 in record { kinded = (is_spelled kinds.BracketL (codes "[") opener (λ e. e) o s.0, x.kinded); after = x.after }
 
     pub sequence_kinded : {closing : TokenKind} {depth : ℕ} {es : Exprs Tok Tok} {fs : List (Noted Tok)} {tokens rest : Tokens}
-        → Sequence itself itself Open closing depth es fs tokens rest → AllSpelled tokens → Kinds (KindedExprs es) rest
+        → Sequence itself itself MayEnter closing depth es fs tokens rest → AllSpelled tokens → Kinds (KindedExprs es) rest
     sequence_kinded (g.none k) s = record { kinded = tt; after = s.1 }
     sequence_kinded (g.last n e k) s = let x = expression_kinded e s in record { kinded = (x.kinded, tt); after = x.after.1 }
     sequence_kinded (g.more n e k es) s =
@@ -195,7 +195,7 @@ module _ (Open : ℕ → Option SignificantToken → Type 0) where
         record { kinded = (x.kinded, y.kinded); after = y.after }
 
     parts_kinded : {depth : ℕ} {ps : Parts Tok Tok} {fs : List (Noted Tok)} {tokens rest : Tokens}
-        → FormatParts itself itself Open depth ps fs tokens rest → AllSpelled tokens → Kinds (KindedParts ps) rest
+        → FormatParts itself itself MayEnter depth ps fs tokens rest → AllSpelled tokens → Kinds (KindedParts ps) rest
     parts_kinded (g.end k) s = record { kinded = k; after = s.1 }
     parts_kinded (g.next k e ps) s =
         let x = expression_kinded e s.1 in
@@ -208,14 +208,14 @@ module _ (Open : ℕ → Option SignificantToken → Type 0) where
   key_kind t [] h = h
   key_kind t (u ∷ ts) h = h.0
 
-  argument_kinded : {keys : Bool} {a : Argument Tok Tok} {fs : List (Noted Tok)} {tokens rest : Tokens} → ArgumentOf itself itself Open keys a fs tokens rest
+  argument_kinded : {keys : Bool} {a : Argument Tok Tok} {fs : List (Noted Tok)} {tokens rest : Tokens} → ArgumentOf itself itself MayEnter keys a fs tokens rest
       → AllSpelled tokens → Kinds (KindedArgument a) rest
   argument_kinded (lines.positional n e) s = expression_kinded e s
   argument_kinded (lines.bare {key = key} {rest = rest} k n) s = record { kinded = key_kind key rest k; after = s.1 }
   argument_kinded (lines.keyed k q e) s = let x = expression_kinded e s.1.1 in record { kinded = (k, x.kinded); after = x.after }
 
   arguments_kinded : {keys : Bool} {arguments : List (Argument Tok Tok)} {fs : List (Noted Tok)} {tokens rest : Tokens}
-      → Arguments itself itself Open keys arguments fs tokens rest → AllSpelled tokens
+      → Arguments itself itself MayEnter keys arguments fs tokens rest → AllSpelled tokens
       → Kinds (AllByRecursion KindedArgument arguments) rest
   arguments_kinded (lines.none k) s = record { kinded = tt; after = s.1 }
   arguments_kinded (lines.last a k) s = let x = argument_kinded a s in record { kinded = (x.kinded, tt); after = x.after.1 }
@@ -224,13 +224,13 @@ module _ (Open : ℕ → Option SignificantToken → Type 0) where
       let y = arguments_kinded others x.after.1 in
       record { kinded = (x.kinded, y.kinded); after = y.after }
 
-  pub attribute_kinded : {w : WrittenAttribute Tok Tok} {fs : List (Noted Tok)} {tokens rest : Tokens} → AttributeOf itself itself Open w fs tokens rest
+  pub attribute_kinded : {w : WrittenAttribute Tok Tok} {fs : List (Noted Tok)} {tokens rest : Tokens} → AttributeOf itself itself MayEnter w fs tokens rest
       → AllSpelled tokens → Kinds (KindedAttribute w) rest
   attribute_kinded (lines.plain k n m) s = record { kinded = tt; after = s.1 }
   attribute_kinded (lines.short k c e) s = let x = expression_kinded e s.1.1 in record { kinded = (x.kinded, tt); after = x.after }
   attribute_kinded (lines.long k o arguments) s = arguments_kinded arguments s.1.1
 
-  bracketed_kinded : {ws : List (WrittenAttribute Tok Tok)} {fs : List (Noted Tok)} {tokens rest : Tokens} → Bracketed itself itself Open ws fs tokens rest
+  bracketed_kinded : {ws : List (WrittenAttribute Tok Tok)} {fs : List (Noted Tok)} {tokens rest : Tokens} → Bracketed itself itself MayEnter ws fs tokens rest
       → AllSpelled tokens → Kinds (KindedWritten ws) rest
   bracketed_kinded (lines.last w k) s = let x = attribute_kinded w s in record { kinded = (x.kinded, tt); after = x.after.1 }
   bracketed_kinded (lines.more w k ws) s =
@@ -238,7 +238,7 @@ module _ (Open : ℕ → Option SignificantToken → Type 0) where
       let y = bracketed_kinded ws x.after.1 in
       record { kinded = (x.kinded, y.kinded); after = y.after }
 
-  end_spelled : {comment : Option (List ℕ)} {tokens rest : Tokens} → AttributesEnd itself itself Open comment tokens rest → AllSpelled tokens → AllSpelled rest
+  end_spelled : {comment : Option (List ℕ)} {tokens rest : Tokens} → AttributesEnd itself itself MayEnter comment tokens rest → AllSpelled tokens → AllSpelled rest
   end_spelled (lines.bare k) s = s.1
   end_spelled (lines.commented c k) s = s.1.1
 
@@ -256,7 +256,7 @@ module _ (Open : ℕ → Option SignificantToken → Type 0) where
   commented_kinded (Some c) ws h = last_kinded c ws h
 
   pub lines_kinded : {ws : List (WrittenAttribute Tok Tok)} {fs : List (Noted Tok)} {tokens rest : Tokens}
-      → AttributeLines itself itself Open ws fs tokens rest → AllSpelled tokens → Kinds (KindedWritten ws) rest
+      → AttributeLines itself itself MayEnter ws fs tokens rest → AllSpelled tokens → Kinds (KindedWritten ws) rest
   lines_kinded (lines.none n) s = record { kinded = tt; after = s }
   lines_kinded (lines.line {ws = ws} {others = others} {comment = comment} k bracketed e more) s =
       let x = bracketed_kinded bracketed s.1 in

@@ -4,17 +4,17 @@ use Rattle.std.specs.List.{flat_map}
 use Rattle.std.specs.Option.{option_map}
 use Rattle.std.proofs.lemmas.List.{map-append}
 use Rattle.justfile_model.specs.Tok.{Tok}
-use Rattle.justfile_model.specs.Sight.{sees_lexemes, sees_tokens}
+use Rattle.justfile_model.specs.LeafView.{views_lexemes, views_tokens}
 use Rattle.justfile_model.specs.SignificantTokens.{AllSpelled, SignificantToken}
 use Rattle.justfile_model.specs.Conditions.{Conditions}
 use Rattle.justfile_model.specs.Tree as tree
 use Rattle.justfile_model.specs.Tree.{Expr, Exprs, Parts, Fragment, BodyLine, Line, Quoted, Argument, WrittenAttribute, OptionName, Property, ArgumentRules, Attribute, Entry, Parameter, DependencyArgument, Dependency, Header, AssignmentParts, SettingValue, Content, Item, WrittenItem, WrittenTree, WrittenShape, Tree, Shape, over_expr, over_exprs, over_parts, over_fragment, over_argument, over_written_attribute, over_entry, over_quoted, over_option, over_property, over_rules, over_attribute, over_parameter, over_assignment, over_setting_value, over_line, over_dependency_argument, over_dependency, over_header, over_content, over_item, lexeme, nothing, shape_of, written_shape_of}
 use Rattle.justfile_model.specs.Features.{ConstructFeatures, Noted, over_features, over_noted}
-use Rattle.justfile_model.specs.Expressions.{Tokens, front, Under}
+use Rattle.justfile_model.specs.Expressions.{Tokens, front, BelowLimit}
 use Rattle.justfile_model.specs.Grammar.{File}
 use Rattle.justfile_model.specs.Literals as literal
 use Rattle.justfile_model.specs.Literals.{Literal, over_literal, AreCookedTexts}
-use Rattle.justfile_model.specs.Files.{expr_literals, exprs_literals, parts_literals, fragments_literals, body_literals, optional_literals, argument_literals, written_literals, entries_literals, parameter_literals, dependency_literals, header_literals, setting_literals, content_literals, item_literals, items_literals, all_features, all_literals, literals, broken, ordered, keeps_tokens, keeps_lexemes, Obeys, FileDerives, ShapeDerives, quoted_literals, option_literals, rules_literals, attribute_literals}
+use Rattle.justfile_model.specs.Files.{expr_literals, exprs_literals, parts_literals, fragments_literals, body_literals, optional_literals, argument_literals, written_literals, entries_literals, parameter_literals, dependency_literals, header_literals, setting_literals, content_literals, item_literals, items_literals, all_features, all_literals, literals, broken, ordered, to_tokens, to_lexemes, Obeys, FileDerives, ShapeDerives, quoted_literals, option_literals, rules_literals, attribute_literals}
 use Rattle.justfile_model.proofs.CarryExpressions.{Same, Pairs, nil, cons}
 use Rattle.justfile_model.proofs.Carry as c
 use Rattle.justfile_model.proofs.Carry.{Maps, over_items, Alike}
@@ -102,7 +102,7 @@ item_itself (tree.Construct attributes content) = λ i. tree.Construct (map_same
 
 -- nothing becomes something else
 abbrev pub unchanged : {A B C S : Type 0} → Maps A B C S A B C S
-unchanged = record { leaf = same_leaf; spot = same_leaf; number = same_leaf; star = same_leaf }
+unchanged = record { leaf = same_leaf; position = same_leaf; number = same_leaf; star = same_leaf }
 
 pub items_itself : {A B C S : Type 0} (items : List (WrittenItem A B C S)) → over_items unchanged items ≡ items
 items_itself = map_same (over_item same_leaf same_leaf same_leaf same_leaf (map (over_written_attribute same_leaf same_leaf))) item_itself
@@ -286,54 +286,54 @@ equal_same t u e = record { kind = ap (λ (x : SignificantToken). x.tok.kind) e;
 
 -- a shape of what is written keeps no place
 abbrev pub forgotten : Maps Tok Tok ℕ Tok (List ℕ) (Unit {0}) (Unit {0}) (Unit {0})
-forgotten = record { leaf = lexeme; spot = nothing; number = nothing; star = nothing }
+forgotten = record { leaf = lexeme; position = nothing; number = nothing; star = nothing }
 
 equal_lexemes : (t u : SignificantToken) → t ≡ u → u.tok.lexeme ≡ t.tok.lexeme
 equal_lexemes t u e = sym (ap (λ (x : SignificantToken). x.tok.lexeme) e)
 
-module _ (Open : ℕ → Option SignificantToken → Type 0) where
-  still : (d : ℕ) (ts us : Tokens) → Pairs (λ t u. t ≡ u) ts us → Open d (front ts) → Open d (front us)
-  still d ts us s o = subst (λ x. Open d (front x)) (pairs_equal s) o
+module _ (MayEnter : ℕ → Option SignificantToken → Type 0) where
+  still : (d : ℕ) (ts us : Tokens) → Pairs (λ t u. t ≡ u) ts us → MayEnter d (front ts) → MayEnter d (front us)
+  still d ts us s o = subst (λ x. MayEnter d (front x)) (pairs_equal s) o
 
   -- a derivation of a written tree is one of its shape
-  pub forget : {all : WrittenTree} {fs : List (ConstructFeatures Tok)} {ts : Tokens} → File keeps_tokens Open all fs ts
-      → File keeps_lexemes Open (written_shape_of all) (map (over_features nothing) fs) ts
+  pub forget : {all : WrittenTree} {fs : List (ConstructFeatures Tok)} {ts : Tokens} → File to_tokens MayEnter all fs ts
+      → File to_lexemes MayEnter (written_shape_of all) (map (over_features nothing) fs) ts
   forget {all} {fs} {ts} h =
-      let alike : Alike keeps_tokens forgotten keeps_lexemes unchanged (λ t u. t ≡ u) = record { leaves = equal_lexemes; spots = λ t u s. refl; numbers = λ t u s. refl; stars = λ t u s. refl } in
-      let x = c.file keeps_tokens Open forgotten (λ t u. t ≡ u) equal_same keeps_lexemes Open unchanged alike still h ts (equal_pairs ts) in
-      subst (λ y. File keeps_lexemes Open y (map (over_features nothing) fs) ts) (sym (items_itself x.tree) ∙ x.alike)
-      (subst (λ n. File keeps_lexemes Open x.tree n ts) (sym (features_itself x.features) ∙ x.noted_alike) x.derives)
+      let alike : Alike to_tokens forgotten to_lexemes unchanged (λ t u. t ≡ u) = record { leaves = equal_lexemes; positions = λ t u s. refl; numbers = λ t u s. refl; stars = λ t u s. refl } in
+      let x = c.file to_tokens MayEnter forgotten (λ t u. t ≡ u) equal_same to_lexemes MayEnter unchanged alike still h ts (equal_pairs ts) in
+      subst (λ y. File to_lexemes MayEnter y (map (over_features nothing) fs) ts) (sym (items_itself x.tree) ∙ x.alike)
+      (subst (λ n. File to_lexemes MayEnter x.tree n ts) (sym (features_itself x.features) ∙ x.noted_alike) x.derives)
 
   -- a written tree with this shape, and its features
   pub record Lifted (shape : WrittenShape) (fs : List (ConstructFeatures (Unit {0}))) (ts : Tokens) : Type 0 where
     pub tree : WrittenTree
     pub features : List (ConstructFeatures Tok)
-    pub derives : File keeps_tokens Open tree features ts
+    pub derives : File to_tokens MayEnter tree features ts
     pub alike : written_shape_of tree ≡ shape
     pub noted_alike : map (over_features nothing) features ≡ fs
 
   -- a shape's derivation is that of a written tree with this shape
-  pub lift : {shape : WrittenShape} {fs : List (ConstructFeatures (Unit {0}))} {ts : Tokens} → File keeps_lexemes Open shape fs ts → Lifted shape fs ts
+  pub lift : {shape : WrittenShape} {fs : List (ConstructFeatures (Unit {0}))} {ts : Tokens} → File to_lexemes MayEnter shape fs ts → Lifted shape fs ts
   lift {shape} {fs} {ts} h =
-      let alike : Alike keeps_lexemes unchanged keeps_tokens forgotten (λ t u. t ≡ u) = record { leaves = equal_lexemes; spots = λ t u s. refl; numbers = λ t u s. refl; stars = λ t u s. refl } in
-      let x = c.file keeps_lexemes Open unchanged (λ t u. t ≡ u) equal_same keeps_tokens Open forgotten alike still h ts (equal_pairs ts) in
+      let alike : Alike to_lexemes unchanged to_tokens forgotten (λ t u. t ≡ u) = record { leaves = equal_lexemes; positions = λ t u s. refl; numbers = λ t u s. refl; stars = λ t u s. refl } in
+      let x = c.file to_lexemes MayEnter unchanged (λ t u. t ≡ u) equal_same to_tokens MayEnter forgotten alike still h ts (equal_pairs ts) in
       record { tree = x.tree; features = x.features; derives = x.derives; alike = x.alike ∙ items_itself shape; noted_alike = x.noted_alike ∙ features_itself fs }
 
 -- a shape derives from tokens wherever they stand
-pub elsewhere : (limit : ℕ) {shape : WrittenShape} {fs : List (ConstructFeatures (Unit {0}))} {ts us : Tokens} → File keeps_lexemes (Under limit) shape fs ts → Pairs Same ts us
-    → File keeps_lexemes (Under limit) shape fs us
+pub elsewhere : (limit : ℕ) {shape : WrittenShape} {fs : List (ConstructFeatures (Unit {0}))} {ts us : Tokens} → File to_lexemes (BelowLimit limit) shape fs ts → Pairs Same ts us
+    → File to_lexemes (BelowLimit limit) shape fs us
 elsewhere limit {shape} {fs} {ts} {us} h s =
-    let alike : Alike keeps_lexemes unchanged keeps_lexemes unchanged Same = record { leaves = λ t u same. sym same.lexeme; spots = λ t u same. refl; numbers = λ t u same. refl; stars = λ t u same. refl } in
-    let x = c.file keeps_lexemes (Under limit) unchanged Same (λ t u same. same) keeps_lexemes (Under limit) unchanged alike (λ d ts us same opened. opened) h us s in
-    subst (λ y. File keeps_lexemes (Under limit) y fs us) (sym (items_itself x.tree) ∙ x.alike ∙ items_itself shape)
-    (subst (λ n. File keeps_lexemes (Under limit) x.tree n us) (sym (features_itself x.features) ∙ x.noted_alike ∙ features_itself fs) x.derives)
+    let alike : Alike to_lexemes unchanged to_lexemes unchanged Same = record { leaves = λ t u same. sym same.lexeme; positions = λ t u same. refl; numbers = λ t u same. refl; stars = λ t u same. refl } in
+    let x = c.file to_lexemes (BelowLimit limit) unchanged Same (λ t u same. same) to_lexemes (BelowLimit limit) unchanged alike (λ d ts us same opened. opened) h us s in
+    subst (λ y. File to_lexemes (BelowLimit limit) y fs us) (sym (items_itself x.tree) ∙ x.alike ∙ items_itself shape)
+    (subst (λ n. File to_lexemes (BelowLimit limit) x.tree n us) (sym (features_itself x.features) ∙ x.noted_alike ∙ features_itself fs) x.derives)
 
 -- ---- files
 
 module _ (conditions : Conditions) (tokens : Tokens) (spelled : AllSpelled tokens) where
   pub file_forgets : (all : Tree) (fs : List (Noted Tok)) → FileDerives conditions tokens all fs → ShapeDerives conditions tokens (shape_of all) (map (over_noted nothing) fs)
   file_forgets all fs h =
-      let kinded = file_kinded (Under conditions.limit) h.derives spelled in
+      let kinded = file_kinded (BelowLimit conditions.limit) h.derives spelled in
       record {
         written = written_shape_of h.written;
         by_construct = map (over_features nothing) h.by_construct;
@@ -349,17 +349,17 @@ module _ (conditions : Conditions) (tokens : Tokens) (spelled : AllSpelled token
       → (all : Tree) × (features : List (Noted Tok)) × FileDerives conditions tokens all features × (shape_of all ≡ shape) × (map (over_noted nothing) features ≡ fs)
   file_lifts shape fs h =
       let x = lift _ h.derives in
-      let kinded = file_kinded (Under conditions.limit) x.derives spelled in
-      let sight = sees_lexemes conditions.expander in
-      let t = tree_ordered conditions.expander x.tree shape kinded (ap (ordered sight) x.alike ∙ h.ordered_is) in
-      let features = all_features (sees_tokens conditions.expander) x.tree x.features in
+      let kinded = file_kinded (BelowLimit conditions.limit) x.derives spelled in
+      let view = views_lexemes conditions.expander in
+      let t = tree_ordered conditions.expander x.tree shape kinded (ap (ordered view) x.alike ∙ h.ordered_is) in
+      let features = all_features (views_tokens conditions.expander) x.tree x.features in
       let obeys : Obeys conditions x.tree = record {
         cooked = h.cooked;
         cooks = subst (λ l. AreCookedTexts conditions.expander l h.cooked) (ap all_literals (sym x.alike) ∙ all_lexemes x.tree) h.cooks;
-        unbroken = tree_unbroken conditions.expander conditions.current x.tree kinded (ap (broken conditions.current sight) x.alike ∙ h.unbroken);
+        unbroken = tree_unbroken conditions.expander conditions.current x.tree kinded (ap (broken conditions.current view) x.alike ∙ h.unbroken);
       } in
       let same : map (over_noted nothing) features ≡ fs =
-      sym (all_features_seen conditions.expander x.tree x.features kinded) ∙ (λ i. all_features sight (x.alike i) (x.noted_alike i)) ∙ sym h.features_are
+      sym (all_features_seen conditions.expander x.tree x.features kinded) ∙ (λ i. all_features view (x.alike i) (x.noted_alike i)) ∙ sym h.features_are
       in
       (t.0, features, record { written = x.tree; by_construct = x.features; derives = x.derives; features_are = refl; obeys = obeys; ordered_is = t.1 }, t.2, same)
 

@@ -3,13 +3,13 @@ use Rattle.std.proofs.Common.{zero, suc, ◌≡◌, ◌≢◌, ℕ, ◌+◌, ◌
 use Rattle.std.specs.Prelude.{reverse}
 use Rattle.std.proofs.lemmas.Bool.{cases_lt}
 use Rattle.std.proofs.lemmas.List.{reverse-reverse}
-use Rattle.justfile_word.specs.declared.token_kind.TokenKind.{TokenKind}
-use Rattle.justfile_word.specs.declared.token_kind.TokenKind.TheVariants.{Eof}
-use Rattle.justfile_base.specs.Slice.{slice_of}
+use Rattle.justfile_vocabulary.specs.declared.token_kind.TokenKind.{TokenKind}
+use Rattle.justfile_vocabulary.specs.declared.token_kind.TokenKind.TheVariants.{Eof}
+use Rattle.justfile_token.specs.Slice.{slice_of}
 use Rattle.justfile_model.specs.Places.{line_of_offset, column_at}
 use Rattle.justfile_model.specs.Next.{NextToken}
 use Rattle.justfile_model.specs.Tok.{Tok}
-use Rattle.justfile_model.specs.LexicalFault.{LexicalFault, LexicalRefusal, Here, Unclosed}
+use Rattle.justfile_model.specs.LexicalFault.{LexicalFault, LexicalError, Here, Unclosed}
 use Rattle.std.specs.Str.{IsUtf8, IsCharBoundary}
 use Rattle.std.specs.List.{All, flat_map}
 use Rattle.std.specs.List.Sorted.{IsNonDecreasingBy}
@@ -23,7 +23,7 @@ use Rattle.justfile_model.specs.Lexed.{next_of, IsSpan, EndsInEof, Follows, end_
 ok_inside : (x y : TokenKind × ℕ) → ◌≡◌ {A = NextToken} (Ok x) (Ok y) → x ≡ y
 ok_inside x y h = cc
 
-err_inside : (x y : LexicalRefusal) → ◌≡◌ {A = NextToken} (Err x) (Err y) → x ≡ y
+err_inside : (x y : LexicalError) → ◌≡◌ {A = NextToken} (Err x) (Err y) → x ≡ y
 err_inside x y h = cc
 
 module _ (text : List ℕ) where
@@ -92,7 +92,7 @@ module _ (text : List ℕ) where
       (cases_lt (length q.earlier) (length p.earlier)))
       (cases_lt (length p.earlier) (length q.earlier))
 
-  span_same : (e : List Tok) (r : LexicalRefusal) (p q : LexicalFault) (t u : Tok) → IsSpan text e r p t → IsSpan text e r q u → (p ≡ q) × (t ≡ u)
+  span_same : (e : List Tok) (r : LexicalError) (p q : LexicalFault) (t u : Tok) → IsSpan text e r p t → IsSpan text e r q u → (p ≡ q) × (t ≡ u)
   span_same e (Here p skip n) k m t u x y = (x.0 ∙ sym y.0, same_standing (end_of e + skip) t u x.3 y.3 (x.1 ∙ sym y.1) (x.2 ∙ sym y.2))
   span_same e (Unclosed s) k m t u x y = (x.0 ∙ sym y.0, x.1 ∙ sym y.1)
 

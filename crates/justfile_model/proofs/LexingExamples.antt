@@ -4,12 +4,12 @@ use Rattle.std.specs.Prelude.{reverse}
 use Rattle.std.proofs.lemmas.List.Elements.{All-nil}
 use Rattle.std.specs.Char.{encode_utf8}
 use Rattle.std.specs.Str.{chars, is_utf8}
-use Rattle.justfile_word.specs.ByteClass.{class_of}
-use Rattle.justfile_base.specs.declared.delimiter.Delimiter.TheVariants.{Paren}
-use Rattle.justfile_base.specs.declared.string_kind.StringDelimiter.TheVariants.{QuoteDouble, QuoteSingle}
-use Rattle.justfile_base.specs.declared.string_kind.StringKind.{StringKind}
-use Rattle.justfile_word.specs.declared.token_kind.TokenKind.{TokenKind}
-use Rattle.justfile_word.specs.declared.token_kind.TokenKind.TheVariants.{Colon, Dedent, Eof, Eol, FormatStringStart, Identifier, Indent, InterpolationEnd, InterpolationStart, ParenL, ParenR, StringToken, Text}
+use Rattle.justfile_vocabulary.specs.ByteClass.{class_of}
+use Rattle.justfile_token.specs.declared.delimiter.Delimiter.TheVariants.{Paren}
+use Rattle.justfile_token.specs.declared.string_kind.StringDelimiter.TheVariants.{QuoteDouble, QuoteSingle}
+use Rattle.justfile_token.specs.declared.string_kind.StringKind.{StringKind}
+use Rattle.justfile_vocabulary.specs.declared.token_kind.TokenKind.{TokenKind}
+use Rattle.justfile_vocabulary.specs.declared.token_kind.TokenKind.TheVariants.{Colon, Dedent, Eof, Eol, FormatStringStart, Identifier, Indent, InterpolationEnd, InterpolationStart, ParenL, ParenR, StringToken, Text}
 use Rattle.justfile_model.specs.declared.raw_text.RawText.{RawText}
 use Rattle.justfile_model.specs.declared.raw_text.RawText.TheVariants.{Literal}
 use Rattle.justfile_model.specs.BlankLines.{BeginsWithWhiteLines, IsAtLineStart}

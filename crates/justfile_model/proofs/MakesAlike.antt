@@ -7,11 +7,11 @@ use Rattle.justfile_model.proofs.EachLaws.{AlikeOption, absent, present}
 use Rattle.justfile_model.proofs.Related.{Each}
 use Rattle.justfile_model.proofs.Related.Each.{cons, nil}
 
-module _ {B B' : Type 0} (Spot : B → B' → Type 0) where
+module _ {B B' : Type 0} (Position : B → B' → Type 0) where
   -- both are made and related, or alike rules are broken
   pub data Makes {X X' : Type 0} (Q : X → X' → Type 0) : Made B X → Made B' X' → Type 0 where
     made : {x : X} {x' : X'} → Q x x' → Makes Q (Ok x) (Ok x')
-    broken : {r : Broken B} {r' : Broken B'} → AlikeBroken Spot r r' → Makes Q (Err r) (Err r')
+    broken : {r : Broken B} {r' : Broken B'} → AlikeBroken Position r r' → Makes Q (Err r) (Err r')
 
   -- one step after another
   pub step : {X X' Y Y' : Type 0} {Q : X → X' → Type 0} {P : Y → Y' → Type 0} {m : Made B X} {m' : Made B' X'} (f : X → Made B Y) (f' : X' → Made B' Y')
@@ -23,11 +23,11 @@ module _ {B B' : Type 0} (Spot : B → B' → Type 0) where
   abbrev pub Checks : Unit {0} → Unit {0} → Type 0
   Checks x y = Unit {0}
 
-  pub refused : {X X' : Type 0} {Q : X → X' → Type 0} {r : Rule B} {r' : Rule B'} {t : B} {t' : B'} → AlikeRule Spot r r' → Spot t t'
+  pub refused : {X X' : Type 0} {Q : X → X' → Type 0} {r : Rule B} {r' : Rule B'} {t : B} {t' : B'} → AlikeRule Position r r' → Position t t'
       → Makes Q (refuse r t) (refuse r' t')
   refused h k = broken (record { rule = h; token = k })
 
-  pub checked : (b b' : Bool) {r : Rule B} {r' : Rule B'} {t : B} {t' : B'} → b ≡ b' → AlikeRule Spot r r' → Spot t t'
+  pub checked : (b b' : Bool) {r : Rule B} {r' : Rule B'} {t : B} {t' : B'} → b ≡ b' → AlikeRule Position r r' → Position t t'
       → Makes Checks (check b r t) (check b' r' t')
   checked true true e h k = refused h k
   checked false false e h k = made tt
@@ -52,6 +52,6 @@ module _ {B B' : Type 0} (Spot : B → B' → Type 0) where
   all_made f f' k (cons {x = x} {y = x'} q qs) = step _ _ (k x x' q) (λ y y' p. step _ _ (all_made f f' k qs) (λ ys ys' ps. made (cons p ps)))
 
   pub there : {X X' : Type 0} {Q : X → X' → Type 0} {o : Option X} {o' : Option X'} {r : Rule B} {r' : Rule B'} {t : B} {t' : B'}
-      → AlikeOption Q o o' → AlikeRule Spot r r' → Spot t t' → Makes Q (or_refuse o r t) (or_refuse o' r' t')
+      → AlikeOption Q o o' → AlikeRule Position r r' → Position t t' → Makes Q (or_refuse o r t) (or_refuse o' r' t')
   there absent h k = refused h k
   there (present q) h k = made q

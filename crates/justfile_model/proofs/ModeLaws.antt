@@ -1,10 +1,10 @@
 -- What is open, as the mode has it, is what the earlier tokens open and do not close.
 use Rattle.std.proofs.Common.{◌≡◌, ◌≢◌, ℕ, Bool, true, false, List, [], ◌∷◌, Option, Some, None, refl, sym, ap}
 use Rattle.std.specs.Prelude.{◌↔◌, is_some, option_to_list, reverse}
-use Rattle.justfile_base.specs.declared.delimiter.Delimiter.{Delimiter}
-use Rattle.justfile_base.specs.declared.delimiter.Delimiter.TheVariants.{Brace, Bracket, FormatString, Paren}
-use Rattle.justfile_word.specs.declared.token_kind.TokenKind.{TokenKind}
-use Rattle.justfile_word.specs.declared.token_kind.TokenKind.TheVariants as kinds
+use Rattle.justfile_token.specs.declared.delimiter.Delimiter.{Delimiter}
+use Rattle.justfile_token.specs.declared.delimiter.Delimiter.TheVariants.{Brace, Bracket, FormatString, Paren}
+use Rattle.justfile_vocabulary.specs.declared.token_kind.TokenKind.{TokenKind}
+use Rattle.justfile_vocabulary.specs.declared.token_kind.TokenKind.TheVariants as kinds
 use Rattle.justfile_model.specs.declared.open_delimiter.OpenDelimiter.{OpenDelimiter}
 use Rattle.justfile_model.specs.Lexed.{Begins}
 use Rattle.justfile_model.specs.Modes.{Mode, mode_after, mode, tail_of}

@@ -2,19 +2,19 @@
 -- the one has no number left, the other goes on: then the counter is exceeded in all that the other reads.
 use Rattle.std.proofs.Common.{◌≡◌, ℕ, zero, suc, ◌+◌, ◌<◌, ◌≤◌, Bool, true, false, ◌||◌, codes, cond, List, [], ◌∷◌, ◌++◌, length, drop, Option, Some, Ok, Err, IfOk, refl, sym, subst, ap, ◌∙◌, arith, IsOk}
 use Rattle.std.specs.Str.{trim_end}
-use Rattle.justfile_word.specs.declared.item_kind.ItemKind.{ItemKind}
-use Rattle.justfile_word.specs.declared.keyword.Keyword.{Keyword}
-use Rattle.justfile_word.specs.declared.item_kind.ItemKind.TheVariants as item_kinds
-use Rattle.justfile_word.specs.declared.token_kind.TokenKind.{TokenKind}
-use Rattle.justfile_word.specs.declared.token_kind.TokenKind.TheVariants as kinds
+use Rattle.justfile_vocabulary.specs.declared.item_kind.ItemKind.{ItemKind}
+use Rattle.justfile_vocabulary.specs.declared.keyword.Keyword.{Keyword}
+use Rattle.justfile_vocabulary.specs.declared.item_kind.ItemKind.TheVariants as item_kinds
+use Rattle.justfile_vocabulary.specs.declared.token_kind.TokenKind.{TokenKind}
+use Rattle.justfile_vocabulary.specs.declared.token_kind.TokenKind.TheVariants as kinds
 use Rattle.justfile_model.specs.AttributeReader.{AttributeLeaves}
-use Rattle.justfile_model.specs.HeaderReader.{ReadHeader, draw_binding, expression, header, with_bindings}
-use Rattle.justfile_model.specs.PartReader.{accept_before, after_numbered, is_assigned, is_imported, is_module, is_set, line_is, names, setting_value}
-use Rattle.justfile_model.specs.Reader.{CommentedBody, Start, after_mark, alias, any_module, any_recipe, argument_rules, assigned, assignment, at_end, attributes, body, body_after, body_line, construct, content, draw_recipe, end_of_tokens, ended, file, fragment, function, has_body, headed, import, imported, items, items_from, items_rule, line, line_at, line_end, line_rest, line_rest_rule, lines, lines_rule, named_module, no_exclusion, no_line_rest, no_lines, on_line, optional_body, recipe, setting, some_lines, unexport, with_recipes, wordless}
+use Rattle.justfile_model.specs.HeaderReader.{ReadHeader, next_binding_number, expression, header, with_bindings}
+use Rattle.justfile_model.specs.PartReader.{accept_keyword_before, after_numbered, peek_assignment, is_imported, is_module, is_set, line_is, names, setting_value}
+use Rattle.justfile_model.specs.Reader.{CommentedBody, Start, after_mark, alias, any_module, any_recipe, argument_rules, assigned, assignment, at_end, attributes, body, body_after, body_line, construct, content, next_recipe_number, end_of_tokens, ended, file, fragment, function, has_body, headed, import, imported, items, items_from, items_rule, line, line_at, line_end, line_rest, line_rest_rule, lines, lines_rule, named_module, no_exclusion, no_line_rest, no_lines, on_line, optional_body, recipe, setting, some_lines, unexport, with_recipes, wordless}
 use Rattle.justfile_model.specs.Expressions.{front}
 use Rattle.justfile_model.specs.Reader as r
-use Rattle.justfile_model.specs.Reading as taking
-use Rattle.justfile_model.specs.Reading.{◌>>=◌, Counters, Leaves, NoNumber, Read, State, Taken, accept, choose, expect, next_are, taken_or}
+use Rattle.justfile_model.specs.ReaderState as taking
+use Rattle.justfile_model.specs.ReaderState.{◌>>=◌, Counters, Leaves, NoNumber, Read, State, Taken, accept, choose, expect, next_are, taken_or}
 use Rattle.justfile_model.specs.Settings.{setting_form}
 use Rattle.justfile_model.specs.SignificantTokens.{SignificantToken}
 use Rattle.justfile_model.specs.Tree as tree
@@ -29,7 +29,7 @@ use Rattle.justfile_model.proofs.NaturalExpressions.{Reads}
 use Rattle.justfile_model.proofs.NaturalHeaders.{AlikeRead, LacksHeader, after_alike, header_natural, obeying_natural, path_natural, pick_known, value_alike}
 use Rattle.justfile_model.proofs.NaturalParts.{Higher, LacksName, accepted_before, file_path_natural, keyword_natural, names_natural, optional_path_natural, same_assigned, same_imported, same_module, same_set, same_unexported, setting_value_natural}
 use Rattle.justfile_model.proofs.ReadingSteps.{past}
-use Rattle.justfile_model.proofs.Reading.{items_is, line_goes}
+use Rattle.justfile_model.proofs.ItemReading.{items_is, line_goes}
 use Rattle.justfile_model.proofs.Related as a
 use Rattle.justfile_model.proofs.Related.{Alike, AlikeFragment, AlikeItem, AlikeItems, AlikeLine, Each, Never, Related, Relations, Respects, States, Takes, accepted, an_item, at_alike, bind, bind_short, both, by_tests, each_both, each_length, expected, neither, no_item, no_next, none_taken, pick, refused_alike, same_body, same_comment, same_next, short, taken, trimmed_alike, unexpected, weaken}
 use Rattle.justfile_model.proofs.Turns.{both_recur}
@@ -123,7 +123,7 @@ module _ {R T A B S D R' T' A' B' S' D' : Type 0} (rel : Relations R T A B S D R
 -- Two readers keep related things of attributes: of each, of which `Keeps` holds, and of all those of a construct.
 pub record RespectsAttributes {R T A B S D W R' T' A' B' S' D' W' : Type 0} (rel : Relations R T A B S D R' T' A' B' S' D') (one : Leaves R T A B S)
     (other : Leaves R' T' A' B' S') (kept : AttributeLeaves R A B D W) (kept' : AttributeLeaves R' A' B' D' W') (Keeps : W → W' → Type 0) : Type 0 where
-  pub keeping : Keeping rel one other kept.sight kept'.sight kept.keep kept.entry kept'.keep kept'.entry Keeps
+  pub keeping : Keeping rel one other kept.view kept'.view kept.keep kept.entry kept'.keep kept'.entry Keeps
   pub commented : (c : List ℕ) (x : W) (x' : W') → Keeps x x' → Keeps (kept.comment c x) (kept'.comment c x')
   pub attributes : (r : R) (r' : R') → rel.run r r' → {ws : List W} {ws' : List W'} → Each Keeps ws ws'
       → rel.attributes (kept.attributes r ws) (kept'.attributes r' ws')
@@ -149,13 +149,13 @@ module _ {R T A B S D W R' T' A' B' S' D' W' : Type 0} (rel : Relations R T A B 
 
   -- what attributes say of parameters lacks a number in the header that comes next
   abbrev pub LacksIn : (ws : List W') → Counters → State R' T' B' → Counters → Type 0
-  LacksIn ws n s' m = LacksHeader other kept'.sight (argument_rules other kept' s'.run ws) n s' m
+  LacksIn ws n s' m = LacksHeader other kept'.view (argument_rules other kept' s'.run ws) n s' m
 
   -- where an assignment begins, after a word or none
   pub data AfterWord (s' : State R' T' B') : (eager export : Bool) → State R' T' B' → Type 0 where
     no_word : AfterWord s' false false s'
-    after_eager : {p : T' × State R' T' B'} → accept_before other (codes "eager") (is_assigned other) s' ≡ Some p → AfterWord s' true false p.1
-    after_export : {p : T' × State R' T' B'} → accept_before other (codes "export") (is_assigned other) s' ≡ Some p → AfterWord s' false true p.1
+    after_eager : {p : T' × State R' T' B'} → accept_keyword_before other (codes "eager") (peek_assignment other) s' ≡ Some p → AfterWord s' true false p.1
+    after_export : {p : T' × State R' T' B'} → accept_keyword_before other (codes "export") (peek_assignment other) s' ≡ Some p → AfterWord s' false true p.1
 
   -- a parameter of the function that comes next lacks a number
   pub record LacksFunction (ws : List W') (n : Counters) (s' : State R' T' B') (m : Counters) : Type 0 where
@@ -205,8 +205,8 @@ module _ {R T A B S D W R' T' A' B' S' D' W' : Type 0} (rel : Relations R T A B 
         → IfOk found (λ y. y.0.1 ≡ with_recipes (m.recipes + 1) m) → NoRecipe Lacking m found
 
   binding_alike : (eager export : Bool) {ws : List W} {ws' : List W'} (n : Counters) (name : T) (name' : T') → Each Keeps ws ws' → {e : Expr A B} {e' : Expr A' B'} {s : State R T B} {s' : State R' T' B'} → rel.token name name' → Alike rel e e' → States rel s s'
-      → Related rel (AlikeNumbered n) (NoBinding n) (draw_binding one n s >>= assigned one kept eager export ws name e) (draw_binding other n s' >>= assigned other kept' eager export ws' name' e')
-  unfolding draw_binding
+      → Related rel (AlikeNumbered n) (NoBinding n) (next_binding_number one n s >>= assigned one kept eager export ws name e) (next_binding_number other n s' >>= assigned other kept' eager export ws' name' e')
+  unfolding next_binding_number
   binding_alike eager export {ws} {ws'} n name name' q {e} {e'} {s} {s'} t v h = go (one.has_number n.bindings) (other.has_number n.bindings) refl refl
     where
       go : (b b' : Bool) → one.has_number n.bindings ≡ b → other.has_number n.bindings ≡ b'
@@ -223,8 +223,8 @@ module _ {R T A B S D W R' T' A' B' S' D' W' : Type 0} (rel : Relations R T A B 
   recipe_numbered : {Lacking : Counters → Type 0} {ws : List W} {ws' : List W'} (quiet : Bool) (n c : Counters) (x : ReadHeader T A B S) (x' : ReadHeader T' A' B' S') → Each Keeps ws ws'
       → AlikeRead rel n (x, c) (x', c) → {body : CommentedBody one} {body' : CommentedBody other}
       {s : State R T B} {s' : State R' T' B'} → AlikeBody rel one other agree body body' → States rel s s'
-      → Related rel (AlikeNumbered n) (NoRecipe Lacking) (draw_recipe one c s >>= headed one kept quiet ws x body) (draw_recipe other c s' >>= headed other kept' quiet ws' x' body')
-  unfolding draw_recipe
+      → Related rel (AlikeNumbered n) (NoRecipe Lacking) (next_recipe_number one c s >>= headed one kept quiet ws x body) (next_recipe_number other c s' >>= headed other kept' quiet ws' x' body')
+  unfolding next_recipe_number
   recipe_numbered {Lacking} {ws} {ws'} quiet n c x x' q k {body} {body'} {s} {s'} ls h = go (one.has_number c.recipes) (other.has_number c.recipes) refl refl
     where
       unmoved : c.recipes ≡ n.recipes
@@ -254,9 +254,9 @@ module _ {R T A B S D W R' T' A' B' S' D' W' : Type 0} (rel : Relations R T A B 
   recipe_alike : {Lacking : Counters → Type 0} {ws : List W} {ws' : List W'} (quiet : Bool) (n : Counters) (x : ReadHeader T A B S × Counters) (x' : ReadHeader T' A' B' S' × Counters) → Each Keeps ws ws'
       → AlikeRead rel n x x' → {body : CommentedBody one} {body' : CommentedBody other}
       {s : State R T B} {s' : State R' T' B'} → AlikeBody rel one other agree body body' → States rel s s'
-      → Related rel (AlikeNumbered n) (NoRecipe Lacking) (draw_recipe one x.1 s >>= headed one kept quiet ws x.0 body) (draw_recipe other x'.1 s' >>= headed other kept' quiet ws' x'.0 body')
+      → Related rel (AlikeNumbered n) (NoRecipe Lacking) (next_recipe_number one x.1 s >>= headed one kept quiet ws x.0 body) (next_recipe_number other x'.1 s' >>= headed other kept' quiet ws' x'.0 body')
   recipe_alike {Lacking} {ws} {ws'} quiet n x x' q k {body} {body'} {s} {s'} ls h =
-      subst (λ (c : Counters). Related rel (AlikeNumbered n) (NoRecipe Lacking) (draw_recipe one x.1 s >>= headed one kept quiet ws x.0 body) (draw_recipe other c s' >>= headed other kept' quiet ws' x'.0 body')) k.same
+      subst (λ (c : Counters). Related rel (AlikeNumbered n) (NoRecipe Lacking) (next_recipe_number one x.1 s >>= headed one kept quiet ws x.0 body) (next_recipe_number other c s' >>= headed other kept' quiet ws' x'.0 body')) k.same
       (recipe_numbered quiet n x.1 x.0 x'.0 q
       (record { name = k.name; parameters = k.parameters; priors = k.priors; subsequents = k.subsequents; same = refl; counts = k.counts }) ls h)
 
@@ -266,25 +266,25 @@ module _ {R T A B S D W R' T' A' B' S' D' W' : Type 0} (rel : Relations R T A B 
   entries_alike : {ws : List W} {ws' : List W'} (run : R) (run' : R') → rel.run run run' → Each Keeps ws ws'
       → Each (AlikeEntry rel) (r.entries_read one kept run ws) (r.entries_read other kept' run' ws')
   entries_alike run run' same q =
-      ordered_alike rel (kept.sight run) (kept'.sight run') (attributed.keeping.sees run run' same)
+      ordered_alike rel (kept.view run) (kept'.view run') (attributed.keeping.sees run run' same)
       (each_mapped kept.entry kept'.entry attributed.keeping.entry q)
 
   allowed_natural : (item : ItemKind) {ws : List W} {ws' : List W'} (name : T) (name' : T') → rel.token name name' → Each Keeps ws ws' → {s : State R T B}
       {s' : State R' T' B'} → States rel s s' → Reads rel (λ x y. Unit {0}) (r.allowed one kept item ws name s) (r.allowed other kept' item ws' name' s')
   allowed_natural item name name' t q {s} {s'} h =
-      obeying_natural rel (allowed_alike rel (kept.sight s.run) (kept'.sight s'.run) (attributed.keeping.sees s.run s'.run h.run) item
-      (agree.spot name name' t) (entries_alike s.run s'.run h.run q)) h
+      obeying_natural rel (allowed_alike rel (kept.view s.run) (kept'.view s'.run) (attributed.keeping.sees s.run s'.run h.run) item
+      (agree.position name name' t) (entries_alike s.run s'.run h.run q)) h
 
   exclusion_natural : {ws : List W} {ws' : List W'} (name : T) (name' : T') → rel.token name name' → Each Keeps ws ws' → {s : State R T B}
       {s' : State R' T' B'} → States rel s s' → Reads rel (λ x y. Unit {0}) (no_exclusion one kept ws name s) (no_exclusion other kept' ws' name' s')
   exclusion_natural name name' t q {s} {s'} h =
-      obeying_natural rel (exclusions_alike rel (kept.sight s.run) (kept'.sight s'.run) (attributed.keeping.sees s.run s'.run h.run)
-      (agree.spot name name' t) (entries_alike s.run s'.run h.run q)) h
+      obeying_natural rel (exclusions_alike rel (kept.view s.run) (kept'.view s'.run) (attributed.keeping.sees s.run s'.run h.run)
+      (agree.position name name' t) (entries_alike s.run s'.run h.run q)) h
 
   rules_alike : {ws : List W} {ws' : List W'} (run : R) (run' : R') → rel.run run run' → Each Keeps ws ws'
       → Each (AlikeArgumentRules rel) (argument_rules one kept run ws) (argument_rules other kept' run' ws')
   rules_alike run run' same q =
-      arg_rules_alike rel (kept.sight run) (kept'.sight run') (attributed.keeping.sees run run' same) (entries_alike run run' same q)
+      arg_rules_alike rel (kept.view run) (kept'.view run') (attributed.keeping.sees run run' same) (entries_alike run run' same q)
 
   pub assignment_natural : (eager export : Bool) {ws : List W} {ws' : List W'} (n : Counters) → Each Keeps ws ws' → {s : State R T B} {s' : State R' T' B'} → States rel s s'
       → Related rel (AlikeNumbered n) (NoBinding n) (assignment one kept eager export ws n s) (assignment other kept' eager export ws' n s')
@@ -301,8 +301,8 @@ module _ {R T A B S D W R' T' A' B' S' D' W' : Type 0} (rel : Relations R T A B 
 
   -- a recipe whose header exceeds a counter does too
   drawn_exceeds : (m c : Counters) (quiet : Bool) (ws : List W') (x : ReadHeader T' A' B' S') (body : CommentedBody other) (s : State R' T' B')
-      → one.has_number m.bindings ≡ false → m.bindings < c.bindings → AllExceed m (draw_recipe other c s >>= headed other kept' quiet ws x body)
-  unfolding draw_recipe
+      → one.has_number m.bindings ≡ false → m.bindings < c.bindings → AllExceed m (next_recipe_number other c s >>= headed other kept' quiet ws x body)
+  unfolding next_recipe_number
   drawn_exceeds m c quiet ws x body s ends less = go (other.has_number c.recipes)
     where
       go : (b : Bool) → AllExceed m (cond b (Ok ((c.recipes, with_recipes (c.recipes + 1) c), s)) (Err (NoNumber c)) >>= headed other kept' quiet ws x body)
@@ -311,7 +311,7 @@ module _ {R T A B S D W R' T' A' B' S' D' W' : Type 0} (rel : Relations R T A B 
 
   abbrev Rest : (quiet : Bool) → List W' → (ReadHeader T' A' B' S' × Counters) × State R' T' B' → Read R' T' B' (Item A' B' ℕ S' D' × Counters)
   Rest quiet ws h =
-      optional_body other h.1 >>= λ b. no_exclusion other kept' ws h.0.0.name b.1 >>= λ checked. draw_recipe other h.0.1 checked.1 >>= headed other kept' quiet ws h.0.0 b.0
+      optional_body other h.1 >>= λ b. no_exclusion other kept' ws h.0.0.name b.1 >>= λ checked. next_recipe_number other h.0.1 checked.1 >>= headed other kept' quiet ws h.0.0 b.0
 
   header_carried : (m : Counters) (quiet : Bool) (ws : List W') (found : Read R' T' B' (ReadHeader T' A' B' S' × Counters)) → one.has_number m.bindings ≡ false
       → IfOk found (λ y. m.bindings < y.0.1.bindings) → AllExceed m (found >>= Rest quiet ws)
@@ -326,8 +326,8 @@ module _ {R T A B S D W R' T' A' B' S' D' W' : Type 0} (rel : Relations R T A B 
   recipe_natural {ws} {ws'} quiet n q {s} {s'} h =
       let rules = argument_rules one kept s.run ws in
       let rules' = argument_rules other kept' s'.run ws' in
-      bind_short rel _ _ (header_natural rel one other agree kept.sight kept'.sight attributed.keeping.sees rules rules' (rules_alike s.run s'.run h.run q) n h)
-      (λ m w. no_parameter w.ends w.lacks (header_carried m quiet ws' (header other kept'.sight rules' n s') w.ends w.exceeds))
+      bind_short rel _ _ (header_natural rel one other agree kept.view kept'.view attributed.keeping.sees rules rules' (rules_alike s.run s'.run h.run q) n h)
+      (λ m w. no_parameter w.ends w.lacks (header_carried m quiet ws' (header other kept'.view rules' n s') w.ends w.exceeds))
       (λ x x' is is' k j. bind rel _ _ (optional_body_natural rel one other agree j) (λ b b' ls i.
       bind rel _ _ (exclusion_natural x.0.0.name x'.0.0.name k.name q i) (λ u u' c l. recipe_alike quiet n x.0 x'.0 q k ls l)))
 
@@ -360,9 +360,9 @@ module _ {R T A B S D W R' T' A' B' S' D' W' : Type 0} (rel : Relations R T A B 
   unfolding attributes
   attributes_natural h =
       pick rel _ _ (accepted rel one other agree kinds.BracketL h) (both a.nil h) (λ o o' t k.
-      bind rel _ _ (attribute_lines_natural rel one other agree kept.sight kept'.sight kept.keep kept.entry kept'.keep kept'.entry Keeps attributed.keeping kept.comment kept'.comment
+      bind rel _ _ (attribute_lines_natural rel one other agree kept.view kept'.view kept.keep kept.entry kept'.keep kept'.entry Keeps attributed.keeping kept.comment kept'.comment
       attributed.commented h)
-      (λ ws ws' q j. by_tests rel _ _ (same_alone j) (neither (a.extraneous (each_length q) (agree.spot o.0 o'.0 t))) (both q j)))
+      (λ ws ws' q j. by_tests rel _ _ (same_alone j) (neither (a.extraneous (each_length q) (agree.position o.0 o'.0 t))) (both q j)))
 
   -- a number is wanting where these counters stand
   abbrev NoItem : Counters → State R' T' B' → Counters → Read R' T' B' (Item A' B' ℕ S' D' × Counters) → Type 0
@@ -438,19 +438,19 @@ module _ {R T A B S D W R' T' A' B' S' D' W' : Type 0} (rel : Relations R T A B 
   -- a setting after its name
   abbrev OneSetting : List W → Counters → T → Keyword → State R T B → Read R T B (Item A B ℕ S D × Counters)
   OneSetting ws n name keyword s =
-      r.allowed one kept item_kinds.Setting ws name s >>= λ checked. setting_value one kept.sight name keyword (setting_form keyword) checked.1 >>= λ value.
+      r.allowed one kept item_kinds.Setting ws name s >>= λ checked. setting_value one kept.view name keyword (setting_form keyword) checked.1 >>= λ value.
       r.constructed one kept ws (tree.Setting (record { keyword = keyword; name = one.name name; value = value.0 })) n value.1
 
   abbrev OtherSetting : List W' → Counters → T' → Keyword → State R' T' B' → Read R' T' B' (Item A' B' ℕ S' D' × Counters)
   OtherSetting ws n name keyword s =
-      r.allowed other kept' item_kinds.Setting ws name s >>= λ checked. setting_value other kept'.sight name keyword (setting_form keyword) checked.1 >>= λ value.
+      r.allowed other kept' item_kinds.Setting ws name s >>= λ checked. setting_value other kept'.view name keyword (setting_form keyword) checked.1 >>= λ value.
       r.constructed other kept' ws (tree.Setting (record { keyword = keyword; name = other.name name; value = value.0 })) n value.1
 
   named_setting_natural : {ws : List W} {ws' : List W'} (n : Counters) → Each Keeps ws ws' → (name : T) (name' : T') → rel.token name name' → (keyword : Keyword)
       {s : State R T B} {s' : State R' T' B'} → States rel s s' → Reads rel (AlikeNumbered n) (OneSetting ws n name keyword s) (OtherSetting ws' n name' keyword s')
   named_setting_natural n q name name' t keyword h =
       bind rel _ _ (allowed_natural item_kinds.Setting name name' t q h) (λ u u' c k.
-      bind rel _ _ (setting_value_natural rel one other agree kept.sight kept'.sight attributed.keeping.sees name name' t keyword (setting_form keyword) k) (λ v v' w l.
+      bind rel _ _ (setting_value_natural rel one other agree kept.view kept'.view attributed.keeping.sees name name' t keyword (setting_form keyword) k) (λ v v' w l.
       both (a.setting (attributed.attributes v.1.run v'.1.run l.run q) (agree.name name name' t) w, refl, refl) l))
 
   setting_natural : {ws : List W} {ws' : List W'} (n : Counters) → Each Keeps ws ws' → {s : State R T B} {s' : State R' T' B'} → States rel s s'
@@ -536,9 +536,9 @@ module _ {R T A B S D W R' T' A' B' S' D' W' : Type 0} (rel : Relations R T A B 
   unfolding content
   content_natural n q {s} {s'} h is =
       let assigns = λ (s : State R T B) (s' : State R' T' B') (k : States rel s s'). same_assigned rel one other agree k in
-      pick rel _ _ (accepted_before rel one other agree (codes "alias") (is_assigned one) (is_assigned other) assigns h)
-      (pick_known rel _ _ (accepted_before rel one other agree (codes "eager") (is_assigned one) (is_assigned other) assigns h)
-      (pick_known rel _ _ (accepted_before rel one other agree (codes "export") (is_assigned one) (is_assigned other) assigns h)
+      pick rel _ _ (accepted_before rel one other agree (codes "alias") (peek_assignment one) (peek_assignment other) assigns h)
+      (pick_known rel _ _ (accepted_before rel one other agree (codes "eager") (peek_assignment one) (peek_assignment other) assigns h)
+      (pick_known rel _ _ (accepted_before rel one other agree (codes "export") (peek_assignment one) (peek_assignment other) assigns h)
       (pick rel _ _ (accepted_before rel one other agree (codes "unexport") (line_is one (kinds.Identifier ∷ [])) (line_is other (kinds.Identifier ∷ []))
       (λ s s' k. same_unexported rel one other agree k) h)
       (pick rel _ _ (accepted_before rel one other agree (codes "import") (is_imported one) (is_imported other) (λ s s' k. same_imported rel one other agree k) h)

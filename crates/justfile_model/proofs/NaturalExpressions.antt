@@ -1,10 +1,10 @@
 -- The reader of expressions is natural in its tokens and leaves: readers whose tokens are related read related trees.
 use Rattle.std.proofs.Common.{◌≡◌, ℕ, ◌+◌, ◌*◌, Bool, true, false, List, Option, Some, None, refl, subst, ap, codes}
-use Rattle.justfile_word.specs.declared.token_kind.TokenKind.{TokenKind}
-use Rattle.justfile_word.specs.declared.token_kind.TokenKind.TheVariants as kinds
+use Rattle.justfile_vocabulary.specs.declared.token_kind.TokenKind.{TokenKind}
+use Rattle.justfile_vocabulary.specs.declared.token_kind.TokenKind.TheVariants as kinds
 use Rattle.justfile_model.specs.declared.level.Level.{Level}
 use Rattle.justfile_model.specs.declared.level.Level.TheVariants as levels
-use Rattle.justfile_word.specs.declared.list_feature.ListFeature.TheVariants as features
+use Rattle.justfile_vocabulary.specs.declared.list_feature.ListFeature.TheVariants as features
 use Rattle.justfile_model.specs.ExpressionReader as r
 use Rattle.justfile_model.specs.ExpressionReader.{Met, Out, Place, accept_operator, assert_rule, backtick, binary_rule, braced_rule, condition_rule, conditional_rule, conjunct_rule, element_rule, format_rest_rule, format_rule, format_string_rule, found, group_rule, list_rule, literal, name_rule, note_uncompared, opened, otherwise_rule, part, parts_rule, read, rule, sequence_rule, whole_format_string, size, stop_expression, literal_string, value_rule}
 use Rattle.justfile_model.specs.Expressions.{ends_open}
@@ -12,7 +12,7 @@ use Rattle.justfile_model.specs.Features.{function_feature, uncompared_feature}
 use Rattle.justfile_model.specs.Literals as literals
 use Rattle.justfile_model.specs.Literals.{string_of, token_of}
 use Rattle.justfile_model.specs.Operators.{feature_of, operand, rank, right}
-use Rattle.justfile_model.specs.Reading.{◌>>=◌, Leaves, Read, State, refused}
+use Rattle.justfile_model.specs.ReaderState.{◌>>=◌, Leaves, Read, State, refused}
 use Rattle.justfile_model.specs.Tree.{Expr}
 use Rattle.justfile_model.proofs.Related as a
 use Rattle.justfile_model.proofs.Related.{Alike, AlikeAll, AlikeParts, Each, Meets, Never, Related, Relations, Respects, States, accepted, accepted_marked, accepted_operator, accepted_word, at_alike, bind, both, by_tests, closed_alike, cooked_alike, each_length, entered, expected, met, neither, no_next, none_met, noted_if_alike, one_noted, opened_alike, pick, refused_alike, same_ends, same_uncompared, unexpected, with_alike}
@@ -102,7 +102,7 @@ module _ {R T A B S D R' T' A' B' S' D' : Type 0} (rel : Relations R T A B S D R
 
     uncompared_alike : {e : Expr A B} {e' : Expr A' B'} {from : List T} {from' : List T'} {s : State R T B} {s' : State R' T' B'} → Alike rel e e' → Each rel.token from from' → States rel s s' → States rel (note_uncompared one e from s) (note_uncompared other e' from' s')
     uncompared_alike e a.nil h = h
-    uncompared_alike {e = x} {e' = x'} e (a.cons {x = t} {y = t'} k ks) h = with_alike rel (noted_if_alike rel (uncompared_feature x) (uncompared_feature x') (same_uncompared rel e) (agree.spot t t' k)) h
+    uncompared_alike {e = x} {e' = x'} e (a.cons {x = t} {y = t'} k ks) h = with_alike rel (noted_if_alike rel (uncompared_feature x) (uncompared_feature x') (same_uncompared rel e) (agree.position t t' k)) h
 
     -- ---- what is read at a place
 
@@ -122,8 +122,8 @@ module _ {R T A B S D R' T' A' B' S' D' : Type 0} (rel : Relations R T A B S D R
       tail_alike : (k : Level) (c : Bool) (l : Expr A B × State R T B) (l' : Expr A' B' × State R' T' B') {o : Met R T B} {o' : Met R' T' B'} → Alike rel l.0 l'.0 → States rel l.1 l'.1 → Meets rel o o' → Reads (Alike rel) (r.binary_tail one f k c l o) (r.binary_tail other g k c l' o')
       tail_alike k c l l' e h none_met = both e (closed_alike rel k h)
       tail_alike k c l l' e h (met o {t = t} {t' = t'} u j) =
-          let fs = noted_if_alike rel (feature_of o c) (feature_of o c) refl (agree.spot t t' u) in
-          bind rel _ _ (level_alike (right k) false (with_alike rel fs j)) (λ x x' d i. both (a.binary_alike rel o e (agree.spot t t' u) d) (closed_alike rel k i))
+          let fs = noted_if_alike rel (feature_of o c) (feature_of o c) refl (agree.position t t' u) in
+          bind rel _ _ (level_alike (right k) false (with_alike rel fs j)) (λ x x' d i. both (a.binary_alike rel o e (agree.position t t' u) d) (closed_alike rel k i))
 
       binary_alike : (k : Level) (c : Bool) {s : State R T B} {s' : State R' T' B'} → States rel s s' → Reads (Alike rel) (binary_rule one f k c s) (binary_rule other g k c s')
       unfolding binary_rule refused
@@ -136,7 +136,7 @@ module _ {R T A B S D R' T' A' B' S' D' : Type 0} (rel : Relations R T A B S D R
       conjunct_alike c h =
           pick rel _ _ (accepted_word rel one other agree (codes "if") h)
           (pick rel _ _ (accepted rel one other agree kinds.Slash h) (binary_alike levels.Conjunct c h)
-          (λ op op' t k. bind rel _ _ (level_alike levels.Conjunct false k) (λ x x' e j. both (a.root (agree.spot op.0 op'.0 t) e) j)))
+          (λ op op' t k. bind rel _ _ (level_alike levels.Conjunct false k) (λ x x' e j. both (a.root (agree.position op.0 op'.0 t) e) j)))
           (λ w w' t k. conditional_at t k)
 
       condition_alike : {s : State R T B} {s' : State R' T' B'} → States rel s s' → Reads (Alike rel) (condition_rule one f s) (condition_rule other g s')
@@ -161,7 +161,7 @@ module _ {R T A B S D R' T' A' B' S' D' : Type 0} (rel : Relations R T A B S D R
       conditional_alike {w} {w'} t h =
           bind rel _ _ (condition_alike h) (λ c c' ce k. bind rel _ _ (braced_alike k) (λ b b' be j.
           pick rel _ _ (accepted_word rel one other agree (codes "else") j)
-          (both (a.if_only ce be) (with_alike rel (one_noted rel features.IfWithoutElse (agree.spot w w' t)) j))
+          (both (a.if_only ce be) (with_alike rel (one_noted rel features.IfWithoutElse (agree.position w w' t)) j))
           (λ x x' t2 i. bind rel _ _ (otherwise_alike i) (λ o o' oe m. both (a.if_else ce be oe) m))))
 
       element_alike : (k : TokenKind) {s : State R T B} {s' : State R' T' B'} → States rel s s' → Reads (Ended (Alike rel)) (element_rule one f k s) (element_rule other g k s')
@@ -214,7 +214,7 @@ module _ {R T A B S D R' T' A' B' S' D' : Type 0} (rel : Relations R T A B S D R
       unfolding list_rule
       list_alike h =
           pick rel _ _ (accepted rel one other agree kinds.BracketL h) (refused_alike rel one other agree h) (λ o o' t k.
-          bind rel _ _ (sequence_at kinds.BracketR (with_alike rel (one_noted rel features.ListLiteral (agree.spot o.0 o'.0 t)) k)) (λ x x' e j. both (a.list (agree.spot o.0 o'.0 t) e) j))
+          bind rel _ _ (sequence_at kinds.BracketR (with_alike rel (one_noted rel features.ListLiteral (agree.position o.0 o'.0 t)) k)) (λ x x' e j. both (a.list (agree.position o.0 o'.0 t) e) j))
 
       group_alike : {s : State R T B} {s' : State R' T' B'} → States rel s s' → Reads (Alike rel) (group_rule one f s) (group_rule other g s')
       unfolding group_rule
@@ -228,7 +228,7 @@ module _ {R T A B S D R' T' A' B' S' D' : Type 0} (rel : Relations R T A B S D R
           pick rel _ _ (accepted rel one other agree kinds.Identifier h) (group_alike h) (λ n n' t k.
           pick rel _ _ (accepted rel one other agree kinds.ParenL k) (both (a.variable (agree.name n.0 n'.0 t)) k) (λ o o' t2 j.
           bind rel _ _ (sequence_at kinds.ParenR j) (λ x x' e i.
-          both (a.call (agree.name n.0 n'.0 t) e) (with_alike rel (noted_if_alike rel (function_feature (one.see n.0).tok.lexeme) (function_feature (other.see n'.0).tok.lexeme) (ap (λ z. function_feature z.tok.lexeme) (agree.see n.0 n'.0 t)) (agree.spot n.0 n'.0 t)) i))))
+          both (a.call (agree.name n.0 n'.0 t) e) (with_alike rel (noted_if_alike rel (function_feature (one.see n.0).tok.lexeme) (function_feature (other.see n'.0).tok.lexeme) (ap (λ z. function_feature z.tok.lexeme) (agree.see n.0 n'.0 t)) (agree.position n.0 n'.0 t)) i))))
 
       assert_alike : {s : State R T B} {s' : State R' T' B'} → States rel s s' → Reads (Alike rel) (assert_rule one f s) (assert_rule other g s')
       unfolding assert_rule
@@ -236,8 +236,8 @@ module _ {R T A B S D R' T' A' B' S' D' : Type 0} (rel : Relations R T A B S D R
           pick rel _ _ (accepted_word rel one other agree (codes "assert") h) (name_alike h) (λ w w' t k.
           bind rel _ _ (expected rel one other agree kinds.ParenL k) (λ o o' t2 j. bind rel _ _ (condition_alike j) (λ c c' ce i.
           pick rel _ _ (accepted rel one other agree kinds.Comma i)
-          (bind rel _ _ (expected rel one other agree kinds.ParenR i) (λ p p' t3 m. both (a.assert (agree.spot w.0 w'.0 t) ce) m))
-          (λ x x' t3 m. bind rel _ _ (level_alike levels.Expression false m) (λ v v' ve q. bind rel _ _ (expected rel one other agree kinds.ParenR q) (λ p p' t4 u. both (a.assert_message (agree.spot w.0 w'.0 t) ce ve) u))))))
+          (bind rel _ _ (expected rel one other agree kinds.ParenR i) (λ p p' t3 m. both (a.assert (agree.position w.0 w'.0 t) ce) m))
+          (λ x x' t3 m. bind rel _ _ (level_alike levels.Expression false m) (λ v v' ve q. bind rel _ _ (expected rel one other agree kinds.ParenR q) (λ p p' t4 u. both (a.assert_message (agree.position w.0 w'.0 t) ce ve) u))))))
 
       format_alike : {s : State R T B} {s' : State R' T' B'} → States rel s s' → Reads (Alike rel) (format_rule one f s) (format_rule other g s')
       unfolding format_rule
@@ -252,7 +252,7 @@ module _ {R T A B S D R' T' A' B' S' D' : Type 0} (rel : Relations R T A B S D R
       value_alike h =
           pick rel _ _ (accepted rel one other agree kinds.Bang h)
           (bind rel _ _ (literal_alike h) (λ x x' o j. or_alike o j))
-          (λ b b' t k. bind rel _ _ (level_alike levels.Value false (with_alike rel (one_noted rel features.NegationOperator (agree.spot b.0 b'.0 t)) k)) (λ x x' e j. both (a.not e) j))
+          (λ b b' t k. bind rel _ _ (level_alike levels.Value false (with_alike rel (one_noted rel features.NegationOperator (agree.position b.0 b'.0 t)) k)) (λ x x' e j. both (a.not e) j))
 
       at_alike_rule : (k : Level) (c : Bool) {s : State R T B} {s' : State R' T' B'} → States rel s s' → Reads (Alike rel) (r.at_rule one f k c s) (r.at_rule other g k c s')
       at_alike_rule levels.Expression c h = binary_alike levels.Expression c h

@@ -1,16 +1,16 @@
 -- The reader of headers is natural in its tokens and leaves: readers whose tokens are related, and to which attributes say alike things, read related
 -- headers, and draw the same numbers. Where the one has no number left, the other goes on: then the counter is exceeded in what the other reads.
 use Rattle.std.proofs.Common.{◌≡◌, ℕ, zero, suc, ◌+◌, ◌<◌, ◌≤◌, Bool, true, false, ◌||◌, cond, List, [], ◌∷◌, ◌++◌, length, map, Option, Some, None, Ok, Err, IfOk, IsOk, refl, sym, ap, subst, ◌∙◌, arith}
-use Rattle.justfile_word.specs.declared.token_kind.TokenKind.TheVariants as kinds
+use Rattle.justfile_vocabulary.specs.declared.token_kind.TokenKind.TheVariants as kinds
 use Rattle.justfile_model.specs.declared.parameter_kind.ParameterKind.{ParameterKind}
 use Rattle.justfile_model.specs.declared.parameter_kind.ParameterKind.TheVariants.{Plus, Singular, Star}
 use Rattle.justfile_model.specs.HeaderReader as r
-use Rattle.justfile_model.specs.HeaderReader.{ReadHeader, draw_binding, expression, obeying, with_bindings}
-use Rattle.justfile_model.specs.Reading as taking
-use Rattle.justfile_model.specs.Reading.{◌>>=◌, Counters, Leaves, NoNumber, Read, State, Taken, accept, choose, expect, prepend, taken_or}
+use Rattle.justfile_model.specs.HeaderReader.{ReadHeader, next_binding_number, expression, obeying, with_bindings}
+use Rattle.justfile_model.specs.ReaderState as taking
+use Rattle.justfile_model.specs.ReaderState.{◌>>=◌, Counters, Leaves, NoNumber, Read, State, Taken, accept, choose, expect, prepend, taken_or}
 use Rattle.justfile_model.specs.RecipeRules.{parameter_broken, rules_for, undefined_broken}
 use Rattle.justfile_model.specs.Rules.{Broken}
-use Rattle.justfile_model.specs.Sight.{Sight}
+use Rattle.justfile_model.specs.LeafView.{LeafView}
 use Rattle.justfile_model.specs.Tree.{ArgumentRules, Dependency, DependencyArgument, Expr, Parameter, over_dependency_argument}
 use Rattle.justfile_model.proofs.AlikeAttributes.{AlikeArgumentRules, SeesAlike}
 use Rattle.justfile_model.proofs.AlikeRecipes.{all_features_alike, misplaced_alike, option_mapped, options_alike, parameter_alike, rules_for_alike, same_names, second_alike, stars_alike, undefined_alike}
@@ -33,7 +33,7 @@ module _ {R T A B S D R' T' A' B' S' D' : Type 0} (rel : Relations R T A B S D R
   after_alike q h = bind rel _ _ h (λ x y k j. both (each_both q k) j)
 
   -- rules that are alike are obeyed, or refused alike
-  pub obeying_natural : {rules : List (Broken B)} {rules' : List (Broken B')} {s : State R T B} {s' : State R' T' B'} → Each (AlikeBroken rel.spot) rules rules'
+  pub obeying_natural : {rules : List (Broken B)} {rules' : List (Broken B')} {s : State R T B} {s' : State R' T' B'} → Each (AlikeBroken rel.position) rules rules'
       → States rel s s' → Reads rel (λ x y. Unit {0}) (obeying rules s) (obeying rules' s')
   obeying_natural a.nil h = both tt h
   obeying_natural (a.cons b bs) h = neither (a.breaks b)
@@ -84,15 +84,15 @@ module _ {R T A B S D R' T' A' B' S' D' : Type 0} (rel : Relations R T A B S D R
   unfolding r.plain_argument
   plain_argument_natural h = bind rel _ _ (value_alike h) (λ e e' v k. both (record { star = absent; value = v }) k)
 
-  spots_alike : {ts : List T} {ts' : List T'} → Each rel.token ts ts' → Each rel.spot (map one.spot ts) (map other.spot ts')
-  spots_alike h = each_mapped one.spot other.spot agree.spot h
+  positions_alike : {ts : List T} {ts' : List T'} → Each rel.token ts ts' → Each rel.position (map one.position ts) (map other.position ts')
+  positions_alike h = each_mapped one.position other.position agree.position h
 
   starred_argument_natural : {before : List (DependencyArgument A B T)} {before' : List (DependencyArgument A' B' T')} (t : T) (t' : T') {s : State R T B}
       {s' : State R' T' B'} → Each Argued before before' → rel.token t t' → States rel s s'
       → Reads rel Argued (r.starred_argument one before t s) (r.starred_argument other before' t' s')
   unfolding r.starred_argument
   starred_argument_natural t t' d k h =
-      bind rel _ _ (obeying_natural rel (second_alike rel.spot (spots_alike (each_both (stars_alike rel d) (a.cons k a.nil)))) h) (λ u u' c j.
+      bind rel _ _ (obeying_natural rel (second_alike rel.position (positions_alike (each_both (stars_alike rel d) (a.cons k a.nil)))) h) (λ u u' c j.
       bind rel _ _ (value_natural rel one other agree j) (λ e e' v i. both (record { star = present k; value = v }) i))
 
   dependency_argument_natural : {before : List (DependencyArgument A B T)} {before' : List (DependencyArgument A' B' T')} {s : State R T B}
@@ -147,7 +147,7 @@ module _ {R T A B S D R' T' A' B' S' D' : Type 0} (rel : Relations R T A B S D R
   parenthesized_natural o h =
       bind rel _ _ (expected rel one other agree kinds.ParenL h) (λ c c' t k. bind rel _ _ (path_natural k) (λ p p' q j.
       bind rel _ _ (dependency_arguments_natural ([], p.1) ([], p'.1) (record { read = a.nil; state = j })) (λ ds ds' d i.
-      bind rel _ _ (obeying_natural rel (misplaced_alike rel.spot (option_mapped one.spot other.spot agree.spot o) (spots_alike (stars_alike rel d))) i)
+      bind rel _ _ (obeying_natural rel (misplaced_alike rel.position (option_mapped one.position other.position agree.position o) (positions_alike (stars_alike rel d))) i)
       (λ u u' _ l. both (dependency_alike o q d) l))))
 
   bare_dependency_natural : {s : State R T B} {s' : State R' T' B'} → States rel s s'
@@ -214,90 +214,90 @@ module _ {R T A B S D R' T' A' B' S' D' : Type 0} (rel : Relations R T A B S D R
       → Reads rel (λ x y. Unit {0}) (r.nothing_after one s) (r.nothing_after other s')
   unfolding r.nothing_after
   nothing_after_natural h =
-      pick rel _ _ (accepted rel one other agree kinds.Identifier h) (both tt h) (λ n n' t k. neither (a.after_variadic (agree.spot n.0 n'.0 t)))
+      pick rel _ _ (accepted rel one other agree kinds.Identifier h) (both tt h) (λ n n' t k. neither (a.after_variadic (agree.position n.0 n'.0 t)))
 
 -- ---- numbers of parameters
 
 -- counters do not fall
-module _ {R T A B S : Type 0} (leaves : Leaves R T A B S) (sight : R → Sight A B) (rules : List (ArgumentRules A B)) where
-  abbrev Grows : Counters → Read R T B (r.Parameters leaves sight rules) → Type 0
+module _ {R T A B S : Type 0} (leaves : Leaves R T A B S) (view : R → LeafView A B) (rules : List (ArgumentRules A B)) where
+  abbrev Grows : Counters → Read R T B (r.Parameters leaves view rules) → Type 0
   Grows c found = IfOk found (λ y. c.bindings ≤ y.0.1.bindings)
 
-  grows_after : {X : Type 0} (c : Counters) (found : Read R T B X) (f : X × State R T B → Read R T B (r.Parameters leaves sight rules))
+  grows_after : {X : Type 0} (c : Counters) (found : Read R T B X) (f : X × State R T B → Read R T B (r.Parameters leaves view rules))
       → ((x : X × State R T B) → Grows c (f x)) → Grows c (found >>= f)
   grows_after c (Ok x) f h = h x
   grows_after c (Err e) f h = tt
 
   -- where they do not fall in a step, nor after it
-  grows_both : (c : Counters) (found : Read R T B (r.Parameters leaves sight rules)) (f : r.ParameterPlace leaves sight rules → Read R T B (r.Parameters leaves sight rules))
-      → Grows c found → ((x : r.ParameterPlace leaves sight rules) → Grows x.0.1 (f x)) → Grows c (found >>= f)
+  grows_both : (c : Counters) (found : Read R T B (r.Parameters leaves view rules)) (f : r.ParameterPlace leaves view rules → Read R T B (r.Parameters leaves view rules))
+      → Grows c found → ((x : r.ParameterPlace leaves view rules) → Grows x.0.1 (f x)) → Grows c (found >>= f)
   grows_both c (Err e) f h k = tt
   grows_both c (Ok x) f h k = go (f x) (k x)
     where
-      go : (found : Read R T B (r.Parameters leaves sight rules)) → Grows x.0.1 found → Grows c found
+      go : (found : Read R T B (r.Parameters leaves view rules)) → Grows x.0.1 found → Grows c found
       go (Ok y) j = omega (arith, h, j)
       go (Err e) j = tt
 
-  number_grows : (kind : ParameterKind) (export : Bool) (x : r.Parameters leaves sight rules) (name : T) (default : Option (Expr A B)) (s : State R T B)
-      → Grows x.1 (draw_binding leaves x.1 s >>= r.numbered leaves sight rules kind export x.0 name default)
-  unfolding draw_binding
+  number_grows : (kind : ParameterKind) (export : Bool) (x : r.Parameters leaves view rules) (name : T) (default : Option (Expr A B)) (s : State R T B)
+      → Grows x.1 (next_binding_number leaves x.1 s >>= r.numbered leaves view rules kind export x.0 name default)
+  unfolding next_binding_number
   number_grows kind export x name default s = go (leaves.has_number x.1.bindings)
     where
       go : (b : Bool)
-          → Grows x.1 (cond b (Ok ((x.1.bindings, with_bindings (x.1.bindings + 1) x.1), s)) (Err (NoNumber x.1)) >>= r.numbered leaves sight rules kind export x.0 name default)
+          → Grows x.1 (cond b (Ok ((x.1.bindings, with_bindings (x.1.bindings + 1) x.1), s)) (Err (NoNumber x.1)) >>= r.numbered leaves view rules kind export x.0 name default)
       go true = omega arith
       go false = tt
 
-  named_parameter_grows : (kind : ParameterKind) (export : Bool) (x : r.Parameters leaves sight rules) (s : State R T B)
-      → Grows x.1 (r.named_parameter leaves sight rules kind export x s)
+  named_parameter_grows : (kind : ParameterKind) (export : Bool) (x : r.Parameters leaves view rules) (s : State R T B)
+      → Grows x.1 (r.named_parameter leaves view rules kind export x s)
   unfolding r.named_parameter
   named_parameter_grows kind export x s =
       grows_after x.1 (expect leaves kinds.Identifier s) _ (λ name. grows_after x.1 (r.default_value leaves name.1) _ (λ default.
-      grows_after x.1 (obeying (parameter_broken (sight default.1.run) rules x.0 (r.parameter_of leaves kind export (leaves.name name.0) default.0)) default.1) _
+      grows_after x.1 (obeying (parameter_broken (view default.1.run) rules x.0 (r.parameter_of leaves kind export (leaves.name name.0) default.0)) default.1) _
       (λ checked. number_grows kind export x name.0 default.0 checked.1)))
 
-  parameter_grows : (kind : ParameterKind) (x : r.ParameterPlace leaves sight rules) → Grows x.0.1 (r.parameter leaves sight rules kind x)
+  parameter_grows : (kind : ParameterKind) (x : r.ParameterPlace leaves view rules) → Grows x.0.1 (r.parameter leaves view rules kind x)
   unfolding r.parameter
   parameter_grows kind x = named_parameter_grows kind (taking.accepted leaves kinds.Dollar x.1).0 x.0 (taking.accepted leaves kinds.Dollar x.1).1
 
-  singulars_rule_grow : (f : r.ParameterPlace leaves sight rules → Read R T B (r.Parameters leaves sight rules))
-      → ((x : r.ParameterPlace leaves sight rules) → Grows x.0.1 (f x)) → (x : r.ParameterPlace leaves sight rules)
-      → Grows x.0.1 (r.singulars_rule leaves sight rules f x)
+  singulars_rule_grow : (f : r.ParameterPlace leaves view rules → Read R T B (r.Parameters leaves view rules))
+      → ((x : r.ParameterPlace leaves view rules) → Grows x.0.1 (f x)) → (x : r.ParameterPlace leaves view rules)
+      → Grows x.0.1 (r.singulars_rule leaves view rules f x)
   unfolding r.singulars_rule
   singulars_rule_grow f h x =
       after_test (r.begins_parameter leaves x.1) _ _ (Grows x.0.1)
-      (λ _. grows_both x.0.1 (r.parameter leaves sight rules Singular x) f (parameter_grows Singular x) h) (λ _. omega arith)
+      (λ _. grows_both x.0.1 (r.parameter leaves view rules Singular x) f (parameter_grows Singular x) h) (λ _. omega arith)
 
-  singulars_grow : (x : r.ParameterPlace leaves sight rules) → Grows x.0.1 (r.singulars leaves sight rules x)
+  singulars_grow : (x : r.ParameterPlace leaves view rules) → Grows x.0.1 (r.singulars leaves view rules x)
   unfolding r.singulars
   singulars_grow =
-      recursive_keeps (λ (x : r.ParameterPlace leaves sight rules). length x.1.left) (r.no_parameters leaves sight rules) (r.singulars_rule leaves sight rules)
+      recursive_keeps (λ (x : r.ParameterPlace leaves view rules). length x.1.left) (r.no_parameters leaves view rules) (r.singulars_rule leaves view rules)
       (λ x found. Grows x.0.1 found) (λ x. tt) singulars_rule_grow
 
   -- what is read after parameters leaves their counter
-  kept_grow : {X : Type 0} (p : r.ParameterPlace leaves sight rules) (found : Read R T B X) → Grows p.0.1 (found >>= λ end. Ok (p.0, end.1))
+  kept_grow : {X : Type 0} (p : r.ParameterPlace leaves view rules) (found : Read R T B X) → Grows p.0.1 (found >>= λ end. Ok (p.0, end.1))
   kept_grow p (Ok end) = omega arith
   kept_grow p (Err e) = tt
 
-  variadic_grows : (kind : ParameterKind) (x : r.ParameterPlace leaves sight rules) → Grows x.0.1 (r.variadic leaves sight rules kind x)
+  variadic_grows : (kind : ParameterKind) (x : r.ParameterPlace leaves view rules) → Grows x.0.1 (r.variadic leaves view rules kind x)
   unfolding r.variadic
-  variadic_grows kind x = grows_both x.0.1 (r.parameter leaves sight rules kind x) _ (parameter_grows kind x) (λ p. kept_grow p (r.nothing_after leaves p.1))
+  variadic_grows kind x = grows_both x.0.1 (r.parameter leaves view rules kind x) _ (parameter_grows kind x) (λ p. kept_grow p (r.nothing_after leaves p.1))
 
-  chosen_grow : (c : Counters) (o : Taken R T B) (x : Read R T B (r.Parameters leaves sight rules)) (f : T × State R T B → Read R T B (r.Parameters leaves sight rules))
+  chosen_grow : (c : Counters) (o : Taken R T B) (x : Read R T B (r.Parameters leaves view rules)) (f : T × State R T B → Read R T B (r.Parameters leaves view rules))
       → Grows c x → ((p : T × State R T B) → Grows c (f p)) → Grows c (choose o x f)
   chosen_grow c None x f h k = h
   chosen_grow c (Some p) x f h k = k p
 
-  last_parameter_grows : (x : r.ParameterPlace leaves sight rules) → Grows x.0.1 (r.last_parameter leaves sight rules x)
+  last_parameter_grows : (x : r.ParameterPlace leaves view rules) → Grows x.0.1 (r.last_parameter leaves view rules x)
   unfolding r.last_parameter
   last_parameter_grows x =
       chosen_grow x.0.1 (accept leaves kinds.Plus x.1) _ _
       (chosen_grow x.0.1 (accept leaves kinds.Asterisk x.1) _ _ (omega arith) (λ prefix. variadic_grows Star (x.0, prefix.1)))
       (λ prefix. variadic_grows Plus (x.0, prefix.1))
 
-  rest_grows : (p : r.ParameterPlace leaves sight rules)
-      → Grows p.0.1 (r.last_parameter leaves sight rules p >>= λ all. expect leaves kinds.Colon all.1 >>= λ colon. Ok (all.0, colon.1))
-  rest_grows p = grows_both p.0.1 (r.last_parameter leaves sight rules p) _ (last_parameter_grows p) (λ all. kept_grow all (expect leaves kinds.Colon all.1))
+  rest_grows : (p : r.ParameterPlace leaves view rules)
+      → Grows p.0.1 (r.last_parameter leaves view rules p >>= λ all. expect leaves kinds.Colon all.1 >>= λ colon. Ok (all.0, colon.1))
+  rest_grows p = grows_both p.0.1 (r.last_parameter leaves view rules p) _ (last_parameter_grows p) (λ all. kept_grow all (expect leaves kinds.Colon all.1))
 
 module _ {R T A B S D R' T' A' B' S' D' : Type 0} (rel : Relations R T A B S D R' T' A' B' S' D') where
   more_parameters : (n : Counters) {ps : List (Parameter A B)} {ps' : List (Parameter A' B')} {p : Parameter A B} {p' : Parameter A' B'}
@@ -316,9 +316,9 @@ module _ {R T A B S D R' T' A' B' S' D' : Type 0} (rel : Relations R T A B S D R
     pub counts : x.1 ≡ after_parameters n x.0.parameters
 
 -- where a number is wanting in a header
-module _ {R' T' A' B' S' : Type 0} (other : Leaves R' T' A' B' S') (sight' : R' → Sight A' B') (rules' : List (ArgumentRules A' B')) where
+module _ {R' T' A' B' S' : Type 0} (other : Leaves R' T' A' B' S') (view' : R' → LeafView A' B') (rules' : List (ArgumentRules A' B')) where
   -- what is read has a higher counter
-  abbrev Exceeded : Counters → Read R' T' B' (r.Parameters other sight' rules') → Type 0
+  abbrev Exceeded : Counters → Read R' T' B' (r.Parameters other view' rules') → Type 0
   Exceeded m found = IfOk found (λ y. m.bindings < y.0.1.bindings)
 
   -- what is read has a higher counter
@@ -326,79 +326,79 @@ module _ {R' T' A' B' S' : Type 0} (other : Leaves R' T' A' B' S') (sight' : R' 
   HeaderExceeds m found = IfOk found (λ y. m.bindings < y.0.1.bindings)
 
   -- among the parameters that take one argument and come next, one lacks its number where the counters stand there
-  pub data LacksSingular : r.ParameterPlace other sight' rules' → Counters → Type 0 where
-    singular_lacks : {x : r.ParameterPlace other sight' rules'} → (other.has_number x.0.1.bindings ≡ true → IsOk (r.parameter other sight' rules' Singular x))
+  pub data LacksSingular : r.ParameterPlace other view' rules' → Counters → Type 0 where
+    singular_lacks : {x : r.ParameterPlace other view' rules'} → (other.has_number x.0.1.bindings ≡ true → IsOk (r.parameter other view' rules' Singular x))
         → LacksSingular x x.0.1
-    later_lacks : {x y : r.ParameterPlace other sight' rules'} {m : Counters} → r.parameter other sight' rules' Singular x ≡ Ok y → LacksSingular y m
+    later_lacks : {x y : r.ParameterPlace other view' rules'} {m : Counters} → r.parameter other view' rules' Singular x ≡ Ok y → LacksSingular y m
         → LacksSingular x m
 
   -- the last parameter takes several arguments, and lacks its number
-  pub data LacksLast (x : r.ParameterPlace other sight' rules') : Type 0 where
+  pub data LacksLast (x : r.ParameterPlace other view' rules') : Type 0 where
     plus_lacks : {p : T' × State R' T' B'} → accept other kinds.Plus x.1 ≡ Some p
-        → (other.has_number x.0.1.bindings ≡ true → IsOk (r.parameter other sight' rules' Plus (x.0, p.1))) → LacksLast x
+        → (other.has_number x.0.1.bindings ≡ true → IsOk (r.parameter other view' rules' Plus (x.0, p.1))) → LacksLast x
     star_lacks : {p : T' × State R' T' B'} → accept other kinds.Asterisk x.1 ≡ Some p
-        → (other.has_number x.0.1.bindings ≡ true → IsOk (r.parameter other sight' rules' Star (x.0, p.1))) → LacksLast x
+        → (other.has_number x.0.1.bindings ≡ true → IsOk (r.parameter other view' rules' Star (x.0, p.1))) → LacksLast x
 
   -- one of the parameters lacks its number
   pub data LacksParameter (n : Counters) (s : State R' T' B') : Counters → Type 0 where
     lacks_singular : {m : Counters} → LacksSingular (([], n), s) m → LacksParameter n s m
-    lacks_last : {x : r.ParameterPlace other sight' rules'} → r.singulars other sight' rules' (([], n), s) ≡ Ok x → LacksLast x → LacksParameter n s x.0.1
+    lacks_last : {x : r.ParameterPlace other view' rules'} → r.singulars other view' rules' (([], n), s) ≡ Ok x → LacksLast x → LacksParameter n s x.0.1
 
   -- the number of a parameter of a header is wanting
   pub record LacksHeader (n : Counters) (s : State R' T' B') (m : Counters) : Type 0 where
     pub name : T' × State R' T' B'
     pub named : expect other kinds.Identifier s ≡ Ok name
     pub options : Unit {0} × State R' T' B'
-    pub distinct : r.distinct_options other sight' rules' name.0 name.1 ≡ Ok options
+    pub distinct : r.distinct_options other view' rules' name.0 name.1 ≡ Ok options
     pub lacks : LacksParameter n options.1 m
 
 module _ {R T A B S D R' T' A' B' S' D' : Type 0} (rel : Relations R T A B S D R' T' A' B' S' D') (one : Leaves R T A B S) (other : Leaves R' T' A' B' S') (agree : Respects rel one other)
-    (sight : R → Sight A B) (sight' : R' → Sight A' B') (sees : (run : R) (run' : R') → rel.run run run' → SeesAlike rel (sight run) (sight' run'))
+    (view : R → LeafView A B) (view' : R' → LeafView A' B') (sees : (run : R) (run' : R') → rel.run run run' → SeesAlike rel (view run) (view' run'))
     (rules : List (ArgumentRules A B)) (rules' : List (ArgumentRules A' B')) (ruled : Each (AlikeArgumentRules rel) rules rules') where
   -- parameters that are alike, and the counters after them
-  pub record Numbered (n : Counters) (x : r.Parameters one sight rules) (x' : r.Parameters other sight' rules') : Type 0 where
+  pub record Numbered (n : Counters) (x : r.Parameters one view rules) (x' : r.Parameters other view' rules') : Type 0 where
     pub parameters : AlikeParameters rel n.bindings x.0 x'.0
     pub same : x.1 ≡ x'.1
     pub counts : x.1 ≡ after_parameters n x.0
 
   -- where reading stands after them
-  pub record Places (n : Counters) (x : r.ParameterPlace one sight rules) (x' : r.ParameterPlace other sight' rules') : Type 0 where
+  pub record Places (n : Counters) (x : r.ParameterPlace one view rules) (x' : r.ParameterPlace other view' rules') : Type 0 where
     pub numbered : Numbered n x.0 x'.0
     pub state : States rel x.1 x'.1
 
   -- the number of a parameter is wanting; the other reader reads the parameter if it has one
-  pub record NoParameter (c m : Counters) (found : Read R' T' B' (r.Parameters other sight' rules')) : Type 0 where
+  pub record NoParameter (c m : Counters) (found : Read R' T' B' (r.Parameters other view' rules')) : Type 0 where
     pub same : m ≡ c
     pub ends : one.has_number c.bindings ≡ false
     pub reads : other.has_number c.bindings ≡ true → IsOk found
-    pub exceeds : Exceeded other sight' rules' c found
+    pub exceeds : Exceeded other view' rules' c found
 
   -- what lacks it, the counter that is at its end, and that all that the other reads exceeds it
-  pub record Short (Lacking : Counters → Type 0) (m : Counters) (found : Read R' T' B' (r.Parameters other sight' rules')) : Type 0 where
+  pub record Short (Lacking : Counters → Type 0) (m : Counters) (found : Read R' T' B' (r.Parameters other view' rules')) : Type 0 where
     pub lacks : Lacking m
     pub ends : one.has_number m.bindings ≡ false
-    pub exceeds : Exceeded other sight' rules' m found
+    pub exceeds : Exceeded other view' rules' m found
 
   -- a parameter with its number
   abbrev In : (kind : ParameterKind) (export : Bool) → List (Parameter A B) → T → Option (Expr A B) → R → Counters → Parameter A B
-  In kind export ps name e run c = r.parameter_of one kind export (one.parameter run name (rules_for (sight run) rules ps (one.name name)) c.bindings) e
+  In kind export ps name e run c = r.parameter_of one kind export (one.parameter run name (rules_for (view run) rules ps (one.name name)) c.bindings) e
 
   abbrev Other : (kind : ParameterKind) (export : Bool) → List (Parameter A' B') → T' → Option (Expr A' B') → R' → Counters → Parameter A' B'
-  Other kind export ps name e run c = r.parameter_of other kind export (other.parameter run name (rules_for (sight' run) rules' ps (other.name name)) c.bindings) e
+  Other kind export ps name e run c = r.parameter_of other kind export (other.parameter run name (rules_for (view' run) rules' ps (other.name name)) c.bindings) e
 
   with_number : (kind : ParameterKind) (export : Bool) (n c : Counters) {ps : List (Parameter A B)} {ps' : List (Parameter A' B')} (name : T) (name' : T')
       {e : Option (Expr A B)} {e' : Option (Expr A' B')} (run : R) (run' : R') → AlikeParameters rel n.bindings ps ps' → rel.token name name'
       → AlikeOption (Alike rel) e e' → rel.run run run' → AlikeParameter rel c.bindings (In kind export ps name e run c) (Other kind export ps' name' e' run' c)
   with_number kind export n c {ps} {ps'} name name' {e} {e'} run run' q t v h =
       let view = sees run run' h in
-      let said : AlikeOption (AlikeArgumentRules rel) (rules_for (sight run) rules ps (one.name name)) (rules_for (sight' run') rules' ps' (other.name name')) =
-      rules_for_alike rel (sight run) (sight' run') view ruled (same_names rel (sight run) (sight' run') view q)
+      let said : AlikeOption (AlikeArgumentRules rel) (rules_for (view run) rules ps (one.name name)) (rules_for (view' run') rules' ps' (other.name name')) =
+      rules_for_alike rel (view run) (view' run') view ruled (same_names rel (view run) (view' run') view q)
       (view.bytes (one.name name) (other.name name') (agree.name name name' t)) in
       record {
         kind = refl;
         export = refl;
-        rules = rules_for (sight run) rules ps (one.name name);
-        others = rules_for (sight' run') rules' ps' (other.name name');
+        rules = rules_for (view run) rules ps (one.name name);
+        others = rules_for (view' run') rules' ps' (other.name name');
         ruled = said;
         name = agree.parameter run run' name name' h t said c.bindings;
         default = v;
@@ -420,42 +420,42 @@ module _ {R T A B S D R' T' A' B' S' D' : Type 0} (rel : Relations R T A B S D R
   number_alike : (kind : ParameterKind) (export : Bool) (n c : Counters) {ps : List (Parameter A B)} {ps' : List (Parameter A' B')} (name : T) (name' : T')
       {e : Option (Expr A B)} {e' : Option (Expr A' B')} {s : State R T B} {s' : State R' T' B'} → AlikeParameters rel n.bindings ps ps'
       → c ≡ after_parameters n ps → rel.token name name' → AlikeOption (Alike rel) e e' → States rel s s'
-      → Related rel (Numbered n) (NoParameter c) (draw_binding one c s >>= r.numbered one sight rules kind export ps name e)
-      (draw_binding other c s' >>= r.numbered other sight' rules' kind export ps' name' e')
-  unfolding draw_binding
+      → Related rel (Numbered n) (NoParameter c) (next_binding_number one c s >>= r.numbered one view rules kind export ps name e)
+      (next_binding_number other c s' >>= r.numbered other view' rules' kind export ps' name' e')
+  unfolding next_binding_number
   number_alike kind export n c {ps} {ps'} name name' {e} {e'} {s} {s'} q counts t v h = go (one.has_number c.bindings) (other.has_number c.bindings) refl refl
     where
       go : (b b' : Bool) → one.has_number c.bindings ≡ b → other.has_number c.bindings ≡ b'
           → Related rel (Numbered n) (NoParameter c)
-          (cond b (Ok ((c.bindings, with_bindings (c.bindings + 1) c), s)) (Err (NoNumber c)) >>= r.numbered one sight rules kind export ps name e)
-          (cond b' (Ok ((c.bindings, with_bindings (c.bindings + 1) c), s')) (Err (NoNumber c)) >>= r.numbered other sight' rules' kind export ps' name' e')
+          (cond b (Ok ((c.bindings, with_bindings (c.bindings + 1) c), s)) (Err (NoNumber c)) >>= r.numbered one view rules kind export ps name e)
+          (cond b' (Ok ((c.bindings, with_bindings (c.bindings + 1) c), s')) (Err (NoNumber c)) >>= r.numbered other view' rules' kind export ps' name' e')
       go true true is is' = both (one_more kind export n c name name' s.run s'.run q counts t v h.run) h
       go true false is is' = let left = agree.has_number c.bindings is in cc
       go false true is is' =
-          short {found = Ok ((c.bindings, with_bindings (c.bindings + 1) c), s') >>= r.numbered other sight' rules' kind export ps' name' e'}
+          short {found = Ok ((c.bindings, with_bindings (c.bindings + 1) c), s') >>= r.numbered other view' rules' kind export ps' name' e'}
           (record { same = refl; ends = is; reads = λ _. refl; exceeds = omega arith })
       go false false is is' = short {found = Err (NoNumber c)} (record { same = refl; ends = is; reads = λ has. cc; exceeds = tt })
 
-  number_natural : (kind : ParameterKind) (export : Bool) (n : Counters) (x : r.Parameters one sight rules) (x' : r.Parameters other sight' rules') (name : T) (name' : T')
+  number_natural : (kind : ParameterKind) (export : Bool) (n : Counters) (x : r.Parameters one view rules) (x' : r.Parameters other view' rules') (name : T) (name' : T')
       {e : Option (Expr A B)} {e' : Option (Expr A' B')} {s : State R T B} {s' : State R' T' B'} → Numbered n x x'
       → rel.token name name' → AlikeOption (Alike rel) e e' → States rel s s'
-      → Related rel (Numbered n) (NoParameter x'.1) (draw_binding one x.1 s >>= r.numbered one sight rules kind export x.0 name e)
-      (draw_binding other x'.1 s' >>= r.numbered other sight' rules' kind export x'.0 name' e')
+      → Related rel (Numbered n) (NoParameter x'.1) (next_binding_number one x.1 s >>= r.numbered one view rules kind export x.0 name e)
+      (next_binding_number other x'.1 s' >>= r.numbered other view' rules' kind export x'.0 name' e')
   number_natural kind export n x x' name name' {e} {e'} {s} {s'} q t v h =
-      subst (λ (c : Counters). Related rel (Numbered n) (NoParameter c) (draw_binding one x.1 s >>= r.numbered one sight rules kind export x.0 name e)
-      (draw_binding other c s' >>= r.numbered other sight' rules' kind export x'.0 name' e')) q.same
+      subst (λ (c : Counters). Related rel (Numbered n) (NoParameter c) (next_binding_number one x.1 s >>= r.numbered one view rules kind export x.0 name e)
+      (next_binding_number other c s' >>= r.numbered other view' rules' kind export x'.0 name' e')) q.same
       (number_alike kind export n x.1 name name' q.parameters q.counts t v h)
 
   obeyed : (kind : ParameterKind) (export : Bool) {number : ℕ} {ps : List (Parameter A B)} {ps' : List (Parameter A' B')} (name : T) (name' : T')
       {e : Option (Expr A B)} {e' : Option (Expr A' B')} (run : R) (run' : R') → AlikeParameters rel number ps ps' → rel.token name name'
       → AlikeOption (Alike rel) e e' → rel.run run run'
-      → Each (AlikeBroken rel.spot) (parameter_broken (sight run) rules ps (r.parameter_of one kind export (one.name name) e))
-      (parameter_broken (sight' run') rules' ps' (r.parameter_of other kind export (other.name name') e'))
+      → Each (AlikeBroken rel.position) (parameter_broken (view run) rules ps (r.parameter_of one kind export (one.name name) e))
+      (parameter_broken (view' run') rules' ps' (r.parameter_of other kind export (other.name name') e'))
   obeyed kind export name name' {e} {e'} run run' q t v h =
       let view = sees run run' h in
       let named = agree.name name name' t in
-      parameter_alike rel (sight run) (sight' run') view {p = r.parameter_of one kind export (one.name name) e}
-      {p' = r.parameter_of other kind export (other.name name') e'} ruled (same_names rel (sight run) (sight' run') view q)
+      parameter_alike rel (view run) (view' run') view {p = r.parameter_of one kind export (one.name name) e}
+      {p' = r.parameter_of other kind export (other.name name') e'} ruled (same_names rel (view run) (view' run') view q)
       (record {
         kind = refl;
         bytes = view.bytes (one.name name) (other.name name') named;
@@ -463,9 +463,9 @@ module _ {R T A B S D R' T' A' B' S' D' : Type 0} (rel : Relations R T A B S D R
         default = same_some v;
       })
 
-  named_parameter_natural : (kind : ParameterKind) (export : Bool) (n : Counters) (x : r.Parameters one sight rules) (x' : r.Parameters other sight' rules')
+  named_parameter_natural : (kind : ParameterKind) (export : Bool) (n : Counters) (x : r.Parameters one view rules) (x' : r.Parameters other view' rules')
       {s : State R T B} {s' : State R' T' B'} → Numbered n x x' → States rel s s'
-      → Related rel (Numbered n) (NoParameter x'.1) (r.named_parameter one sight rules kind export x s) (r.named_parameter other sight' rules' kind export x' s')
+      → Related rel (Numbered n) (NoParameter x'.1) (r.named_parameter one view rules kind export x s) (r.named_parameter other view' rules' kind export x' s')
   unfolding r.named_parameter
   named_parameter_natural kind export n x x' q h =
       bind rel _ _ (expected rel one other agree kinds.Identifier h) (λ name name' t k. bind rel _ _ (default_natural rel one other agree k) (λ e e' v j.
@@ -477,78 +477,78 @@ module _ {R T A B S D R' T' A' B' S' D' : Type 0} (rel : Relations R T A B S D R
   dollar_alike a.none_taken h = (refl, h)
   dollar_alike (a.taken t k) h = (refl, k)
 
-  parameter_natural : (kind : ParameterKind) (n : Counters) (x : r.ParameterPlace one sight rules) (x' : r.ParameterPlace other sight' rules') → Places n x x'
-      → Related rel (Numbered n) (NoParameter x'.0.1) (r.parameter one sight rules kind x) (r.parameter other sight' rules' kind x')
+  parameter_natural : (kind : ParameterKind) (n : Counters) (x : r.ParameterPlace one view rules) (x' : r.ParameterPlace other view' rules') → Places n x x'
+      → Related rel (Numbered n) (NoParameter x'.0.1) (r.parameter one view rules kind x) (r.parameter other view' rules' kind x')
   unfolding r.parameter taking.accepted
   parameter_natural kind n x x' h =
       let dollar = dollar_alike (accepted rel one other agree kinds.Dollar h.state) h.state in
       let first = taken_or x.1 (accept one kinds.Dollar x.1) in
       let second = taken_or x'.1 (accept other kinds.Dollar x'.1) in
-      subst (λ (b : Bool). Related rel (Numbered n) (NoParameter x'.0.1) (r.named_parameter one sight rules kind first.0 x.0 first.1)
-      (r.named_parameter other sight' rules' kind b x'.0 second.1)) dollar.0 (named_parameter_natural kind first.0 n x.0 x'.0 h.numbered dollar.1)
+      subst (λ (b : Bool). Related rel (Numbered n) (NoParameter x'.0.1) (r.named_parameter one view rules kind first.0 x.0 first.1)
+      (r.named_parameter other view' rules' kind b x'.0 second.1)) dollar.0 (named_parameter_natural kind first.0 n x.0 x'.0 h.numbered dollar.1)
 
-  exceeds_after : (c : Counters) (found : Read R' T' B' (r.Parameters other sight' rules'))
-      (f : r.ParameterPlace other sight' rules' → Read R' T' B' (r.Parameters other sight' rules')) → Exceeded other sight' rules' c found
-      → ((y : r.ParameterPlace other sight' rules') → Grows other sight' rules' y.0.1 (f y)) → Exceeded other sight' rules' c (found >>= f)
+  exceeds_after : (c : Counters) (found : Read R' T' B' (r.Parameters other view' rules'))
+      (f : r.ParameterPlace other view' rules' → Read R' T' B' (r.Parameters other view' rules')) → Exceeded other view' rules' c found
+      → ((y : r.ParameterPlace other view' rules') → Grows other view' rules' y.0.1 (f y)) → Exceeded other view' rules' c (found >>= f)
   exceeds_after c (Err e) f h k = tt
   exceeds_after c (Ok y) f h k = go (f y) (k y)
     where
-      go : (found : Read R' T' B' (r.Parameters other sight' rules')) → Grows other sight' rules' y.0.1 found → Exceeded other sight' rules' c found
+      go : (found : Read R' T' B' (r.Parameters other view' rules')) → Grows other view' rules' y.0.1 found → Exceeded other view' rules' c found
       go (Ok z) j = omega (arith, h, j)
       go (Err e) j = tt
 
   -- ---- parameters that take one argument
 
-  module _ (most : ℕ) (n : Counters) (all : (x : r.ParameterPlace one sight rules) (x' : r.ParameterPlace other sight' rules') → length x.1.left < most → Places n x x'
-      → Related rel (Numbered n) (Short (LacksSingular other sight' rules' x')) (r.singulars one sight rules x) (r.singulars other sight' rules' x')) where
-    singular_short : (x' : r.ParameterPlace other sight' rules') (m : Counters) → NoParameter x'.0.1 m (r.parameter other sight' rules' Singular x')
-        → Short (LacksSingular other sight' rules' x') m (r.parameter other sight' rules' Singular x' >>= r.singulars other sight' rules')
+  module _ (most : ℕ) (n : Counters) (all : (x : r.ParameterPlace one view rules) (x' : r.ParameterPlace other view' rules') → length x.1.left < most → Places n x x'
+      → Related rel (Numbered n) (Short (LacksSingular other view' rules' x')) (r.singulars one view rules x) (r.singulars other view' rules' x')) where
+    singular_short : (x' : r.ParameterPlace other view' rules') (m : Counters) → NoParameter x'.0.1 m (r.parameter other view' rules' Singular x')
+        → Short (LacksSingular other view' rules' x') m (r.parameter other view' rules' Singular x' >>= r.singulars other view' rules')
     singular_short x' m w =
-        subst (λ (c : Counters). Short (LacksSingular other sight' rules' x') c (r.parameter other sight' rules' Singular x' >>= r.singulars other sight' rules')) (sym w.same)
+        subst (λ (c : Counters). Short (LacksSingular other view' rules' x') c (r.parameter other view' rules' Singular x' >>= r.singulars other view' rules')) (sym w.same)
         (record {
           lacks = singular_lacks w.reads;
           ends = w.ends;
-          exceeds = exceeds_after x'.0.1 (r.parameter other sight' rules' Singular x') (r.singulars other sight' rules') w.exceeds (singulars_grow other sight' rules');
+          exceeds = exceeds_after x'.0.1 (r.parameter other view' rules' Singular x') (r.singulars other view' rules') w.exceeds (singulars_grow other view' rules');
         })
 
-    singulars_step : (x : r.ParameterPlace one sight rules) (x' : r.ParameterPlace other sight' rules') → length x.1.left ≤ most → Places n x x'
-        → Related rel (Numbered n) (Short (LacksSingular other sight' rules' x')) (r.singulars one sight rules x) (r.singulars other sight' rules' x')
+    singulars_step : (x : r.ParameterPlace one view rules) (x' : r.ParameterPlace other view' rules') → length x.1.left ≤ most → Places n x x'
+        → Related rel (Numbered n) (Short (LacksSingular other view' rules' x')) (r.singulars one view rules x) (r.singulars other view' rules' x')
     unfolding r.singulars_rule
     singulars_step x x' few h =
-        rw (singulars_is one sight rules x, singulars_is other sight' rules' x')
+        rw (singulars_is one view rules x, singulars_is other view' rules' x')
         (by_tests rel _ _ (same_begins_parameter rel one other agree h.state)
         (bind_short rel _ _ (parameter_natural Singular n x x' h) (singular_short x') (λ p p' is is' q k.
         weaken rel (λ y y' j. j) (λ m w. record { lacks = later_lacks is' w.lacks; ends = w.ends; exceeds = w.exceeds })
-        (all p p' (omega (arith, few, (past x.1 _ p (parameter_goes one sight rules Singular x) is).0)) (record { numbered = q; state = k }))))
+        (all p p' (omega (arith, few, (past x.1 _ p (parameter_goes one view rules Singular x) is).0)) (record { numbered = q; state = k }))))
         (both h.numbered h.state))
 
-  all_singulars : (most : ℕ) (n : Counters) (x : r.ParameterPlace one sight rules) (x' : r.ParameterPlace other sight' rules') → length x.1.left < most → Places n x x'
-      → Related rel (Numbered n) (Short (LacksSingular other sight' rules' x')) (r.singulars one sight rules x) (r.singulars other sight' rules' x')
+  all_singulars : (most : ℕ) (n : Counters) (x : r.ParameterPlace one view rules) (x' : r.ParameterPlace other view' rules') → length x.1.left < most → Places n x x'
+      → Related rel (Numbered n) (Short (LacksSingular other view' rules' x')) (r.singulars one view rules x) (r.singulars other view' rules' x')
   all_singulars zero n x x' less h = absurd (omega (arith, less))
   all_singulars (suc most) n x x' less h = singulars_step most n (all_singulars most n) x x' (omega (arith, less)) h
 
-  singulars_natural : (n : Counters) (x : r.ParameterPlace one sight rules) (x' : r.ParameterPlace other sight' rules') → Places n x x'
-      → Related rel (Numbered n) (Short (LacksSingular other sight' rules' x')) (r.singulars one sight rules x) (r.singulars other sight' rules' x')
+  singulars_natural : (n : Counters) (x : r.ParameterPlace one view rules) (x' : r.ParameterPlace other view' rules') → Places n x x'
+      → Related rel (Numbered n) (Short (LacksSingular other view' rules' x')) (r.singulars one view rules x) (r.singulars other view' rules' x')
   singulars_natural n x x' h = all_singulars (suc (length x.1.left)) n x x' (omega arith) h
 
   -- ---- the last parameter
 
-  variadic_natural : (kind : ParameterKind) (n : Counters) (x : r.ParameterPlace one sight rules) (x' : r.ParameterPlace other sight' rules') → Places n x x'
-      → Related rel (Numbered n) (Short (λ m. (m ≡ x'.0.1) × (other.has_number x'.0.1.bindings ≡ true → IsOk (r.parameter other sight' rules' kind x'))))
-      (r.variadic one sight rules kind x) (r.variadic other sight' rules' kind x')
+  variadic_natural : (kind : ParameterKind) (n : Counters) (x : r.ParameterPlace one view rules) (x' : r.ParameterPlace other view' rules') → Places n x x'
+      → Related rel (Numbered n) (Short (λ m. (m ≡ x'.0.1) × (other.has_number x'.0.1.bindings ≡ true → IsOk (r.parameter other view' rules' kind x'))))
+      (r.variadic one view rules kind x) (r.variadic other view' rules' kind x')
   unfolding r.variadic
   variadic_natural kind n x x' h =
       bind_short rel _ _ (parameter_natural kind n x x' h)
       (λ m w. record {
         lacks = (w.same, w.reads);
         ends = subst (λ (c : Counters). one.has_number c.bindings ≡ false) (sym w.same) w.ends;
-        exceeds = exceeds_after m (r.parameter other sight' rules' kind x') _ (subst (λ (c : Counters). Exceeded other sight' rules' c (r.parameter other sight' rules' kind x')) (sym w.same) w.exceeds)
-            (λ p. kept_grow other sight' rules' p (r.nothing_after other p.1));
+        exceeds = exceeds_after m (r.parameter other view' rules' kind x') _ (subst (λ (c : Counters). Exceeded other view' rules' c (r.parameter other view' rules' kind x')) (sym w.same) w.exceeds)
+            (λ p. kept_grow other view' rules' p (r.nothing_after other p.1));
       })
       (λ p p' is is' q k. bind rel _ _ (nothing_after_natural rel one other agree k) (λ u u' c j. both q j))
 
-  last_natural : (n : Counters) (x : r.ParameterPlace one sight rules) (x' : r.ParameterPlace other sight' rules') → Places n x x'
-      → Related rel (Numbered n) (Short (λ m. (m ≡ x'.0.1) × LacksLast other sight' rules' x')) (r.last_parameter one sight rules x) (r.last_parameter other sight' rules' x')
+  last_natural : (n : Counters) (x : r.ParameterPlace one view rules) (x' : r.ParameterPlace other view' rules') → Places n x x'
+      → Related rel (Numbered n) (Short (λ m. (m ≡ x'.0.1) × LacksLast other view' rules' x')) (r.last_parameter one view rules x) (r.last_parameter other view' rules' x')
   unfolding r.last_parameter
   last_natural n x x' h =
       pick_known rel _ _ (accepted rel one other agree kinds.Plus h.state)
@@ -562,20 +562,20 @@ module _ {R T A B S D R' T' A' B' S' D' : Type 0} (rel : Relations R T A B S D R
   -- ---- all parameters
 
   parameters_natural : (n : Counters) {s : State R T B} {s' : State R' T' B'} → States rel s s'
-      → Related rel (Numbered n) (Short (LacksParameter other sight' rules' n s')) (r.parameters one sight rules n s) (r.parameters other sight' rules' n s')
+      → Related rel (Numbered n) (Short (LacksParameter other view' rules' n s')) (r.parameters one view rules n s) (r.parameters other view' rules' n s')
   unfolding r.parameters
   parameters_natural n {s} {s'} h =
       bind_short rel _ _ (singulars_natural n (([], n), s) (([], n), s') (record { numbered = record { parameters = a.no_parameter; same = refl; counts = refl }; state = h }))
       (λ m w. record {
         lacks = lacks_singular w.lacks;
         ends = w.ends;
-        exceeds = exceeds_after m (r.singulars other sight' rules' (([], n), s')) _ w.exceeds (rest_grows other sight' rules');
+        exceeds = exceeds_after m (r.singulars other view' rules' (([], n), s')) _ w.exceeds (rest_grows other view' rules');
       })
       (λ ps ps' is is' q k. bind_short rel _ _ (last_natural n ps ps' (record { numbered = q; state = k }))
       (λ m w. record {
-        lacks = subst (λ (c : Counters). LacksParameter other sight' rules' n s' c) (sym w.lacks.0) (lacks_last is' w.lacks.1);
+        lacks = subst (λ (c : Counters). LacksParameter other view' rules' n s' c) (sym w.lacks.0) (lacks_last is' w.lacks.1);
         ends = w.ends;
-        exceeds = exceeds_after m (r.last_parameter other sight' rules' ps') _ w.exceeds (λ all. kept_grow other sight' rules' all (expect other kinds.Colon all.1));
+        exceeds = exceeds_after m (r.last_parameter other view' rules' ps') _ w.exceeds (λ all. kept_grow other view' rules' all (expect other kinds.Colon all.1));
       })
       (λ all all' is2 is3 q2 j. bind rel _ _ (expected rel one other agree kinds.Colon j) (λ c c' t i. both q2 i)))
 
@@ -583,46 +583,46 @@ module _ {R T A B S D R' T' A' B' S' D' : Type 0} (rel : Relations R T A B S D R
 
   -- the number of a parameter is wanting, and what the other reads exceeds the counter
   pub record NoHeader (n : Counters) (s : State R' T' B') (m : Counters) (found : Read R' T' B' (ReadHeader T' A' B' S' × Counters)) : Type 0 where
-    pub lacks : LacksHeader other sight' rules' n s m
+    pub lacks : LacksHeader other view' rules' n s m
     pub ends : one.has_number m.bindings ≡ false
-    pub exceeds : HeaderExceeds other sight' rules' m found
+    pub exceeds : HeaderExceeds other view' rules' m found
 
   distinct_natural : (name : T) (name' : T') → rel.token name name' → {s : State R T B} {s' : State R' T' B'} → States rel s s'
-      → Reads rel (λ x y. Unit {0}) (r.distinct_options one sight rules name s) (r.distinct_options other sight' rules' name' s')
+      → Reads rel (λ x y. Unit {0}) (r.distinct_options one view rules name s) (r.distinct_options other view' rules' name' s')
   unfolding r.distinct_options
   distinct_natural name name' t {s} {s'} h =
-      obeying_natural rel (options_alike rel (sight s.run) (sight' s'.run) (sees s.run s'.run h.run) (agree.spot name name' t) ruled)
+      obeying_natural rel (options_alike rel (view s.run) (view' s'.run) (sees s.run s'.run h.run) (agree.position name name' t) ruled)
       (with_alike rel (all_features_alike rel ruled) h)
 
-  abbrev Rest : (name : T') → r.ParameterPlace other sight' rules' → Read R' T' B' (ReadHeader T' A' B' S' × Counters)
+  abbrev Rest : (name : T') → r.ParameterPlace other view' rules' → Read R' T' B' (ReadHeader T' A' B' S' × Counters)
   Rest name ps =
-      obeying (undefined_broken (sight' ps.1.run) ps.0.0 rules') ps.1 >>= λ checked. r.dependencies other checked.1 >>= λ priors.
-      r.subsequents other priors.1 >>= λ others. Ok ((r.header_of other sight' rules' name ps.0.0 priors.0 others.0, ps.0.1), others.1)
+      obeying (undefined_broken (view' ps.1.run) ps.0.0 rules') ps.1 >>= λ checked. r.dependencies other checked.1 >>= λ priors.
+      r.subsequents other priors.1 >>= λ others. Ok ((r.header_of other view' rules' name ps.0.0 priors.0 others.0, ps.0.1), others.1)
 
   -- what follows the parameters draws no number
-  rest_exceeds : (m : Counters) (name : T') (found : Read R' T' B' (r.Parameters other sight' rules')) → Exceeded other sight' rules' m found
-      → HeaderExceeds other sight' rules' m (found >>= Rest name)
+  rest_exceeds : (m : Counters) (name : T') (found : Read R' T' B' (r.Parameters other view' rules')) → Exceeded other view' rules' m found
+      → HeaderExceeds other view' rules' m (found >>= Rest name)
   rest_exceeds m name (Err e) h = tt
-  rest_exceeds m name (Ok ps) h = go (obeying (undefined_broken (sight' ps.1.run) ps.0.0 rules') ps.1)
+  rest_exceeds m name (Ok ps) h = go (obeying (undefined_broken (view' ps.1.run) ps.0.0 rules') ps.1)
     where
       go3 : (ds : List (Dependency A' B' S')) (found : Read R' T' B' (List (Dependency A' B' S')))
-          → HeaderExceeds other sight' rules' m (found >>= λ others. Ok ((r.header_of other sight' rules' name ps.0.0 ds others.0, ps.0.1), others.1))
+          → HeaderExceeds other view' rules' m (found >>= λ others. Ok ((r.header_of other view' rules' name ps.0.0 ds others.0, ps.0.1), others.1))
       go3 ds (Ok others) = h
       go3 ds (Err e) = tt
 
       go2 : (found : Read R' T' B' (List (Dependency A' B' S')))
-          → HeaderExceeds other sight' rules' m (found >>= λ priors. r.subsequents other priors.1 >>= λ others. Ok ((r.header_of other sight' rules' name ps.0.0 priors.0 others.0, ps.0.1), others.1))
+          → HeaderExceeds other view' rules' m (found >>= λ priors. r.subsequents other priors.1 >>= λ others. Ok ((r.header_of other view' rules' name ps.0.0 priors.0 others.0, ps.0.1), others.1))
       go2 (Ok priors) = go3 priors.0 (r.subsequents other priors.1)
       go2 (Err e) = tt
 
       go : (found : Read R' T' B' (Unit {0}))
-          → HeaderExceeds other sight' rules' m (found >>= λ checked. r.dependencies other checked.1 >>= λ priors. r.subsequents other priors.1 >>= λ others. Ok ((r.header_of other sight' rules' name ps.0.0 priors.0 others.0, ps.0.1), others.1))
+          → HeaderExceeds other view' rules' m (found >>= λ checked. r.dependencies other checked.1 >>= λ priors. r.subsequents other priors.1 >>= λ others. Ok ((r.header_of other view' rules' name ps.0.0 priors.0 others.0, ps.0.1), others.1))
       go (Ok checked) = go2 (r.dependencies other checked.1)
       go (Err e) = tt
 
   -- the law
   pub header_natural : (n : Counters) {s : State R T B} {s' : State R' T' B'} → States rel s s'
-      → Related rel (AlikeRead rel n) (NoHeader n s') (r.header one sight rules n s) (r.header other sight' rules' n s')
+      → Related rel (AlikeRead rel n) (NoHeader n s') (r.header one view rules n s) (r.header other view' rules' n s')
   unfolding r.header
   header_natural n {s} {s'} h =
       bind_short rel _ _ (expected rel one other agree kinds.Identifier h) (λ m never. absurd never) (λ name name' named named' t k.
@@ -631,10 +631,10 @@ module _ {R T A B S D R' T' A' B' S' D' : Type 0} (rel : Relations R T A B S D R
       (λ m w. record {
         lacks = record { name = name'; named = named'; options = options'; distinct = chosen'; lacks = w.lacks };
         ends = w.ends;
-        exceeds = rest_exceeds m name'.0 (r.parameters other sight' rules' n options'.1) w.exceeds;
+        exceeds = rest_exceeds m name'.0 (r.parameters other view' rules' n options'.1) w.exceeds;
       })
       (λ ps ps' is is' q i. let view = sees ps.1.run ps'.1.run i.run in
-      bind rel _ _ (obeying_natural rel (undefined_alike rel (sight ps.1.run) (sight' ps'.1.run) view (same_names rel (sight ps.1.run) (sight' ps'.1.run) view q.parameters) ruled) i)
+      bind rel _ _ (obeying_natural rel (undefined_alike rel (view ps.1.run) (view' ps'.1.run) view (same_names rel (view ps.1.run) (view' ps'.1.run) view q.parameters) ruled) i)
       (λ c c' v l. bind rel _ _ (dependencies_natural rel one other agree c.1 c'.1 l) (λ ds ds' d o.
       bind rel _ _ (subsequents_natural rel one other agree o) (λ ss ss' e g.
       both (record { name = t; parameters = q.parameters; priors = d; subsequents = e; same = q.same; counts = q.counts }) g))))))

@@ -1,26 +1,26 @@
 -- The readers of what items are made of are natural in their tokens and leaves: readers whose tokens are related read related paths, names and
 -- values, and draw the same numbers. Where the one has no number left, the other goes on.
 use Rattle.std.proofs.Common.{◌≡◌, ℕ, zero, suc, ◌+◌, ◌<◌, ◌≤◌, Bool, true, false, ◌||◌, cond, List, [], ◌∷◌, ◌++◌, length, Option, Some, None, Ok, Err, IfOk, IsOk, codes, refl, sym, ap, subst, ◌∙◌, arith}
-use Rattle.justfile_word.specs.Indentation.{indentation_refusal}
-use Rattle.justfile_word.specs.Keyword.{keyword_named}
-use Rattle.justfile_base.specs.StringKind.{kind_of}
-use Rattle.justfile_word.specs.declared.keyword.Keyword.{Keyword}
-use Rattle.justfile_word.specs.declared.keyword.Keyword.TheVariants as words
-use Rattle.justfile_word.specs.declared.token_kind.TokenKind.{TokenKind}
-use Rattle.justfile_word.specs.declared.token_kind.TokenKind.TheVariants as kinds
+use Rattle.justfile_vocabulary.specs.Indentation.{indentation_refusal}
+use Rattle.justfile_vocabulary.specs.Keyword.{keyword_named}
+use Rattle.justfile_token.specs.StringKind.{kind_of}
+use Rattle.justfile_vocabulary.specs.declared.keyword.Keyword.{Keyword}
+use Rattle.justfile_vocabulary.specs.declared.keyword.Keyword.TheVariants as words
+use Rattle.justfile_vocabulary.specs.declared.token_kind.TokenKind.{TokenKind}
+use Rattle.justfile_vocabulary.specs.declared.token_kind.TokenKind.TheVariants as kinds
 use Rattle.justfile_model.specs.AttributeRules.{of_some}
 use Rattle.justfile_model.specs.Conditions.{VersionNumbers}
 use Rattle.justfile_model.specs.ExpressionReader as expressions
-use Rattle.justfile_model.specs.HeaderReader.{draw_binding, expression, obeying, with_bindings}
+use Rattle.justfile_model.specs.HeaderReader.{next_binding_number, expression, obeying, with_bindings}
 use Rattle.justfile_model.specs.Literals.{string_of}
 use Rattle.justfile_model.specs.Meaning.{quoted_text}
 use Rattle.justfile_model.specs.PartReader as r
-use Rattle.justfile_model.specs.PartReader.{accept_before, after_numbered}
-use Rattle.justfile_model.specs.Reading.{◌>>=◌, Counters, Leaves, NoNumber, Read, State, Taken, accept, accept_word, choose, expect, is_word, next_are}
+use Rattle.justfile_model.specs.PartReader.{accept_keyword_before, after_numbered}
+use Rattle.justfile_model.specs.ReaderState.{◌>>=◌, Counters, Leaves, NoNumber, Read, State, Taken, accept, accept_construct_keyword, choose, expect, is_word, next_are}
 use Rattle.justfile_model.specs.Rules.{Broken, InvalidIndentation, Rule, broken_if}
 use Rattle.justfile_model.specs.SettingRules.{literal_broken, plain_literal, text_broken, value_broken, version_broken}
 use Rattle.justfile_model.specs.Settings.{ExpressionForm, InterpreterForm, PlainForm, SettingForm, TruthForm}
-use Rattle.justfile_model.specs.Sight.{Sight}
+use Rattle.justfile_model.specs.LeafView.{LeafView}
 use Rattle.justfile_model.specs.SignificantTokens.{SignificantToken}
 use Rattle.justfile_model.specs.Tree as tree
 use Rattle.justfile_model.specs.Tree.{Expr, Exprs, Quoted, SettingValue}
@@ -38,44 +38,44 @@ use Rattle.justfile_model.proofs.ReadingSteps.{accepts, past}
 use Rattle.justfile_model.proofs.Related as a
 use Rattle.justfile_model.proofs.Related.{Alike, AlikeAll, AlikeNames, AlikeValue, Each, Related, Relations, Respects, States, Takes, accepted, accepted_word, bind, bind_short, both, by_tests, cooked_alike, each_length, expected, neither, none_taken, pick, refused_alike, same_next, short, taken, unexpected, weaken}
 
-module _ {R T A B S D R' T' A' B' S' D' : Type 0} (rel : Relations R T A B S D R' T' A' B' S' D') (current : VersionNumbers) (sight : Sight A B)
-    (sight' : Sight A' B') (sees : SeesAlike rel sight sight') where
+module _ {R T A B S D R' T' A' B' S' D' : Type 0} (rel : Relations R T A B S D R' T' A' B' S' D') (current : VersionNumbers) (view : LeafView A B)
+    (view' : LeafView A' B') (sees : SeesAlike rel view view') where
   -- ---- the rules of settings
 
   abbrev Refuses : List (Broken B) → List (Broken B') → Type 0
-  Refuses = Each (AlikeBroken rel.spot)
+  Refuses = Each (AlikeBroken rel.position)
 
   -- a rule that is broken or not
-  broken_if_alike : (b : Bool) {r : Rule B} {r' : Rule B'} {t : B} {t' : B'} → AlikeRule rel.spot r r' → rel.spot t t' → Refuses (broken_if b r t) (broken_if b r' t')
+  broken_if_alike : (b : Bool) {r : Rule B} {r' : Rule B'} {t : B} {t' : B'} → AlikeRule rel.position r r' → rel.position t t' → Refuses (broken_if b r t) (broken_if b r' t')
   broken_if_alike true h k = a.cons (record { rule = h; token = k }) a.nil
   broken_if_alike false h k = a.nil
 
-  version_alike : {b : B} {b' : B'} (text : List ℕ) (o : Option VersionNumbers) → rel.spot b b'
+  version_alike : {b : B} {b' : B'} (text : List ℕ) (o : Option VersionNumbers) → rel.position b b'
       → Refuses (version_broken current b text o) (version_broken current b' text o)
   version_alike text None h = broken_if_alike true (broken.invalid_version refl) h
   version_alike text (Some minimum) h = broken_if_alike (is_above minimum current) (broken.minimum_version refl refl) h
 
-  indentation_alike : {b : B} {b' : B'} (o : Option (List ℕ)) → rel.spot b b'
+  indentation_alike : {b : B} {b' : B'} (o : Option (List ℕ)) → rel.position b b'
       → Refuses (of_some (λ message. broken_if true (InvalidIndentation message) b) o) (of_some (λ message. broken_if true (InvalidIndentation message) b') o)
   indentation_alike None h = a.nil
   indentation_alike (Some message) h = broken_if_alike true (broken.invalid_indentation refl) h
 
-  text_alike : (keyword : Keyword) {b : B} {b' : B'} (text : List ℕ) → rel.spot b b' → Refuses (text_broken current keyword b text) (text_broken current keyword b' text)
+  text_alike : (keyword : Keyword) {b : B} {b' : B'} (text : List ℕ) → rel.position b b' → Refuses (text_broken current keyword b text) (text_broken current keyword b' text)
   text_alike words.Indentation text h = indentation_alike (indentation_refusal text) h
   text_alike words.MinimumVersion text h = version_alike text (version_of text) h
   text_alike _ text h = a.nil
 
-  some_text_alike : (keyword : Keyword) {b : B} {b' : B'} (o : Option (List ℕ)) → rel.spot b b'
+  some_text_alike : (keyword : Keyword) {b : B} {b' : B'} (o : Option (List ℕ)) → rel.position b b'
       → Refuses (of_some (text_broken current keyword b) o) (of_some (text_broken current keyword b') o)
   some_text_alike keyword None h = a.nil
   some_text_alike keyword (Some text) h = text_alike keyword text h
 
-  literal_alike : (keyword : Keyword) {b : B} {b' : B'} {o : Option (Quoted A)} {o' : Option (Quoted A')} → rel.spot b b' → AlikeOption (AlikeQuoted rel) o o'
-      → Refuses (literal_broken current sight keyword b o) (literal_broken current sight' keyword b' o')
+  literal_alike : (keyword : Keyword) {b : B} {b' : B'} {o : Option (Quoted A)} {o' : Option (Quoted A')} → rel.position b b' → AlikeOption (AlikeQuoted rel) o o'
+      → Refuses (literal_broken current view keyword b o) (literal_broken current view' keyword b' o')
   literal_alike keyword h absent = broken_if_alike true broken.setting_expression h
   literal_alike keyword h (present {x = q} {y = q'} k) =
-      subst (λ (text : Option (List ℕ)). Refuses (of_some (text_broken current keyword (sight.place q.token)) (quoted_text sight q)) (of_some (text_broken current keyword (sight'.place q'.token)) text))
-      (same_quoted_text rel sight sight' sees k) (some_text_alike keyword (quoted_text sight q) (quoted_place rel sight sight' sees k))
+      subst (λ (text : Option (List ℕ)). Refuses (of_some (text_broken current keyword (view.place q.token)) (quoted_text view q)) (of_some (text_broken current keyword (view'.place q'.token)) text))
+      (same_quoted_text rel view view' sees k) (some_text_alike keyword (quoted_text view q) (quoted_place rel view view' sees k))
 
   unless_alike : (b b' : Bool) {q : Quoted A} {q' : Quoted A'} → b ≡ b' → AlikeQuoted rel q q' → AlikeOption (AlikeQuoted rel) (cond b None (Some q)) (cond b' None (Some q'))
   unless_alike true true e h = absent
@@ -83,14 +83,14 @@ module _ {R T A B S D R' T' A' B' S' D' : Type 0} (rel : Relations R T A B S D R
   unless_alike true false e h = cc
   unless_alike false true e h = cc
 
-  plain_alike : {e : Expr A B} {e' : Expr A' B'} → Alike rel e e' → AlikeOption (AlikeQuoted rel) (plain_literal current sight e) (plain_literal current sight' e')
+  plain_alike : {e : Expr A B} {e' : Expr A' B'} → Alike rel e e' → AlikeOption (AlikeQuoted rel) (plain_literal current view e) (plain_literal current view' e')
   plain_alike (a.string {expanded = false} lexeme {a = t} {a' = t'} h) =
       unless_alike _ _ (ap (λ bytes. (kind_of bytes).indented) (sees.literal_bytes (string_of false lexeme) t t' h)) (record { expanded = refl; lexeme = lexeme; token = h })
   plain_alike (a.string {expanded = true} lexeme h) = absent
   plain_alike _ = absent
 
-  pub value_broken_alike : (keyword : Keyword) {b : B} {b' : B'} {v : SettingValue A B} {v' : SettingValue A' B'} → rel.spot b b' → AlikeValue rel v v'
-      → Refuses (value_broken current sight (Some PlainForm) keyword b v) (value_broken current sight' (Some PlainForm) keyword b' v')
+  pub value_broken_alike : (keyword : Keyword) {b : B} {b' : B'} {v : SettingValue A B} {v' : SettingValue A' B'} → rel.position b b' → AlikeValue rel v v'
+      → Refuses (value_broken current view (Some PlainForm) keyword b v) (value_broken current view' (Some PlainForm) keyword b' v')
   value_broken_alike keyword h a.truth = a.nil
   value_broken_alike keyword h (a.value k) = literal_alike keyword h (plain_alike k)
   value_broken_alike keyword h (a.interpreter k ks) = a.nil
@@ -103,7 +103,7 @@ module _ {R T A B S D R' T' A' B' S' D' : Type 0} (rel : Relations R T A B S D R
       λ i. same_next rel one other agree (before ++ kinds.Comment ∷ []) h i || same_next rel one other agree (before ++ kinds.Eol ∷ []) h i
       || same_next rel one other agree (before ++ kinds.Eof ∷ []) h i
 
-  pub same_assigned : {s : State R T B} {s' : State R' T' B'} → States rel s s' → r.is_assigned one s ≡ r.is_assigned other s'
+  pub same_assigned : {s : State R T B} {s' : State R' T' B'} → States rel s s' → r.peek_assignment one s ≡ r.peek_assignment other s'
   same_assigned h = same_next rel one other agree (kinds.Identifier ∷ kinds.ColonEquals ∷ []) h
 
   same_path : {s : State R T B} {s' : State R' T' B'} → States rel s s' → r.begins_path one s ≡ r.begins_path other s'
@@ -135,8 +135,8 @@ module _ {R T A B S D R' T' A' B' S' D' : Type 0} (rel : Relations R T A B S D R
   -- a word that something follows is taken by both or by none
   pub accepted_before : (word : List ℕ) (follows : State R T B → Bool) (follows' : State R' T' B' → Bool)
       → ((s : State R T B) (s' : State R' T' B') → States rel s s' → follows s ≡ follows' s') → {s : State R T B} {s' : State R' T' B'} → States rel s s'
-      → Takes rel (accept_before one word follows s) (accept_before other word follows' s')
-  unfolding accept_before
+      → Takes rel (accept_keyword_before one word follows s) (accept_keyword_before other word follows' s')
+  unfolding accept_keyword_before
   accepted_before word follows follows' same h = go (accepted_word rel one other agree word h)
     where
       go : {o : Taken R T B} {o' : Taken R' T' B'} → Takes rel o o' → Takes rel (r.if_follows one follows o) (r.if_follows other follows' o')
@@ -149,7 +149,7 @@ module _ {R T A B S D R' T' A' B' S' D' : Type 0} (rel : Relations R T A B S D R
   unfolding r.expansion_mark
   mark_natural h =
       pick rel _ _ (accepted rel one other agree kinds.Identifier h) (both refl h) (λ m m' t k.
-      by_tests rel _ _ (ap (is_word (codes "x")) (agree.see m.0 m'.0 t)) (both refl k) (neither (a.expected_keyword (agree.spot m.0 m'.0 t))))
+      by_tests rel _ _ (ap (is_word (codes "x")) (agree.see m.0 m'.0 t)) (both refl k) (neither (a.expected_keyword (agree.position m.0 m'.0 t))))
 
   -- a path, and the token of its literal
   pub record AlikePath (x : T × Quoted A) (x' : T' × Quoted A') : Type 0 where
@@ -179,12 +179,12 @@ module _ {R T A B S D R' T' A' B' S' D' : Type 0} (rel : Relations R T A B S D R
 
   keyword_alike : (name : T) (name' : T') → rel.token name name' → {s : State R T B} {s' : State R' T' B'} → States rel s s' → (o : Option Keyword)
       → Reads rel (λ (k k' : Keyword). k ≡ k') (r.keyword_or_none one name s o) (r.keyword_or_none other name' s' o)
-  keyword_alike name name' t h None = neither (a.unknown_setting (agree.spot name name' t))
+  keyword_alike name name' t h None = neither (a.unknown_setting (agree.position name name' t))
   keyword_alike name name' t h (Some keyword) = both refl h
 
   pub keyword_natural : (name : T) (name' : T') → rel.token name name' → {s : State R T B} {s' : State R' T' B'} → States rel s s'
-      → Reads rel (λ (k k' : Keyword). k ≡ k') (r.keyword_at one name s) (r.keyword_at other name' s')
-  unfolding r.keyword_at
+      → Reads rel (λ (k k' : Keyword). k ≡ k') (r.setting_keyword one name s) (r.setting_keyword other name' s')
+  unfolding r.setting_keyword
   keyword_natural name name' t {s} {s'} h =
       subst (λ (x : SignificantToken). Reads rel (λ (k k' : Keyword). k ≡ k') (r.keyword_or_none one name s (keyword_named (one.see name).tok.lexeme))
       (r.keyword_or_none other name' s' (keyword_named x.tok.lexeme))) (agree.see name name' t) (keyword_alike name name' t h (keyword_named (one.see name).tok.lexeme))
@@ -194,7 +194,7 @@ module _ {R T A B S D R' T' A' B' S' D' : Type 0} (rel : Relations R T A B S D R
   unfolding r.truth_of
   truth_of_natural w w' t h =
       by_tests rel _ _ (ap (is_word (codes "true")) (agree.see w.0 w'.0 t)) (both a.truth h)
-      (by_tests rel _ _ (ap (is_word (codes "false")) (agree.see w.0 w'.0 t)) (both a.truth h) (neither (a.expected_keyword (agree.spot w.0 w'.0 t))))
+      (by_tests rel _ _ (ap (is_word (codes "false")) (agree.see w.0 w'.0 t)) (both a.truth h) (neither (a.expected_keyword (agree.position w.0 w'.0 t))))
 
   truth_natural : {s : State R T B} {s' : State R' T' B'} → States rel s s' → Reads rel (AlikeValue rel) (r.truth one s) (r.truth other s')
   unfolding r.truth
@@ -218,38 +218,38 @@ module _ {R T A B S D R' T' A' B' S' D' : Type 0} (rel : Relations R T A B S D R
   unfolding r.expression_value
   expression_value_natural h = bind rel _ _ (value_alike rel one other agree h) (λ e e' v k. both (a.value v) k)
 
-  module _ (sight : R → Sight A B) (sight' : R' → Sight A' B') (sees : (run : R) (run' : R') → rel.run run run' → SeesAlike rel (sight run) (sight' run'))
+  module _ (view : R → LeafView A B) (view' : R' → LeafView A' B') (sees : (run : R) (run' : R') → rel.run run run' → SeesAlike rel (view run) (view' run'))
       (name : T) (name' : T') (named : rel.token name name') (keyword : Keyword) where
     plain_obeyed : (run : R) (run' : R') → rel.run run run' → {v : SettingValue A B} {v' : SettingValue A' B'} → AlikeValue rel v v'
-        → Each (AlikeBroken rel.spot) (value_broken (one.conditions run).current (sight run) (Some PlainForm) keyword (one.spot name) v)
-        (value_broken (other.conditions run').current (sight' run') (Some PlainForm) keyword (other.spot name') v')
+        → Each (AlikeBroken rel.position) (value_broken (one.conditions run).current (view run) (Some PlainForm) keyword (one.position name) v)
+        (value_broken (other.conditions run').current (view' run') (Some PlainForm) keyword (other.position name') v')
     plain_obeyed run run' same {v} {v'} q =
-        subst (λ (current : VersionNumbers). Each (AlikeBroken rel.spot) (value_broken (one.conditions run).current (sight run) (Some PlainForm) keyword (one.spot name) v)
-        (value_broken current (sight' run') (Some PlainForm) keyword (other.spot name') v')) (agree.conditions run run' same).current
-        (value_broken_alike rel (one.conditions run).current (sight run) (sight' run') (sees run run' same) keyword (agree.spot name name' named) q)
+        subst (λ (current : VersionNumbers). Each (AlikeBroken rel.position) (value_broken (one.conditions run).current (view run) (Some PlainForm) keyword (one.position name) v)
+        (value_broken current (view' run') (Some PlainForm) keyword (other.position name') v')) (agree.conditions run run' same).current
+        (value_broken_alike rel (one.conditions run).current (view run) (view' run') (sees run run' same) keyword (agree.position name name' named) q)
 
     plain_natural : {s : State R T B} {s' : State R' T' B'} → States rel s s'
-        → Reads rel (AlikeValue rel) (r.plain_value one sight name keyword s) (r.plain_value other sight' name' keyword s')
+        → Reads rel (AlikeValue rel) (r.plain_value one view name keyword s) (r.plain_value other view' name' keyword s')
     unfolding r.plain_value
     plain_natural h =
         bind rel _ _ (expression_value_natural h) (λ v v' q k.
         bind rel _ _ (obeying_natural rel (plain_obeyed v.1.run v'.1.run k.run q) k) (λ u u' c j. both q j))
 
     assigned_natural : (form : Option SettingForm) {s : State R T B} {s' : State R' T' B'} → States rel s s'
-        → Reads rel (AlikeValue rel) (r.assigned_value one sight name keyword form s) (r.assigned_value other sight' name' keyword form s')
+        → Reads rel (AlikeValue rel) (r.assigned_value one view name keyword form s) (r.assigned_value other view' name' keyword form s')
     assigned_natural (Some ExpressionForm) h = expression_value_natural h
     assigned_natural (Some InterpreterForm) h = interpreter_natural h
     assigned_natural (Some PlainForm) h = plain_natural h
-    assigned_natural (Some TruthForm) h = neither (a.unknown_setting (agree.spot name name' named))
-    assigned_natural None h = neither (a.unknown_setting (agree.spot name name' named))
+    assigned_natural (Some TruthForm) h = neither (a.unknown_setting (agree.position name name' named))
+    assigned_natural None h = neither (a.unknown_setting (agree.position name name' named))
 
     after_operator : (form : Option SettingForm) {s : State R T B} {s' : State R' T' B'} → States rel s s'
-        → Reads rel (AlikeValue rel) (expect one kinds.ColonEquals s >>= λ operator. r.assigned_value one sight name keyword form operator.1)
-        (expect other kinds.ColonEquals s' >>= λ operator. r.assigned_value other sight' name' keyword form operator.1)
+        → Reads rel (AlikeValue rel) (expect one kinds.ColonEquals s >>= λ operator. r.assigned_value one view name keyword form operator.1)
+        (expect other kinds.ColonEquals s' >>= λ operator. r.assigned_value other view' name' keyword form operator.1)
     after_operator form h = bind rel _ _ (expected rel one other agree kinds.ColonEquals h) (λ o o' t k. assigned_natural form k)
 
     pub setting_value_natural : (form : Option SettingForm) {s : State R T B} {s' : State R' T' B'} → States rel s s'
-        → Reads rel (AlikeValue rel) (r.setting_value one sight name keyword form s) (r.setting_value other sight' name' keyword form s')
+        → Reads rel (AlikeValue rel) (r.setting_value one view name keyword form s) (r.setting_value other view' name' keyword form s')
     setting_value_natural (Some TruthForm) h = truth_natural h
     setting_value_natural (Some ExpressionForm) h = after_operator (Some ExpressionForm) h
     setting_value_natural (Some InterpreterForm) h = after_operator (Some InterpreterForm) h
@@ -345,9 +345,9 @@ module _ {R T A B S D R' T' A' B' S' D' : Type 0} (rel : Relations R T A B S D R
 
   draw_alike : (n : Counters) (name : T) (name' : T') → rel.token name name' → {s : State R T B} {s' : State R' T' B'} → States rel s s'
       → Related rel (Numbered n) (λ m found. (m ≡ n) × (one.has_number n.bindings ≡ false) × (other.has_number n.bindings ≡ true → IsOk found) × Higher other n found)
-      (draw_binding one n s >>= In name)
-      (draw_binding other n s' >>= Other name')
-  unfolding draw_binding
+      (next_binding_number one n s >>= In name)
+      (next_binding_number other n s' >>= Other name')
+  unfolding next_binding_number
   draw_alike n name name' t {s} {s'} h = go (one.has_number n.bindings) (other.has_number n.bindings) refl refl
     where
       go : (b b' : Bool) → one.has_number n.bindings ≡ b → other.has_number n.bindings ≡ b'

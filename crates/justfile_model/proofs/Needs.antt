@@ -4,17 +4,17 @@ use Rattle.std.proofs.Common.{◌≡◌, ◌⊎◌, ℕ, zero, suc, ◌<◌, ◌
 use Rattle.std.specs.Prelude.{is_ok}
 use Rattle.std.proofs.lemmas.Bool.{cases_order}
 use Rattle.justfile_model.specs.Conditions.{Conditions, with_limit}
-use Rattle.justfile_model.specs.Expressions.{Waived}
+use Rattle.justfile_model.specs.Expressions.{PastLimitAt}
 use Rattle.justfile_model.specs.Features.{ConstructFeatures, Noted}
-use Rattle.justfile_model.specs.Files.{FileDerives, Obeys, all_features, keeps_tokens, ordered}
+use Rattle.justfile_model.specs.Files.{FileDerives, Obeys, all_features, to_tokens, ordered}
 use Rattle.justfile_model.specs.Grammar.{File}
 use Rattle.justfile_model.specs.Need.{DerivesUnder, IsNeed}
-use Rattle.justfile_model.specs.ReadAttribute.{token_sight}
-use Rattle.justfile_model.specs.Reading.{TooDeep}
+use Rattle.justfile_model.specs.ReadAttribute.{token_view}
+use Rattle.justfile_model.specs.ReaderState.{TooDeep}
 use Rattle.justfile_model.specs.SignificantTokens.{SignificantToken}
 use Rattle.justfile_model.specs.Tok.{Tok}
 use Rattle.justfile_model.specs.Tree.{Tree, WrittenTree}
-use Rattle.justfile_model.specs.TreeReader.{Refusal, tree_of_tokens}
+use Rattle.justfile_model.specs.TreeReader.{ReadError, tree_of_tokens}
 use Rattle.justfile_model.proofs.Agreement.{deep, derived, free, same_found, sound}
 use Rattle.justfile_model.proofs.Depth.{file_freed, file_raised}
 
@@ -77,7 +77,7 @@ module _ (test : ℕ → Bool) where
 -- ---- limits
 
 abbrev ReadFile : Type 0
-ReadFile = Result (WrittenTree × List (Noted Tok)) Refusal
+ReadFile = Result (WrittenTree × List (Noted Tok)) ReadError
 
 obeys_under : (limit : ℕ) (conditions : Conditions) {written : WrittenTree} → Obeys conditions written → Obeys (with_limit limit conditions) written
 obeys_under limit conditions h = record { cooked = h.cooked; cooks = h.cooks; unbroken = h.unbroken }
@@ -89,7 +89,7 @@ module _ (conditions : Conditions) (tokens : List SignificantToken) where
   raised limit below tree features h = record {
     written = h.written;
     by_construct = h.by_construct;
-    derives = file_raised conditions.limit limit below keeps_tokens h.derives;
+    derives = file_raised conditions.limit limit below to_tokens h.derives;
     features_are = h.features_are;
     obeys = obeys_under limit conditions h.obeys;
     ordered_is = h.ordered_is;
@@ -100,8 +100,8 @@ module _ (conditions : Conditions) (tokens : List SignificantToken) where
   pub relimited : (other : Conditions) (tree twin : Tree) (features others : List (Noted Tok)) → FileDerives conditions tokens tree features
       → FileDerives other tokens twin others → FileDerives (with_limit other.limit conditions) tokens tree features
   relimited other tree twin features others h q =
-      let same : (h.written, features) ≡ (q.written, all_features (token_sight conditions) q.written q.by_construct) =
-      same_found conditions tokens q.written q.by_construct (file_freed other.limit keeps_tokens q.derives) (h.written, features) (derived conditions tokens tree features h) in
+      let same : (h.written, features) ≡ (q.written, all_features (token_view conditions) q.written q.by_construct) =
+      same_found conditions tokens q.written q.by_construct (file_freed other.limit to_tokens q.derives) (h.written, features) (derived conditions tokens tree features h) in
       let same_written : h.written ≡ q.written = ap (λ (p : WrittenTree × List (Noted Tok)). p.0) same in
       record {
         written = q.written;
@@ -109,7 +109,7 @@ module _ (conditions : Conditions) (tokens : List SignificantToken) where
         derives = q.derives;
         features_are = ap (λ (p : WrittenTree × List (Noted Tok)). p.1) same;
         obeys = obeys_under other.limit conditions (subst (Obeys conditions) same_written h.obeys);
-        ordered_is = ap (ordered (token_sight conditions)) (sym same_written) ∙ h.ordered_is;
+        ordered_is = ap (ordered (token_view conditions)) (sym same_written) ∙ h.ordered_is;
       }
 
   -- whether a tree derives under a limit
@@ -148,34 +148,34 @@ module _ (conditions : Conditions) (tokens : List SignificantToken) where
       let d = h.derives in
       record { tree = d.tree; features = d.features; derives = raised (with_limit need conditions) tokens limit below d.tree d.features d.derives }
 
-  read_or_refused : (found : ReadFile) (x : WrittenTree × List (Noted Tok)) (r : Refusal) → found ≡ Ok x → found ≡ Err r → ⊥
+  read_or_refused : (found : ReadFile) (x : WrittenTree × List (Noted Tok)) (r : ReadError) → found ≡ Ok x → found ≡ Err r → ⊥
   read_or_refused found x r h k = cc
 
-  same_refusal : (r s : Refusal) → ◌≡◌ {A = ReadFile} (Err r) (Err s) → r ≡ s
+  same_refusal : (r s : ReadError) → ◌≡◌ {A = ReadFile} (Err r) (Err s) → r ≡ s
   same_refusal r s e = cc
 
   -- what derives under another limit
-  module _ (limit : ℕ) (tree : Tree) (features : List (Noted Tok)) (h : FileDerives (with_limit limit conditions) tokens tree features) (r : Refusal) (is : tree_of_tokens conditions tokens ≡ Err r) where
+  module _ (limit : ℕ) (tree : Tree) (features : List (Noted Tok)) (h : FileDerives (with_limit limit conditions) tokens tree features) (r : ReadError) (is : tree_of_tokens conditions tokens ≡ Err r) where
     obeys_here : Obeys conditions h.written
     obeys_here = record { cooked = h.obeys.cooked; cooks = h.obeys.cooks; unbroken = h.obeys.unbroken }
 
     -- is refused as too deep
     pub only_deep : (at : Option SignificantToken) × (r ≡ TooDeep at)
-    only_deep = by_reading (free conditions tokens h.written h.by_construct (file_freed limit keeps_tokens h.derives) obeys_here)
+    only_deep = by_reading (free conditions tokens h.written h.by_construct (file_freed limit to_tokens h.derives) obeys_here)
       where
-        by_reading : (tree_of_tokens conditions tokens ≡ Ok (h.written, all_features (token_sight conditions) h.written h.by_construct))
+        by_reading : (tree_of_tokens conditions tokens ≡ Ok (h.written, all_features (token_view conditions) h.written h.by_construct))
             ⊎ ((at : Option SignificantToken) × (tree_of_tokens conditions tokens ≡ Err (TooDeep at)))
             → (at : Option SignificantToken) × (r ≡ TooDeep at)
-        by_reading (inl read) = absurd (read_or_refused (tree_of_tokens conditions tokens) (h.written, all_features (token_sight conditions) h.written h.by_construct) r read is)
+        by_reading (inl read) = absurd (read_or_refused (tree_of_tokens conditions tokens) (h.written, all_features (token_view conditions) h.written h.by_construct) r read is)
         by_reading (inr refused) = (refused.0, same_refusal r (TooDeep refused.0) (sym is ∙ refused.1))
 
     -- at one of the tokens at which the expressions begin that are entered at the limit
-    pub deep_at : (fs : List (ConstructFeatures Tok)) (Hit : Option SignificantToken → Bool) → File keeps_tokens (Waived conditions.limit (λ at. IsTrue (Hit at))) h.written fs tokens
+    pub deep_at : (fs : List (ConstructFeatures Tok)) (Hit : Option SignificantToken → Bool) → File to_tokens (PastLimitAt conditions.limit (λ at. IsTrue (Hit at))) h.written fs tokens
         → (at : Option SignificantToken) × IsTrue (Hit at) × (r ≡ TooDeep at)
     deep_at fs Hit waived = by_reading (deep conditions tokens h.written fs Hit waived obeys_here)
       where
-        by_reading : (tree_of_tokens conditions tokens ≡ Ok (h.written, all_features (token_sight conditions) h.written fs))
+        by_reading : (tree_of_tokens conditions tokens ≡ Ok (h.written, all_features (token_view conditions) h.written fs))
             ⊎ ((at : Option SignificantToken) × IsTrue (Hit at) × (tree_of_tokens conditions tokens ≡ Err (TooDeep at)))
             → (at : Option SignificantToken) × IsTrue (Hit at) × (r ≡ TooDeep at)
-        by_reading (inl read) = absurd (read_or_refused (tree_of_tokens conditions tokens) (h.written, all_features (token_sight conditions) h.written fs) r read is)
+        by_reading (inl read) = absurd (read_or_refused (tree_of_tokens conditions tokens) (h.written, all_features (token_view conditions) h.written fs) r read is)
         by_reading (inr refused) = (refused.0, refused.1, same_refusal r (TooDeep refused.0) (sym is ∙ refused.2))

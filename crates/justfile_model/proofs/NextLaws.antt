@@ -9,24 +9,24 @@ use Rattle.std.proofs.lemmas.Bool.Decides.{nat_tests}
 use Rattle.std.proofs.lemmas.List.{length-take}
 use Rattle.std.proofs.lemmas.Slice.Eq.{bytes_eq-Decides}
 use Rattle.std.proofs.lemmas.Str.{IsCharBoundary-start, IsCharBoundary-from_rest, IsUtf8-drop}
-use Rattle.justfile_word.specs.declared.byte_class.ByteClass.{ByteClass}
-use Rattle.justfile_word.specs.declared.byte_class.ByteClass.TheVariants as classes
-use Rattle.justfile_base.specs.declared.delimiter.Delimiter.{Delimiter}
-use Rattle.justfile_base.specs.declared.delimiter.Delimiter.TheVariants.{Brace, Bracket, Paren}
-use Rattle.justfile_base.specs.declared.string_kind.StringDelimiter.{StringDelimiter}
-use Rattle.justfile_base.specs.declared.string_kind.StringDelimiter.TheVariants as delimiters
-use Rattle.justfile_base.specs.declared.string_kind.StringKind.{StringKind}
+use Rattle.justfile_vocabulary.specs.declared.byte_class.ByteClass.{ByteClass}
+use Rattle.justfile_vocabulary.specs.declared.byte_class.ByteClass.TheVariants as classes
+use Rattle.justfile_token.specs.declared.delimiter.Delimiter.{Delimiter}
+use Rattle.justfile_token.specs.declared.delimiter.Delimiter.TheVariants.{Brace, Bracket, Paren}
+use Rattle.justfile_token.specs.declared.string_kind.StringDelimiter.{StringDelimiter}
+use Rattle.justfile_token.specs.declared.string_kind.StringDelimiter.TheVariants as delimiters
+use Rattle.justfile_token.specs.declared.string_kind.StringKind.{StringKind}
 use Rattle.justfile_model.specs.declared.raw_text.RawText.TheVariants as raw_texts
-use Rattle.justfile_word.specs.declared.token_kind.TokenKind.{TokenKind}
-use Rattle.justfile_word.specs.declared.token_kind.TokenKind.TheVariants.{BraceR, BracketR, Dedent, Eof, Eol, FormatStringContinue, FormatStringEnd, ParenR, Whitespace}
-use Rattle.justfile_word.specs.ByteClass.{class_of}
+use Rattle.justfile_vocabulary.specs.declared.token_kind.TokenKind.{TokenKind}
+use Rattle.justfile_vocabulary.specs.declared.token_kind.TokenKind.TheVariants.{BraceR, BracketR, Dedent, Eof, Eol, FormatStringContinue, FormatStringEnd, ParenR, Whitespace}
+use Rattle.justfile_vocabulary.specs.ByteClass.{class_of}
 use Rattle.justfile_model.specs.Bytes.{is_blank, is_name_byte, blank_len, is_line_end, is_interpolation_start, is_interpolation_end, is_mixed, closes_levels, first_char}
-use Rattle.justfile_base.specs.StringKind.{delimiter_len, kind_of, token_kind_of}
+use Rattle.justfile_token.specs.StringKind.{delimiter_len, kind_of, token_kind_of}
 use Rattle.justfile_model.specs.LiteralText.{raw_len, is_delimiter}
 use Rattle.justfile_model.specs.Tok.{Tok}
 use Rattle.justfile_model.specs.declared.open_delimiter.OpenDelimiter.{OpenDelimiter}
 use Rattle.justfile_model.specs.Modes.{Mode, head_of, is_empty, innermost, innermost_of, nested}
-use Rattle.justfile_model.specs.LexicalFault.{LexicalFault, LexicalRefusal, Here, Unclosed}
+use Rattle.justfile_model.specs.LexicalFault.{LexicalFault, LexicalError, Here, Unclosed}
 use Rattle.justfile_model.specs.Next.{NextToken, doubled_token, fixed_token, opening, literal_part, literal_token, is_same, closing_delimiter, format_kind, brace_by, closing, line_end_token, unknown, escaped_line_end, token_by_class, token_outside_text, text_or, body_token, at_end_by, Region, InText, InInterpolation, Inline, region_by, interpolated, token_in_region, token_within_line, blanks_or, tested_blanks, is_level, begins_blank_line, layout, at_line_start, next_by, next}
 use Rattle.justfile_model.proofs.CutLemmas.{class_fact, after_byte, run_cuts, run_positive, blank_ascii, word_ascii, first_cuts, ne_from, there, past_byte, raw_cuts, raw_stops, raw_within, delimiter_is, delimiter_last, mark_last, comment_last, body_last, run_last, word_no_newline, blank_no_newline, not_newline, is_line_feed, eq_from}
 
@@ -46,7 +46,7 @@ EndsAt rest Eol n = ends_line rest n ≡ true
 EndsAt rest Whitespace n = Unit {0}
 EndsAt rest _ n = ends_line rest n ≡ false
 
-abbrev pub RefusedCuts : List ℕ → LexicalRefusal → Type 0
+abbrev pub RefusedCuts : List ℕ → LexicalError → Type 0
 RefusedCuts rest (Here p skip n) = IsCharBoundary rest skip × IsCharBoundary rest (skip + n)
 RefusedCuts rest (Unclosed t) = Unit {0}
 
@@ -337,5 +337,5 @@ next_cuts m (b ∷ bs) u = next_by_cuts m (b ∷ bs) u (omega arith) m.line_star
 pub token_cut : (m : Mode) (rest : List ℕ) → IsUtf8 rest → (k : TokenKind) (n : ℕ) → next m rest ≡ Ok (k, n) → IsCharBoundary rest n × Moves m k n × EndsAt rest k n
 token_cut m rest u k n e = subst (CutsBy m rest) e (next_cuts m rest u).by_case
 
-pub fault_cut : (m : Mode) (rest : List ℕ) → IsUtf8 rest → (r : LexicalRefusal) → next m rest ≡ Err r → RefusedCuts rest r
+pub fault_cut : (m : Mode) (rest : List ℕ) → IsUtf8 rest → (r : LexicalError) → next m rest ≡ Err r → RefusedCuts rest r
 fault_cut m rest u r e = subst (CutsBy m rest) e (next_cuts m rest u).by_case

@@ -11,7 +11,7 @@ use Rattle.justfile_model.specs.Files.{expr_literals, dependency_literals, param
 use Rattle.justfile_model.specs.Literals.{Expansions, Literal}
 use Rattle.justfile_model.specs.Meaning.{entries_of}
 use Rattle.justfile_model.specs.Rules.{over_broken}
-use Rattle.justfile_model.specs.Sight.{Sight, sees_lexemes, sees_tokens}
+use Rattle.justfile_model.specs.LeafView.{LeafView, views_lexemes, views_tokens}
 use Rattle.justfile_model.specs.Tok.{Tok}
 use Rattle.justfile_model.specs.Conditions.{VersionNumbers}
 use Rattle.justfile_model.specs.Tree.{Alias, Assignment, Comment, Construct, Content, Dependency, DependencyArgument, Entry, Function, Header, Import, Module, Newline, OrderedItem, Recipe, Setting, Shape, Tree, Unexport, WrittenAttribute, WrittenItem, WrittenTree, item_shape_of, lexeme, nothing, over_content, over_dependency, over_dependency_argument, over_entry, over_header, over_item, over_line, over_written_attribute, shape_of, starless, starless_argument, starless_dependency, starless_header, written_shape_of}
@@ -20,25 +20,25 @@ use Rattle.justfile_model.proofs.DocsKept.{bindings_count, documented_counts, do
 use Rattle.justfile_model.proofs.Kinded.{KindedWritten}
 use Rattle.justfile_model.proofs.KindedFiles.{KindedItem, KindedItems}
 use Rattle.justfile_model.proofs.Mapped.{map_both, option_both, flat_kept}
-use Rattle.justfile_model.proofs.RewrittenLiterals.{both, literals_meant, parts}
+use Rattle.justfile_model.proofs.PrintedLiterals.{both, literals_meant, parts}
 use Rattle.justfile_model.proofs.SeenShapes.{construct_broken_seen, entries_seen}
-use Rattle.justfile_model.proofs.SeesRecipes.{entries_features_over}
-use Rattle.justfile_model.proofs.SeesRules.{both_over, some_over}
+use Rattle.justfile_model.proofs.SameViewRecipes.{entries_features_over}
+use Rattle.justfile_model.proofs.SameViewRules.{both_over, some_over}
 use Rattle.justfile_model.proofs.ShapesMean.{none_of_none}
 
 -- ---- the meaning of the first item, and of the others
 
-module _ {A B C S : Type 0} (sight : Sight A B) where
+module _ {A B C S : Type 0} (view : LeafView A B) where
   -- what is written means these items, whose docs are comments still
   pub record Undocumented (written : List (WrittenItem A B C S)) (all : List (OrderedItem A B C)) : Type 0 where
     pub items : List (OrderedItem A B C)
-    pub items_are : undocumented sight written ≡ Some items
+    pub items_are : undocumented view written ≡ Some items
     pub all_are : all ≡ documented says_doc Nothing items
 
-  pub undocumented_of : (written : List (WrittenItem A B C S)) (all : List (OrderedItem A B C)) → ordered sight written ≡ Some all → Undocumented written all
-  undocumented_of written all h = go (undocumented sight written) refl h
+  pub undocumented_of : (written : List (WrittenItem A B C S)) (all : List (OrderedItem A B C)) → ordered view written ≡ Some all → Undocumented written all
+  undocumented_of written all h = go (undocumented view written) refl h
     where
-      go : (o : Option (List (OrderedItem A B C))) → undocumented sight written ≡ o → option_map (documented says_doc Nothing) o ≡ Some all
+      go : (o : Option (List (OrderedItem A B C))) → undocumented view written ≡ o → option_map (documented says_doc Nothing) o ≡ Some all
           → Undocumented written all
       go None e k = never_some all k
       go (Some items) e k = record { items = items; items_are = e; all_are = sym (some_back (documented says_doc Nothing items) all k) }
@@ -46,16 +46,16 @@ module _ {A B C S : Type 0} (sight : Sight A B) where
   -- an item and those after it, which have a meaning
   pub record Meanings (i : WrittenItem A B C S) (items : List (WrittenItem A B C S)) (all : List (OrderedItem A B C)) : Type 0 where
     pub first : OrderedItem A B C
-    pub first_is : ordered_item sight i ≡ Some first
+    pub first_is : ordered_item view i ≡ Some first
     pub others : List (OrderedItem A B C)
-    pub others_are : undocumented sight items ≡ Some others
+    pub others_are : undocumented view items ≡ Some others
     pub all_are : all ≡ first ∷ others
 
-  pub meanings_of : (i : WrittenItem A B C S) (items : List (WrittenItem A B C S)) (all : List (OrderedItem A B C)) → undocumented sight (i ∷ items) ≡ Some all
+  pub meanings_of : (i : WrittenItem A B C S) (items : List (WrittenItem A B C S)) (all : List (OrderedItem A B C)) → undocumented view (i ∷ items) ≡ Some all
       → Meanings i items all
-  meanings_of i items all h = go (ordered_item sight i) (undocumented sight items) refl refl h
+  meanings_of i items all h = go (ordered_item view i) (undocumented view items) refl refl h
     where
-      go : (o : Option (OrderedItem A B C)) (os : Option (List (OrderedItem A B C))) → ordered_item sight i ≡ o → undocumented sight items ≡ os
+      go : (o : Option (OrderedItem A B C)) (os : Option (List (OrderedItem A B C))) → ordered_item view i ≡ o → undocumented view items ≡ os
           → if_both o os ≡ Some all → Meanings i items all
       go None os e es k = never_some all k
       go (Some x) None e es k = never_some all k
@@ -64,14 +64,14 @@ module _ {A B C S : Type 0} (sight : Sight A B) where
   -- a construct by what its attributes mean
   pub record Meant (ws : List (WrittenAttribute A B)) (content : Content A B C S) (i : OrderedItem A B C) : Type 0 where
     pub entries : List (Entry A B)
-    pub means : entries_of sight ws ≡ Some entries
+    pub means : entries_of view ws ≡ Some entries
     pub item_is : i ≡ Construct entries (starless content)
 
   pub construct_meant : (ws : List (WrittenAttribute A B)) (content : Content A B C S) (i : OrderedItem A B C)
-      → ordered_item sight (Construct ws content) ≡ Some i → Meant ws content i
-  construct_meant ws content i h = go (entries_of sight ws) refl h
+      → ordered_item view (Construct ws content) ≡ Some i → Meant ws content i
+  construct_meant ws content i h = go (entries_of view ws) refl h
     where
-      go : (o : Option (List (Entry A B))) → entries_of sight ws ≡ o → with_entries content o ≡ Some i → Meant ws content i
+      go : (o : Option (List (Entry A B))) → entries_of view ws ≡ o → with_entries content o ≡ Some i → Meant ws content i
       go None e k = never_some i k
       go (Some entries) e k = record { entries = entries; means = e; item_is = sym (some_back (Construct entries (starless content)) i k) }
 
@@ -118,68 +118,68 @@ starless_recipes (Unexport name) = refl
 starless_recipes (Recipe parts) = refl
 
 -- of what has a meaning
-module _ {A B C S : Type 0} (sight : Sight A B) where
-  item_bindings_kept : (i : WrittenItem A B C S) (j : OrderedItem A B C) → ordered_item sight i ≡ Some j → item_bindings j ≡ item_bindings i
+module _ {A B C S : Type 0} (view : LeafView A B) where
+  item_bindings_kept : (i : WrittenItem A B C S) (j : OrderedItem A B C) → ordered_item view i ≡ Some j → item_bindings j ≡ item_bindings i
   item_bindings_kept Newline j h = ap item_bindings (sym (some_back Newline j h))
   item_bindings_kept (Comment text) j h = ap item_bindings (sym (some_back (Comment text) j h))
-  item_bindings_kept (Construct ws content) j h = ap item_bindings (construct_meant sight ws content j h).item_is ∙ starless_bindings content
+  item_bindings_kept (Construct ws content) j h = ap item_bindings (construct_meant view ws content j h).item_is ∙ starless_bindings content
 
-  item_recipes_kept : (i : WrittenItem A B C S) (j : OrderedItem A B C) → ordered_item sight i ≡ Some j → item_recipes j ≡ item_recipes i
+  item_recipes_kept : (i : WrittenItem A B C S) (j : OrderedItem A B C) → ordered_item view i ≡ Some j → item_recipes j ≡ item_recipes i
   item_recipes_kept Newline j h = ap item_recipes (sym (some_back Newline j h))
   item_recipes_kept (Comment text) j h = ap item_recipes (sym (some_back (Comment text) j h))
-  item_recipes_kept (Construct ws content) j h = ap item_recipes (construct_meant sight ws content j h).item_is ∙ starless_recipes content
+  item_recipes_kept (Construct ws content) j h = ap item_recipes (construct_meant view ws content j h).item_is ∙ starless_recipes content
 
-  undocumented_bindings : (items : List (WrittenItem A B C S)) (all : List (OrderedItem A B C)) → undocumented sight items ≡ Some all
+  undocumented_bindings : (items : List (WrittenItem A B C S)) (all : List (OrderedItem A B C)) → undocumented view items ≡ Some all
       → bindings all ≡ bindings items
   undocumented_bindings [] all h = ap bindings (sym (some_back [] all h))
   undocumented_bindings (i ∷ items) all h =
-      let m = meanings_of sight i items all h in
+      let m = meanings_of view i items all h in
       ap bindings m.all_are ∙ (λ j. item_bindings_kept i m.first m.first_is j + undocumented_bindings items m.others m.others_are j)
 
-  pub ordered_bindings : (items : List (WrittenItem A B C S)) (all : List (OrderedItem A B C)) → ordered sight items ≡ Some all → bindings all ≡ bindings items
+  pub ordered_bindings : (items : List (WrittenItem A B C S)) (all : List (OrderedItem A B C)) → ordered view items ≡ Some all → bindings all ≡ bindings items
   ordered_bindings items all h =
-      let d = undocumented_of sight items all h in
+      let d = undocumented_of view items all h in
       ap bindings d.all_are ∙ documented_counts bindings bindings_count says_doc Nothing d.items ∙ undocumented_bindings items d.items d.items_are
 
-  undocumented_recipes : (items : List (WrittenItem A B C S)) (all : List (OrderedItem A B C)) → undocumented sight items ≡ Some all
+  undocumented_recipes : (items : List (WrittenItem A B C S)) (all : List (OrderedItem A B C)) → undocumented view items ≡ Some all
       → recipes all ≡ recipes items
   undocumented_recipes [] all h = ap recipes (sym (some_back [] all h))
   undocumented_recipes (i ∷ items) all h =
-      let m = meanings_of sight i items all h in
+      let m = meanings_of view i items all h in
       ap recipes m.all_are ∙ (λ j. item_recipes_kept i m.first m.first_is j + undocumented_recipes items m.others m.others_are j)
 
-  pub ordered_recipes : (items : List (WrittenItem A B C S)) (all : List (OrderedItem A B C)) → ordered sight items ≡ Some all → recipes all ≡ recipes items
+  pub ordered_recipes : (items : List (WrittenItem A B C S)) (all : List (OrderedItem A B C)) → ordered view items ≡ Some all → recipes all ≡ recipes items
   ordered_recipes items all h =
-      let d = undocumented_of sight items all h in
+      let d = undocumented_of view items all h in
       ap recipes d.all_are ∙ documented_counts recipes recipes_count says_doc Nothing d.items ∙ undocumented_recipes items d.items d.items_are
 
   -- what holds of the literals that are written, holds of those that are meant
   module _ (P : Literal A → Type 0) where
-    item_literals_meant : (i : WrittenItem A B C S) (j : OrderedItem A B C) → ordered_item sight i ≡ Some j
+    item_literals_meant : (i : WrittenItem A B C S) (j : OrderedItem A B C) → ordered_item view i ≡ Some j
         → AllByRecursion P (item_literals written_literals i) → AllByRecursion P (item_literals entries_literals j)
     item_literals_meant Newline j h k = subst (λ x. AllByRecursion P (item_literals entries_literals x)) (some_back Newline j h) tt
     item_literals_meant (Comment text) j h k = subst (λ x. AllByRecursion P (item_literals entries_literals x)) (some_back (Comment text) j h) tt
     item_literals_meant (Construct ws content) j h k =
-        let m = construct_meant sight ws content j h in
+        let m = construct_meant view ws content j h in
         let r = parts P (written_literals ws) (content_literals content) k in
         subst (λ x. AllByRecursion P (item_literals entries_literals x)) (sym m.item_is)
-        (both P (entries_literals m.entries) (content_literals (starless content)) (literals_meant P sight ws m.entries m.means r.0)
+        (both P (entries_literals m.entries) (content_literals (starless content)) (literals_meant P view ws m.entries m.means r.0)
         (subst (AllByRecursion P) (sym (starless_literals content)) r.1))
 
-    pub undocumented_literals : (items : List (WrittenItem A B C S)) (all : List (OrderedItem A B C)) → undocumented sight items ≡ Some all
+    pub undocumented_literals : (items : List (WrittenItem A B C S)) (all : List (OrderedItem A B C)) → undocumented view items ≡ Some all
         → AllByRecursion P (all_literals items) → AllByRecursion P (literals all)
     undocumented_literals [] all h k = subst (λ x. AllByRecursion P (literals x)) (some_back [] all h) tt
     undocumented_literals (i ∷ items) all h k =
-        let m = meanings_of sight i items all h in
+        let m = meanings_of view i items all h in
         let r = parts P (item_literals written_literals i) (all_literals items) k in
         subst (λ x. AllByRecursion P (literals x)) (sym m.all_are)
         (both P (item_literals entries_literals m.first) (literals m.others) (item_literals_meant i m.first m.first_is r.0)
         (undocumented_literals items m.others m.others_are r.1))
 
-    pub ordered_literals : (items : List (WrittenItem A B C S)) (all : List (OrderedItem A B C)) → ordered sight items ≡ Some all
+    pub ordered_literals : (items : List (WrittenItem A B C S)) (all : List (OrderedItem A B C)) → ordered view items ≡ Some all
         → AllByRecursion P (all_literals items) → AllByRecursion P (literals all)
     ordered_literals items all h k =
-        let d = undocumented_of sight items all h in
+        let d = undocumented_of view items all h in
         subst (AllByRecursion P) (sym (ap literals d.all_are ∙ documented_counts literals (literals_count entries_literals) says_doc Nothing d.items))
         (undocumented_literals items d.items d.items_are k)
 
@@ -232,11 +232,11 @@ both_mapped f (Some x) (Some xs) = refl
 
 module _ (expander : Expansions) where
   -- what is seen of a tree, and of its shape
-  abbrev tokens : Sight Tok Tok
-  tokens = sees_tokens expander
+  abbrev tokens : LeafView Tok Tok
+  tokens = views_tokens expander
 
-  abbrev lexemes : Sight (List ℕ) (Unit {0})
-  lexemes = sees_lexemes expander
+  abbrev lexemes : LeafView (List ℕ) (Unit {0})
+  lexemes = views_lexemes expander
 
   with_entries_seen : (content : Content Tok Tok ℕ Tok) (o : Option (List (Entry Tok Tok)))
       → with_entries (over_content lexeme nothing nothing nothing content) (option_map (map (over_entry lexeme nothing)) o)

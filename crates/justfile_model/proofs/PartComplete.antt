@@ -1,20 +1,20 @@
 -- Where a part of an item derives, with the limit waived at some tokens, it is read, or refused: a literal that has no text, as too deep at one of
 -- these tokens, or by a rule that it breaks.
 use Rattle.std.proofs.Common.{◌≡◌, ℕ, Bool, true, false, ◌||◌, List, [], ◌∷◌, ◌++◌, ◌+◌, Option, Some, None, Ok, Err, codes, refl, sym, ap, ◌∙◌, append-nil, arith}
-use Rattle.justfile_word.specs.declared.keyword.Keyword.{Keyword}
-use Rattle.justfile_word.specs.declared.token_kind.TokenKind.TheVariants as kinds
+use Rattle.justfile_vocabulary.specs.declared.keyword.Keyword.{Keyword}
+use Rattle.justfile_vocabulary.specs.declared.token_kind.TokenKind.TheVariants as kinds
 use Rattle.justfile_model.specs.Conditions.{Conditions}
-use Rattle.justfile_model.specs.Expressions.{Tokens, IsKind, IsWord, NotNext, Waived}
+use Rattle.justfile_model.specs.Expressions.{Tokens, IsKind, IsWord, NotNext, PastLimitAt}
 use Rattle.justfile_model.specs.Features.{Noted}
 use Rattle.justfile_model.specs.Files.{optional_literals, quoted_literals, setting_literals}
-use Rattle.justfile_model.specs.HeaderReader.{draw_binding, with_bindings}
+use Rattle.justfile_model.specs.HeaderReader.{next_binding_number, with_bindings}
 use Rattle.justfile_model.specs.ItemParts as g
 use Rattle.justfile_model.specs.ItemParts.{EndsLine, FilePath, Names, NoPath, ValueOf}
 use Rattle.justfile_model.specs.Literals.{string_of}
 use Rattle.justfile_model.specs.PartReader as r
 use Rattle.justfile_model.specs.PartReader.{after_numbered}
-use Rattle.justfile_model.specs.ReadAttribute.{token_sight}
-use Rattle.justfile_model.specs.Reading.{Counters, is_word}
+use Rattle.justfile_model.specs.ReadAttribute.{token_view}
+use Rattle.justfile_model.specs.ReaderState.{Counters, is_word}
 use Rattle.justfile_model.specs.Rules.{Broken}
 use Rattle.justfile_model.specs.SettingRules.{value_broken}
 use Rattle.justfile_model.specs.Settings.{PlainForm, SettingForm}
@@ -107,11 +107,11 @@ module_follows conditions ns name ts kind (g.expanded {mark = m} {token = t} is 
     ) refl
 
 -- a setting's name and its value
-pub setting_follows : (conditions : Conditions) (ns : List (Noted Tok)) {Open : ℕ → Option SignificantToken → Type 0} (name : SignificantToken) {form : SettingForm}
-    {value : SettingValue Tok Tok} {fs : List (Noted Tok)} (ts : Tokens) {rest : Tokens} → IsKind kinds.Identifier name → ValueOf itself itself Open form value fs ts rest
+pub setting_follows : (conditions : Conditions) (ns : List (Noted Tok)) {MayEnter : ℕ → Option SignificantToken → Type 0} (name : SignificantToken) {form : SettingForm}
+    {value : SettingValue Tok Tok} {fs : List (Noted Tok)} (ts : Tokens) {rest : Tokens} → IsKind kinds.Identifier name → ValueOf itself itself MayEnter form value fs ts rest
     → r.is_set token_leaves (input conditions 0 (name ∷ ts) ns) ≡ true
 setting_follows conditions ns name ts kind (g.bare ends) =
-    ap (λ b. r.is_assigned token_leaves (input conditions 0 (name ∷ ts) ns) || b) (line_taken conditions ns name ts kind ends) ∙ or_true conditions ns _
+    ap (λ b. r.peek_assignment token_leaves (input conditions 0 (name ∷ ts) ns) || b) (line_taken conditions ns name ts kind ends) ∙ or_true conditions ns _
 setting_follows conditions ns name ts kind (g.yes k is) = rw (next_taken (kinds.Identifier ∷ kinds.ColonEquals ∷ []) (input conditions 0 (name ∷ ts) ns) (kind, (k, tt))) refl
 setting_follows conditions ns name ts kind (g.no k is) = rw (next_taken (kinds.Identifier ∷ kinds.ColonEquals ∷ []) (input conditions 0 (name ∷ ts) ns) (kind, (k, tt))) refl
 setting_follows conditions ns name ts kind (g.expression k e) = rw (next_taken (kinds.Identifier ∷ kinds.ColonEquals ∷ []) (input conditions 0 (name ∷ ts) ns) (kind, (k, tt))) refl
@@ -119,8 +119,8 @@ setting_follows conditions ns name ts kind (g.plain k e) = rw (next_taken (kinds
 setting_follows conditions ns name ts kind (g.interpreter k l es) = rw (next_taken (kinds.Identifier ∷ kinds.ColonEquals ∷ []) (input conditions 0 (name ∷ ts) ns) (kind, (k, tt))) refl
 
 module _ (conditions : Conditions) (Hit : Option SignificantToken → Type 0) where
-  abbrev Open : ℕ → Option SignificantToken → Type 0
-  Open = Waived conditions.limit Hit
+  abbrev MayEnter : ℕ → Option SignificantToken → Type 0
+  MayEnter = PastLimitAt conditions.limit Hit
 
   -- ---- paths of files
 
@@ -151,7 +151,7 @@ module _ (conditions : Conditions) (Hit : Option SignificantToken → Type 0) wh
 
   pub names_read : (n : Counters) (ns : List (Noted Tok)) {names : List Tok} {ts rest : Tokens} → Names itself names ts rest
       → r.names token_leaves (n, input conditions 0 ts ns) ≡ Ok ((names, after_parameters n names), input conditions 0 rest ns)
-  unfolding r.names_rule r.numbered_name r.names_end draw_binding after_numbered
+  unfolding r.names_rule r.numbered_name r.names_end next_binding_number after_numbered
   names_read n ns {rest = rest} (g.none {closer = t} kind) =
       names_is token_leaves (n, input conditions 0 (t ∷ rest) ns) ∙ rw (accept_taken kinds.ParenR t rest conditions 0 ns kind) refl
   names_read n ns {rest = rest} (g.last {name = t} {closer = u} kind kind2) =
@@ -181,9 +181,9 @@ module _ (conditions : Conditions) (Hit : Option SignificantToken → Type 0) wh
       apart e = cc
 
   pub value_reached : (name : SignificantToken) (keyword : Keyword) (ns : List (Noted Tok)) {form : SettingForm} {value : SettingValue Tok Tok} {fs : List (Noted Tok)}
-      {ts rest : Tokens} {rules : List (Broken Tok)} → ValueOf itself itself Open form value fs ts rest
-      → Among (value_broken conditions.current (token_sight conditions) (Some form) keyword name.tok value) rules
-      → ReachesOne conditions Hit (r.setting_value token_leaves token_sight name keyword (Some form) (input conditions 0 ts ns))
+      {ts rest : Tokens} {rules : List (Broken Tok)} → ValueOf itself itself MayEnter form value fs ts rest
+      → Among (value_broken conditions.current (token_view conditions) (Some form) keyword name.tok value) rules
+      → ReachesOne conditions Hit (r.setting_value token_leaves token_view name keyword (Some form) (input conditions 0 ts ns))
       (value, input conditions 0 rest (ns ++ fs)) (setting_literals value) rules
   unfolding r.truth r.truth_of r.interpreter r.expression_value r.plain_value
   value_reached name keyword ns {ts = ts} (g.bare ends) h =
@@ -207,7 +207,7 @@ module _ (conditions : Conditions) (Hit : Option SignificantToken → Type 0) wh
       rw (expect_taken kinds.ColonEquals t us conditions 0 ns kind)
       (pass conditions Hit _ (plainly conditions Hit (expression_deep conditions Hit ns false (omega arith) e)) refl)
   value_reached name keyword ns {rest = rest} (g.plain {e = e} {fs = fs} {operator = t} {tokens = us} kind v) h =
-      let rules = value_broken conditions.current (token_sight conditions) (Some PlainForm) keyword name.tok (tree.Value e) in
+      let rules = value_broken conditions.current (token_view conditions) (Some PlainForm) keyword name.tok (tree.Value e) in
       rw (expect_taken kinds.ColonEquals t us conditions 0 ns kind)
       (last_one conditions Hit _ _ (pass conditions Hit _ (plainly conditions Hit (expression_deep conditions Hit ns false (omega arith) v)) refl) (λ _.
       pass conditions Hit _ (obeying_reached conditions Hit rules (input conditions 0 rest (ns ++ fs)) h) refl))

@@ -26,13 +26,13 @@ module _ {A : Type 0} (leaf : Tok → A) where
   names_count (g.last {name = name} kind kind2) = omega (arith, counts_one name.tok.kind kind)
   names_count (g.more {name = name} kind kind2 ns) = omega (arith, counts_one name.tok.kind kind, names_count ns)
 
-module _ {A B : Type 0} (leaf : Tok → A) (spot : Tok → B) (Open : ℕ → Option SignificantToken → Type 0) where
+module _ {A B : Type 0} (leaf : Tok → A) (position : Tok → B) (MayEnter : ℕ → Option SignificantToken → Type 0) where
   -- after the name of a setting
-  pub value_left : {form : SettingForm} {value : SettingValue A B} {fs : List (Noted B)} {t : SignificantToken} {ts rest : Tokens} → ValueOf leaf spot Open form value fs ts rest
+  pub value_left : {form : SettingForm} {value : SettingValue A B} {fs : List (Noted B)} {t : SignificantToken} {ts rest : Tokens} → ValueOf leaf position MayEnter form value fs ts rest
       → LeftOf rest (t ∷ ts)
   value_left (g.bare ends) = next
   value_left (g.yes kind is) = later (later next)
   value_left (g.no kind is) = later (later next)
-  value_left (g.expression kind e) = later (later (expression_left leaf spot Open e))
-  value_left (g.plain kind e) = later (later (expression_left leaf spot Open e))
-  value_left (g.interpreter kind kind2 s) = later (later (later (sequence_left leaf spot Open s)))
+  value_left (g.expression kind e) = later (later (expression_left leaf position MayEnter e))
+  value_left (g.plain kind e) = later (later (expression_left leaf position MayEnter e))
+  value_left (g.interpreter kind kind2 s) = later (later (later (sequence_left leaf position MayEnter s)))

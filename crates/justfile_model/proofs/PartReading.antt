@@ -1,18 +1,18 @@
 -- The readers of what items are made of, one rule at a time: what is read leaves fewer tokens, in the same run and at the same depth.
 use Rattle.std.proofs.Common.{◌≡◌, ℕ, ◌<◌, Bool, true, false, cond, List, [], ◌∷◌, length, Option, Some, None, Ok, Err, codes, refl, sym, ap, ◌∙◌}
-use Rattle.justfile_word.specs.Keyword.{keyword_named}
-use Rattle.justfile_word.specs.declared.keyword.Keyword.{Keyword}
-use Rattle.justfile_word.specs.declared.token_kind.TokenKind.TheVariants as kinds
+use Rattle.justfile_vocabulary.specs.Keyword.{keyword_named}
+use Rattle.justfile_vocabulary.specs.declared.keyword.Keyword.{Keyword}
+use Rattle.justfile_vocabulary.specs.declared.token_kind.TokenKind.TheVariants as kinds
 use Rattle.justfile_model.specs.ExpressionReader as expressions
-use Rattle.justfile_model.specs.HeaderReader.{draw_binding, expression, obeying}
+use Rattle.justfile_model.specs.HeaderReader.{next_binding_number, expression, obeying}
 use Rattle.justfile_model.specs.Literals.{string_of}
 use Rattle.justfile_model.specs.PartReader as r
-use Rattle.justfile_model.specs.PartReader.{accept_before, after_numbered}
-use Rattle.justfile_model.specs.Reading.{◌>>=◌, Counters, Leaves, Read, State, Taken, accept, accept_word, choose, expect, is_word}
+use Rattle.justfile_model.specs.PartReader.{accept_keyword_before, after_numbered}
+use Rattle.justfile_model.specs.ReaderState.{◌>>=◌, Counters, Leaves, Read, State, Taken, accept, accept_construct_keyword, choose, expect, is_word}
 use Rattle.justfile_model.specs.Recursive.{below}
 use Rattle.justfile_model.specs.SettingRules.{value_broken}
 use Rattle.justfile_model.specs.Settings.{ExpressionForm, InterpreterForm, PlainForm, SettingForm, TruthForm}
-use Rattle.justfile_model.specs.Sight.{Sight}
+use Rattle.justfile_model.specs.LeafView.{LeafView}
 use Rattle.justfile_model.specs.Tree as tree
 use Rattle.justfile_model.specs.Tree.{Exprs, Quoted, SettingValue}
 use Rattle.justfile_model.proofs.ExpressionReading.{advances}
@@ -28,9 +28,9 @@ module _ {R T B X : Type 0} where
 
 module _ {R T A B S : Type 0} (leaves : Leaves R T A B S) where
   -- a word that something follows is a word
-  pub accepts_before : (word : List ℕ) (follows : State R T B → Bool) (s : State R T B) → Takes s (accept_before leaves word follows s)
-  unfolding accept_before
-  accepts_before word follows s = go (accept_word leaves word s) (accepts_word leaves word s)
+  pub accepts_before : (word : List ℕ) (follows : State R T B → Bool) (s : State R T B) → Takes s (accept_keyword_before leaves word follows s)
+  unfolding accept_keyword_before
+  accepts_before word follows s = go (accept_construct_keyword leaves word s) (accepts_word leaves word s)
     where
       kept_if : (b : Bool) (w : T × State R T B) → Past s w.1 → Takes s (cond b (Some w) None)
       kept_if true w h p e =
@@ -76,7 +76,7 @@ module _ {R T A B S : Type 0} (leaves : Leaves R T A B S) where
   unfolding r.numbered_name
   numbered_name_goes n s =
       first s (expect leaves kinds.Identifier s) _ (expects leaves kinds.Identifier s) (λ name.
-      then name.1 (draw_binding leaves n name.1) _ (binding_keeps leaves n name.1) (λ number. there number.1))
+      then name.1 (next_binding_number leaves n name.1) _ (binding_keeps leaves n name.1) (λ number. there number.1))
 
   names_end_goes : (n : Counters) (s : State R T B) → Goes s (r.names_end leaves n s)
   unfolding r.names_end
@@ -123,8 +123,8 @@ module _ {R T A B S : Type 0} (leaves : Leaves R T A B S) where
   keyword_or_none_keeps name s None = tt
   keyword_or_none_keeps name s (Some keyword) = there s
 
-  pub keyword_at_keeps : (name : T) (s : State R T B) → Keeps s (r.keyword_at leaves name s)
-  unfolding r.keyword_at
+  pub keyword_at_keeps : (name : T) (s : State R T B) → Keeps s (r.setting_keyword leaves name s)
+  unfolding r.setting_keyword
   keyword_at_keeps name s = keyword_or_none_keeps name s (keyword_named (leaves.see name).tok.lexeme)
 
   truth_of_keeps : (word : T × State R T B) → Keeps word.1 (r.truth_of leaves word)
@@ -154,15 +154,15 @@ module _ {R T A B S : Type 0} (leaves : Leaves R T A B S) where
   unfolding r.expression_value
   expression_value_goes s = first s (expression leaves s) _ (expression_goes leaves s) (λ e. there e.1)
 
-  module _ (sight : R → Sight A B) (name : T) (keyword : Keyword) where
-    pub plain_value_goes : (s : State R T B) → Goes s (r.plain_value leaves sight name keyword s)
+  module _ (view : R → LeafView A B) (name : T) (keyword : Keyword) where
+    pub plain_value_goes : (s : State R T B) → Goes s (r.plain_value leaves view name keyword s)
     unfolding r.plain_value
     plain_value_goes s =
         first s (r.expression_value leaves s) _ (expression_value_goes s) (λ value.
-        let rules = value_broken (leaves.conditions value.1.run).current (sight value.1.run) (Some PlainForm) keyword (leaves.spot name) value.0 in
+        let rules = value_broken (leaves.conditions value.1.run).current (view value.1.run) (Some PlainForm) keyword (leaves.position name) value.0 in
         then value.1 (obeying rules value.1) _ (obeying_keeps rules value.1) (λ checked. there checked.1))
 
-    assigned_value_keeps : (form : Option SettingForm) (s : State R T B) → Keeps s (r.assigned_value leaves sight name keyword form s)
+    assigned_value_keeps : (form : Option SettingForm) (s : State R T B) → Keeps s (r.assigned_value leaves view name keyword form s)
     assigned_value_keeps (Some TruthForm) s = tt
     assigned_value_keeps (Some ExpressionForm) s = keeps s _ (expression_value_goes s)
     assigned_value_keeps (Some InterpreterForm) s = keeps s _ (interpreter_goes s)
@@ -170,11 +170,11 @@ module _ {R T A B S : Type 0} (leaves : Leaves R T A B S) where
     assigned_value_keeps None s = tt
 
     after_operator : (form : Option SettingForm) (s : State R T B)
-        → Keeps s (expect leaves kinds.ColonEquals s >>= λ operator. r.assigned_value leaves sight name keyword form operator.1)
+        → Keeps s (expect leaves kinds.ColonEquals s >>= λ operator. r.assigned_value leaves view name keyword form operator.1)
     after_operator form s =
         then s (expect leaves kinds.ColonEquals s) _ (keeps s _ (expects leaves kinds.ColonEquals s)) (λ operator. assigned_value_keeps form operator.1)
 
-    pub setting_value_keeps : (form : Option SettingForm) (s : State R T B) → Keeps s (r.setting_value leaves sight name keyword form s)
+    pub setting_value_keeps : (form : Option SettingForm) (s : State R T B) → Keeps s (r.setting_value leaves view name keyword form s)
     setting_value_keeps (Some TruthForm) s = truth_keeps s
     setting_value_keeps (Some ExpressionForm) s = after_operator (Some ExpressionForm) s
     setting_value_keeps (Some InterpreterForm) s = after_operator (Some InterpreterForm) s

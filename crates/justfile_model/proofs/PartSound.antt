@@ -1,23 +1,23 @@
 -- What is read of the parts of items derives, its literals have texts, and the value of a setting breaks no rule.
 use Rattle.std.proofs.Common.{◌≡◌, ℕ, Bool, true, false, ◌||◌, ◌+◌, ◌⊎◌, inl, inr, List, [], ◌∷◌, ◌++◌, length, Option, Some, None, Ok, Err, IfOk, codes, refl, sym, subst, ap, ◌∙◌}
-use Rattle.justfile_word.specs.Keyword.{keyword_named, keyword_text}
-use Rattle.justfile_word.specs.declared.keyword.Keyword.{Keyword}
-use Rattle.justfile_word.specs.declared.token_kind.TokenKind.{TokenKind}
-use Rattle.justfile_word.specs.declared.token_kind.TokenKind.TheVariants as kinds
-use Rattle.justfile_word.proofs.KeywordLaws.{spells}
+use Rattle.justfile_vocabulary.specs.Keyword.{keyword_named, keyword_text}
+use Rattle.justfile_vocabulary.specs.declared.keyword.Keyword.{Keyword}
+use Rattle.justfile_vocabulary.specs.declared.token_kind.TokenKind.{TokenKind}
+use Rattle.justfile_vocabulary.specs.declared.token_kind.TokenKind.TheVariants as kinds
+use Rattle.justfile_vocabulary.proofs.KeywordLaws.{spells}
 use Rattle.justfile_model.specs.Conditions.{Conditions}
 use Rattle.justfile_model.specs.ExpressionReader as expressions
 use Rattle.justfile_model.specs.ExpressionReader.{cooked}
-use Rattle.justfile_model.specs.Expressions.{Tokens, IsKind, IsWord, NotNext, Under}
+use Rattle.justfile_model.specs.Expressions.{Tokens, IsKind, IsWord, NotNext, BelowLimit}
 use Rattle.justfile_model.specs.Files.{exprs_literals, optional_literals, quoted_literals, setting_literals}
-use Rattle.justfile_model.specs.HeaderReader.{draw_binding, expression}
+use Rattle.justfile_model.specs.HeaderReader.{next_binding_number, expression}
 use Rattle.justfile_model.specs.ItemParts as g
 use Rattle.justfile_model.specs.ItemParts.{EndsLine, FilePath, Names, NoPath, NotNamedString, ValueOf}
 use Rattle.justfile_model.specs.Literals.{cooked_text, string_of}
 use Rattle.justfile_model.specs.PartReader as r
 use Rattle.justfile_model.specs.PartReader.{after_numbered}
-use Rattle.justfile_model.specs.ReadAttribute.{token_sight}
-use Rattle.justfile_model.specs.Reading.{◌>>=◌, Counters, accept, at, choose, expect, is_word, next_are}
+use Rattle.justfile_model.specs.ReadAttribute.{token_view}
+use Rattle.justfile_model.specs.ReaderState.{◌>>=◌, Counters, accept, at, choose, expect, is_word, next_are}
 use Rattle.justfile_model.specs.Rules.{Broken}
 use Rattle.justfile_model.specs.SettingRules.{value_broken}
 use Rattle.justfile_model.specs.Settings.{ExpressionForm, InterpreterForm, PlainForm, SettingForm, TruthForm}
@@ -25,7 +25,7 @@ use Rattle.justfile_model.specs.SignificantTokens.{SignificantToken}
 use Rattle.justfile_model.specs.Tok.{Tok}
 use Rattle.justfile_model.specs.Tree as tree
 use Rattle.justfile_model.specs.Tree.{Expr, Exprs, Quoted, SettingValue, itself}
-use Rattle.justfile_model.specs.TreeReader.{Read, Refusal, State, Taken, token_leaves}
+use Rattle.justfile_model.specs.TreeReader.{Read, ReadError, State, Taken, token_leaves}
 use Rattle.justfile_model.proofs.ExpressionSound as e
 use Rattle.justfile_model.proofs.ExpressionSound.{Derived, DerivesAll, Here, after_cooked, expression_derives}
 use Rattle.justfile_model.proofs.HeaderSound.{Passed, after_obeying, is_left}
@@ -74,17 +74,17 @@ line_ends s t ts split h =
 -- a word that comes next before what goes with it, or none
 pub after_choose_before : {A : Type 0} (word : List ℕ) (follows : State → Bool) (s : State) (x : A) (f : SignificantToken × State → A) (P : A → Type 0) → P x
     → ((t : SignificantToken) (ts : Tokens) → s.left ≡ t ∷ ts → IsWord word t → follows (at s ts) ≡ true → P (f (t, at s ts)))
-    → P (choose (r.accept_before token_leaves word follows s) x f)
-unfolding r.accept_before
+    → P (choose (r.accept_keyword_before token_leaves word follows s) x f)
+unfolding r.accept_keyword_before
 after_choose_before {A} word follows s x f P otherwise goes =
     let Q : Taken → Type 0 = λ o. P (choose o x f) in
     after_word word s (λ o. Q (r.if_follows token_leaves follows o)) (λ _. otherwise)
     (λ t ts split is. after_test (follows (at s ts)) _ _ Q (λ e. goes t ts split is e) (λ _. otherwise))
 
 -- the keyword that a name spells, or a refusal
-pub after_keyword : {X : Type 0} (name : SignificantToken) (s : State) (f : Keyword × State → Read X) (P : Read X → Type 0) → ((e : Refusal) → P (Err e))
-    → ((k : Keyword) → name.tok.lexeme ≡ keyword_text k → P (f (k, s))) → P (r.keyword_at token_leaves name s >>= f)
-unfolding r.keyword_at
+pub after_keyword : {X : Type 0} (name : SignificantToken) (s : State) (f : Keyword × State → Read X) (P : Read X → Type 0) → ((e : ReadError) → P (Err e))
+    → ((k : Keyword) → name.tok.lexeme ≡ keyword_text k → P (f (k, s))) → P (r.setting_keyword token_leaves name s >>= f)
+unfolding r.setting_keyword
 after_keyword {X} name s f P fails goes = go (keyword_named name.tok.lexeme) refl
   where
     go : (o : Option Keyword) → keyword_named name.tok.lexeme ≡ o → P (r.keyword_or_none token_leaves name s o >>= f)
@@ -191,11 +191,11 @@ module _ (conditions : Conditions) where
   AllNames x found = Here conditions 0 x.1 → IfOk found (IsNames x)
 
   names_keep : (f : NamesPlace → Read (List Tok × Counters)) → ((x : NamesPlace) → AllNames x (f x)) → (x : NamesPlace) → AllNames x (r.names_rule token_leaves f x)
-  unfolding r.names_rule r.numbered_name r.names_end draw_binding after_numbered
+  unfolding r.names_rule r.numbered_name r.names_end next_binding_number after_numbered
   names_keep f h x here =
       let P : Read (List Tok × Counters) → Type 0 = λ o. IfOk o (IsNames x) in
       after_choose kinds.ParenR x.1 _ _ P
-      (λ _. after_expect kinds.Identifier x.1 (λ name. draw_binding token_leaves x.0 name.1 >>= λ number. Ok ((name.0.tok, number.0.1), number.1))
+      (λ _. after_expect kinds.Identifier x.1 (λ name. next_binding_number token_leaves x.0 name.1 >>= λ number. Ok ((name.0.tok, number.0.1), number.1))
       (λ o. P (o >>= λ name. after_numbered (name.0.0 ∷ [])
       (choose (accept token_leaves kinds.Comma name.1) (r.names_end token_leaves name.0.1 name.1) (λ comma. f (name.0.1, comma.1)))))
       (λ e. tt) (λ name ts split kind.
@@ -230,7 +230,7 @@ module _ (conditions : Conditions) where
 
   -- the value of a setting of this form
   abbrev pub IsValue : SettingForm → State → SettingValue Tok Tok × State → Type 0
-  IsValue form s x = Derived conditions (ValueOf itself itself (Under conditions.limit) form x.0) (setting_literals x.0) 0 s x.1
+  IsValue form s x = Derived conditions (ValueOf itself itself (BelowLimit conditions.limit) form x.0) (setting_literals x.0) 0 s x.1
 
   -- `:=` and a word
   truth_of_sound : (s : State) (operator : SignificantToken) (ts : Tokens) → Here conditions 0 s → s.left ≡ operator ∷ ts → IsKind kinds.ColonEquals operator
@@ -238,7 +238,7 @@ module _ (conditions : Conditions) where
   unfolding r.truth_of
   truth_of_sound s operator ts here split kind word us split2 =
       let P : Read (SettingValue Tok Tok) → Type 0 = λ o. IfOk o (IsValue TruthForm s) in
-      let R : Bool → Tokens → Type 0 = λ b l. ValueOf itself itself (Under conditions.limit) TruthForm (tree.Truth b) [] l us in
+      let R : Bool → Tokens → Type 0 = λ b l. ValueOf itself itself (BelowLimit conditions.limit) TruthForm (tree.Truth b) [] l us in
       after_test (is_word (codes "true") word) _ _ P
       (λ is. record {
         features = [];
@@ -271,7 +271,7 @@ module _ (conditions : Conditions) where
       → IfOk (r.some_command token_leaves (at s us) (es, rest)) (IsValue InterpreterForm s)
   command_sound s operator opener ts us split kind split2 kind2 tree.none rest h = tt
   command_sound s operator opener ts us split kind split2 kind2 (tree.more first others) rest h =
-      let R : Tokens → Type 0 = λ l. ValueOf itself itself (Under conditions.limit) InterpreterForm (tree.Interpreter first others) h.features l rest.left in
+      let R : Tokens → Type 0 = λ l. ValueOf itself itself (BelowLimit conditions.limit) InterpreterForm (tree.Interpreter first others) h.features l rest.left in
       record {
         features = h.features;
         derives = subst R (sym split) (subst (λ (l : Tokens). R (operator ∷ l)) (sym split2) (g.interpreter kind kind2 h.derives));
@@ -296,7 +296,7 @@ module _ (conditions : Conditions) where
       let Both : SettingValue Tok Tok × State → Type 0 = λ x. IsValue ExpressionForm s x × IsValue PlainForm s x in
       after_bind (expression token_leaves (at s ts)) _ (λ o. IfOk o Both) (λ e. tt) (λ e is.
       let found = expression_derives conditions false 0 (at s ts) e is here in
-      let R : SettingForm → Tokens → Type 0 = λ form l. ValueOf itself itself (Under conditions.limit) form (tree.Value e.0) found.features l e.1.left in (
+      let R : SettingForm → Tokens → Type 0 = λ form l. ValueOf itself itself (BelowLimit conditions.limit) form (tree.Value e.0) found.features l e.1.left in (
         record { features = found.features; derives = subst (R ExpressionForm) (sym split) (g.expression kind found.derives); met = found.met; stays = found.stays },
         record { features = found.features; derives = subst (R PlainForm) (sym split) (g.plain kind found.derives); met = found.met; stays = found.stays },
       ))
@@ -304,26 +304,26 @@ module _ (conditions : Conditions) where
   module _ (name : SignificantToken) (keyword : Keyword) where
     -- what this value breaks
     abbrev pub breaks : SettingForm → SettingValue Tok Tok → List (Broken Tok)
-    breaks form value = value_broken conditions.current (token_sight conditions) (Some form) keyword name.tok value
+    breaks form value = value_broken conditions.current (token_view conditions) (Some form) keyword name.tok value
 
     pub record IsSet (form : SettingForm) (s : State) (x : SettingValue Tok Tok × State) : Type 0 where
       pub derived : IsValue form s x
       pub unbroken : breaks form x.0 ≡ []
 
     plain_sound : (s : State) (operator : SignificantToken) (ts : Tokens) → Here conditions 0 s → s.left ≡ operator ∷ ts → IsKind kinds.ColonEquals operator
-        → IfOk (r.plain_value token_leaves token_sight name keyword (at s ts)) (IsSet PlainForm s)
+        → IfOk (r.plain_value token_leaves token_view name keyword (at s ts)) (IsSet PlainForm s)
     unfolding r.plain_value
     plain_sound s operator ts here split kind =
         let P : Read (SettingValue Tok Tok) → Type 0 = λ o. IfOk o (IsSet PlainForm s) in
         let Both : SettingValue Tok Tok × State → Type 0 = λ x. IsValue ExpressionForm s x × IsValue PlainForm s x in
-        let rules : Conditions → SettingValue Tok Tok → List (Broken Tok) = λ run value. value_broken run.current (token_sight run) (Some PlainForm) keyword name.tok value in
+        let rules : Conditions → SettingValue Tok Tok → List (Broken Tok) = λ run value. value_broken run.current (token_view run) (Some PlainForm) keyword name.tok value in
         after_bind (r.expression_value token_leaves (at s ts)) _ P (λ e. tt) (λ value is.
         let found = (known value Both is (expression_sound s operator ts here split kind)).1 in
         after_obeying (rules value.1.run value.0) value.1 _ P (λ e. tt) (λ none.
         record { derived = found; unbroken = subst (λ run. rules run value.0 ≡ []) found.stays.1 none }))
 
     form_sound : (form : SettingForm) (s : State) (operator : SignificantToken) (ts : Tokens) → Here conditions 0 s → s.left ≡ operator ∷ ts
-        → IsKind kinds.ColonEquals operator → IfOk (r.assigned_value token_leaves token_sight name keyword (Some form) (at s ts)) (IsSet form s)
+        → IsKind kinds.ColonEquals operator → IfOk (r.assigned_value token_leaves token_view name keyword (Some form) (at s ts)) (IsSet form s)
     form_sound TruthForm s operator ts here split kind = tt
     form_sound ExpressionForm s operator ts here split kind = plainly (r.expression_value token_leaves (at s ts)) (expression_sound s operator ts here split kind)
       where
@@ -338,13 +338,13 @@ module _ (conditions : Conditions) where
     form_sound PlainForm s operator ts here split kind = plain_sound s operator ts here split kind
 
     operator_sound : (form : SettingForm) (s : State) → Here conditions 0 s
-        → IfOk (expect token_leaves kinds.ColonEquals s >>= λ operator. r.assigned_value token_leaves token_sight name keyword (Some form) operator.1) (IsSet form s)
+        → IfOk (expect token_leaves kinds.ColonEquals s >>= λ operator. r.assigned_value token_leaves token_view name keyword (Some form) operator.1) (IsSet form s)
     operator_sound form s here =
         let P : Read (SettingValue Tok Tok) → Type 0 = λ o. IfOk o (IsSet form s) in
         after_expect kinds.ColonEquals s _ P (λ e. tt) (λ operator ts split kind. form_sound form s operator ts here split kind)
 
     pub value_sound : (form : SettingForm) (s : State) → Here conditions 0 s → (NotNext kinds.ColonEquals s.left → EndsLine s.left)
-        → IfOk (r.setting_value token_leaves token_sight name keyword (Some form) s) (IsSet form s)
+        → IfOk (r.setting_value token_leaves token_view name keyword (Some form) s) (IsSet form s)
     value_sound TruthForm s here ends = plainly (r.truth token_leaves s) (truth_sound s here ends)
       where
         plainly : (found : Read (SettingValue Tok Tok)) → IfOk found (IsValue TruthForm s) → IfOk found (IsSet TruthForm s)
@@ -355,5 +355,5 @@ module _ (conditions : Conditions) where
     value_sound PlainForm s here ends = operator_sound PlainForm s here
 
     -- a keyword that is no setting has no value
-    pub no_value : (s : State) (P : SettingValue Tok Tok × State → Type 0) → IfOk (r.setting_value token_leaves token_sight name keyword None s) P
+    pub no_value : (s : State) (P : SettingValue Tok Tok × State → Type 0) → IfOk (r.setting_value token_leaves token_view name keyword None s) P
     no_value s P = after_expect kinds.ColonEquals s _ (λ (o : Read (SettingValue Tok Tok)). IfOk o P) (λ e. tt) (λ operator ts split kind. tt)

@@ -1,7 +1,7 @@
 -- What was read before, and what is read after it.
 use Rattle.std.proofs.Common.{◌≡◌, List, [], ◌++◌, Ok, Err, refl, sym, ap}
 use Rattle.std.proofs.lemmas.List.{append-nil, append_assoc}
-use Rattle.justfile_model.specs.Reading.{Read, Refusal, State, prepend}
+use Rattle.justfile_model.specs.ReaderState.{Read, ReadError, State, prepend}
 use Rattle.justfile_model.proofs.ReadingSteps.{Goes, Keeps}
 
 module _ {R T B : Type 0} where
@@ -20,7 +20,7 @@ module _ {R T B : Type 0} where
   unfolding prepend
   after_nothing {X} done rest = ap (λ (l : List X). Ok (l, rest)) (append-nil done)
 
-  pub after_refused : {X : Type 0} (done : List X) (e : Refusal T B) → prepend {R = R} done (Err e) ≡ Err e
+  pub after_refused : {X : Type 0} (done : List X) (e : ReadError T B) → prepend {R = R} done (Err e) ≡ Err e
   unfolding prepend
   after_refused done e = refl
 

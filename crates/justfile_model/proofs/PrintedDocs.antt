@@ -5,7 +5,7 @@ use Rattle.std.specs.Str.{IsUtf8}
 use Rattle.justfile_model.specs.Docs.{Before, LineEnd, Other, comment_taken, doc_in, doc_of, doc_or_comment, documented, item_with_doc, redocumented, taken, wants_doc}
 use Rattle.justfile_model.specs.Files.{says_doc}
 use Rattle.justfile_model.specs.Printing.{doc_comment, shown_doc}
-use Rattle.justfile_model.specs.Rewritten.{after_doc, docs_written}
+use Rattle.justfile_model.specs.PrintedAttributes.{after_doc, docs_written}
 use Rattle.justfile_model.specs.Tree.{Alias, Assignment, Comment, Construct, Content, Entry, Function, Import, Module, Newline, OrderedItem, Recipe, RecipeParts, Setting, Unexport}
 use Rattle.justfile_model.proofs.Binds.{never_some, some_back}
 use Rattle.justfile_model.proofs.DocsText.{none_shown}

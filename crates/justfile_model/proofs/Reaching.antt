@@ -7,13 +7,13 @@ use Rattle.justfile_model.specs.Tok.{Tok}
 use Rattle.justfile_model.specs.SignificantTokens.{SignificantToken}
 use Rattle.justfile_model.specs.Tree.{lexeme}
 use Rattle.justfile_model.specs.Features.{Noted}
-use Rattle.justfile_model.specs.Expressions.{Tokens, front, Under, Free, Waived}
+use Rattle.justfile_model.specs.Expressions.{Tokens, front, BelowLimit, AnyDepth, PastLimitAt}
 use Rattle.justfile_model.specs.Literals.{Literal, over_literal, token_of, LiteralFault, Expansions, cooked_text}
-use Rattle.justfile_model.specs.Reading.{TooDeep, NotCooked, ◌>>=◌, refused}
+use Rattle.justfile_model.specs.ReaderState.{TooDeep, NotCooked, ◌>>=◌, refused}
 use Rattle.justfile_model.specs.ExpressionReader as r
 use Rattle.justfile_model.specs.ExpressionReader.{by_text}
-use Rattle.justfile_model.specs.TreeReader.{Read, Refusal, State, token_leaves}
-use Rattle.justfile_model.specs.Refusals.{LacksText, IsTooDeep}
+use Rattle.justfile_model.specs.TreeReader.{Read, ReadError, State, token_leaves}
+use Rattle.justfile_model.specs.ReadErrors.{LacksText, IsTooDeep}
 use Rattle.justfile_model.proofs.CookedTexts.{AllCook, both_cook, then_cook, all_cook, texts_of}
 use Rattle.justfile_model.proofs.ReadingSteps.{after_test}
 use Rattle.justfile_model.proofs.Steps.{input}
@@ -22,21 +22,21 @@ at_limit : (limit d : ℕ) → d ≤ limit → nat_lt d limit ≡ false → d �
 at_limit limit d within h = let not : limit ≤ d = grind (arith, nat_tests) in omega (arith, within, not)
 
 -- under the limit nothing is waived
-pub kept : (limit d : ℕ) (at : Option SignificantToken) → Under limit d at → Waived limit (λ at. ⊥) d at
+pub kept : (limit d : ℕ) (at : Option SignificantToken) → BelowLimit limit d at → PastLimitAt limit (λ at. ⊥) d at
 kept limit d at h = λ e. absurd (omega (arith, h, e))
 
 -- and without it everything
-pub dropped : (limit d : ℕ) (at : Option SignificantToken) → Free d at → Waived limit (λ at. Unit {0}) d at
+pub dropped : (limit d : ℕ) (at : Option SignificantToken) → AnyDepth d at → PastLimitAt limit (λ at. Unit {0}) d at
 dropped limit d at h = λ e. tt
 
 -- the first of the literals that has no text is refused, or too deep an expression
-abbrev pub DueOf : Expansions → (Hit : Option SignificantToken → Type 0) → List (Literal Tok) → Refusal → Type 0
+abbrev pub DueOf : Expansions → (Hit : Option SignificantToken → Type 0) → List (Literal Tok) → ReadError → Type 0
 DueOf expander Hit all r = LacksText expander all r ⊎ IsTooDeep Hit r
 
 module _ (conditions : Conditions) where
   -- ---- the first literal without a text
 
-  lacks_first : (ls ms : List (Literal Tok)) (r : Refusal) → LacksText conditions.expander ls r → LacksText conditions.expander (ls ++ ms) r
+  lacks_first : (ls ms : List (Literal Tok)) (r : ReadError) → LacksText conditions.expander ls r → LacksText conditions.expander (ls ++ ms) r
   lacks_first ls ms r h = record {
     before = h.before;
     literal = h.literal;
@@ -49,7 +49,7 @@ module _ (conditions : Conditions) where
     refusal_is = h.refusal_is;
   }
 
-  lacks_then : (ls ms : List (Literal Tok)) (r : Refusal) → AllCook conditions.expander ls → LacksText conditions.expander ms r → LacksText conditions.expander (ls ++ ms) r
+  lacks_then : (ls ms : List (Literal Tok)) (r : ReadError) → AllCook conditions.expander ls → LacksText conditions.expander ms r → LacksText conditions.expander (ls ++ ms) r
   lacks_then ls ms r a h =
       let texts = texts_of conditions.expander (ls ++ h.before) (both_cook conditions.expander ls h.before a (all_cook conditions.expander h.before h.cooked h.cooks)) in
       record {
@@ -68,7 +68,7 @@ module _ (conditions : Conditions) where
   text_or_none found text fault h e = cc
 
   -- no literal lacks a text where each has one
-  pub lacks_none : (ls : List (Literal Tok)) (r : Refusal) → AllCook conditions.expander ls → LacksText conditions.expander ls r → ⊥
+  pub lacks_none : (ls : List (Literal Tok)) (r : ReadError) → AllCook conditions.expander ls → LacksText conditions.expander ls r → ⊥
   lacks_none ls r a h =
       let here = then_cook conditions.expander h.before (h.literal ∷ h.others) (subst (AllCook conditions.expander) h.all_is a) in
       text_or_none (cooked_text conditions.expander (over_literal lexeme h.literal)) here.0.text h.fault here.0.is h.no_text
@@ -76,20 +76,20 @@ module _ (conditions : Conditions) where
   -- ---- what is read if these literals have texts, where the limit is waived at some tokens
 
   module _ (Hit : Option SignificantToken → Type 0) where
-    pub due_first : (ls ms : List (Literal Tok)) (r : Refusal) → DueOf conditions.expander Hit ls r → DueOf conditions.expander Hit (ls ++ ms) r
+    pub due_first : (ls ms : List (Literal Tok)) (r : ReadError) → DueOf conditions.expander Hit ls r → DueOf conditions.expander Hit (ls ++ ms) r
     due_first ls ms r (inl h) = inl (lacks_first ls ms r h)
     due_first ls ms r (inr h) = inr h
 
-    pub due_then : (ls ms : List (Literal Tok)) (r : Refusal) → AllCook conditions.expander ls → DueOf conditions.expander Hit ms r → DueOf conditions.expander Hit (ls ++ ms) r
+    pub due_then : (ls ms : List (Literal Tok)) (r : ReadError) → AllCook conditions.expander ls → DueOf conditions.expander Hit ms r → DueOf conditions.expander Hit (ls ++ ms) r
     due_then ls ms r a (inl h) = inl (lacks_then ls ms r a h)
     due_then ls ms r a (inr h) = inr h
 
     -- it is read, or a refusal that is due is given
-    pub data Reaches {X : Type 0} (found : Result X Refusal) (x : X) (ls : List (Literal Tok)) : Type 0 where
+    pub data Reaches {X : Type 0} (found : Result X ReadError) (x : X) (ls : List (Literal Tok)) : Type 0 where
       is_read : AllCook conditions.expander ls → found ≡ Ok x → Reaches found x ls
-      is_refused : {r : Refusal} → DueOf conditions.expander Hit ls r → found ≡ Err r → Reaches found x ls
+      is_refused : {r : ReadError} → DueOf conditions.expander Hit ls r → found ≡ Err r → Reaches found x ls
 
-    pub by : {X : Type 0} {found found' : Result X Refusal} {x : X} {ls : List (Literal Tok)} → found ≡ found' → Reaches found' x ls → Reaches found x ls
+    pub by : {X : Type 0} {found found' : Result X ReadError} {x : X} {ls : List (Literal Tok)} → found ≡ found' → Reaches found' x ls → Reaches found x ls
     by {x = x} {ls = ls} is h = subst (λ o. Reaches o x ls) (sym is) h
 
     -- with the same features, put together otherwise
@@ -97,20 +97,20 @@ module _ (conditions : Conditions) where
     renoted {A} {found} {e} {d} {rest} {ls = ls} same h = subst (λ (n : List (Noted Tok)). Reaches found (e, input conditions d rest n) ls) same h
 
     -- with the same literals, put together otherwise
-    pub regrouped : {X : Type 0} {found : Result X Refusal} {x : X} {ls ms : List (Literal Tok)} → ls ≡ ms → Reaches found x ls → Reaches found x ms
+    pub regrouped : {X : Type 0} {found : Result X ReadError} {x : X} {ls ms : List (Literal Tok)} → ls ≡ ms → Reaches found x ls → Reaches found x ms
     regrouped {found = found} {x = x} same h = subst (λ (ls : List (Literal Tok)). Reaches found x ls) same h
 
-    onto : {X : Type 0} {found : Result X Refusal} {x : X} (ls ms : List (Literal Tok)) → AllCook conditions.expander ls → Reaches found x ms → Reaches found x (ls ++ ms)
+    onto : {X : Type 0} {found : Result X ReadError} {x : X} (ls ms : List (Literal Tok)) → AllCook conditions.expander ls → Reaches found x ms → Reaches found x (ls ++ ms)
     onto ls ms a (is_read b is) = is_read (both_cook conditions.expander ls ms a b) is
     onto ls ms a (is_refused h is) = is_refused (due_then ls ms _ a h) is
 
     -- a step, and those after it
-    pub then : {X Y : Type 0} {found : Result X Refusal} {x : X} (f : X → Result Y Refusal) {y : Y} {ls ms : List (Literal Tok)} → Reaches found x ls → Reaches (f x) y ms → Reaches (found >>= f) y (ls ++ ms)
+    pub then : {X Y : Type 0} {found : Result X ReadError} {x : X} (f : X → Result Y ReadError) {y : Y} {ls ms : List (Literal Tok)} → Reaches found x ls → Reaches (f x) y ms → Reaches (found >>= f) y (ls ++ ms)
     then f {y} {ls} {ms} (is_read a is) go = subst (λ o. Reaches (o >>= f) y (ls ++ ms)) (sym is) (onto ls ms a go)
     then f {y} {ls} {ms} (is_refused h is) go = is_refused (due_first ls ms _ h) (ap (λ o. o >>= f) is)
 
     -- no literal stands after the step
-    pub pass : {X Y : Type 0} {found : Result X Refusal} {x : X} (f : X → Result Y Refusal) {y : Y} {ls : List (Literal Tok)} → Reaches found x ls → f x ≡ Ok y → Reaches (found >>= f) y ls
+    pub pass : {X Y : Type 0} {found : Result X ReadError} {x : X} (f : X → Result Y ReadError) {y : Y} {ls : List (Literal Tok)} → Reaches found x ls → f x ≡ Ok y → Reaches (found >>= f) y ls
     pass f (is_read a is) goes = is_read a (ap (λ o. o >>= f) is ∙ goes)
     pass f (is_refused h is) goes = is_refused h (ap (λ o. o >>= f) is)
 
@@ -129,7 +129,7 @@ module _ (conditions : Conditions) where
     cooked make ask l t {d} {ts} {ns} at asks = text_reached l (make t.tok) t (input conditions d ts ns) at (cooked_text conditions.expander (ask t.tok.lexeme)) (ap (cooked_text conditions.expander) (sym asks))
 
     -- an expression is entered
-    pub entered : {A : Type 0} {x : Read A} {y : A × State} {ls : List (Literal Tok)} (d : ℕ) (s : State) → d ≤ conditions.limit → Waived conditions.limit Hit d (front s.left) → (d < conditions.limit → Reaches x y ls)
+    pub entered : {A : Type 0} {x : Read A} {y : A × State} {ls : List (Literal Tok)} (d : ℕ) (s : State) → d ≤ conditions.limit → PastLimitAt conditions.limit Hit d (front s.left) → (d < conditions.limit → Reaches x y ls)
         → Reaches (cond (nat_lt d conditions.limit) x (Err (refused TooDeep s))) y ls
     unfolding refused
     entered {x = x} {y = y} {ls = ls} d s within hit h =

@@ -1,14 +1,14 @@
 -- How the steps of a reader go, whatever its tokens are: which steps are alike, and what a step leaves.
 use Rattle.std.proofs.Common.{◌≡◌, ℕ, ◌<◌, ◌≤◌, Bool, true, false, cond, List, [], ◌∷◌, length, Option, Some, None, Result, Ok, Err, IfOk, codes, refl, subst, ap, arith, ◌∙◌}
-use Rattle.justfile_word.specs.declared.token_kind.TokenKind.{TokenKind}
-use Rattle.justfile_word.specs.declared.token_kind.TokenKind.TheVariants as kinds
+use Rattle.justfile_vocabulary.specs.declared.token_kind.TokenKind.{TokenKind}
+use Rattle.justfile_vocabulary.specs.declared.token_kind.TokenKind.TheVariants as kinds
 use Rattle.justfile_model.specs.declared.level.Level.{Level}
 use Rattle.justfile_model.specs.declared.operator.Operator.{Operator}
 use Rattle.justfile_model.specs.ExpressionReader.{Met, accept_operator, backtick, by_text, cooked, found, literal, met_at, operator_by, part, whole_format_string, literal_string}
 use Rattle.justfile_model.specs.Literals as literals
 use Rattle.justfile_model.specs.Literals.{Literal, LiteralFault, cooked_text, string_of}
 use Rattle.justfile_model.specs.Operators.{is_at, operator_of}
-use Rattle.justfile_model.specs.Reading.{◌>>=◌, Leaves, Read, State, Taken, Unexpected, accept, accept_by, accept_marked, accept_word, at, choose, expect, is_word, marked_by, marks, refused, same_kind}
+use Rattle.justfile_model.specs.ReaderState.{◌>>=◌, Leaves, Read, State, Taken, Unexpected, accept, accept_by, accept_marked, accept_construct_keyword, at, choose, expect, is_word, marked_by, marks, refused, same_kind}
 use Rattle.justfile_model.specs.SignificantTokens.{SignificantToken}
 use Rattle.justfile_model.specs.Tree.{Expr}
 
@@ -137,8 +137,8 @@ module _ {R T A B S : Type 0} (leaves : Leaves R T A B S) where
   unfolding accept
   accepts kind s = passes (λ t. same_kind t.tok.kind kind) s s.left (omega arith)
 
-  pub accepts_word : (word : List ℕ) (s : State R T B) → Takes s (accept_word leaves word s)
-  unfolding accept_word
+  pub accepts_word : (word : List ℕ) (s : State R T B) → Takes s (accept_construct_keyword leaves word s)
+  unfolding accept_construct_keyword
   accepts_word word s = passes (is_word word) s s.left (omega arith)
 
   pub accepts_marked : (word : List ℕ) (kind : TokenKind) (s : State R T B) → Takes s (accept_marked leaves word kind s)

@@ -4,12 +4,12 @@ use Rattle.std.specs.Option.{option_map}
 use Rattle.std.specs.Str.{trim_end}
 use Rattle.std.proofs.Common.{◌≡◌, ◌⊎◌, ℕ, suc, ◌+◌, ◌≤◌, Bool, true, false, ◌&&◌, cond, List, [], ◌∷◌, ◌++◌, length, Option, Some, None, Result, Ok, Err, refl, ap, subst, inl, inr, arith, ◌-◌, nat_lt}
 use Rattle.std.proofs.lemmas.Bool.Decides.{nat_tests}
-use Rattle.justfile_word.specs.declared.keyword.Keyword.{Keyword}
-use Rattle.justfile_word.specs.declared.token_kind.TokenKind.{TokenKind}
+use Rattle.justfile_vocabulary.specs.declared.keyword.Keyword.{Keyword}
+use Rattle.justfile_vocabulary.specs.declared.token_kind.TokenKind.{TokenKind}
 use Rattle.justfile_model.specs.declared.conditional_operator.ConditionalOperator.{ConditionalOperator}
 use Rattle.justfile_model.specs.declared.level.Level.{Level}
 use Rattle.justfile_model.specs.declared.level.Level.TheVariants as levels
-use Rattle.justfile_word.specs.declared.list_feature.ListFeature.{ListFeature}
+use Rattle.justfile_vocabulary.specs.declared.list_feature.ListFeature.{ListFeature}
 use Rattle.justfile_model.specs.declared.operator.Operator.{Operator}
 use Rattle.justfile_model.specs.declared.operator.Operator.TheVariants as operators
 use Rattle.justfile_model.specs.Conditions.{Conditions}
@@ -20,7 +20,7 @@ use Rattle.justfile_model.specs.Literals as literals
 use Rattle.justfile_model.specs.Literals.{Expansions, Literal, LiteralFault, cooked_text, string_of, token_of}
 use Rattle.justfile_model.specs.Operators.{binary, is_at, operator_of}
 use Rattle.justfile_model.specs.Reader.{has_body}
-use Rattle.justfile_model.specs.Reading.{◌>>=◌, AfterVariadic, BreaksRule, Counters, ExpectedKeyword, Extraneous, Leaves, NoNumber, NotCooked, Read, Refusal, State, Taken, TooDeep, Unexpected, UnknownSetting, accept, accept_by, accept_marked, accept_word, at, begin_with, choose, comment_in, expect, is_word, marked_by, marks, next_are, refused, same_kind, with}
+use Rattle.justfile_model.specs.ReaderState.{◌>>=◌, AfterVariadic, BreaksRule, Counters, ExpectedKeyword, Extraneous, Leaves, NoNumber, NotCooked, Read, ReadError, State, Taken, TooDeep, Unexpected, UnknownSetting, accept, accept_by, accept_marked, accept_construct_keyword, at, begin_with, choose, comment_in, expect, is_word, marked_by, marks, next_are, refused, same_kind, with}
 use Rattle.justfile_model.specs.Rules.{Broken}
 use Rattle.justfile_model.specs.SignificantTokens.{SignificantToken}
 use Rattle.justfile_model.specs.Tree as tree
@@ -34,7 +34,7 @@ pub record Relations (R T A B S D R' T' A' B' S' D' : Type 0) : Type 1 where
   -- more expressions may be open in the other, so that it may read what is too deep in the one
   pub looser : Type 0
   pub token : T → T' → Type 0
-  pub spot : B → B' → Type 0
+  pub position : B → B' → Type 0
   -- variables, and names of what is called
   pub name : A → A' → Type 0
   -- a literal, by how it is asked for its text
@@ -76,11 +76,11 @@ module _ {R T A B S D R' T' A' B' S' D' : Type 0} (rel : Relations R T A B S D R
     pub data Alike : Expr A B → Expr A' B' → Type 0 where
       or : {l r : Expr A B} {l' r' : Expr A' B'} → Alike l l' → Alike r r' → Alike (tree.Or l r) (tree.Or l' r')
       and : {l r : Expr A B} {l' r' : Expr A' B'} → Alike l l' → Alike r r' → Alike (tree.And l r) (tree.And l' r')
-      comparison : {l r : Expr A B} {l' r' : Expr A' B'} {by : ConditionalOperator} {b : B} {b' : B'} → Alike l l' → rel.spot b b' → Alike r r' → Alike (tree.Comparison l by b r) (tree.Comparison l' by b' r')
-      concatenation : {l r : Expr A B} {l' r' : Expr A' B'} {b : B} {b' : B'} → Alike l l' → rel.spot b b' → Alike r r' → Alike (tree.Concatenation l b r) (tree.Concatenation l' b' r')
-      list_concatenation : {l r : Expr A B} {l' r' : Expr A' B'} {b : B} {b' : B'} → Alike l l' → rel.spot b b' → Alike r r' → Alike (tree.ListConcatenation l b r) (tree.ListConcatenation l' b' r')
-      join : {l r : Expr A B} {l' r' : Expr A' B'} {b : B} {b' : B'} → Alike l l' → rel.spot b b' → Alike r r' → Alike (tree.Join l b r) (tree.Join l' b' r')
-      root : {r : Expr A B} {r' : Expr A' B'} {b : B} {b' : B'} → rel.spot b b' → Alike r r' → Alike (tree.Root b r) (tree.Root b' r')
+      comparison : {l r : Expr A B} {l' r' : Expr A' B'} {by : ConditionalOperator} {b : B} {b' : B'} → Alike l l' → rel.position b b' → Alike r r' → Alike (tree.Comparison l by b r) (tree.Comparison l' by b' r')
+      concatenation : {l r : Expr A B} {l' r' : Expr A' B'} {b : B} {b' : B'} → Alike l l' → rel.position b b' → Alike r r' → Alike (tree.Concatenation l b r) (tree.Concatenation l' b' r')
+      list_concatenation : {l r : Expr A B} {l' r' : Expr A' B'} {b : B} {b' : B'} → Alike l l' → rel.position b b' → Alike r r' → Alike (tree.ListConcatenation l b r) (tree.ListConcatenation l' b' r')
+      join : {l r : Expr A B} {l' r' : Expr A' B'} {b : B} {b' : B'} → Alike l l' → rel.position b b' → Alike r r' → Alike (tree.Join l b r) (tree.Join l' b' r')
+      root : {r : Expr A B} {r' : Expr A' B'} {b : B} {b' : B'} → rel.position b b' → Alike r r' → Alike (tree.Root b r) (tree.Root b' r')
       if_only : {c e : Expr A B} {c' e' : Expr A' B'} → Alike c c' → Alike e e' → Alike (tree.If c e) (tree.If c' e')
       if_else : {c e o : Expr A B} {c' e' o' : Expr A' B'} → Alike c c' → Alike e e' → Alike o o' → Alike (tree.IfElse c e o) (tree.IfElse c' e' o')
       not : {e : Expr A B} {e' : Expr A' B'} → Alike e e' → Alike (tree.Not e) (tree.Not e')
@@ -89,12 +89,12 @@ module _ {R T A B S D R' T' A' B' S' D' : Type 0} (rel : Relations R T A B S D R
       format_string : (lexeme : List ℕ) {a : A} {a' : A'} {e : Expr A B} {e' : Expr A' B'} {ps : Parts A B} {ps' : Parts A' B'} → rel.literal (literals.Start lexeme) a a' → Alike e e' → AlikeParts lexeme ps ps'
           → Alike (tree.FormatString a e ps) (tree.FormatString a' e' ps')
       backtick : (lexeme : List ℕ) {a : A} {a' : A'} → rel.literal (literals.Command lexeme) a a' → Alike (tree.Backtick a) (tree.Backtick a')
-      assert : {b : B} {b' : B'} {c : Expr A B} {c' : Expr A' B'} → rel.spot b b' → Alike c c' → Alike (tree.Assert b c) (tree.Assert b' c')
-      assert_message : {b : B} {b' : B'} {c m : Expr A B} {c' m' : Expr A' B'} → rel.spot b b' → Alike c c' → Alike m m' → Alike (tree.AssertMessage b c m) (tree.AssertMessage b' c' m')
+      assert : {b : B} {b' : B'} {c : Expr A B} {c' : Expr A' B'} → rel.position b b' → Alike c c' → Alike (tree.Assert b c) (tree.Assert b' c')
+      assert_message : {b : B} {b' : B'} {c m : Expr A B} {c' m' : Expr A' B'} → rel.position b b' → Alike c c' → Alike m m' → Alike (tree.AssertMessage b c m) (tree.AssertMessage b' c' m')
       variable : {a : A} {a' : A'} → rel.name a a' → Alike (tree.Variable a) (tree.Variable a')
       call : {a : A} {a' : A'} {es : Exprs A B} {es' : Exprs A' B'} → rel.name a a' → AlikeAll es es' → Alike (tree.Call a es) (tree.Call a' es')
       group : {e : Expr A B} {e' : Expr A' B'} → Alike e e' → Alike (tree.Group e) (tree.Group e')
-      list : {b : B} {b' : B'} {es : Exprs A B} {es' : Exprs A' B'} → rel.spot b b' → AlikeAll es es' → Alike (tree.ListOf b es) (tree.ListOf b' es')
+      list : {b : B} {b' : B'} {es : Exprs A B} {es' : Exprs A' B'} → rel.position b b' → AlikeAll es es' → Alike (tree.ListOf b es) (tree.ListOf b' es')
 
     pub data AlikeAll : Exprs A B → Exprs A' B' → Type 0 where
       none : AlikeAll tree.none tree.none
@@ -122,24 +122,24 @@ module _ {R T A B S D R' T' A' B' S' D' : Type 0} (rel : Relations R T A B S D R
 
   pub data AlikeOptionName : OptionName A B → OptionName A' B' → Type 0 where
     no_option : AlikeOptionName tree.NoOption tree.NoOption
-    own_name : {k : B} {k' : B'} → rel.spot k k' → AlikeOptionName (tree.OwnName k) (tree.OwnName k')
+    own_name : {k : B} {k' : B'} → rel.position k k' → AlikeOptionName (tree.OwnName k) (tree.OwnName k')
     option_named : {q : Quoted A} {q' : Quoted A'} → AlikeQuoted q q' → AlikeOptionName (tree.Named q) (tree.Named q')
 
   pub record AlikeProperty (p : Property A B) (p' : Property A' B') : Type 0 where
-    pub key : rel.spot p.key p'.key
+    pub key : rel.position p.key p'.key
     pub value : Alike p.value p'.value
 
   pub record AlikeBound (b : Bound B) (b' : Bound B') : Type 0 where
-    pub key : rel.spot b.key b'.key
+    pub key : rel.position b.key b'.key
     pub number : b.number ≡ b'.number
 
   pub record AlikeArgumentRules (r : ArgumentRules A B) (r' : ArgumentRules A' B') : Type 0 where
-    pub flag : AlikeOption rel.spot r.flag r'.flag
+    pub flag : AlikeOption rel.position r.flag r'.flag
     pub help : AlikeOption AlikeProperty r.help r'.help
     pub long : AlikeOptionName r.long r'.long
     pub max : AlikeOption AlikeBound r.max r'.max
     pub min : AlikeOption AlikeBound r.min r'.min
-    pub multiple : AlikeOption rel.spot r.multiple r'.multiple
+    pub multiple : AlikeOption rel.position r.multiple r'.multiple
     pub name : AlikeQuoted r.name r'.name
     pub pattern : AlikeOption AlikeProperty r.pattern r'.pattern
     pub short : AlikeOptionName r.short r'.short
@@ -290,7 +290,7 @@ module _ {R T A B S D R' T' A' B' S' D' : Type 0} (rel : Relations R T A B S D R
   trimmed_alike nil = nil
   trimmed_alike (cons l ls) = before_alike l (trimmed_alike ls)
 
-  pub binary_alike : (o : Operator) {l r : Expr A B} {l' r' : Expr A' B'} {b : B} {b' : B'} → Alike l l' → rel.spot b b' → Alike r r' → Alike (binary o l b r) (binary o l' b' r')
+  pub binary_alike : (o : Operator) {l r : Expr A B} {l' r' : Expr A' B'} {b : B} {b' : B'} → Alike l l' → rel.position b b' → Alike r r' → Alike (binary o l b r) (binary o l' b' r')
   binary_alike operators.Or l b r = or l r
   binary_alike operators.And l b r = and l r
   binary_alike (operators.Compare by) l b r = comparison l b r
@@ -301,7 +301,7 @@ module _ {R T A B S D R' T' A' B' S' D' : Type 0} (rel : Relations R T A B S D R
   -- ---- where reading stands
 
   abbrev pub AlikeNoted : Noted B → Noted B' → Type 0
-  AlikeNoted x y = (x.0 ≡ y.0) × rel.spot x.1 y.1
+  AlikeNoted x y = (x.0 ≡ y.0) × rel.position x.1 y.1
 
   pub record States (s : State R T B) (s' : State R' T' B') : Type 0 where
     pub run : rel.run s.run s'.run
@@ -315,13 +315,13 @@ module _ {R T A B S D R' T' A' B' S' D' : Type 0} (rel : Relations R T A B S D R
   pub with_alike : {s : State R T B} {s' : State R' T' B'} {fs : List (Noted B)} {fs' : List (Noted B')} → Each AlikeNoted fs fs' → States s s' → States (with fs s) (with fs' s')
   with_alike k h = record { run = h.run; depth = h.depth; left = h.left; noted = each_both h.noted k }
 
-  pub one_noted : (feature : ListFeature) {b : B} {b' : B'} → rel.spot b b' → Each AlikeNoted ((feature, b) ∷ []) ((feature, b') ∷ [])
+  pub one_noted : (feature : ListFeature) {b : B} {b' : B'} → rel.position b b' → Each AlikeNoted ((feature, b) ∷ []) ((feature, b') ∷ [])
   one_noted feature h = cons (refl, h) nil
 
   same_feature : (f g : ListFeature) → ◌≡◌ {A = Option ListFeature} (Some f) (Some g) → f ≡ g
   same_feature f g e = cc
 
-  pub noted_if_alike : (f g : Option ListFeature) {b : B} {b' : B'} → f ≡ g → rel.spot b b' → Each AlikeNoted (noted_if f b) (noted_if g b')
+  pub noted_if_alike : (f g : Option ListFeature) {b : B} {b' : B'} → f ≡ g → rel.position b b' → Each AlikeNoted (noted_if f b) (noted_if g b')
   noted_if_alike None None e h = nil
   noted_if_alike (Some f) (Some g) e h = cons (same_feature f g e, h) nil
   noted_if_alike None (Some g) e h = cc
@@ -357,21 +357,21 @@ module _ {R T A B S D R' T' A' B' S' D' : Type 0} (rel : Relations R T A B S D R
   front_alike nil = no_next
   front_alike (cons h hs) = a_next h
 
-  pub data Refusals : Refusal T B → Refusal T' B' → Type 0 where
-    unexpected : {o : Option T} {o' : Option T'} → AlikeNext o o' → Refusals (Unexpected o) (Unexpected o')
-    too_deep : {o : Option T} {o' : Option T'} → AlikeNext o o' → Refusals (TooDeep o) (TooDeep o')
-    not_cooked : {fault : LiteralFault} {b : B} {b' : B'} → rel.spot b b' → Refusals (NotCooked fault b) (NotCooked fault b')
-    breaks : {r : Broken B} {r' : Broken B'} → AlikeBroken rel.spot r r' → Refusals (BreaksRule r) (BreaksRule r')
-    after_variadic : {b : B} {b' : B'} → rel.spot b b' → Refusals (AfterVariadic b) (AfterVariadic b')
-    extraneous : {count count' : ℕ} {b : B} {b' : B'} → count ≡ count' → rel.spot b b' → Refusals (Extraneous count b) (Extraneous count' b')
-    unknown_setting : {b : B} {b' : B'} → rel.spot b b' → Refusals (UnknownSetting b) (UnknownSetting b')
-    expected_keyword : {expected : List Keyword} {b : B} {b' : B'} → rel.spot b b' → Refusals (ExpectedKeyword expected b) (ExpectedKeyword expected b')
+  pub data ReadErrors : ReadError T B → ReadError T' B' → Type 0 where
+    unexpected : {o : Option T} {o' : Option T'} → AlikeNext o o' → ReadErrors (Unexpected o) (Unexpected o')
+    too_deep : {o : Option T} {o' : Option T'} → AlikeNext o o' → ReadErrors (TooDeep o) (TooDeep o')
+    not_cooked : {fault : LiteralFault} {b : B} {b' : B'} → rel.position b b' → ReadErrors (NotCooked fault b) (NotCooked fault b')
+    breaks : {r : Broken B} {r' : Broken B'} → AlikeBroken rel.position r r' → ReadErrors (BreaksRule r) (BreaksRule r')
+    after_variadic : {b : B} {b' : B'} → rel.position b b' → ReadErrors (AfterVariadic b) (AfterVariadic b')
+    extraneous : {count count' : ℕ} {b : B} {b' : B'} → count ≡ count' → rel.position b b' → ReadErrors (Extraneous count b) (Extraneous count' b')
+    unknown_setting : {b : B} {b' : B'} → rel.position b b' → ReadErrors (UnknownSetting b) (UnknownSetting b')
+    expected_keyword : {expected : List Keyword} {b : B} {b' : B'} → rel.position b b' → ReadErrors (ExpectedKeyword expected b) (ExpectedKeyword expected b')
 
   -- Both are read and related, or refused for the same reason. Where a number is wanting in the one, `Short` is known of the other. Where an
   -- expression is too deep in the one, and the other may be looser, nothing is known of the other.
   pub data Related {X Y : Type 0} (Q : X → Y → Type 0) (Short : Counters → Read R' T' B' Y → Type 0) : Read R T B X → Read R' T' B' Y → Type 0 where
     both : {x : X × State R T B} {y : Y × State R' T' B'} → Q x.0 y.0 → States x.1 y.1 → Related Q Short (Ok x) (Ok y)
-    neither : {e : Refusal T B} {e' : Refusal T' B'} → Refusals e e' → Related Q Short (Err e) (Err e')
+    neither : {e : ReadError T B} {e' : ReadError T' B'} → ReadErrors e e' → Related Q Short (Err e) (Err e')
     short : {n : Counters} {found : Read R' T' B' Y} → Short n found → Related Q Short (Err (NoNumber n)) found
     deep : {o : Option T} {found : Read R' T' B' Y} → rel.looser → Related Q Short (Err (TooDeep o)) found
 
@@ -467,7 +467,7 @@ module _ {R T A B S D R' T' A' B' S' D' : Type 0} (rel : Relations R T A B S D R
   pub record Respects (one : Leaves R T A B S) (other : Leaves R' T' A' B' S') : Type 0 where
     pub conditions : (r : R) (r' : R') → rel.run r r' → AlikeConditions (one.conditions r) (other.conditions r')
     pub see : (t : T) (t' : T') → rel.token t t' → one.see t ≡ other.see t'
-    pub spot : (t : T) (t' : T') → rel.token t t' → rel.spot (one.spot t) (other.spot t')
+    pub position : (t : T) (t' : T') → rel.token t t' → rel.position (one.position t) (other.position t')
     pub name : (t : T) (t' : T') → rel.token t t' → rel.name (one.name t) (other.name t')
     pub literal : (r : R) (r' : R') (t : T) (t' : T') → rel.run r r' → rel.token t t' → (l : Literal (List ℕ)) (text : List ℕ) → token_of l ≡ (one.see t).tok.lexeme → cooked_text (one.conditions r).expander l ≡ Ok text
         → rel.literal l (one.literal t l text) (other.literal t' l text)
@@ -495,8 +495,8 @@ module _ {R T A B S D R' T' A' B' S' D' : Type 0} (rel : Relations R T A B S D R
     unfolding accept
     accepted kind h = accepted_by (λ t. same_kind t.tok.kind kind) h h.left
 
-    pub accepted_word : (word : List ℕ) {s : State R T B} {s' : State R' T' B'} → States s s' → Takes (accept_word one word s) (accept_word other word s')
-    unfolding accept_word
+    pub accepted_word : (word : List ℕ) {s : State R T B} {s' : State R' T' B'} → States s s' → Takes (accept_construct_keyword one word s) (accept_construct_keyword other word s')
+    unfolding accept_construct_keyword
     accepted_word word h = accepted_by (is_word word) h h.left
 
     marked_alike : (word : List ℕ) (kind : TokenKind) {s : State R T B} {s' : State R' T' B'} {ts : List T} {ts' : List T'} → States s s' → Each rel.token ts ts' → Takes (marked_by one word kind s ts) (marked_by other word kind s' ts')
@@ -549,7 +549,7 @@ module _ {R T A B S D R' T' A' B' S' D' : Type 0} (rel : Relations R T A B S D R
     text_alike : {X Y : Type 0} (Q : X → Y → Type 0) (make : List ℕ → X) (make' : List ℕ → Y) (x : T × State R T B) (x' : T' × State R' T' B') → rel.token x.0 x'.0 → States x.1 x'.1 → (found : Result (List ℕ) LiteralFault)
         → ((text : List ℕ) → found ≡ Ok text → Q (make text) (make' text)) → Related Q Never (by_text one make x found) (by_text other make' x' found)
     text_alike Q make make' x x' t h (Ok text) made = both (made text refl) h
-    text_alike Q make make' x x' t h (Err fault) made = neither (not_cooked (agree.spot x.0 x'.0 t))
+    text_alike Q make make' x x' t h (Err fault) made = neither (not_cooked (agree.position x.0 x'.0 t))
 
     -- a literal, asked by the token's lexeme
     pub cooked_alike : {X Y : Type 0} (Q : X → Y → Type 0) (make : A → X) (make' : A' → Y) (ask : List ℕ → Literal (List ℕ)) → ((lexeme : List ℕ) → token_of (ask lexeme) ≡ lexeme) → (x : T × State R T B) (x' : T' × State R' T' B') → rel.token x.0 x'.0 → States x.1 x'.1

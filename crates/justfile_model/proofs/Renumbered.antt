@@ -1,31 +1,31 @@
 -- A tree of tokens keeps no numbers: wherever the counters stand, the same is read.
 use Rattle.std.proofs.Common.{◌≡◌, Bool, true, false, cond, List, [], ◌∷◌, length, Option, Some, None, Result, Ok, Err, codes, refl}
-use Rattle.justfile_word.specs.declared.item_kind.ItemKind.TheVariants as item_kinds
-use Rattle.justfile_word.specs.declared.token_kind.TokenKind.TheVariants as kinds
+use Rattle.justfile_vocabulary.specs.declared.item_kind.ItemKind.TheVariants as item_kinds
+use Rattle.justfile_vocabulary.specs.declared.token_kind.TokenKind.TheVariants as kinds
 use Rattle.justfile_model.specs.declared.parameter_kind.ParameterKind.{ParameterKind}
 use Rattle.justfile_model.specs.declared.parameter_kind.ParameterKind.TheVariants.{Plus, Singular, Star}
 use Rattle.justfile_model.specs.ReadAttribute.{ReadAttribute}
 use Rattle.justfile_model.specs.Reader as reader
 use Rattle.justfile_model.specs.HeaderReader as r
-use Rattle.justfile_model.specs.HeaderReader.{draw_binding, expression, header, obeying}
-use Rattle.justfile_model.specs.PartReader.{accept_before, after_numbered, file_path, is_assigned, is_imported, is_module, is_set, keyword_at, line_is, names, names_end, names_rule, no_names, numbered_name, optional_path, setting_value}
+use Rattle.justfile_model.specs.HeaderReader.{next_binding_number, expression, header, obeying}
+use Rattle.justfile_model.specs.PartReader.{accept_keyword_before, after_numbered, file_path, peek_assignment, is_imported, is_module, is_set, setting_keyword, line_is, names, names_end, names_rule, no_names, numbered_name, optional_path, setting_value}
 use Rattle.justfile_model.specs.Settings.{setting_form}
-use Rattle.justfile_model.specs.Reader.{Start, after_mark, alias, allowed, any_module, any_recipe, argument_rules, assignment, at_end, attributes, construct, content, draw_recipe, end_of_tokens, ended, function, has_body, import, imported, items, items_from, items_rule, line, named_module, no_exclusion, no_items, on_line, optional_body, recipe, setting, unexport, wordless}
+use Rattle.justfile_model.specs.Reader.{Start, after_mark, alias, allowed, any_module, any_recipe, argument_rules, assignment, at_end, attributes, construct, content, next_recipe_number, end_of_tokens, ended, function, has_body, import, imported, items, items_from, items_rule, line, named_module, no_exclusion, no_items, on_line, optional_body, recipe, setting, unexport, wordless}
 use Rattle.justfile_model.specs.Conditions.{Conditions}
 use Rattle.justfile_model.specs.Features.{Noted}
-use Rattle.justfile_model.specs.Reading.{◌>>=◌, Counters, accept, accepted, choose, expect, next_are}
+use Rattle.justfile_model.specs.ReaderState.{◌>>=◌, Counters, accept, accepted, choose, expect, next_are}
 use Rattle.justfile_model.specs.RecipeRules.{parameter_broken, undefined_broken}
-use Rattle.justfile_model.specs.Sight.{Sight}
+use Rattle.justfile_model.specs.LeafView.{LeafView}
 use Rattle.justfile_model.specs.SignificantTokens.{SignificantToken}
 use Rattle.justfile_model.specs.Tok.{Tok}
 use Rattle.justfile_model.specs.Tree.{ArgumentRules, Expr, Parameter, WrittenTree}
-use Rattle.justfile_model.specs.TreeReader.{Read, Refusal, State, Taken, tree_of_tokens, start_state, token_attributes, token_leaves, unnumbered}
+use Rattle.justfile_model.specs.TreeReader.{Read, ReadError, State, Taken, tree_of_tokens, start_state, token_attributes, token_leaves, unnumbered}
 use Rattle.justfile_model.proofs.Turns.{both_recur}
 
 -- two readings that find one thing, but for the counters
 data Alike {X : Type 0} : Read (X × Counters) → Read (X × Counters) → Type 0 where
   both : {x : X} {n m : Counters} {s : State} → Alike (Ok ((x, n), s)) (Ok ((x, m), s))
-  neither : {e : Refusal} → Alike (Err e) (Err e)
+  neither : {e : ReadError} → Alike (Err e) (Err e)
 
 bind : {X Y : Type 0} (found : Read X) (f g : X × State → Read (Y × Counters)) → ((x : X × State) → Alike (f x) (g x)) → Alike (found >>= f) (found >>= g)
 bind (Ok x) f g h = h x
@@ -45,7 +45,7 @@ by_test false x y z w h k = k
 
 assignments : (eager export : Bool) (ws : List ReadAttribute) (n m : Counters) (s : State)
     → Alike (assignment token_leaves token_attributes eager export ws n s) (assignment token_leaves token_attributes eager export ws m s)
-unfolding assignment draw_binding
+unfolding assignment next_binding_number
 assignments eager export ws n m s =
     bind (expect token_leaves kinds.Identifier s) _ _ (λ name. bind (expect token_leaves kinds.ColonEquals name.1) _ _ (λ operator.
     bind (expression token_leaves operator.1) _ _ (λ e. bind (allowed token_leaves token_attributes item_kinds.Assignment ws name.0 e.1) _ _ (λ checked. both))))
@@ -64,7 +64,7 @@ unfolding after_numbered
 after_name done h = then _ _ h (λ x n m s. both)
 
 each_name : (n m : Counters) (s : State) → Alike (numbered_name token_leaves n s) (numbered_name token_leaves m s)
-unfolding numbered_name draw_binding
+unfolding numbered_name next_binding_number
 each_name n m s = bind (expect token_leaves kinds.Identifier s) _ _ (λ name. both)
 
 names_rules : (f g : NamesPlace → Read (List Tok × Counters)) → ((x y : NamesPlace) → BeginsName x y → Alike (f x) (g y)) → (x y : NamesPlace) → BeginsName x y
@@ -125,9 +125,9 @@ modules ws n m s = named_modules (accepted token_leaves kinds.QuestionMark s).0 
 settings : (ws : List ReadAttribute) (n m : Counters) (s : State) → Alike (setting token_leaves token_attributes ws n s) (setting token_leaves token_attributes ws m s)
 unfolding setting
 settings ws n m s =
-    bind (expect token_leaves kinds.Identifier s) _ _ (λ name. bind (keyword_at token_leaves name.0 name.1) _ _ (λ keyword.
+    bind (expect token_leaves kinds.Identifier s) _ _ (λ name. bind (setting_keyword token_leaves name.0 name.1) _ _ (λ keyword.
     bind (allowed token_leaves token_attributes item_kinds.Setting ws name.0 keyword.1) _ _ (λ checked.
-    bind (setting_value token_leaves token_attributes.sight name.0 keyword.0 (setting_form keyword.0) checked.1) _ _ (λ value. both))))
+    bind (setting_value token_leaves token_attributes.view name.0 keyword.0 (setting_form keyword.0) checked.1) _ _ (λ value. both))))
 
 unexports : (ws : List ReadAttribute) (n m : Counters) (s : State) → Alike (unexport token_leaves token_attributes ws n s) (unexport token_leaves token_attributes ws m s)
 unfolding unexport
@@ -136,26 +136,26 @@ unexports ws n m s =
 
 -- ---- headers
 
-module _ (sight : Conditions → Sight Tok Tok) (rules : List (ArgumentRules Tok Tok)) where
+module _ (view : Conditions → LeafView Tok Tok) (rules : List (ArgumentRules Tok Tok)) where
   abbrev Place : Type 0
-  Place = r.ParameterPlace token_leaves sight rules
+  Place = r.ParameterPlace token_leaves view rules
 
   numbers : (kind : ParameterKind) (export : Bool) (ps : List (Parameter Tok Tok)) (n m : Counters) (name : SignificantToken) (default : Option (Expr Tok Tok)) (s : State)
-      → Alike (draw_binding token_leaves n s >>= r.numbered token_leaves sight rules kind export ps name default)
-      (draw_binding token_leaves m s >>= r.numbered token_leaves sight rules kind export ps name default)
-  unfolding draw_binding
+      → Alike (next_binding_number token_leaves n s >>= r.numbered token_leaves view rules kind export ps name default)
+      (next_binding_number token_leaves m s >>= r.numbered token_leaves view rules kind export ps name default)
+  unfolding next_binding_number
   numbers kind export ps n m name default s = both
 
   named_parameters : (kind : ParameterKind) (export : Bool) (ps : List (Parameter Tok Tok)) (n m : Counters) (s : State)
-      → Alike (r.named_parameter token_leaves sight rules kind export (ps, n) s) (r.named_parameter token_leaves sight rules kind export (ps, m) s)
+      → Alike (r.named_parameter token_leaves view rules kind export (ps, n) s) (r.named_parameter token_leaves view rules kind export (ps, m) s)
   unfolding r.named_parameter
   named_parameters kind export ps n m s =
       bind (expect token_leaves kinds.Identifier s) _ _ (λ name. bind (r.default_value token_leaves name.1) _ _ (λ default.
-      bind (obeying (parameter_broken (sight default.1.run) rules ps (r.parameter_of token_leaves kind export (token_leaves.name name.0) default.0)) default.1) _ _
+      bind (obeying (parameter_broken (view default.1.run) rules ps (r.parameter_of token_leaves kind export (token_leaves.name name.0) default.0)) default.1) _ _
       (λ checked. numbers kind export ps n m name.0 default.0 checked.1)))
 
   each_parameter : (kind : ParameterKind) (ps : List (Parameter Tok Tok)) (n m : Counters) (s : State)
-      → Alike (r.parameter token_leaves sight rules kind ((ps, n), s)) (r.parameter token_leaves sight rules kind ((ps, m), s))
+      → Alike (r.parameter token_leaves view rules kind ((ps, n), s)) (r.parameter token_leaves view rules kind ((ps, m), s))
   unfolding r.parameter
   each_parameter kind ps n m s = named_parameters kind (accepted token_leaves kinds.Dollar s).0 ps n m (accepted token_leaves kinds.Dollar s).1
 
@@ -163,8 +163,8 @@ module _ (sight : Conditions → Sight Tok Tok) (rules : List (ArgumentRules Tok
   data Stands : Place → Place → Type 0 where
     stands : (ps : List (Parameter Tok Tok)) (n m : Counters) (s : State) → Stands ((ps, n), s) ((ps, m), s)
 
-  singular_rules : (f g : Place → Read (r.Parameters token_leaves sight rules)) → ((x y : Place) → Stands x y → Alike (f x) (g y)) → (x y : Place) → Stands x y
-      → Alike (r.singulars_rule token_leaves sight rules f x) (r.singulars_rule token_leaves sight rules g y)
+  singular_rules : (f g : Place → Read (r.Parameters token_leaves view rules)) → ((x y : Place) → Stands x y → Alike (f x) (g y)) → (x y : Place) → Stands x y
+      → Alike (r.singulars_rule token_leaves view rules f x) (r.singulars_rule token_leaves view rules g y)
   unfolding r.singulars_rule
   singular_rules f g alike x y (stands ps n m s) =
       by_test (r.begins_parameter token_leaves s) _ _ _ _
@@ -172,24 +172,24 @@ module _ (sight : Conditions → Sight Tok Tok) (rules : List (ArgumentRules Tok
       both
 
   all_singulars : (ps : List (Parameter Tok Tok)) (n m : Counters) (s : State)
-      → Alike (r.singulars token_leaves sight rules ((ps, n), s)) (r.singulars token_leaves sight rules ((ps, m), s))
+      → Alike (r.singulars token_leaves view rules ((ps, n), s)) (r.singulars token_leaves view rules ((ps, m), s))
   unfolding r.singulars
   all_singulars ps n m s =
-      both_recur (λ (x : Place). length x.1.left) (r.no_parameters token_leaves sight rules) (r.singulars_rule token_leaves sight rules)
-      (λ (x : Place). length x.1.left) (r.no_parameters token_leaves sight rules) (r.singulars_rule token_leaves sight rules)
+      both_recur (λ (x : Place). length x.1.left) (r.no_parameters token_leaves view rules) (r.singulars_rule token_leaves view rules)
+      (λ (x : Place). length x.1.left) (r.no_parameters token_leaves view rules) (r.singulars_rule token_leaves view rules)
       Stands same_size (λ x y found found'. Alike found found') (λ x y h. neither) singular_rules ((ps, n), s) ((ps, m), s) (stands ps n m s)
     where
       same_size : (x y : Place) → Stands x y → length x.1.left ≡ length y.1.left
       same_size x y (stands ps n m s) = refl
 
   variadics : (kind : ParameterKind) (ps : List (Parameter Tok Tok)) (n m : Counters) (s : State)
-      → Alike (r.variadic token_leaves sight rules kind ((ps, n), s)) (r.variadic token_leaves sight rules kind ((ps, m), s))
+      → Alike (r.variadic token_leaves view rules kind ((ps, n), s)) (r.variadic token_leaves view rules kind ((ps, m), s))
   unfolding r.variadic
   variadics kind ps n m s =
       then _ _ (each_parameter kind ps n m s) (λ qs k j t. bind (r.nothing_after token_leaves t) _ _ (λ end. both))
 
   last_parameters : (ps : List (Parameter Tok Tok)) (n m : Counters) (s : State)
-      → Alike (r.last_parameter token_leaves sight rules ((ps, n), s)) (r.last_parameter token_leaves sight rules ((ps, m), s))
+      → Alike (r.last_parameter token_leaves view rules ((ps, n), s)) (r.last_parameter token_leaves view rules ((ps, m), s))
   unfolding r.last_parameter
   last_parameters ps n m s =
       pick (accept token_leaves kinds.Plus s) _ _ _ _
@@ -197,26 +197,26 @@ module _ (sight : Conditions → Sight Tok Tok) (rules : List (ArgumentRules Tok
       (λ prefix. variadics Plus ps n m prefix.1)
 
   all_parameters : (n m : Counters) (s : State)
-      → Alike (r.parameters token_leaves sight rules n s) (r.parameters token_leaves sight rules m s)
+      → Alike (r.parameters token_leaves view rules n s) (r.parameters token_leaves view rules m s)
   unfolding r.parameters
   all_parameters n m s =
       then _ _ (all_singulars [] n m s) (λ ps k j t. then _ _ (last_parameters ps k j t) (λ qs k j u.
       bind (expect token_leaves kinds.Colon u) _ _ (λ colon. both)))
 
-  headers : (n m : Counters) (s : State) → Alike (header token_leaves sight rules n s) (header token_leaves sight rules m s)
+  headers : (n m : Counters) (s : State) → Alike (header token_leaves view rules n s) (header token_leaves view rules m s)
   unfolding r.header
   headers n m s =
-      bind (expect token_leaves kinds.Identifier s) _ _ (λ name. bind (r.distinct_options token_leaves sight rules name.0 name.1) _ _ (λ options.
-      then _ _ (all_parameters n m options.1) (λ ps k j t. bind (obeying (undefined_broken (sight t.run) ps rules) t) _ _ (λ checked.
+      bind (expect token_leaves kinds.Identifier s) _ _ (λ name. bind (r.distinct_options token_leaves view rules name.0 name.1) _ _ (λ options.
+      then _ _ (all_parameters n m options.1) (λ ps k j t. bind (obeying (undefined_broken (view t.run) ps rules) t) _ _ (λ checked.
       bind (r.dependencies token_leaves checked.1) _ _ (λ priors. bind (r.subsequents token_leaves priors.1) _ _ (λ others. both))))))
 
 -- ---- items
 
 recipes : (quiet : Bool) (ws : List ReadAttribute) (n m : Counters) (s : State)
     → Alike (recipe token_leaves token_attributes quiet ws n s) (recipe token_leaves token_attributes quiet ws m s)
-unfolding recipe draw_recipe
+unfolding recipe next_recipe_number
 recipes quiet ws n m s =
-    then _ _ (headers token_attributes.sight (argument_rules token_leaves token_attributes s.run ws) n m s) (λ h k j t.
+    then _ _ (headers token_attributes.view (argument_rules token_leaves token_attributes s.run ws) n m s) (λ h k j t.
     bind (optional_body token_leaves t) _ _ (λ b. bind (no_exclusion token_leaves token_attributes ws h.name b.1) _ _ (λ checked. both)))
 
 any_recipes : (ws : List ReadAttribute) (n m : Counters) (s : State)
@@ -228,18 +228,18 @@ without_word : (ws : List ReadAttribute) (n m : Counters) (s : State) → Alike 
 unfolding wordless
 without_word ws n m s =
     by_test (next_are token_leaves (kinds.Identifier ∷ kinds.ParenL ∷ []) s) _ _ _ _ (functions ws n m s)
-    (by_test (is_assigned token_leaves s) _ _ _ _ (assignments false false ws n m s) (any_recipes ws n m s))
+    (by_test (peek_assignment token_leaves s) _ _ _ _ (assignments false false ws n m s) (any_recipes ws n m s))
 
 contents : (ws : List ReadAttribute) (n m : Counters) (s : State) → Alike (content token_leaves token_attributes ws n s) (content token_leaves token_attributes ws m s)
 unfolding content
 contents ws n m s =
-    pick (accept_before token_leaves (codes "alias") (is_assigned token_leaves) s) _ _ _ _
-    (pick (accept_before token_leaves (codes "eager") (is_assigned token_leaves) s) _ _ _ _
-    (pick (accept_before token_leaves (codes "export") (is_assigned token_leaves) s) _ _ _ _
-    (pick (accept_before token_leaves (codes "unexport") (line_is token_leaves (kinds.Identifier ∷ [])) s) _ _ _ _
-    (pick (accept_before token_leaves (codes "import") (is_imported token_leaves) s) _ _ _ _
-    (pick (accept_before token_leaves (codes "mod") (is_module token_leaves) s) _ _ _ _
-    (pick (accept_before token_leaves (codes "set") (is_set token_leaves) s) _ _ _ _
+    pick (accept_keyword_before token_leaves (codes "alias") (peek_assignment token_leaves) s) _ _ _ _
+    (pick (accept_keyword_before token_leaves (codes "eager") (peek_assignment token_leaves) s) _ _ _ _
+    (pick (accept_keyword_before token_leaves (codes "export") (peek_assignment token_leaves) s) _ _ _ _
+    (pick (accept_keyword_before token_leaves (codes "unexport") (line_is token_leaves (kinds.Identifier ∷ [])) s) _ _ _ _
+    (pick (accept_keyword_before token_leaves (codes "import") (is_imported token_leaves) s) _ _ _ _
+    (pick (accept_keyword_before token_leaves (codes "mod") (is_module token_leaves) s) _ _ _ _
+    (pick (accept_keyword_before token_leaves (codes "set") (is_set token_leaves) s) _ _ _ _
     (without_word ws n m s)
     (λ word. settings ws n m word.1))
     (λ word. modules ws n m word.1))
@@ -293,7 +293,7 @@ all_items n m s =
     same_size x y (begins n m s) = refl
 
 -- the tree and its features, as a file is read
-abbrev pub whole : Read (WrittenTree × Counters) → Result (WrittenTree × List (Noted Tok)) Refusal
+abbrev pub whole : Read (WrittenTree × Counters) → Result (WrittenTree × List (Noted Tok)) ReadError
 whole found = found >>= λ x. Ok (x.0.0, x.1.noted)
 
 same_whole : {found found' : Read (WrittenTree × Counters)} → Alike found found' → whole found ≡ whole found'

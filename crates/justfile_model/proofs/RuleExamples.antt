@@ -1,11 +1,11 @@
 -- Examples of the rules that attributes break, computed from the definitions: each once, with the token that it is refused at.
 use Rattle.std.proofs.Common.{◌≡◌, ℕ, false, List, [], ◌∷◌, Option, Some, None, Err, codes, refl}
 use Rattle.std.specs.Str.{chars}
-use Rattle.justfile_base.specs.StringKind.{kind_of}
-use Rattle.justfile_word.specs.AttributeKind.{kind_named}
-use Rattle.justfile_word.specs.Signal.{signal_named}
-use Rattle.justfile_word.specs.declared.attribute_kind.AttributeKind.TheVariants as kinds
-use Rattle.justfile_word.specs.declared.item_kind.ItemKind.TheVariants as items
+use Rattle.justfile_token.specs.StringKind.{kind_of}
+use Rattle.justfile_vocabulary.specs.AttributeKind.{kind_named}
+use Rattle.justfile_vocabulary.specs.Signal.{signal_named}
+use Rattle.justfile_vocabulary.specs.declared.attribute_kind.AttributeKind.TheVariants as kinds
+use Rattle.justfile_vocabulary.specs.declared.item_kind.ItemKind.TheVariants as items
 use Rattle.justfile_model.specs.declared.parameter_kind.ParameterKind.{ParameterKind}
 use Rattle.justfile_model.specs.declared.parameter_kind.ParameterKind.TheVariants.{Plus, Singular}
 use Rattle.justfile_model.specs.AttributeKinds.{same_attribute}
@@ -17,7 +17,7 @@ use Rattle.justfile_model.specs.Meaning.{by_key, by_position}
 use Rattle.justfile_model.specs.NewAttribute.{Made, new_attribute}
 use Rattle.justfile_model.specs.Rules as rule
 use Rattle.justfile_model.specs.Rules.{Broken, Rule}
-use Rattle.justfile_model.specs.Sight.{Sight, content_as_read, text_under}
+use Rattle.justfile_model.specs.LeafView.{LeafView, content_as_read, text_under}
 use Rattle.justfile_model.specs.Unindent.{unindented}
 use Rattle.justfile_model.specs.Tree as tree
 use Rattle.justfile_model.specs.Tree.{Argument, Attribute, Content, Dependency, DependencyArgument, Expr, Header, Parameter, WrittenAttribute, bare_attribute, bare_recipe, assignment_of}
@@ -26,13 +26,13 @@ abbrev unasked : Expansions
 unasked text = None
 
 -- a text stands for its own place, so that a refusal shows its token
-abbrev sees : Sight (List ℕ) (List ℕ)
+abbrev sees : LeafView (List ℕ) (List ℕ)
 sees = record {
   bytes = λ l. l;
   place = λ l. l;
   cooked = text_under unasked (λ l. l);
   leaf_content = λ kind l. record { kind = kind; lexeme = l };
-  spot_content = λ kind spelled spot. record { kind = kind; lexeme = spelled };
+  position_content = λ kind spelled position. record { kind = kind; lexeme = spelled };
   literal_content = content_as_read (λ l. l) (text_under unasked (λ l. l)) (λ kind l. record { kind = kind; lexeme = l });
 }
 

@@ -13,8 +13,8 @@ use Rattle.std.proofs.lemmas.List.Elements.{All-contains, All-contains_itself, A
 use Rattle.std.proofs.lemmas.List.Sorted.{Contains-permutation, IsPermutation-sym}
 use Rattle.std.proofs.lemmas.Map.Lookups.{exact_bytes}
 use Rattle.std.proofs.lemmas.Slice.Eq.{bytes_eq-Decides}
-use Rattle.justfile_word.specs.declared.attribute_kind.AttributeKind.{AttributeKind}
-use Rattle.justfile_word.specs.declared.attribute_kind.AttributeKind.TheVariants as kinds
+use Rattle.justfile_vocabulary.specs.declared.attribute_kind.AttributeKind.{AttributeKind}
+use Rattle.justfile_vocabulary.specs.declared.attribute_kind.AttributeKind.TheVariants as kinds
 use Rattle.justfile_model.specs.AttributeKinds.{takes_expressions}
 use Rattle.justfile_model.specs.AttributeRules.{is_known, least, lesser, repeats_broken}
 use Rattle.justfile_model.specs.ContentLeaf.{text_cmp}
@@ -22,7 +22,7 @@ use Rattle.justfile_model.specs.Meaning.{KeyArgument, Placed, at_key, first_of, 
 use Rattle.justfile_model.specs.NewAttribute as new
 use Rattle.justfile_model.specs.NewAttribute.{check_count, check_keys, from_expressions, from_literals, make_all, new_attribute, new_cache, new_of_expressions, new_of_literals, new_rules, placed_literal, refuse_key}
 use Rattle.justfile_model.specs.Rules.{Broken, DuplicateAttributeKey, broken_if}
-use Rattle.justfile_model.specs.Sight.{Sight}
+use Rattle.justfile_model.specs.LeafView.{LeafView}
 use Rattle.justfile_model.specs.Tree as tree
 use Rattle.justfile_model.specs.Tree.{Quoted}
 use Rattle.justfile_model.proofs.OrderLaws.{Ascends, ascends_from_sorted}
@@ -188,10 +188,10 @@ module _ {X : Type 0} (text : X → List ℕ) where
 
 -- ---- keys
 
-module _ {A B : Type 0} (sight : Sight A B) where
+module _ {A B : Type 0} (view : LeafView A B) where
   -- keys with the same bytes are the same
   abbrev pub OneEach : List (KeyArgument A B) → Type 0
-  OneEach keys = (j k : KeyArgument A B) → Contains keys j → Contains keys k → sight.bytes j.key ≡ sight.bytes k.key → j ≡ k
+  OneEach keys = (j k : KeyArgument A B) → Contains keys j → Contains keys k → view.bytes j.key ≡ view.bytes k.key → j ≡ k
 
   -- the same keys, each once, in whichever order
   pub record SameKeys (keys others : List (KeyArgument A B)) : Type 0 where
@@ -207,36 +207,36 @@ module _ {A B : Type 0} (sight : Sight A B) where
   }
 
   module _ (keys others : List (KeyArgument A B)) (same : SameKeys keys others) where
-    at_same : (word : List ℕ) → at_key sight word keys ≡ at_key sight word others
-    at_same word = go (at_key sight word keys) (at_key sight word others) refl refl
+    at_same : (word : List ℕ) → at_key view word keys ≡ at_key view word others
+    at_same word = go (at_key view word keys) (at_key view word others) refl refl
       where
-        bytes_of : (l : List (KeyArgument A B)) (k : KeyArgument A B) → at_key sight word l ≡ Some k → sight.bytes k.key ≡ word
-        bytes_of l k e = (bytes_eq-Decides (sight.bytes k.key) word).0 (found_passes (is_key sight word) l k e)
+        bytes_of : (l : List (KeyArgument A B)) (k : KeyArgument A B) → at_key view word l ≡ Some k → view.bytes k.key ≡ word
+        bytes_of l k e = (bytes_eq-Decides (view.bytes k.key) word).0 (found_passes (is_key view word) l k e)
 
-        among : (l : List (KeyArgument A B)) (k : KeyArgument A B) → at_key sight word l ≡ Some k → Contains l k
-        among l k e = found_has (Contains l) (is_key sight word) l k (each_in l) e
+        among : (l : List (KeyArgument A B)) (k : KeyArgument A B) → at_key view word l ≡ Some k → Contains l k
+        among l k e = found_has (Contains l) (is_key view word) l k (each_in l) e
 
-        not_there : (l : List (KeyArgument A B)) (k : KeyArgument A B) → at_key sight word l ≡ None → Contains l k → is_key sight word k ≡ true → ⊥
-        not_there l k e c t = true≢false (sym t ∙ at_element (λ k. is_key sight word k ≡ false) l k (none_found (is_key sight word) l e) c)
+        not_there : (l : List (KeyArgument A B)) (k : KeyArgument A B) → at_key view word l ≡ None → Contains l k → is_key view word k ≡ true → ⊥
+        not_there l k e c t = true≢false (sym t ∙ at_element (λ k. is_key view word k ≡ false) l k (none_found (is_key view word) l e) c)
 
-        go : (o p : Option (KeyArgument A B)) → at_key sight word keys ≡ o → at_key sight word others ≡ p → o ≡ p
+        go : (o p : Option (KeyArgument A B)) → at_key view word keys ≡ o → at_key view word others ≡ p → o ≡ p
         go None None e f = refl
-        go None (Some k) e f = absurd (not_there keys k e (same.back k (among others k f)) (found_passes (is_key sight word) others k f))
-        go (Some k) None e f = absurd (not_there others k f (same.there k (among keys k e)) (found_passes (is_key sight word) keys k e))
+        go None (Some k) e f = absurd (not_there keys k e (same.back k (among others k f)) (found_passes (is_key view word) others k f))
+        go (Some k) None e f = absurd (not_there others k f (same.there k (among keys k e)) (found_passes (is_key view word) keys k e))
         go (Some j) (Some k) e f = ap Some (same.one_each j k (among keys j e) (same.back k (among others k f)) (bytes_of keys j e ∙ sym (bytes_of others k f)))
 
     abbrev least_key : (KeyArgument A B → Bool) → List (KeyArgument A B) → Option (KeyArgument A B)
-    least_key test keys = least (λ (k : KeyArgument A B). sight.bytes k.key) (filter test keys)
+    least_key test keys = least (λ (k : KeyArgument A B). view.bytes k.key) (filter test keys)
 
     least_key_same : (test : KeyArgument A B → Bool) → least_key test keys ≡ least_key test others
     least_key_same test =
-        least_same (λ (k : KeyArgument A B). sight.bytes k.key) (filter test keys) (filter test others)
+        least_same (λ (k : KeyArgument A B). view.bytes k.key) (filter test keys) (filter test others)
         (λ k c. let h = kept_there test keys k c in there_kept test others k (same.there k h.0) h.1)
         (λ k c. let h = kept_there test others k c in there_kept test keys k (same.back k h.0) h.1)
         (λ j k c d. same.one_each j k (kept_there test keys j c).0 (kept_there test keys k d).0)
 
     module _ (at : B) where
-      rules_same : (argument : List ℕ) (name : Quoted A) → new_rules sight at argument name keys ≡ new_rules sight at argument name others
+      rules_same : (argument : List ℕ) (name : Quoted A) → new_rules view at argument name keys ≡ new_rules view at argument name others
       rules_same argument name =
           rw (
             new_rules,
@@ -251,27 +251,27 @@ module _ {A B : Type 0} (sight : Sight A B) where
             at_same (codes "help"),
           ) refl
 
-      own_same : (kind : AttributeKind) (texts : List (Quoted A)) → new_of_literals sight at kind texts keys ≡ new_of_literals sight at kind texts others
+      own_same : (kind : AttributeKind) (texts : List (Quoted A)) → new_of_literals view at kind texts keys ≡ new_of_literals view at kind texts others
       own_same kinds.Arg [] = refl
-      own_same kinds.Arg (name ∷ texts) = ap (λ m. new.◌>>=◌ m (λ rules. Ok (tree.Arg rules))) (rules_same (text_of sight name) name)
+      own_same kinds.Arg (name ∷ texts) = ap (λ m. new.◌>>=◌ m (λ rules. Ok (tree.Arg rules))) (rules_same (text_of view name) name)
       own_same kinds.Cache texts = rw (new_cache, at_same (codes "extra"), at_same (codes "inputs"), at_same (codes "outputs")) refl
       own_same kind texts = refl
 
-      check_same : (kind : AttributeKind) → check_keys sight at kind keys ≡ check_keys sight at kind others
-      check_same kind = ap (refuse_key sight at) (least_key_same (λ k. not (is_known sight at kind k)))
+      check_same : (kind : AttributeKind) → check_keys view at kind keys ≡ check_keys view at kind others
+      check_same kind = ap (refuse_key view at) (least_key_same (λ k. not (is_known view at kind k)))
 
       -- the same attribute is made, or refused by the same rule
       pub attribute_same : (kind : AttributeKind) (placed : List (Placed A B))
-          → new_attribute sight at kind placed keys ≡ new_attribute sight at kind placed others
+          → new_attribute view at kind placed keys ≡ new_attribute view at kind placed others
       unfolding new_attribute
-      attribute_same kind placed = λ i. new.◌>>=◌ (check_count sight at kind (length placed)) (λ counted. cond (takes_expressions kind) (any i) (literals i))
+      attribute_same kind placed = λ i. new.◌>>=◌ (check_count view at kind (length placed)) (λ counted. cond (takes_expressions kind) (any i) (literals i))
         where
-          any : from_expressions sight at kind placed keys ≡ from_expressions sight at kind placed others
-          any = λ i. new.◌>>=◌ (check_same kind i) (λ known. Ok (new_of_expressions sight at kind (map (λ (p : Placed A B). p.value) placed)))
+          any : from_expressions view at kind placed keys ≡ from_expressions view at kind placed others
+          any = λ i. new.◌>>=◌ (check_same kind i) (λ known. Ok (new_of_expressions view at kind (map (λ (p : Placed A B). p.value) placed)))
 
-          literals : from_literals sight at kind placed keys ≡ from_literals sight at kind placed others
+          literals : from_literals view at kind placed keys ≡ from_literals view at kind placed others
           literals =
-              λ i. new.◌>>=◌ (make_all (placed_literal sight at) placed)
+              λ i. new.◌>>=◌ (make_all (placed_literal view at) placed)
               (λ texts. new.◌>>=◌ (own_same kind texts i) (λ attribute. new.◌>>=◌ (check_same kind i) (λ known. Ok attribute)))
 
   -- ---- keys that are not repeated
@@ -280,34 +280,34 @@ module _ {A B : Type 0} (sight : Sight A B) where
   append_none [] ys e = (refl, e)
   append_none (x ∷ xs) ys e = cc
 
-  one_more : (before : List (KeyArgument A B)) (k : KeyArgument A B) → OneEach before → at_key sight (sight.bytes k.key) before ≡ None
+  one_more : (before : List (KeyArgument A B)) (k : KeyArgument A B) → OneEach before → at_key view (view.bytes k.key) before ≡ None
       → OneEach (before ++ k ∷ [])
   one_more before k one none i j c d e = go (Contains-push_cases before k i c) (Contains-push_cases before k j d)
     where
-      apart : (j : KeyArgument A B) → Contains before j → sight.bytes j.key ≡ sight.bytes k.key → ⊥
-      apart j c e = true≢false (sym ((bytes_eq-Decides (sight.bytes j.key) (sight.bytes k.key)).1 e)
-          ∙ at_element (λ j. is_key sight (sight.bytes k.key) j ≡ false) before j (none_found (is_key sight (sight.bytes k.key)) before none) c)
+      apart : (j : KeyArgument A B) → Contains before j → view.bytes j.key ≡ view.bytes k.key → ⊥
+      apart j c e = true≢false (sym ((bytes_eq-Decides (view.bytes j.key) (view.bytes k.key)).1 e)
+          ∙ at_element (λ j. is_key view (view.bytes k.key) j ≡ false) before j (none_found (is_key view (view.bytes k.key)) before none) c)
 
       go : Contains before i ⊎ (k ≡ i) → Contains before j ⊎ (k ≡ j) → i ≡ j
       go (inl c) (inl d) = one i j c d e
-      go (inl c) (inr same) = absurd (apart i c (e ∙ ap (λ (k : KeyArgument A B). sight.bytes k.key) (sym same)))
-      go (inr same) (inl d) = absurd (apart j d (sym e ∙ ap (λ (k : KeyArgument A B). sight.bytes k.key) (sym same)))
+      go (inl c) (inr same) = absurd (apart i c (e ∙ ap (λ (k : KeyArgument A B). view.bytes k.key) (sym same)))
+      go (inr same) (inl d) = absurd (apart j d (sym e ∙ ap (λ (k : KeyArgument A B). view.bytes k.key) (sym same)))
       go (inr same) (inr also) = sym same ∙ also
 
-  one_each_after : (at : B) (before keys : List (KeyArgument A B)) → OneEach before → repeats_broken sight at before keys ≡ [] → OneEach (before ++ keys)
+  one_each_after : (at : B) (before keys : List (KeyArgument A B)) → OneEach before → repeats_broken view at before keys ≡ [] → OneEach (before ++ keys)
   one_each_after at before [] one e = subst OneEach (sym (append-nil before)) one
   one_each_after at before (k ∷ ks) one e =
-      let parts = append_none (repeated k (at_key sight (sight.bytes k.key) before)) (repeats_broken sight at (before ++ k ∷ []) ks) e in
-      let one_and_last = one_more before k one (none (at_key sight (sight.bytes k.key) before) parts.0) in
+      let parts = append_none (repeated k (at_key view (view.bytes k.key) before)) (repeats_broken view at (before ++ k ∷ []) ks) e in
+      let one_and_last = one_more before k one (none (at_key view (view.bytes k.key) before) parts.0) in
       subst OneEach (append_assoc before (k ∷ []) ks) (one_each_after at (before ++ k ∷ []) ks one_and_last parts.1)
     where
       repeated : KeyArgument A B → Option (KeyArgument A B) → List (Broken B)
-      repeated k o = broken_if (is_some o) (DuplicateAttributeKey at (sight.place k.key)) (sight.place k.key)
+      repeated k o = broken_if (is_some o) (DuplicateAttributeKey at (view.place k.key)) (view.place k.key)
 
       none : (o : Option (KeyArgument A B)) → repeated k o ≡ [] → o ≡ None
       none None e = refl
       none (Some j) e = cc
 
   -- keys that break no rule by standing twice
-  pub one_each_unrepeated : (at : B) (keys : List (KeyArgument A B)) → repeats_broken sight at [] keys ≡ [] → OneEach keys
+  pub one_each_unrepeated : (at : B) (keys : List (KeyArgument A B)) → repeats_broken view at [] keys ≡ [] → OneEach keys
   one_each_unrepeated at keys e = one_each_after at [] keys (λ j k c d e. absurd (nothing_in j c)) e

@@ -12,10 +12,10 @@ use Rattle.justfile_model.specs.Literals.{Literal}
 use Rattle.justfile_model.specs.Meaning.{text_of}
 use Rattle.justfile_model.specs.RecipeRules.{exclusions_broken, first_character, is_parameter, option_of, options_broken, parameters_broken, recipe_broken, repeated_broken, ruled_broken, rules_for, undefined_broken, with_text}
 use Rattle.justfile_model.specs.Rules.{Broken, DuplicateLongOption, DuplicateShortOption, UndefinedArgAttribute}
-use Rattle.justfile_model.specs.Sight.{Sight, or_empty}
+use Rattle.justfile_model.specs.LeafView.{LeafView, or_empty}
 use Rattle.justfile_model.specs.Tree as tree
 use Rattle.justfile_model.specs.Tree.{ArgumentRules, Attribute, Content, Entry, Header, OptionName, Parameter, Quoted}
-use Rattle.justfile_model.proofs.RewrittenLiterals.{parts}
+use Rattle.justfile_model.proofs.PrintedLiterals.{parts}
 
 -- ---- what is the same of all elements of a list
 
@@ -76,26 +76,26 @@ module _ {X : Type 0} where
 -- ---- two sights
 
 -- a sight by which literals have other texts
-abbrev pub with_texts : {A B : Type 0} → Sight A B → (Literal A → Option (List ℕ)) → (Literal A → LiteralContent) → Sight A B
-with_texts sight cooked content = record {
-  bytes = sight.bytes;
-  place = sight.place;
+abbrev pub with_texts : {A B : Type 0} → LeafView A B → (Literal A → Option (List ℕ)) → (Literal A → LiteralContent) → LeafView A B
+with_texts view cooked content = record {
+  bytes = view.bytes;
+  place = view.place;
   cooked = cooked;
-  leaf_content = sight.leaf_content;
-  spot_content = sight.spot_content;
+  leaf_content = view.leaf_content;
+  position_content = view.position_content;
   literal_content = content;
 }
 
-module _ {A B : Type 0} (sight : Sight A B) (cooked : Literal A → Option (List ℕ)) (content : Literal A → LiteralContent) where
-  abbrev other : Sight A B
-  other = with_texts sight cooked content
+module _ {A B : Type 0} (view : LeafView A B) (cooked : Literal A → Option (List ℕ)) (content : Literal A → LiteralContent) where
+  abbrev other : LeafView A B
+  other = with_texts view cooked content
 
   -- a literal has the same text in both
   abbrev Agreed : Literal A → Type 0
-  Agreed l = sight.cooked l ≡ cooked l
+  Agreed l = view.cooked l ≡ cooked l
 
   abbrev SaidAlike : Quoted A → Type 0
-  SaidAlike q = text_of sight q ≡ text_of other q
+  SaidAlike q = text_of view q ≡ text_of other q
 
   abbrev NamedAlike : OptionName A B → Type 0
   NamedAlike tree.NoOption = Unit {0}
@@ -154,50 +154,50 @@ module _ {A B : Type 0} (sight : Sight A B) (cooked : Literal A → Option (List
 
   module _ (name : ArgumentRules A B → OptionName A B) (alike : (a : ArgumentRules A B) → RulesAlike a → NamedAlike (name a)) where
     named_same : (rules : List (ArgumentRules A B)) → AllAlike rules
-        → map (with_text sight) (filter_map (λ (a : ArgumentRules A B). option_of sight a.name (name a)) rules)
+        → map (with_text view) (filter_map (λ (a : ArgumentRules A B). option_of view a.name (name a)) rules)
         ≡ map (with_text other) (filter_map (λ (a : ArgumentRules A B). option_of other a.name (name a)) rules)
     named_same [] h = refl
     named_same (a ∷ rules) h = within (name a) (alike a h.0) (named_same rules h.1)
       where
         within : (o : OptionName A B) → NamedAlike o
-            → map (with_text sight) (filter_map (λ (a : ArgumentRules A B). option_of sight a.name (name a)) rules)
+            → map (with_text view) (filter_map (λ (a : ArgumentRules A B). option_of view a.name (name a)) rules)
             ≡ map (with_text other) (filter_map (λ (a : ArgumentRules A B). option_of other a.name (name a)) rules)
-            → map (with_text sight) (cons_option (option_of sight a.name o) (filter_map (λ (a : ArgumentRules A B). option_of sight a.name (name a)) rules))
+            → map (with_text view) (cons_option (option_of view a.name o) (filter_map (λ (a : ArgumentRules A B). option_of view a.name (name a)) rules))
             ≡ map (with_text other) (cons_option (option_of other a.name o) (filter_map (λ (a : ArgumentRules A B). option_of other a.name (name a)) rules))
         within tree.NoOption k more = more
         within (tree.OwnName key) k more = λ i. (h.0.name i, key) ∷ more i
-        within (tree.Named q) k more = λ i. (k i, sight.place q.token) ∷ more i
+        within (tree.Named q) k more = λ i. (k i, view.place q.token) ∷ more i
 
-  options_same : (recipe : B) (rules : List (ArgumentRules A B)) → AllAlike rules → options_broken sight recipe rules ≡ options_broken other recipe rules
+  options_same : (recipe : B) (rules : List (ArgumentRules A B)) → AllAlike rules → options_broken view recipe rules ≡ options_broken other recipe rules
   options_same recipe rules h =
       λ i. repeated_broken bytes_eq (λ option. DuplicateLongOption option recipe) [] (named_same (λ a. a.long) (λ a k. k.long) rules h i)
       ++ repeated_broken nat_eq (λ option. DuplicateShortOption option recipe) []
-      (filter_map (first_character sight) (named_same (λ a. a.short) (λ a k. k.short) rules h i))
+      (filter_map (first_character view) (named_same (λ a. a.short) (λ a k. k.short) rules h i))
 
   -- ---- parameters
 
   undefined_same : (ps : List (Parameter A B)) (rules : List (ArgumentRules A B)) → AllAlike rules
-      → undefined_broken sight ps rules ≡ undefined_broken other ps rules
+      → undefined_broken view ps rules ≡ undefined_broken other ps rules
   undefined_same ps rules h =
       ap (λ l. of_some refused (least text l))
-      (filter_same (λ (a : ArgumentRules A B). not (is_parameter sight ps a)) left rules
-      (each_from RulesAlike (λ (a : ArgumentRules A B). not (is_parameter sight ps a) ≡ not (is_parameter other ps a)) (λ a k. ap not (parameter_same a k)) rules h))
+      (filter_same (λ (a : ArgumentRules A B). not (is_parameter view ps a)) left rules
+      (each_from RulesAlike (λ (a : ArgumentRules A B). not (is_parameter view ps a) ≡ not (is_parameter other ps a)) (λ a k. ap not (parameter_same a k)) rules h))
       ∙ some_same refused refused' (least text unknown) (least_in text text' (λ (a : ArgumentRules A B). refused a ≡ refused' a) unknown
       (each_from RulesAlike (λ (a : ArgumentRules A B). refused a ≡ refused' a)
-      (λ a k. λ i. record { rule = UndefinedArgAttribute (k.name i); token = sight.place a.name.token } ∷ []) unknown alike))
+      (λ a k. λ i. record { rule = UndefinedArgAttribute (k.name i); token = view.place a.name.token } ∷ []) unknown alike))
       ∙ ap (of_some refused') (least_same text text' unknown (each_from RulesAlike (λ (a : ArgumentRules A B). text a ≡ text' a) (λ a k. k.name) unknown alike))
     where
       text : ArgumentRules A B → List ℕ
-      text a = text_of sight a.name
+      text a = text_of view a.name
 
       text' : ArgumentRules A B → List ℕ
       text' a = text_of other a.name
 
       refused : ArgumentRules A B → List (Broken B)
-      refused a = record { rule = UndefinedArgAttribute (text_of sight a.name); token = sight.place a.name.token } ∷ []
+      refused a = record { rule = UndefinedArgAttribute (text_of view a.name); token = view.place a.name.token } ∷ []
 
       refused' : ArgumentRules A B → List (Broken B)
-      refused' a = record { rule = UndefinedArgAttribute (text_of other a.name); token = sight.place a.name.token } ∷ []
+      refused' a = record { rule = UndefinedArgAttribute (text_of other a.name); token = view.place a.name.token } ∷ []
 
       left : ArgumentRules A B → Bool
       left a = not (is_parameter other ps a)
@@ -208,37 +208,37 @@ module _ {A B : Type 0} (sight : Sight A B) (cooked : Literal A → Option (List
       alike : AllAlike unknown
       alike = each_filtered RulesAlike left rules h
 
-      parameter_same : (a : ArgumentRules A B) → RulesAlike a → is_parameter sight ps a ≡ is_parameter other ps a
-      parameter_same a k = ap (λ name. list_any (λ (p : Parameter A B). bytes_eq (sight.bytes p.name) name) ps) k.name
+      parameter_same : (a : ArgumentRules A B) → RulesAlike a → is_parameter view ps a ≡ is_parameter other ps a
+      parameter_same a k = ap (λ name. list_any (λ (p : Parameter A B). bytes_eq (view.bytes p.name) name) ps) k.name
 
   rules_for_same : (rules : List (ArgumentRules A B)) (before : List (Parameter A B)) (name : A) → AllAlike rules
-      → rules_for sight rules before name ≡ rules_for other rules before name
+      → rules_for view rules before name ≡ rules_for other rules before name
   rules_for_same rules before name h =
-      ap (λ (o : Option (ArgumentRules A B)). if list_any (λ (p : Parameter A B). bytes_eq (sight.bytes p.name) (sight.bytes name)) before then None else o)
-      (find_same (λ (a : ArgumentRules A B). bytes_eq (text_of sight a.name) (sight.bytes name))
-      (λ (a : ArgumentRules A B). bytes_eq (text_of other a.name) (sight.bytes name)) rules
-      (each_from RulesAlike (λ (a : ArgumentRules A B). bytes_eq (text_of sight a.name) (sight.bytes name) ≡ bytes_eq (text_of other a.name) (sight.bytes name))
-      (λ a k. ap (λ text. bytes_eq text (sight.bytes name)) k.name) rules h))
+      ap (λ (o : Option (ArgumentRules A B)). if list_any (λ (p : Parameter A B). bytes_eq (view.bytes p.name) (view.bytes name)) before then None else o)
+      (find_same (λ (a : ArgumentRules A B). bytes_eq (text_of view a.name) (view.bytes name))
+      (λ (a : ArgumentRules A B). bytes_eq (text_of other a.name) (view.bytes name)) rules
+      (each_from RulesAlike (λ (a : ArgumentRules A B). bytes_eq (text_of view a.name) (view.bytes name) ≡ bytes_eq (text_of other a.name) (view.bytes name))
+      (λ a k. ap (λ text. bytes_eq text (view.bytes name)) k.name) rules h))
 
   parameters_same : (rules : List (ArgumentRules A B)) → AllAlike rules → (before ps : List (Parameter A B))
-      → parameters_broken sight rules before ps ≡ parameters_broken other rules before ps
+      → parameters_broken view rules before ps ≡ parameters_broken other rules before ps
   parameters_same rules h before [] = refl
   parameters_same rules h before (p ∷ ps) =
-      λ i. of_some (ruled_broken sight p) (rules_for_same rules before p.name h i) ++ parameters_same rules h (before ++ p ∷ []) ps i
+      λ i. of_some (ruled_broken view p) (rules_for_same rules before p.name h i) ++ parameters_same rules h (before ++ p ∷ []) ps i
 
   -- ---- recipes
 
   -- where the literals of the entries agree
   recipe_broken_same : {S : Type 0} (h : Header A B S) (es : List (Entry A B)) → AllByRecursion Agreed (entries_literals es)
-      → recipe_broken sight h es ≡ recipe_broken other h es
+      → recipe_broken view h es ≡ recipe_broken other h es
   recipe_broken_same h es agreed =
       let rules = arg_rules es in
       let alike : AllAlike rules = all_agreed es agreed in
-      λ i. options_same (sight.place h.name) rules alike i ++ parameters_same rules alike [] h.parameters i ++ undefined_same h.parameters rules alike i
-      ++ exclusions_broken sight (sight.place h.name) es
+      λ i. options_same (view.place h.name) rules alike i ++ parameters_same rules alike [] h.parameters i ++ undefined_same h.parameters rules alike i
+      ++ exclusions_broken view (view.place h.name) es
 
   pub meaning_broken_same : {C S : Type 0} (content : Content A B C S) (es : List (Entry A B)) → AllByRecursion Agreed (entries_literals es)
-      → meaning_broken sight content es ≡ meaning_broken other content es
+      → meaning_broken view content es ≡ meaning_broken other content es
   meaning_broken_same (tree.Assignment parts) es agreed = refl
   meaning_broken_same (tree.Alias parts) es agreed = refl
   meaning_broken_same (tree.Function parts) es agreed = refl

@@ -4,18 +4,18 @@ use Rattle.std.proofs.lemmas.List.Elements.{All-from_recursion}
 use Rattle.std.specs.List.{AllByRecursion}
 use Rattle.std.specs.Option.{option_map}
 use denote.Enum.Declared.{tag_of}
-use Rattle.justfile_word.specs.contracts.attribute_kind.AttributeKind as attribute_kinds
-use Rattle.justfile_base.specs.StringKind.{kind_of}
-use Rattle.justfile_word.specs.declared.attribute_kind.AttributeKind.{AttributeKind}
-use Rattle.justfile_word.specs.declared.attribute_kind.AttributeKind.TheVariants as attributes
-use Rattle.justfile_word.specs.declared.format_string_part.FormatStringPart.TheVariants as string_parts
-use Rattle.justfile_word.specs.declared.token_kind.TokenKind.{TokenKind}
-use Rattle.justfile_word.specs.declared.token_kind.TokenKind.TheVariants as kinds
+use Rattle.justfile_vocabulary.specs.contracts.attribute_kind.AttributeKind as attribute_kinds
+use Rattle.justfile_token.specs.StringKind.{kind_of}
+use Rattle.justfile_vocabulary.specs.declared.attribute_kind.AttributeKind.{AttributeKind}
+use Rattle.justfile_vocabulary.specs.declared.attribute_kind.AttributeKind.TheVariants as attributes
+use Rattle.justfile_vocabulary.specs.declared.format_string_part.FormatStringPart.TheVariants as string_parts
+use Rattle.justfile_vocabulary.specs.declared.token_kind.TokenKind.{TokenKind}
+use Rattle.justfile_vocabulary.specs.declared.token_kind.TokenKind.TheVariants as kinds
 use Rattle.justfile_model.specs.AttributeRules.{attributes_broken}
 use Rattle.justfile_model.specs.ConditionalOperator.{operator_sign}
 use Rattle.justfile_model.specs.Conditions.{VersionNumbers}
 use Rattle.justfile_model.specs.ConstructRules.{construct_broken}
-use Rattle.justfile_model.specs.ContentKeys.{name_key, spot_key, literal_key, expr_key, exprs_keys, parts_keys, quoted_key, option_name_key, word_key, own_name_key, property_key, bound_number_key, bound_word_key, rules_keys, texts_keys, is_optional, single_keys, attribute_keys, attribute_key, entry_cmp}
+use Rattle.justfile_model.specs.ContentKeys.{name_key, position_key, literal_key, expr_key, exprs_keys, parts_keys, quoted_key, option_name_key, word_key, own_name_key, property_key, bound_number_key, bound_word_key, rules_keys, texts_keys, is_optional, single_keys, attribute_keys, attribute_key, entry_cmp}
 use Rattle.justfile_model.specs.ContentLeaf.{ContentLeaf, token, literal, literal_value, operator, text, unseen, content_cmp}
 use Rattle.justfile_model.specs.Expressions.{operator_kind}
 use Rattle.justfile_model.specs.Key.{Key, leaf, node, end, next, row, keys_of, absent_key, present_key, option_key, key_cmp}
@@ -24,7 +24,7 @@ use Rattle.justfile_model.specs.Literals.{Literal, Expansions, over_literal, str
 use Rattle.justfile_model.specs.Meaning.{◌>>=◌, all_of, quoted, entry_of, entries_of}
 use Rattle.justfile_model.specs.Order.{in_order}
 use Rattle.justfile_model.specs.Rules.{over_broken}
-use Rattle.justfile_model.specs.Sight.{Sight, or_empty, sees_tokens, sees_lexemes}
+use Rattle.justfile_model.specs.LeafView.{LeafView, or_empty, views_tokens, views_lexemes}
 use Rattle.justfile_model.specs.Tok.{Tok}
 use Rattle.justfile_model.specs.Tree as tree
 use Rattle.justfile_model.specs.Tree.{Expr, Exprs, Parts, Quoted, Argument, WrittenAttribute, OptionName, Property, Bound, ArgumentRules, Attribute, Entry, Content, over_expr, over_exprs, over_parts, over_quoted, over_option, over_property, over_bound, over_rules, over_attribute, over_entry, over_written_attribute, over_content, lexeme, nothing}
@@ -32,16 +32,16 @@ use Rattle.justfile_model.proofs.Kinded.{IsSpelled, IsName, KindedExpr, KindedEx
 use Rattle.justfile_model.proofs.OrderMaps.{in_order_map_where}
 use Rattle.justfile_model.proofs.Binds.{of_some_is, never_some}
 use Rattle.justfile_model.proofs.MeaningParts.{InOption, InBare, InProperty, InBound, InValue, InRules, InMeaning, entries_in}
-use Rattle.justfile_model.proofs.Sees.{Sees, all_over}
-use Rattle.justfile_model.proofs.SeesRecipes.{construct_broken_over}
-use Rattle.justfile_model.proofs.SeesRules.{kind_over, attributes_broken_over}
+use Rattle.justfile_model.proofs.SameView.{SameView, all_over}
+use Rattle.justfile_model.proofs.SameViewRecipes.{construct_broken_over}
+use Rattle.justfile_model.proofs.SameViewRules.{kind_over, attributes_broken_over}
 
 module _ (expander : Expansions) where
-  abbrev tokens : Sight Tok Tok
-  tokens = sees_tokens expander
+  abbrev tokens : LeafView Tok Tok
+  tokens = views_tokens expander
 
-  abbrev lexemes : Sight (List ℕ) (Unit {0})
-  lexemes = sees_lexemes expander
+  abbrev lexemes : LeafView (List ℕ) (Unit {0})
+  lexemes = views_lexemes expander
 
   same_cooked : (l : Literal Tok) → lexemes.cooked (over_literal lexeme l) ≡ tokens.cooked l
   same_cooked (literals.Plain t) = refl
@@ -62,13 +62,13 @@ module _ (expander : Expansions) where
   same_value (literals.End s t) = refl
 
   -- a shape is seen as the tree is
-  pub seen : Sees lexeme nothing tokens lexemes
+  pub seen : SameView lexeme nothing tokens lexemes
   seen = record { bytes = λ t. refl; place = λ t. refl; cooked = same_cooked; value = same_value }
 
   -- ---- keys of expressions
 
-  spot_seen : (kind : TokenKind) (word : List ℕ) (t : Tok) → IsSpelled kind word t → spot_key tokens kind word t ≡ spot_key lexemes kind word tt
-  spot_seen kind word t h = λ i. leaf (token (record { kind = h.kind_is i; lexeme = h.lexeme_is i }))
+  position_seen : (kind : TokenKind) (word : List ℕ) (t : Tok) → IsSpelled kind word t → position_key tokens kind word t ≡ position_key lexemes kind word tt
+  position_seen kind word t h = λ i. leaf (token (record { kind = h.kind_is i; lexeme = h.lexeme_is i }))
 
   name_seen : (t : Tok) → t.kind ≡ kinds.Identifier → name_key tokens t ≡ name_key lexemes t.lexeme
   name_seen t h = λ i. leaf (token (record { kind = h i; lexeme = t.lexeme }))
@@ -104,14 +104,14 @@ module _ (expander : Expansions) where
     expr_seen (tree.And l r) h = λ i. node 0 (next (expr_seen l h.0 i) (next (expr_seen r h.1 i) end))
     expr_seen (tree.Comparison l o t r) h =
         λ i. node 4
-        (next (expr_seen l h.0 i) (next (leaf (operator o)) (next (expr_seen r h.2 i) (next (spot_seen (operator_kind o) (operator_sign o) t h.1 i) end))))
+        (next (expr_seen l h.0 i) (next (leaf (operator o)) (next (expr_seen r h.2 i) (next (position_seen (operator_kind o) (operator_sign o) t h.1 i) end))))
     expr_seen (tree.Concatenation l t r) h =
-        λ i. node 5 (next (expr_seen l h.0 i) (next (spot_seen kinds.Plus (codes "+") t h.1 i) (next (expr_seen r h.2 i) end)))
+        λ i. node 5 (next (expr_seen l h.0 i) (next (position_seen kinds.Plus (codes "+") t h.1 i) (next (expr_seen r h.2 i) end)))
     expr_seen (tree.ListConcatenation l t r) h =
-        λ i. node 11 (next (expr_seen l h.0 i) (next (spot_seen kinds.PlusPlus (codes "++") t h.1 i) (next (expr_seen r h.2 i) end)))
+        λ i. node 11 (next (expr_seen l h.0 i) (next (position_seen kinds.PlusPlus (codes "++") t h.1 i) (next (expr_seen r h.2 i) end)))
     expr_seen (tree.Join l t r) h =
-        λ i. node 9 (next (present_key (expr_seen l h.0 i)) (next (spot_seen kinds.Slash (codes "/") t h.1 i) (next (expr_seen r h.2 i) end)))
-    expr_seen (tree.Root t r) h = λ i. node 9 (next absent_key (next (spot_seen kinds.Slash (codes "/") t h.0 i) (next (expr_seen r h.1 i) end)))
+        λ i. node 9 (next (present_key (expr_seen l h.0 i)) (next (position_seen kinds.Slash (codes "/") t h.1 i) (next (expr_seen r h.2 i) end)))
+    expr_seen (tree.Root t r) h = λ i. node 9 (next absent_key (next (position_seen kinds.Slash (codes "/") t h.0 i) (next (expr_seen r h.1 i) end)))
     expr_seen (tree.If c b) h = λ i. node 6 (next (expr_seen c h.0 i) (next (expr_seen b h.1 i) (next absent_key end)))
     expr_seen (tree.IfElse c b o) h = λ i. node 6 (next (expr_seen c h.0 i) (next (expr_seen b h.1 i) (next (present_key (expr_seen o h.2 i)) end)))
     expr_seen (tree.Not e) h = λ i. node 12 (next (expr_seen e h i) end)
@@ -146,14 +146,14 @@ module _ (expander : Expansions) where
     expr_seen (tree.Backtick t) h =
         λ i. node 2 (next (leaf (text (or_empty (tokens.cooked (literals.Command t))))) (next (leaf (token (record { kind = h i; lexeme = t.lexeme }))) end))
     expr_seen (tree.Assert name c) h =
-        λ i. node 1 (next (expr_seen c h.1 i) (next absent_key (next (spot_seen kinds.Identifier (codes "assert") name h.0 i) end)))
+        λ i. node 1 (next (expr_seen c h.1 i) (next absent_key (next (position_seen kinds.Identifier (codes "assert") name h.0 i) end)))
     expr_seen (tree.AssertMessage name c m) h =
-        λ i. node 1 (next (expr_seen c h.1 i) (next (present_key (expr_seen m h.2 i)) (next (spot_seen kinds.Identifier (codes "assert") name h.0 i) end)))
+        λ i. node 1 (next (expr_seen c h.1 i) (next (present_key (expr_seen m h.2 i)) (next (position_seen kinds.Identifier (codes "assert") name h.0 i) end)))
     expr_seen (tree.Variable name) h = λ i. node 15 (next (name_seen name h i) (next (leaf unseen) end))
     expr_seen (tree.Call name arguments) h = λ i. node 3 (next (name_seen name h.0 i) (next (row (exprs_seen arguments h.1 i)) end))
     expr_seen (tree.Group e) h = λ i. node 8 (next (expr_seen e h i) end)
     expr_seen (tree.ListOf opener elements) h =
-        λ i. node 10 (next (row (exprs_seen elements h.1 i)) (next (spot_seen kinds.BracketL (codes "[") opener h.0 i) end))
+        λ i. node 10 (next (row (exprs_seen elements h.1 i)) (next (position_seen kinds.BracketL (codes "[") opener h.0 i) end))
 
     exprs_seen : (es : Exprs Tok Tok) → KindedExprs es → exprs_keys tokens es ≡ exprs_keys lexemes (over_exprs lexeme nothing es)
     exprs_seen tree.none h = refl
@@ -236,18 +236,18 @@ module _ (expander : Expansions) where
   own_name_seen : (word : List ℕ) (o : OptionName Tok Tok) → KindedOption word o
       → own_name_key tokens word o ≡ own_name_key lexemes word (over_option lexeme nothing o)
   own_name_seen word tree.NoOption h = refl
-  own_name_seen word (tree.OwnName key) h = ap present_key (spot_seen kinds.Identifier word key h)
+  own_name_seen word (tree.OwnName key) h = ap present_key (position_seen kinds.Identifier word key h)
   own_name_seen word (tree.Named q) h = refl
 
   bare_seen : (word : List ℕ) (o : Option Tok) → KindedBare word o
       → option_key (word_key tokens word) o ≡ option_key (word_key lexemes word) (option_map nothing o)
   bare_seen word None h = refl
-  bare_seen word (Some key) h = ap present_key (spot_seen kinds.Identifier word key h)
+  bare_seen word (Some key) h = ap present_key (position_seen kinds.Identifier word key h)
 
   property_seen : (word : List ℕ) (o : Option (Property Tok Tok)) → KindedProperty word o
       → option_key (property_key tokens word) o ≡ option_key (property_key lexemes word) (option_map (over_property lexeme nothing) o)
   property_seen word None h = refl
-  property_seen word (Some p) h = λ i. present_key (row (next (spot_seen kinds.Identifier word p.key h.0 i) (next (expr_seen p.value h.1 i) end)))
+  property_seen word (Some p) h = λ i. present_key (row (next (position_seen kinds.Identifier word p.key h.0 i) (next (expr_seen p.value h.1 i) end)))
 
   number_seen : (o : Option (Bound Tok)) → bound_number_key tokens o ≡ bound_number_key lexemes (option_map (over_bound lexeme nothing) o)
   number_seen None = refl
@@ -256,7 +256,7 @@ module _ (expander : Expansions) where
   bound_seen : (word : List ℕ) (o : Option (Bound Tok)) → KindedBound word o
       → bound_word_key tokens word o ≡ bound_word_key lexemes word (option_map (over_bound lexeme nothing) o)
   bound_seen word None h = refl
-  bound_seen word (Some b) h = ap present_key (spot_seen kinds.Identifier word b.key h)
+  bound_seen word (Some b) h = ap present_key (position_seen kinds.Identifier word b.key h)
 
   value_seen : (o : Option (Expr Tok Tok)) → KindedValue o
       → option_key (expr_key tokens) o ≡ option_key (expr_key lexemes) (option_map (over_expr lexeme nothing) o)

@@ -2,10 +2,10 @@
 use Rattle.std.proofs.Common.{◌≡◌, ◌∙◌, ℕ, Bool, true, false, cond, List, [], ◌∷◌, ◌++◌, map, Option, Some, None, refl, ap}
 use Rattle.std.specs.List.{AllByRecursion}
 use Rattle.std.specs.Option.{option_map}
-use Rattle.justfile_word.specs.Indentation.{indentation_refusal}
-use Rattle.justfile_base.specs.StringKind.{kind_of}
-use Rattle.justfile_word.specs.declared.keyword.Keyword.{Keyword}
-use Rattle.justfile_word.specs.declared.keyword.Keyword.TheVariants as words
+use Rattle.justfile_vocabulary.specs.Indentation.{indentation_refusal}
+use Rattle.justfile_token.specs.StringKind.{kind_of}
+use Rattle.justfile_vocabulary.specs.declared.keyword.Keyword.{Keyword}
+use Rattle.justfile_vocabulary.specs.declared.keyword.Keyword.TheVariants as words
 use Rattle.justfile_model.specs.AttributeRules.{of_some}
 use Rattle.justfile_model.specs.Conditions.{VersionNumbers}
 use Rattle.justfile_model.specs.ContentLeaf.{LiteralContent}
@@ -15,13 +15,13 @@ use Rattle.justfile_model.specs.Meaning.{quoted_text}
 use Rattle.justfile_model.specs.Rules.{Broken, InvalidIndentation, InvalidMinimumVersion, MinimumVersion, SettingExpression, broken_if, over_broken}
 use Rattle.justfile_model.specs.SettingRules.{literal_broken, plain_literal, setting_broken, text_broken, value_broken, version_broken}
 use Rattle.justfile_model.specs.Settings.{ExpressionForm, InterpreterForm, PlainForm, SettingForm, TruthForm, setting_form}
-use Rattle.justfile_model.specs.Sight.{Sight}
+use Rattle.justfile_model.specs.LeafView.{LeafView}
 use Rattle.justfile_model.specs.Tree as tree
 use Rattle.justfile_model.specs.Tree.{Expr, Quoted, SettingParts, SettingValue, over_expr, over_quoted, over_setting, over_setting_value}
 use Rattle.justfile_model.specs.Versions.{is_above, version_of}
 use Rattle.justfile_model.proofs.SameRecipes.{with_texts}
-use Rattle.justfile_model.proofs.Sees.{Sees, text_over}
-use Rattle.justfile_model.proofs.SeesRules.{also_over}
+use Rattle.justfile_model.proofs.SameView.{SameView, text_over}
+use Rattle.justfile_model.proofs.SameViewRules.{also_over}
 
 module _ {B D : Type 0} (current : VersionNumbers) (g : B → D) where
   version_over : (place : B) (text : List ℕ) (o : Option VersionNumbers)
@@ -44,10 +44,10 @@ module _ {B D : Type 0} (current : VersionNumbers) (g : B → D) where
   text_broken_over words.MinimumVersion place text = version_over place text (version_of text)
   text_broken_over _ place text = refl
 
-module _ {A B C D : Type 0} (current : VersionNumbers) {f : A → C} {g : B → D} {sight : Sight A B} {other : Sight C D} (sees : Sees f g sight other) where
-  plain_over : (e : Expr A B) → plain_literal current other (over_expr f g e) ≡ option_map (over_quoted f g) (plain_literal current sight e)
+module _ {A B C D : Type 0} (current : VersionNumbers) {f : A → C} {g : B → D} {view : LeafView A B} {other : LeafView C D} (sees : SameView f g view other) where
+  plain_over : (e : Expr A B) → plain_literal current other (over_expr f g e) ≡ option_map (over_quoted f g) (plain_literal current view e)
   plain_over (tree.StringLiteral false token) =
-      ap (λ bytes. cond (kind_of bytes).indented None (Some (record { expanded = false; token = f token }))) (sees.bytes token) ∙ within (kind_of (sight.bytes token)).indented
+      ap (λ bytes. cond (kind_of bytes).indented None (Some (record { expanded = false; token = f token }))) (sees.bytes token) ∙ within (kind_of (view.bytes token)).indented
     where
       within : (b : Bool) → cond b None (Some (record { expanded = false; token = f token }))
           ≡ option_map (over_quoted f g) (cond b None (Some (record { expanded = false; token = token })))
@@ -57,49 +57,49 @@ module _ {A B C D : Type 0} (current : VersionNumbers) {f : A → C} {g : B → 
 
   literal_broken_over : (keyword : Keyword) (name : A) (o : Option (Quoted A))
       → literal_broken current other keyword (other.place (f name)) (option_map (over_quoted f g) o)
-      ≡ map (over_broken g) (literal_broken current sight keyword (sight.place name) o)
+      ≡ map (over_broken g) (literal_broken current view keyword (view.place name) o)
   literal_broken_over keyword name None = ap (broken_if true (SettingExpression keyword)) (sees.place name)
   literal_broken_over keyword name (Some q) =
       ap (λ place. of_some (text_broken current keyword place) (quoted_text other (over_quoted f g q))) (sees.place q.token)
-      ∙ also_over (over_broken g) (text_broken current keyword (sight.place q.token)) (text_broken current keyword (g (sight.place q.token)))
-      (quoted_text sight q) (quoted_text other (over_quoted f g q)) (text_over sees q) (text_broken_over current g keyword (sight.place q.token))
+      ∙ also_over (over_broken g) (text_broken current keyword (view.place q.token)) (text_broken current keyword (g (view.place q.token)))
+      (quoted_text view q) (quoted_text other (over_quoted f g q)) (text_over sees q) (text_broken_over current g keyword (view.place q.token))
 
   value_broken_over : (form : Option SettingForm) (keyword : Keyword) (name : A) (value : SettingValue A B)
       → value_broken current other form keyword (other.place (f name)) (over_setting_value f g value)
-      ≡ map (over_broken g) (value_broken current sight form keyword (sight.place name) value)
+      ≡ map (over_broken g) (value_broken current view form keyword (view.place name) value)
   value_broken_over None keyword name value = refl
   value_broken_over (Some TruthForm) keyword name value = refl
   value_broken_over (Some ExpressionForm) keyword name value = refl
   value_broken_over (Some InterpreterForm) keyword name value = refl
   value_broken_over (Some PlainForm) keyword name (tree.Truth value) = refl
   value_broken_over (Some PlainForm) keyword name (tree.Value e) =
-      ap (literal_broken current other keyword (other.place (f name))) (plain_over e) ∙ literal_broken_over keyword name (plain_literal current sight e)
+      ap (literal_broken current other keyword (other.place (f name))) (plain_over e) ∙ literal_broken_over keyword name (plain_literal current view e)
   value_broken_over (Some PlainForm) keyword name (tree.Interpreter command arguments) = refl
 
   -- a setting breaks the same rules over other leaves
   pub setting_broken_over : (parts : SettingParts A B)
-      → setting_broken current other (over_setting f g parts) ≡ map (over_broken g) (setting_broken current sight parts)
+      → setting_broken current other (over_setting f g parts) ≡ map (over_broken g) (setting_broken current view parts)
   setting_broken_over parts = value_broken_over (setting_form parts.keyword) parts.keyword parts.name parts.value
 
-module _ {A B : Type 0} (current : VersionNumbers) (sight : Sight A B) (cooked : Literal A → Option (List ℕ)) (content : Literal A → LiteralContent) where
-  abbrev other : Sight A B
-  other = with_texts sight cooked content
+module _ {A B : Type 0} (current : VersionNumbers) (view : LeafView A B) (cooked : Literal A → Option (List ℕ)) (content : Literal A → LiteralContent) where
+  abbrev other : LeafView A B
+  other = with_texts view cooked content
 
   abbrev Agreed : Literal A → Type 0
-  Agreed l = sight.cooked l ≡ cooked l
+  Agreed l = view.cooked l ≡ cooked l
 
   plain_same : (keyword : Keyword) (name : B) (e : Expr A B) → AllByRecursion Agreed (setting_literals (tree.Value e))
-      → literal_broken current sight keyword name (plain_literal current sight e) ≡ literal_broken current other keyword name (plain_literal current other e)
-  plain_same keyword name (tree.StringLiteral false token) agreed = within (kind_of (sight.bytes token)).indented
+      → literal_broken current view keyword name (plain_literal current view e) ≡ literal_broken current other keyword name (plain_literal current other e)
+  plain_same keyword name (tree.StringLiteral false token) agreed = within (kind_of (view.bytes token)).indented
     where
-      within : (b : Bool) → literal_broken current sight keyword name (cond b None (Some (record { expanded = false; token = token })))
+      within : (b : Bool) → literal_broken current view keyword name (cond b None (Some (record { expanded = false; token = token })))
           ≡ literal_broken current other keyword name (cond b None (Some (record { expanded = false; token = token })))
       within true = refl
-      within false = ap (of_some (text_broken current keyword (sight.place token))) agreed.0
+      within false = ap (of_some (text_broken current keyword (view.place token))) agreed.0
   plain_same keyword name _ agreed = refl
 
   value_same : (form : Option SettingForm) (keyword : Keyword) (name : B) (value : SettingValue A B) → AllByRecursion Agreed (setting_literals value)
-      → value_broken current sight form keyword name value ≡ value_broken current other form keyword name value
+      → value_broken current view form keyword name value ≡ value_broken current other form keyword name value
   value_same None keyword name value agreed = refl
   value_same (Some TruthForm) keyword name value agreed = refl
   value_same (Some ExpressionForm) keyword name value agreed = refl
@@ -110,5 +110,5 @@ module _ {A B : Type 0} (current : VersionNumbers) (sight : Sight A B) (cooked :
 
   -- a setting breaks the same rules where its literals have the same texts
   pub setting_broken_same : (parts : SettingParts A B) → AllByRecursion Agreed (setting_literals parts.value)
-      → setting_broken current sight parts ≡ setting_broken current other parts
-  setting_broken_same parts agreed = value_same (setting_form parts.keyword) parts.keyword (sight.place parts.name) parts.value agreed
+      → setting_broken current view parts ≡ setting_broken current other parts
+  setting_broken_same parts agreed = value_same (setting_form parts.keyword) parts.keyword (view.place parts.name) parts.value agreed

@@ -5,21 +5,21 @@ use Rattle.std.specs.List.{AllByRecursion, starts_with}
 use Rattle.std.specs.Str.{bytes_eq}
 use Rattle.std.proofs.lemmas.Bool.Decides.{Decides-eqb}
 use Rattle.std.proofs.lemmas.List.{reverse-append, reverse-reverse}
-use Rattle.justfile_word.specs.declared.byte_class.ByteClass.{ByteClass}
-use Rattle.justfile_word.specs.declared.byte_class.ByteClass.TheVariants as classes
-use Rattle.justfile_base.specs.declared.delimiter.Delimiter.{Delimiter}
-use Rattle.justfile_base.specs.declared.delimiter.Delimiter.TheVariants.{Brace, Bracket, Paren}
-use Rattle.justfile_base.specs.declared.string_kind.StringDelimiter.{StringDelimiter}
-use Rattle.justfile_base.specs.declared.string_kind.StringDelimiter.TheVariants as delimiters
-use Rattle.justfile_base.specs.declared.string_kind.StringKind.{StringKind}
-use Rattle.justfile_word.specs.declared.token_kind.TokenKind.{TokenKind}
-use Rattle.justfile_word.specs.declared.token_kind.TokenKind.TheVariants as kinds
-use Rattle.justfile_base.specs.StringKind.{delimiter_len, kind_of, token_kind_of}
+use Rattle.justfile_vocabulary.specs.declared.byte_class.ByteClass.{ByteClass}
+use Rattle.justfile_vocabulary.specs.declared.byte_class.ByteClass.TheVariants as classes
+use Rattle.justfile_token.specs.declared.delimiter.Delimiter.{Delimiter}
+use Rattle.justfile_token.specs.declared.delimiter.Delimiter.TheVariants.{Brace, Bracket, Paren}
+use Rattle.justfile_token.specs.declared.string_kind.StringDelimiter.{StringDelimiter}
+use Rattle.justfile_token.specs.declared.string_kind.StringDelimiter.TheVariants as delimiters
+use Rattle.justfile_token.specs.declared.string_kind.StringKind.{StringKind}
+use Rattle.justfile_vocabulary.specs.declared.token_kind.TokenKind.{TokenKind}
+use Rattle.justfile_vocabulary.specs.declared.token_kind.TokenKind.TheVariants as kinds
+use Rattle.justfile_token.specs.StringKind.{delimiter_len, kind_of, token_kind_of}
 use Rattle.justfile_model.specs.declared.open_delimiter.OpenDelimiter.{OpenDelimiter}
 use Rattle.justfile_model.specs.declared.raw_text.RawText.TheVariants as raw_texts
 use Rattle.justfile_model.specs.Bytes.{is_interpolation_start, is_interpolation_end, is_mixed, closes_levels, first_char}
 use Rattle.justfile_model.specs.LiteralText.{raw_len}
-use Rattle.justfile_model.specs.LexicalFault.{LexicalRefusal}
+use Rattle.justfile_model.specs.LexicalFault.{LexicalError}
 use Rattle.justfile_model.specs.Lexed.{end_of, IsNext, Begins, Lexed}
 use Rattle.justfile_model.specs.Tok.{Tok}
 use Rattle.justfile_model.specs.SignificantTokens.{AllSpelled, is_whitespace, significant_from, significant_tokens, Spelling}
@@ -53,7 +53,7 @@ module _ (m : Mode) (rest : List ℕ) where
   any : (k : TokenKind) (n : ℕ) → Spelling k (take n rest) → Spells rest (Ok (k, n))
   any k n h = record { spells = h }
 
-  refused : {r : LexicalRefusal} → Spells rest (Err r)
+  refused : {r : LexicalError} → Spells rest (Err r)
   refused = record { spells = tt }
 
   twice_spells : (b : ℕ) (k : TokenKind) → Spelling k (take 2 rest) → Spells rest (doubled_token b k rest)

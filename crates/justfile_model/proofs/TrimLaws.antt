@@ -21,13 +21,13 @@ stays c cs P f g = by (is_whitespace c && eqb (length (drop_trailing_whitespace 
     by false e = g e
 
 -- what stood before the white space that was dropped
-pub record Kept (cs ds : List ℕ) : Type 0 where
+pub record TrimmedTo (cs ds : List ℕ) : Type 0 where
   pub dropped : List ℕ
   pub is : cs ≡ ds ++ dropped
 
-pub kept : (cs : List ℕ) → Kept cs (drop_trailing_whitespace cs)
+pub kept : (cs : List ℕ) → TrimmedTo cs (drop_trailing_whitespace cs)
 kept [] = record { dropped = []; is = refl }
-kept (c ∷ cs) = stays c cs (Kept (c ∷ cs)) (record { dropped = c ∷ cs; is = refl }) (λ e. record { dropped = (kept cs).dropped; is = ap (λ l. c ∷ l) (kept cs).is })
+kept (c ∷ cs) = stays c cs (TrimmedTo (c ∷ cs)) (record { dropped = c ∷ cs; is = refl }) (λ e. record { dropped = (kept cs).dropped; is = ap (λ l. c ∷ l) (kept cs).is })
 
 pub kept_scalars : (cs : List ℕ) → scalars cs ≡ true → scalars (drop_trailing_whitespace cs) ≡ true
 kept_scalars [] h = refl

@@ -2,8 +2,8 @@
 use Rattle.std.proofs.Common.{◌≡◌, ℕ, Bool, true, false, ◌||◌, List, [], ◌∷◌, Option, Some, None, codes, refl, sym, ap, ◌∙◌, ◌⊎◌, inl, inr}
 use Rattle.std.proofs.lemmas.Slice.Eq.{bytes_eq-Decides}
 use Rattle.std.specs.Str.{bytes_eq}
-use Rattle.justfile_word.specs.declared.token_kind.TokenKind.{TokenKind}
-use Rattle.justfile_word.specs.declared.token_kind.TokenKind.TheVariants as kinds
+use Rattle.justfile_vocabulary.specs.declared.token_kind.TokenKind.{TokenKind}
+use Rattle.justfile_vocabulary.specs.declared.token_kind.TokenKind.TheVariants as kinds
 use Rattle.justfile_model.specs.Conditions.{Conditions}
 use Rattle.justfile_model.specs.Expressions.{Tokens, IsKind, IsWord, NotNext, NotWord}
 use Rattle.justfile_model.specs.Features.{Noted}
@@ -14,7 +14,7 @@ use Rattle.justfile_model.specs.ItemParts.{EndsLine, FilePath}
 use Rattle.justfile_model.specs.PartReader as r
 use Rattle.justfile_model.specs.ReadAttribute.{ReadAttribute}
 use Rattle.justfile_model.specs.Reader.{alias, any_module, assignment, content, import, setting, unexport, wordless}
-use Rattle.justfile_model.specs.Reading.{Counters, accept_word}
+use Rattle.justfile_model.specs.ReaderState.{Counters, accept_construct_keyword}
 use Rattle.justfile_model.specs.SignificantTokens.{SignificantToken}
 use Rattle.justfile_model.specs.Tok.{Tok}
 use Rattle.justfile_model.specs.Tree.{Expr, Parameter, Quoted}
@@ -44,8 +44,8 @@ head_not kind a b c d e f (by_star is) k = d (sym k ∙ is)
 head_not kind a b c d e f (by_colon is) k = e (sym k ∙ is)
 head_not kind a b c d e f (by_equals is) k = f (sym k ∙ is)
 
-module _ {A B : Type 0} (leaf : Tok → A) (spot : Tok → B) (Open : ℕ → Option SignificantToken → Type 0) where
-  parameters_head : {ps : List (Parameter A B)} {fs : List (Noted B)} {ts rest : Tokens} → Parameters leaf spot Open ps fs ts rest → Head ts
+module _ {A B : Type 0} (leaf : Tok → A) (position : Tok → B) (MayEnter : ℕ → Option SignificantToken → Type 0) where
+  parameters_head : {ps : List (Parameter A B)} {fs : List (Noted B)} {ts rest : Tokens} → Parameters leaf position MayEnter ps fs ts rest → Head ts
   parameters_head (g.none kind) = by_colon kind
   parameters_head (g.more (g.exported kind p) others) = by_dollar kind
   parameters_head (g.more (g.unexported (g.required kind n)) others) = by_name kind
@@ -54,7 +54,7 @@ module _ {A B : Type 0} (leaf : Tok → A) (spot : Tok → B) (Open : ℕ → Op
   parameters_head (g.star kind p kind2) = by_star kind
 
   -- after a name
-  second_head : {ps : List (Parameter A B)} {fs : List (Noted B)} {t : SignificantToken} {ts rest : Tokens} → Parameters leaf spot Open ps fs (t ∷ ts) rest
+  second_head : {ps : List (Parameter A B)} {fs : List (Noted B)} {t : SignificantToken} {ts rest : Tokens} → Parameters leaf position MayEnter ps fs (t ∷ ts) rest
       → IsKind kinds.Identifier t → Head ts
   second_head (g.none kind) k = cc
   second_head (g.more (g.exported kind p) others) k = cc
@@ -64,7 +64,7 @@ module _ {A B : Type 0} (leaf : Tok → A) (spot : Tok → B) (Open : ℕ → Op
   second_head (g.star kind p kind2) k = cc
 
   -- after two names
-  third_head : {ps : List (Parameter A B)} {fs : List (Noted B)} {t u : SignificantToken} {ts rest : Tokens} → Parameters leaf spot Open ps fs (t ∷ u ∷ ts) rest
+  third_head : {ps : List (Parameter A B)} {fs : List (Noted B)} {t u : SignificantToken} {ts rest : Tokens} → Parameters leaf position MayEnter ps fs (t ∷ u ∷ ts) rest
       → IsKind kinds.Identifier t → IsKind kinds.Identifier u → Head ts
   third_head (g.none kind) k l = cc
   third_head (g.more (g.exported kind p) others) k l = cc
@@ -100,10 +100,10 @@ another_follows t ts name mark string called = record {
   called = λ h. called h.0;
 }
 
-module _ {A B : Type 0} (leaf : Tok → A) (spot : Tok → B) (Open : ℕ → Option SignificantToken → Type 0) where
+module _ {A B : Type 0} (leaf : Tok → A) (position : Tok → B) (MayEnter : ℕ → Option SignificantToken → Type 0) where
   -- parameters go with no word
-  pub parameters_follow : {ps : List (Parameter A B)} {fs : List (Noted B)} (ts : Tokens) {rest : Tokens} → Parameters leaf spot Open ps fs ts rest → NoneFollows ts
-  parameters_follow [] ps = absurd (nothing (parameters_head leaf spot Open ps))
+  pub parameters_follow : {ps : List (Parameter A B)} {fs : List (Noted B)} (ts : Tokens) {rest : Tokens} → Parameters leaf position MayEnter ps fs ts rest → NoneFollows ts
+  parameters_follow [] ps = absurd (nothing (parameters_head leaf position MayEnter ps))
     where
       nothing : Head [] → ⊥
       nothing h = elim h [ ]
@@ -112,25 +112,25 @@ module _ {A B : Type 0} (leaf : Tok → A) (spot : Tok → B) (Open : ℕ → Op
     comment = second kinds.Comment (λ e. cc) (λ e. cc) (λ e. cc) (λ e. cc) (λ e. cc) (λ e. cc);
     line_end = second kinds.Eol (λ e. cc) (λ e. cc) (λ e. cc) (λ e. cc) (λ e. cc) (λ e. cc);
     file_end = second kinds.Eof (λ e. cc) (λ e. cc) (λ e. cc) (λ e. cc) (λ e. cc) (λ e. cc);
-    mark = λ h. head_not kinds.QuestionMark (λ e. cc) (λ e. cc) (λ e. cc) (λ e. cc) (λ e. cc) (λ e. cc) (parameters_head leaf spot Open ps) h.0;
-    string = λ h. head_not kinds.StringToken (λ e. cc) (λ e. cc) (λ e. cc) (λ e. cc) (λ e. cc) (λ e. cc) (parameters_head leaf spot Open ps) h.0;
+    mark = λ h. head_not kinds.QuestionMark (λ e. cc) (λ e. cc) (λ e. cc) (λ e. cc) (λ e. cc) (λ e. cc) (parameters_head leaf position MayEnter ps) h.0;
+    string = λ h. head_not kinds.StringToken (λ e. cc) (λ e. cc) (λ e. cc) (λ e. cc) (λ e. cc) (λ e. cc) (parameters_head leaf position MayEnter ps) h.0;
     named = second kinds.StringToken (λ e. cc) (λ e. cc) (λ e. cc) (λ e. cc) (λ e. cc) (λ e. cc);
     twice = third ts ps;
-    called = λ h. head_not kinds.ParenL (λ e. cc) (λ e. cc) (λ e. cc) (λ e. cc) (λ e. cc) (λ e. cc) (parameters_head leaf spot Open ps) h.0;
+    called = λ h. head_not kinds.ParenL (λ e. cc) (λ e. cc) (λ e. cc) (λ e. cc) (λ e. cc) (λ e. cc) (parameters_head leaf position MayEnter ps) h.0;
   }
     where
       second : (kind : TokenKind) → (kind ≡ kinds.Identifier → ⊥) → (kind ≡ kinds.Dollar → ⊥) → (kind ≡ kinds.Plus → ⊥) → (kind ≡ kinds.Asterisk → ⊥)
           → (kind ≡ kinds.Colon → ⊥) → (kind ≡ kinds.Equals → ⊥) → AreNext (kinds.Identifier ∷ kind ∷ []) (t ∷ ts) → ⊥
-      second kind a b c d e f h = at ts (second_head leaf spot Open ps h.0) h.1
+      second kind a b c d e f h = at ts (second_head leaf position MayEnter ps h.0) h.1
         where
           at : (us : Tokens) → Head us → AreNext (kind ∷ []) us → ⊥
           at [] x y = absurd y
           at (u ∷ us) x y = head_not kind a b c d e f x y.0
 
-      third : (us : Tokens) → Parameters leaf spot Open all fs (t ∷ us) rest → AreNext (kinds.Identifier ∷ kinds.Identifier ∷ kinds.StringToken ∷ []) (t ∷ us) → ⊥
+      third : (us : Tokens) → Parameters leaf position MayEnter all fs (t ∷ us) rest → AreNext (kinds.Identifier ∷ kinds.Identifier ∷ kinds.StringToken ∷ []) (t ∷ us) → ⊥
       third [] p h = absurd h.1
       third (u ∷ []) p h = absurd h.1.1
-      third (u ∷ v ∷ us) p h = head_not kinds.StringToken (λ e. cc) (λ e. cc) (λ e. cc) (λ e. cc) (λ e. cc) (λ e. cc) (third_head leaf spot Open p h.0 h.1.0) h.1.1.0
+      third (u ∷ v ∷ us) p h = head_not kinds.StringToken (λ e. cc) (λ e. cc) (λ e. cc) (λ e. cc) (λ e. cc) (λ e. cc) (third_head leaf position MayEnter p h.0 h.1.0) h.1.1.0
 
 -- ---- the tests
 
@@ -157,11 +157,11 @@ module _ (conditions : Conditions) (ns : List (Noted Tok)) where
   or_true false = refl
 
   pub assigned_taken : (name operator : SignificantToken) (ts : Tokens) → IsKind kinds.Identifier name → IsKind kinds.ColonEquals operator
-      → r.is_assigned token_leaves (here (name ∷ operator ∷ ts)) ≡ true
+      → r.peek_assignment token_leaves (here (name ∷ operator ∷ ts)) ≡ true
   assigned_taken name operator ts kind kind2 = next_taken (kinds.Identifier ∷ kinds.ColonEquals ∷ []) (here (name ∷ operator ∷ ts)) (kind, (kind2, tt))
 
   module _ (ts : Tokens) (none : NoneFollows ts) where
-    assigned_left : r.is_assigned token_leaves (here ts) ≡ false
+    assigned_left : r.peek_assignment token_leaves (here ts) ≡ false
     assigned_left = next_left (kinds.Identifier ∷ kinds.ColonEquals ∷ []) (here ts) none.assigned
 
     line_left : r.line_is token_leaves (kinds.Identifier ∷ []) (here ts) ≡ false
@@ -196,28 +196,28 @@ module _ (conditions : Conditions) (ns : List (Noted Tok)) where
 
   -- the word that comes next, before what goes with it
   word_met : (word : List ℕ) (follows : State → Bool) (t : SignificantToken) (ts : Tokens) → IsWord word t → follows (here ts) ≡ true
-      → r.accept_before token_leaves word follows (here (t ∷ ts)) ≡ Some (t, here ts)
-  unfolding r.accept_before
+      → r.accept_keyword_before token_leaves word follows (here (t ∷ ts)) ≡ Some (t, here ts)
+  unfolding r.accept_keyword_before
   word_met word follows t ts is h = rw (word_taken word t ts conditions 0 ns is, h) refl
 
   -- another word
   other_word : (word other : List ℕ) (follows : State → Bool) (t : SignificantToken) (ts : Tokens) → IsWord word t → bytes_eq word other ≡ false
-      → r.accept_before token_leaves other follows (here (t ∷ ts)) ≡ None
-  unfolding r.accept_before
+      → r.accept_keyword_before token_leaves other follows (here (t ∷ ts)) ≡ None
+  unfolding r.accept_keyword_before
   other_word word other follows t ts is apart =
       rw (word_left other (t ∷ ts) conditions 0 ns (λ w. true_not_false (bytes_eq word other) ((bytes_eq-Decides word other).1 (sym is.spelled ∙ w.spelled)) apart)) refl
 
   -- a token that is no name
   no_name : (word : List ℕ) (follows : State → Bool) (t : SignificantToken) (ts : Tokens) → (IsKind kinds.Identifier t → ⊥)
-      → r.accept_before token_leaves word follows (here (t ∷ ts)) ≡ None
-  unfolding r.accept_before
+      → r.accept_keyword_before token_leaves word follows (here (t ∷ ts)) ≡ None
+  unfolding r.accept_keyword_before
   no_name word follows t ts n = rw (word_left word (t ∷ ts) conditions 0 ns (λ w. n w.is_name)) refl
 
   -- a name before what does not go with the word
   unfollowed : (word : List ℕ) (follows : State → Bool) (t : SignificantToken) (ts : Tokens) → follows (here ts) ≡ false
-      → r.accept_before token_leaves word follows (here (t ∷ ts)) ≡ None
-  unfolding r.accept_before
-  unfollowed word follows t ts h = go (accept_word token_leaves word (here (t ∷ ts))) (after_word word (here (t ∷ ts)) IsFirst (λ _. tt) (λ u us split is. followed u us split))
+      → r.accept_keyword_before token_leaves word follows (here (t ∷ ts)) ≡ None
+  unfolding r.accept_keyword_before
+  unfollowed word follows t ts h = go (accept_construct_keyword token_leaves word (here (t ∷ ts))) (after_word word (here (t ∷ ts)) IsFirst (λ _. tt) (λ u us split is. followed u us split))
     where
       -- what was taken is the first token
       IsFirst : Taken → Type 0
@@ -239,25 +239,25 @@ module _ (conditions : Conditions) (ns : List (Noted Tok)) where
     unfolding content
     no_word_read t ts not =
         rw (
-          no_name (codes "alias") (r.is_assigned token_leaves) t ts not,
-          no_name (codes "eager") (r.is_assigned token_leaves) t ts not,
-          no_name (codes "export") (r.is_assigned token_leaves) t ts not,
+          no_name (codes "alias") (r.peek_assignment token_leaves) t ts not,
+          no_name (codes "eager") (r.peek_assignment token_leaves) t ts not,
+          no_name (codes "export") (r.peek_assignment token_leaves) t ts not,
           no_name (codes "unexport") (r.line_is token_leaves (kinds.Identifier ∷ [])) t ts not,
           no_name (codes "import") (r.is_imported token_leaves) t ts not,
           no_name (codes "mod") (r.is_module token_leaves) t ts not,
           no_name (codes "set") (r.is_set token_leaves) t ts not,
         ) refl
 
-    pub wordless_read : (t : SignificantToken) (ts : Tokens) → r.is_assigned token_leaves (here ts) ≡ false
+    pub wordless_read : (t : SignificantToken) (ts : Tokens) → r.peek_assignment token_leaves (here ts) ≡ false
         → r.line_is token_leaves (kinds.Identifier ∷ []) (here ts) ≡ false → r.is_imported token_leaves (here ts) ≡ false
         → r.is_module token_leaves (here ts) ≡ false → r.is_set token_leaves (here ts) ≡ false
         → content token_leaves token_attributes xs n (here (t ∷ ts)) ≡ wordless token_leaves token_attributes xs n (here (t ∷ ts))
     unfolding content
     wordless_read t ts a l i m s =
         rw (
-          unfollowed (codes "alias") (r.is_assigned token_leaves) t ts a,
-          unfollowed (codes "eager") (r.is_assigned token_leaves) t ts a,
-          unfollowed (codes "export") (r.is_assigned token_leaves) t ts a,
+          unfollowed (codes "alias") (r.peek_assignment token_leaves) t ts a,
+          unfollowed (codes "eager") (r.peek_assignment token_leaves) t ts a,
+          unfollowed (codes "export") (r.peek_assignment token_leaves) t ts a,
           unfollowed (codes "unexport") (r.line_is token_leaves (kinds.Identifier ∷ [])) t ts l,
           unfollowed (codes "import") (r.is_imported token_leaves) t ts i,
           unfollowed (codes "mod") (r.is_module token_leaves) t ts m,
@@ -268,28 +268,28 @@ module _ (conditions : Conditions) (ns : List (Noted Tok)) where
         → content token_leaves token_attributes xs n (here (t ∷ ts)) ≡ wordless token_leaves token_attributes xs n (here (t ∷ ts))
     none_read t ts none = wordless_read t ts (assigned_left ts none) (line_left ts none) (imported_left ts none) (module_left ts none) (set_left ts none)
 
-    pub alias_read : (t : SignificantToken) (ts : Tokens) → IsWord (codes "alias") t → r.is_assigned token_leaves (here ts) ≡ true
+    pub alias_read : (t : SignificantToken) (ts : Tokens) → IsWord (codes "alias") t → r.peek_assignment token_leaves (here ts) ≡ true
         → content token_leaves token_attributes xs n (here (t ∷ ts)) ≡ alias token_leaves token_attributes xs n (here ts)
     unfolding content
-    alias_read t ts is h = rw (word_met (codes "alias") (r.is_assigned token_leaves) t ts is h) refl
+    alias_read t ts is h = rw (word_met (codes "alias") (r.peek_assignment token_leaves) t ts is h) refl
 
-    pub eager_read : (t : SignificantToken) (ts : Tokens) → IsWord (codes "eager") t → r.is_assigned token_leaves (here ts) ≡ true
+    pub eager_read : (t : SignificantToken) (ts : Tokens) → IsWord (codes "eager") t → r.peek_assignment token_leaves (here ts) ≡ true
         → content token_leaves token_attributes xs n (here (t ∷ ts)) ≡ assignment token_leaves token_attributes true false xs n (here ts)
     unfolding content
     eager_read t ts is h =
         rw (
-          other_word (codes "eager") (codes "alias") (r.is_assigned token_leaves) t ts is refl,
-          word_met (codes "eager") (r.is_assigned token_leaves) t ts is h,
+          other_word (codes "eager") (codes "alias") (r.peek_assignment token_leaves) t ts is refl,
+          word_met (codes "eager") (r.peek_assignment token_leaves) t ts is h,
         ) refl
 
-    pub export_read : (t : SignificantToken) (ts : Tokens) → IsWord (codes "export") t → r.is_assigned token_leaves (here ts) ≡ true
+    pub export_read : (t : SignificantToken) (ts : Tokens) → IsWord (codes "export") t → r.peek_assignment token_leaves (here ts) ≡ true
         → content token_leaves token_attributes xs n (here (t ∷ ts)) ≡ assignment token_leaves token_attributes false true xs n (here ts)
     unfolding content
     export_read t ts is h =
         rw (
-          other_word (codes "export") (codes "alias") (r.is_assigned token_leaves) t ts is refl,
-          other_word (codes "export") (codes "eager") (r.is_assigned token_leaves) t ts is refl,
-          word_met (codes "export") (r.is_assigned token_leaves) t ts is h,
+          other_word (codes "export") (codes "alias") (r.peek_assignment token_leaves) t ts is refl,
+          other_word (codes "export") (codes "eager") (r.peek_assignment token_leaves) t ts is refl,
+          word_met (codes "export") (r.peek_assignment token_leaves) t ts is h,
         ) refl
 
     pub unexport_read : (t : SignificantToken) (ts : Tokens) → IsWord (codes "unexport") t → r.line_is token_leaves (kinds.Identifier ∷ []) (here ts) ≡ true
@@ -297,9 +297,9 @@ module _ (conditions : Conditions) (ns : List (Noted Tok)) where
     unfolding content
     unexport_read t ts is h =
         rw (
-          other_word (codes "unexport") (codes "alias") (r.is_assigned token_leaves) t ts is refl,
-          other_word (codes "unexport") (codes "eager") (r.is_assigned token_leaves) t ts is refl,
-          other_word (codes "unexport") (codes "export") (r.is_assigned token_leaves) t ts is refl,
+          other_word (codes "unexport") (codes "alias") (r.peek_assignment token_leaves) t ts is refl,
+          other_word (codes "unexport") (codes "eager") (r.peek_assignment token_leaves) t ts is refl,
+          other_word (codes "unexport") (codes "export") (r.peek_assignment token_leaves) t ts is refl,
           word_met (codes "unexport") (r.line_is token_leaves (kinds.Identifier ∷ [])) t ts is h,
         ) refl
 
@@ -308,9 +308,9 @@ module _ (conditions : Conditions) (ns : List (Noted Tok)) where
     unfolding content
     import_read t ts is h =
         rw (
-          other_word (codes "import") (codes "alias") (r.is_assigned token_leaves) t ts is refl,
-          other_word (codes "import") (codes "eager") (r.is_assigned token_leaves) t ts is refl,
-          other_word (codes "import") (codes "export") (r.is_assigned token_leaves) t ts is refl,
+          other_word (codes "import") (codes "alias") (r.peek_assignment token_leaves) t ts is refl,
+          other_word (codes "import") (codes "eager") (r.peek_assignment token_leaves) t ts is refl,
+          other_word (codes "import") (codes "export") (r.peek_assignment token_leaves) t ts is refl,
           other_word (codes "import") (codes "unexport") (r.line_is token_leaves (kinds.Identifier ∷ [])) t ts is refl,
           word_met (codes "import") (r.is_imported token_leaves) t ts is h,
         ) refl
@@ -320,9 +320,9 @@ module _ (conditions : Conditions) (ns : List (Noted Tok)) where
     unfolding content
     module_read t ts is h =
         rw (
-          other_word (codes "mod") (codes "alias") (r.is_assigned token_leaves) t ts is refl,
-          other_word (codes "mod") (codes "eager") (r.is_assigned token_leaves) t ts is refl,
-          other_word (codes "mod") (codes "export") (r.is_assigned token_leaves) t ts is refl,
+          other_word (codes "mod") (codes "alias") (r.peek_assignment token_leaves) t ts is refl,
+          other_word (codes "mod") (codes "eager") (r.peek_assignment token_leaves) t ts is refl,
+          other_word (codes "mod") (codes "export") (r.peek_assignment token_leaves) t ts is refl,
           other_word (codes "mod") (codes "unexport") (r.line_is token_leaves (kinds.Identifier ∷ [])) t ts is refl,
           other_word (codes "mod") (codes "import") (r.is_imported token_leaves) t ts is refl,
           word_met (codes "mod") (r.is_module token_leaves) t ts is h,
@@ -333,9 +333,9 @@ module _ (conditions : Conditions) (ns : List (Noted Tok)) where
     unfolding content
     setting_read t ts is h =
         rw (
-          other_word (codes "set") (codes "alias") (r.is_assigned token_leaves) t ts is refl,
-          other_word (codes "set") (codes "eager") (r.is_assigned token_leaves) t ts is refl,
-          other_word (codes "set") (codes "export") (r.is_assigned token_leaves) t ts is refl,
+          other_word (codes "set") (codes "alias") (r.peek_assignment token_leaves) t ts is refl,
+          other_word (codes "set") (codes "eager") (r.peek_assignment token_leaves) t ts is refl,
+          other_word (codes "set") (codes "export") (r.peek_assignment token_leaves) t ts is refl,
           other_word (codes "set") (codes "unexport") (r.line_is token_leaves (kinds.Identifier ∷ [])) t ts is refl,
           other_word (codes "set") (codes "import") (r.is_imported token_leaves) t ts is refl,
           other_word (codes "set") (codes "mod") (r.is_module token_leaves) t ts is refl,

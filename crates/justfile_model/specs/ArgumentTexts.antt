@@ -3,19 +3,19 @@ use Rattle.std.specs.Prelude.{◌≡◌, true, List, Option, Some}
 use Rattle.std.specs.List.{All}
 use Rattle.std.specs.Option.{is_some}
 use Rattle.justfile_model.specs.Meaning.{KeyArgument, Placed, quoted, quoted_text}
-use Rattle.justfile_model.specs.Sight.{Sight}
+use Rattle.justfile_model.specs.LeafView.{LeafView}
 use Rattle.justfile_model.specs.Tree.{Expr, Quoted}
 
-module _ {A B : Type 0} (sight : Sight A B) where
+module _ {A B : Type 0} (view : LeafView A B) where
   -- a literal has a text
   abbrev pub HasText : Expr A B → Type 0
-  HasText e = (q : Quoted A) → quoted e ≡ Some q → is_some (quoted_text sight q) ≡ true
+  HasText e = (q : Quoted A) → quoted e ≡ Some q → is_some (quoted_text view q) ≡ true
 
-  abbrev pub GivenHasText : Option (Expr A B) → Type 0
-  GivenHasText o = (e : Expr A B) → o ≡ Some e → HasText e
+  abbrev pub ValueHasText : Option (Expr A B) → Type 0
+  ValueHasText o = (e : Expr A B) → o ≡ Some e → HasText e
 
   abbrev pub KeysHaveTexts : List (KeyArgument A B) → Type 0
-  KeysHaveTexts keys = All (λ (k : KeyArgument A B). GivenHasText k.value) keys
+  KeysHaveTexts keys = All (λ (k : KeyArgument A B). ValueHasText k.value) keys
 
   -- every literal among the arguments of an attribute has a text
   pub record HasTexts (placed : List (Placed A B)) (keys : List (KeyArgument A B)) : Type 0 where

@@ -1,12 +1,12 @@
 -- What each kind of attribute takes, and on which items it may stand.
 use Rattle.std.specs.Prelude.{ℕ, Bool, true, false, ◌||◌, List, [], ◌∷◌, Option, Some, None, codes}
 use denote.Enum.Bare.{sameb}
-use Rattle.justfile_word.specs.AttributeKind.{is_enabler_kind, kind_named, takes_keys}
-use Rattle.justfile_word.specs.contracts.attribute_kind.AttributeKind.{the_type}
-use Rattle.justfile_word.specs.declared.attribute_kind.AttributeKind.{AttributeKind}
-use Rattle.justfile_word.specs.declared.attribute_kind.AttributeKind.TheVariants.{Arg, Cache, Confirm, Continue, Doc, Env, Extension, Group, Metadata, Private, Script, Timestamp, WorkingDirectory}
-use Rattle.justfile_word.specs.declared.item_kind.ItemKind.{ItemKind}
-use Rattle.justfile_word.specs.declared.item_kind.ItemKind.TheVariants as items
+use Rattle.justfile_vocabulary.specs.AttributeKind.{is_enabler_kind, kind_named, takes_keys}
+use Rattle.justfile_vocabulary.specs.contracts.attribute_kind.AttributeKind.{the_type}
+use Rattle.justfile_vocabulary.specs.declared.attribute_kind.AttributeKind.{AttributeKind}
+use Rattle.justfile_vocabulary.specs.declared.attribute_kind.AttributeKind.TheVariants.{Arg, Cache, Confirm, Continue, Doc, Env, Extension, Group, Metadata, Private, Script, Timestamp, WorkingDirectory}
+use Rattle.justfile_vocabulary.specs.declared.item_kind.ItemKind.{ItemKind}
+use Rattle.justfile_vocabulary.specs.declared.item_kind.ItemKind.TheVariants as items
 
 -- `==` on kinds
 unfoldable pub same_attribute : AttributeKind → AttributeKind → Bool

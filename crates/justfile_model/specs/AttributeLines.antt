@@ -1,7 +1,7 @@
 -- The grammar of attributes, as `Grammar` has that of items: which significant tokens are which written attributes.
 use Rattle.std.specs.Prelude.{◌≡◌, ℕ, Bool, true, false, List, [], ◌∷◌, ◌++◌, Option, Some, None, codes}
 use Rattle.std.specs.Str.{trim_end}
-use Rattle.justfile_word.specs.declared.token_kind.TokenKind.TheVariants as kinds
+use Rattle.justfile_vocabulary.specs.declared.token_kind.TokenKind.TheVariants as kinds
 use Rattle.justfile_model.specs.AttributeKinds.{name_takes_keys}
 use Rattle.justfile_model.specs.Expressions.{Tokens, IsKind, NotNext, IsMarked, Expression}
 use Rattle.justfile_model.specs.Features.{Noted}
@@ -16,16 +16,16 @@ IsKey [] = ⊥
 IsKey (t ∷ []) = IsKind kinds.Identifier t
 IsKey (t ∷ u ∷ ts) = IsKind kinds.Identifier t × (IsMarked (codes "x") kinds.StringToken t u → ⊥)
 
-module _ {A B : Type 0} (leaf : Tok → A) (spot : Tok → B) (Open : ℕ → Option SignificantToken → Type 0) where
+module _ {A B : Type 0} (leaf : Tok → A) (position : Tok → B) (MayEnter : ℕ → Option SignificantToken → Type 0) where
   -- an argument of an attribute that takes keys or not; where it does, a name that begins one is a key
   pub data ArgumentOf : (keys : Bool) → Argument A B → List (Noted B) → Tokens → Tokens → Type 0 where
     positional : {keys : Bool} {e : Expr A B} {fs : List (Noted B)} {first : SignificantToken} {tokens rest : Tokens}
-        → (keys ≡ true → IsKey (first ∷ tokens) → ⊥) → Expression leaf spot Open false 0 e fs (first ∷ tokens) rest
-        → ArgumentOf keys (tree.Positional (spot first.tok) e) fs (first ∷ tokens) rest
+        → (keys ≡ true → IsKey (first ∷ tokens) → ⊥) → Expression leaf position MayEnter false 0 e fs (first ∷ tokens) rest
+        → ArgumentOf keys (tree.Positional (position first.tok) e) fs (first ∷ tokens) rest
     bare : {key : SignificantToken} {rest : Tokens} → IsKey (key ∷ rest) → NotNext kinds.Equals rest
         → ArgumentOf true (tree.Bare (leaf key.tok)) [] (key ∷ rest) rest
     keyed : {e : Expr A B} {fs : List (Noted B)} {key equals : SignificantToken} {tokens rest : Tokens} → IsKind kinds.Identifier key
-        → IsKind kinds.Equals equals → Expression leaf spot Open false 0 e fs tokens rest
+        → IsKind kinds.Equals equals → Expression leaf position MayEnter false 0 e fs tokens rest
         → ArgumentOf true (tree.Keyed (leaf key.tok) e) fs (key ∷ equals ∷ tokens) rest
 
   -- arguments up to the closing parenthesis and with it; a comma may stand before it
@@ -44,8 +44,8 @@ module _ {A B : Type 0} (leaf : Tok → A) (spot : Tok → B) (Open : ℕ → Op
     plain : {name : SignificantToken} {rest : Tokens} → IsKind kinds.Identifier name → NotNext kinds.Colon rest → NotNext kinds.ParenL rest
         → AttributeOf (bare_attribute (leaf name.tok) []) [] (name ∷ rest) rest
     short : {e : Expr A B} {fs : List (Noted B)} {name colon first : SignificantToken} {tokens rest : Tokens} → IsKind kinds.Identifier name
-        → IsKind kinds.Colon colon → Expression leaf spot Open false 0 e fs (first ∷ tokens) rest
-        → AttributeOf (bare_attribute (leaf name.tok) (tree.Positional (spot first.tok) e ∷ [])) fs (name ∷ colon ∷ first ∷ tokens) rest
+        → IsKind kinds.Colon colon → Expression leaf position MayEnter false 0 e fs (first ∷ tokens) rest
+        → AttributeOf (bare_attribute (leaf name.tok) (tree.Positional (position first.tok) e ∷ [])) fs (name ∷ colon ∷ first ∷ tokens) rest
     long : {arguments : List (Argument A B)} {fs : List (Noted B)} {name opener : SignificantToken} {tokens rest : Tokens} → IsKind kinds.Identifier name
         → IsKind kinds.ParenL opener → Arguments (name_takes_keys name.tok.lexeme) arguments fs tokens rest
         → AttributeOf (bare_attribute (leaf name.tok) arguments) fs (name ∷ opener ∷ tokens) rest

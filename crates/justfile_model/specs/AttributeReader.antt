@@ -1,18 +1,18 @@
 -- Reading attributes from left to right, up to the first refusal: each is made, and compared with those before it, as soon as it is read.
 use Rattle.std.specs.Prelude.{ℕ, Bool, true, false, ◌&&◌, not, List, [], ◌∷◌, ◌++◌, length, map, Option, Some, None, Ok, Err, codes, if◌then◌else◌}
 use Rattle.std.specs.Option.{is_some, option_map}
-use Rattle.justfile_word.specs.AttributeKind.{kind_named, takes_keys}
-use Rattle.justfile_word.specs.declared.attribute_kind.AttributeKind.{AttributeKind}
-use Rattle.justfile_word.specs.declared.token_kind.TokenKind.TheVariants as kinds
+use Rattle.justfile_vocabulary.specs.AttributeKind.{kind_named, takes_keys}
+use Rattle.justfile_vocabulary.specs.declared.attribute_kind.AttributeKind.{AttributeKind}
+use Rattle.justfile_vocabulary.specs.declared.token_kind.TokenKind.TheVariants as kinds
 use Rattle.justfile_model.specs.declared.level.Level.TheVariants.{Expression}
 use Rattle.justfile_model.specs.ExpressionReader as expressions
 use Rattle.justfile_model.specs.Expressions.{front}
 use Rattle.justfile_model.specs.Meaning.{at_key, by_key, by_position}
 use Rattle.justfile_model.specs.NewAttribute.{Made, new_entry}
-use Rattle.justfile_model.specs.Reading.{◌>>=◌, BreaksRule, Leaves, Read, State, Unexpected, accept, accept_marked, choose, comment_in, expect, next_are}
+use Rattle.justfile_model.specs.ReaderState.{◌>>=◌, BreaksRule, Leaves, Read, State, Unexpected, accept, accept_marked, choose, comment_in, expect, next_are}
 use Rattle.justfile_model.specs.Recursive.{recursive}
 use Rattle.justfile_model.specs.Rules.{Rule, UnknownAttribute, AttributePositionalFollowsKeyword, DuplicateAttributeKey}
-use Rattle.justfile_model.specs.Sight.{Sight}
+use Rattle.justfile_model.specs.LeafView.{LeafView}
 use Rattle.justfile_model.specs.Tree as tree
 use Rattle.justfile_model.specs.Tree.{Argument, Entry, Expr, WrittenAttribute, bare_attribute, commented}
 
@@ -27,7 +27,7 @@ breaks rule token = Err (BreaksRule (record { rule = rule; token = token }))
 -- How attributes are read: what is seen of leaves, and what is kept of an attribute, `W`, and of all those of a construct, `D`.
 pub record AttributeLeaves (R A B D W : Type 0) : Type 0 where
   -- what is seen of the leaves of a tree
-  pub sight : R → Sight A B
+  pub view : R → LeafView A B
   -- how an attribute is written, or what it means, or both
   pub keep : WrittenAttribute A B → Entry A B → W
   -- what it means
@@ -37,8 +37,8 @@ pub record AttributeLeaves (R A B D W : Type 0) : Type 0 where
   -- what a construct has of the attributes before it
   pub attributes : R → List W → D
 
--- `sight` is what is seen of the leaves, and `W` what is kept of an attribute: how it is written, or what it means, or both
-module _ {R T A B S W : Type 0} (leaves : Leaves R T A B S) (sight : R → Sight A B) (keep : WrittenAttribute A B → Entry A B → W) (entry_in : W → Entry A B) where
+-- `view` is what is seen of the leaves, and `W` what is kept of an attribute: how it is written, or what it means, or both
+module _ {R T A B S W : Type 0} (leaves : Leaves R T A B S) (view : R → LeafView A B) (keep : WrittenAttribute A B → Entry A B → W) (entry_in : W → Entry A B) where
   abbrev pub expression : State R T B → Read R T B (Expr A B)
   expression s = expressions.read leaves (expressions.At Expression false s)
 
@@ -47,7 +47,7 @@ module _ {R T A B S W : Type 0} (leaves : Leaves R T A B S) (sight : R → Sight
   -- what is kept of the first token of an expression that was read
   abbrev pub placed_at : Option T → Expr A B × State R T B → Read R T B (Argument A B)
   placed_at None e = Err (Unexpected None)
-  placed_at (Some first) e = Ok (tree.Positional (leaves.spot first) e.0, e.1)
+  placed_at (Some first) e = Ok (tree.Positional (leaves.position first) e.0, e.1)
 
   -- an expression, with its first token
   unfoldable pub placed : State R T B → Read R T B (Argument A B)
@@ -82,11 +82,11 @@ module _ {R T A B S W : Type 0} (leaves : Leaves R T A B S) (sight : R → Sight
 
   -- the key was there before
   abbrev pub is_repeated : R → (before : List (Argument A B)) → T → Bool
-  is_repeated run before key = is_some (at_key (sight run) ((sight run).bytes (leaves.name key)) (by_key before))
+  is_repeated run before key = is_some (at_key (view run) ((view run).bytes (leaves.name key)) (by_key before))
 
   abbrev pub distinct : (name : T) (before : List (Argument A B)) (key : T) → Option (Expr A B) × State R T B → Read R T B (Argument A B)
   distinct name before key value =
-      if is_repeated value.1.run before key then breaks (DuplicateAttributeKey (leaves.spot name) (leaves.spot key)) (leaves.spot key)
+      if is_repeated value.1.run before key then breaks (DuplicateAttributeKey (leaves.position name) (leaves.position key)) (leaves.position key)
       else Ok (argument_of_key (leaves.name key) value.0, value.1)
 
   -- an argument with a key, of the attribute with this name
@@ -147,13 +147,13 @@ module _ {R T A B S W : Type 0} (leaves : Leaves R T A B S) (sight : R → Sight
   kind_at name s = kind_or_none (kind_named (leaves.see name).tok.lexeme)
     where
       kind_or_none : Option AttributeKind → Read R T B AttributeKind
-      kind_or_none None = breaks (UnknownAttribute (leaves.spot name)) (leaves.spot name)
+      kind_or_none None = breaks (UnknownAttribute (leaves.position name)) (leaves.position name)
       kind_or_none (Some kind) = Ok (kind, s)
 
   -- what is kept of an attribute with this name and these arguments, after others
   unfoldable pub made : (before : List W) → T → AttributeKind → List (Argument A B) → State R T B → Read R T B W
   made before name kind arguments s = do
-    e ← read_made (new_entry (sight s.run) (map entry_in before) (leaves.spot name) kind (by_position arguments) (by_key arguments)) s
+    e ← read_made (new_entry (view s.run) (map entry_in before) (leaves.position name) kind (by_position arguments) (by_key arguments)) s
     Ok (keep (bare_attribute (leaves.name name) arguments) e.0, e.1)
 
   -- an attribute after others

@@ -4,18 +4,18 @@ use Rattle.std.specs.List.{filter, find, filter_map, flat_map, list_any}
 use Rattle.std.specs.Option.{is_some}
 use Rattle.std.specs.Ordering.{is_gt}
 use Rattle.std.specs.Str.{bytes_eq, chars}
-use Rattle.justfile_word.specs.AttributeKind.{kind_named}
-use Rattle.justfile_word.specs.Signal.{signal_named}
-use Rattle.justfile_word.specs.declared.attribute_kind.AttributeKind.{AttributeKind}
-use Rattle.justfile_word.specs.declared.attribute_kind.AttributeKind.TheVariants as kinds
-use Rattle.justfile_word.specs.declared.item_kind.ItemKind.{ItemKind}
+use Rattle.justfile_vocabulary.specs.AttributeKind.{kind_named}
+use Rattle.justfile_vocabulary.specs.Signal.{signal_named}
+use Rattle.justfile_vocabulary.specs.declared.attribute_kind.AttributeKind.{AttributeKind}
+use Rattle.justfile_vocabulary.specs.declared.attribute_kind.AttributeKind.TheVariants as kinds
+use Rattle.justfile_vocabulary.specs.declared.item_kind.ItemKind.{ItemKind}
 use Rattle.justfile_model.specs.AttributeKinds.{same_attribute, known_keys, takes_expressions, least_count, most_count, is_repeatable, is_allowed}
 use Rattle.justfile_model.specs.ContentKeys.{kind_of_attribute}
 use Rattle.justfile_model.specs.ContentLeaf.{LiteralValue, literal_value, text_cmp}
 use Rattle.justfile_model.specs.Literals.{string_of}
 use Rattle.justfile_model.specs.Meaning.{quoted, Placed, KeyArgument, by_position, by_key, first_of, quoted_text, text_of, at_key, is_count, count_of, entry_of, entries_of}
 use Rattle.justfile_model.specs.Rules.{Rule, UnknownAttribute, AttributeArgumentCountMismatch, AttributeArgumentExpression, AttributePositionalFollowsKeyword, DuplicateAttributeKey, UnknownAttributeKey, AttributeKeyMissingValue, AttributeKeyTakesNoValue, InvalidSignal, OptionNameContainsEqualSign, OptionNameStartsWithDash, OptionNameEmpty, ShortOptionWithMultipleCharacters, ArgAttributeRequiresOption, FlagAttributeTakesNoValue, FlagAndValueArgAttribute, FlagAndPatternArgAttribute, ArgumentCountValue, ArgumentCountParse, ArgAttributeMinExceedsMax, DuplicateAttribute, DuplicateArgAttribute, DuplicateGroupAttribute, InvalidAttribute, Broken, broken_if}
-use Rattle.justfile_model.specs.Sight.{Sight}
+use Rattle.justfile_model.specs.LeafView.{LeafView}
 use Rattle.justfile_model.specs.Tree as tree
 use Rattle.justfile_model.specs.Tree.{Expr, Quoted, Argument, WrittenAttribute, ArgumentRules, Attribute, Entry}
 
@@ -42,7 +42,7 @@ module _ {X : Type 0} (text_of : X → List ℕ) where
   least [] = None
   least (x ∷ xs) = Some (lesser x (least xs))
 
-module _ {A B : Type 0} (sight : Sight A B) where
+module _ {A B : Type 0} (view : LeafView A B) where
   -- the rules of one attribute, whose name is at `at`
   module _ (at : B) where
     abbrev pub count_broken : AttributeKind → (found : ℕ) → List (Broken B)
@@ -66,85 +66,85 @@ module _ {A B : Type 0} (sight : Sight A B) where
     abbrev pub repeats_broken : (before keys : List (KeyArgument A B)) → List (Broken B)
     repeats_broken before [] = []
     repeats_broken before (k ∷ keys) =
-        broken_if (is_some (at_key sight (sight.bytes k.key) before)) (DuplicateAttributeKey at (sight.place k.key)) (sight.place k.key) ++ repeats_broken (before ++ k ∷ []) keys
+        broken_if (is_some (at_key view (view.bytes k.key) before)) (DuplicateAttributeKey at (view.place k.key)) (view.place k.key) ++ repeats_broken (before ++ k ∷ []) keys
 
     abbrev pub is_known : AttributeKind → KeyArgument A B → Bool
-    is_known kind k = list_any (bytes_eq (sight.bytes k.key)) (known_keys kind)
+    is_known kind k = list_any (bytes_eq (view.bytes k.key)) (known_keys kind)
 
     -- keys that are not known: the least of them is refused
     abbrev pub unknown_broken : AttributeKind → List (KeyArgument A B) → List (Broken B)
     unknown_broken kind keys =
-        of_some (λ (k : KeyArgument A B). record { rule = UnknownAttributeKey at (sight.place k.key); token = sight.place k.key } ∷ [])
-        (least (λ (k : KeyArgument A B). sight.bytes k.key) (filter (λ k. not (is_known kind k)) keys))
+        of_some (λ (k : KeyArgument A B). record { rule = UnknownAttributeKey at (view.place k.key); token = view.place k.key } ∷ [])
+        (least (λ (k : KeyArgument A B). view.bytes k.key) (filter (λ k. not (is_known kind k)) keys))
 
     -- a key that needs a value has none
     abbrev pub missing_broken : KeyArgument A B → List (Broken B)
-    missing_broken k = broken_if (not (is_some k.value)) (AttributeKeyMissingValue (sight.place k.key)) (sight.place k.key)
+    missing_broken k = broken_if (not (is_some k.value)) (AttributeKeyMissingValue (view.place k.key)) (view.place k.key)
 
     -- the rules of a value that has to be a literal, by its text, if it has one
     abbrev pub literal_broken : (Quoted A → List ℕ → List (Broken B)) → (key : A) → Expr A B → List (Broken B)
     literal_broken rules key value =
-        broken_if (not (is_literal value)) (AttributeArgumentExpression at) (sight.place key)
-        ++ of_some (λ q. of_some (rules q) (quoted_text sight q)) (quoted value)
+        broken_if (not (is_literal value)) (AttributeArgumentExpression at) (view.place key)
+        ++ of_some (λ q. of_some (rules q) (quoted_text view q)) (quoted value)
 
     abbrev pub signal_broken : Quoted A → List ℕ → List (Broken B)
-    signal_broken q name = broken_if (not (is_some (signal_named name))) (InvalidSignal name) (sight.place q.token)
+    signal_broken q name = broken_if (not (is_some (signal_named name))) (InvalidSignal name) (view.place q.token)
 
     abbrev pub signals_broken : Placed A B → List (Broken B)
-    signals_broken p = of_some (λ q. of_some (signal_broken q) (quoted_text sight q)) (quoted p.value)
+    signals_broken p = of_some (λ q. of_some (signal_broken q) (quoted_text view q)) (quoted p.value)
 
     -- the rules of `arg`, of the argument with this text
     module _ (argument : List ℕ) (keys : List (KeyArgument A B)) where
       abbrev pub has : (word : List ℕ) → Bool
-      has word = is_some (at_key sight word keys)
+      has word = is_some (at_key view word keys)
 
       -- what the key of this name breaks, if it is there
       abbrev pub key_broken : (word : List ℕ) → (KeyArgument A B → List (Broken B)) → List (Broken B)
-      key_broken word rules = of_some rules (at_key sight word keys)
+      key_broken word rules = of_some rules (at_key view word keys)
 
       -- the text of an option's name, refused at its literal
       abbrev pub option_broken : (is_short : Bool) → Quoted A → List ℕ → List (Broken B)
       option_broken is_short q option =
-          broken_if (list_any (λ b. b == 61) option) (OptionNameContainsEqualSign argument) (sight.place q.token)
-          ++ broken_if (slice_index option 0 == 45) (OptionNameStartsWithDash argument) (sight.place q.token)
-          ++ broken_if (length option == 0) (OptionNameEmpty argument) (sight.place q.token)
-          ++ broken_if (is_short && not (length (chars option) == 1)) (ShortOptionWithMultipleCharacters argument) (sight.place q.token)
+          broken_if (list_any (λ b. b == 61) option) (OptionNameContainsEqualSign argument) (view.place q.token)
+          ++ broken_if (slice_index option 0 == 45) (OptionNameStartsWithDash argument) (view.place q.token)
+          ++ broken_if (length option == 0) (OptionNameEmpty argument) (view.place q.token)
+          ++ broken_if (is_short && not (length (chars option) == 1)) (ShortOptionWithMultipleCharacters argument) (view.place q.token)
 
       abbrev pub option_key_broken : (is_short : Bool) → KeyArgument A B → List (Broken B)
       option_key_broken is_short k = of_some (literal_broken (option_broken is_short) k.key) k.value
 
       abbrev pub count_text_broken : (key : A) → Quoted A → List ℕ → List (Broken B)
       count_text_broken key q value =
-          if is_count value then broken_if (not (is_some (count_of value))) (ArgumentCountParse (sight.place key) value) (sight.place q.token)
-          else broken_if true (ArgumentCountValue (sight.place key) value) (sight.place q.token)
+          if is_count value then broken_if (not (is_some (count_of value))) (ArgumentCountParse (view.place key) value) (view.place q.token)
+          else broken_if true (ArgumentCountValue (view.place key) value) (view.place q.token)
 
       abbrev pub bound_broken : KeyArgument A B → List (Broken B)
       bound_broken k = missing_broken k ++ of_some (literal_broken (count_text_broken k.key) k.key) k.value
 
       -- a key wants an option, and there is none
       abbrev pub wants_option : KeyArgument A B → List (Broken B)
-      wants_option k = broken_if (not (has (codes "long")) && not (has (codes "short"))) (ArgAttributeRequiresOption (sight.place k.key)) (sight.place k.key)
+      wants_option k = broken_if (not (has (codes "long")) && not (has (codes "short"))) (ArgAttributeRequiresOption (view.place k.key)) (view.place k.key)
 
       abbrev pub value_broken : KeyArgument A B → List (Broken B)
       value_broken k = missing_broken k ++ wants_option k
 
       abbrev pub flag_broken : KeyArgument A B → List (Broken B)
       flag_broken k =
-          broken_if (is_some k.value) (FlagAttributeTakesNoValue argument) (sight.place k.key)
+          broken_if (is_some k.value) (FlagAttributeTakesNoValue argument) (view.place k.key)
           ++ wants_option k
-          ++ broken_if (has (codes "value")) (FlagAndValueArgAttribute argument) (sight.place k.key)
-          ++ broken_if (has (codes "pattern")) (FlagAndPatternArgAttribute argument) (sight.place k.key)
+          ++ broken_if (has (codes "value")) (FlagAndValueArgAttribute argument) (view.place k.key)
+          ++ broken_if (has (codes "pattern")) (FlagAndPatternArgAttribute argument) (view.place k.key)
 
       abbrev pub multiple_broken : KeyArgument A B → List (Broken B)
-      multiple_broken k = broken_if (is_some k.value) (AttributeKeyTakesNoValue (sight.place k.key)) (sight.place k.key) ++ wants_option k
+      multiple_broken k = broken_if (is_some k.value) (AttributeKeyTakesNoValue (view.place k.key)) (view.place k.key) ++ wants_option k
 
       -- the number that a key has
       abbrev pub number_of : KeyArgument A B → List ℕ
-      number_of k = of_some (λ value. of_some (λ q. of_some (λ text. of_some (λ n. n ∷ []) (count_of text)) (quoted_text sight q)) (quoted value)) k.value
+      number_of k = of_some (λ value. of_some (λ q. of_some (λ text. of_some (λ n. n ∷ []) (count_of text)) (quoted_text view q)) (quoted value)) k.value
 
       -- both numbers are there, and the least is above the greatest
       abbrev pub exceeds_broken : (min max : KeyArgument A B) → List (Broken B)
-      exceeds_broken min max = flat_map (λ n. flat_map (λ m. broken_if (nat_lt m n) (ArgAttributeMinExceedsMax n m) (sight.place min.key)) (number_of max)) (number_of min)
+      exceeds_broken min max = flat_map (λ n. flat_map (λ m. broken_if (nat_lt m n) (ArgAttributeMinExceedsMax n m) (view.place min.key)) (number_of max)) (number_of min)
 
       abbrev pub arg_broken : List (Broken B)
       arg_broken =
@@ -161,11 +161,11 @@ module _ {A B : Type 0} (sight : Sight A B) where
 
     -- the rules of one kind alone
     abbrev pub kind_broken : AttributeKind → List (Placed A B) → List (KeyArgument A B) → List (Broken B)
-    kind_broken kinds.Arg placed keys = flat_map (λ (p : Placed A B). of_some (λ q. of_some (λ argument. arg_broken argument keys) (quoted_text sight q)) (quoted p.value)) placed
+    kind_broken kinds.Arg placed keys = flat_map (λ (p : Placed A B). of_some (λ q. of_some (λ argument. arg_broken argument keys) (quoted_text view q)) (quoted p.value)) placed
     kind_broken kinds.Cache placed keys =
-        of_some missing_broken (at_key sight (codes "extra") keys)
-        ++ of_some missing_broken (at_key sight (codes "inputs") keys)
-        ++ of_some missing_broken (at_key sight (codes "outputs") keys)
+        of_some missing_broken (at_key view (codes "extra") keys)
+        ++ of_some missing_broken (at_key view (codes "inputs") keys)
+        ++ of_some missing_broken (at_key view (codes "outputs") keys)
     kind_broken kinds.Continue placed keys = flat_map signals_broken placed
     kind_broken kind placed keys = []
 
@@ -179,17 +179,17 @@ module _ {A B : Type 0} (sight : Sight A B) where
 
   abbrev pub known_broken : WrittenAttribute A B → AttributeKind → List (Broken B)
   known_broken w kind =
-      order_broken (sight.place w.name) false w.arguments
-      ++ repeats_broken (sight.place w.name) [] (by_key w.arguments)
-      ++ arguments_broken (sight.place w.name) kind (by_position w.arguments) (by_key w.arguments)
+      order_broken (view.place w.name) false w.arguments
+      ++ repeats_broken (view.place w.name) [] (by_key w.arguments)
+      ++ arguments_broken (view.place w.name) kind (by_position w.arguments) (by_key w.arguments)
 
   abbrev pub named_broken : WrittenAttribute A B → Option AttributeKind → List (Broken B)
-  named_broken w None = record { rule = UnknownAttribute (sight.place w.name); token = sight.place w.name } ∷ []
+  named_broken w None = record { rule = UnknownAttribute (view.place w.name); token = view.place w.name } ∷ []
   named_broken w (Some kind) = known_broken w kind
 
   -- what one attribute breaks
   abbrev pub attribute_broken : WrittenAttribute A B → List (Broken B)
-  attribute_broken w = named_broken w (kind_named (sight.bytes w.name))
+  attribute_broken w = named_broken w (kind_named (view.bytes w.name))
 
   -- ---- the attributes of one item, by what they mean
 
@@ -205,7 +205,7 @@ module _ {A B : Type 0} (sight : Sight A B) where
   same_text _ _ = false
 
   abbrev pub same_label : Option (Quoted A) → Option (Quoted A) → Bool
-  same_label (Some p) (Some q) = same_text (quoted_text sight p) (quoted_text sight q)
+  same_label (Some p) (Some q) = same_text (quoted_text view p) (quoted_text view q)
   same_label _ _ = false
 
   -- two attributes that an item may not both have
@@ -214,12 +214,12 @@ module _ {A B : Type 0} (sight : Sight A B) where
 
   -- what a literal holds
   abbrev pub quoted_value : Quoted A → LiteralValue
-  quoted_value q = literal_value (sight.literal_content (string_of q.expanded q.token))
+  quoted_value q = literal_value (view.literal_content (string_of q.expanded q.token))
 
   -- the rule that an attribute breaks by an earlier one
   abbrev pub duplicate_rule : (name : B) → Attribute A B → (first : B) → Rule B
-  duplicate_rule name (tree.Arg rules) first = DuplicateArgAttribute (text_of sight rules.name) first
-  duplicate_rule name (tree.Texts kinds.Group (q ∷ qs)) first = DuplicateGroupAttribute (quoted_value q) (sight.place q.token) first
+  duplicate_rule name (tree.Arg rules) first = DuplicateArgAttribute (text_of view rules.name) first
+  duplicate_rule name (tree.Texts kinds.Group (q ∷ qs)) first = DuplicateGroupAttribute (quoted_value q) (view.place q.token) first
   duplicate_rule name a first = DuplicateAttribute name first
 
   -- by the first of the attributes before it that excludes it
@@ -230,7 +230,7 @@ module _ {A B : Type 0} (sight : Sight A B) where
   -- those that have a meaning, each by those before it
   abbrev pub duplicates_broken : (before : List (Entry A B)) → List (WrittenAttribute A B) → List (Broken B)
   duplicates_broken before [] = []
-  duplicates_broken before (w ∷ ws) = of_some (duplicate_broken before) (entry_of sight w) ++ duplicates_broken (before ++ of_some (λ e. e ∷ []) (entry_of sight w)) ws
+  duplicates_broken before (w ∷ ws) = of_some (duplicate_broken before) (entry_of view w) ++ duplicates_broken (before ++ of_some (λ e. e ∷ []) (entry_of view w)) ws
 
   -- what the attributes of an item break, whatever the item is
   abbrev pub attributes_broken : List (WrittenAttribute A B) → List (Broken B)

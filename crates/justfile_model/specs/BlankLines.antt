@@ -1,12 +1,12 @@
 -- Before which blank lines levels close.
 use Rattle.std.specs.Prelude.{◌≡◌, ℕ, Bool, IsTrue, false, ◌||◌, ◌==◌, ◌⊎◌, List, [], ◌∷◌, ◌++◌, None}
 use Rattle.std.specs.List.{All, AllPass}
-use Rattle.justfile_word.specs.declared.token_kind.TokenKind.TheVariants.{Dedent}
+use Rattle.justfile_vocabulary.specs.declared.token_kind.TokenKind.TheVariants.{Dedent}
 use Rattle.justfile_model.specs.Bytes.{is_line_end}
 use Rattle.justfile_model.specs.Lexed.{Begins}
 use Rattle.justfile_model.specs.Modes.{Mode, mode}
 use Rattle.justfile_model.specs.Tok.{Tok}
-use Rattle.justfile_word.specs.Indentation.{is_space_or_tab}
+use Rattle.justfile_vocabulary.specs.Indentation.{is_space_or_tab}
 
 -- a line starts, and no delimiter and no interpolation is open
 pub record IsAtLineStart (m : Mode) : Type 0 where

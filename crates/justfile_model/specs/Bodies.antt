@@ -1,7 +1,7 @@
 -- Which places are in a body, by the tokens before them in order of reading.
 use Rattle.std.specs.Prelude.{◌≡◌, ◌≢◌, List, ◌∷◌, ◌++◌}
 use Rattle.std.specs.List.{All}
-use Rattle.justfile_word.specs.declared.token_kind.TokenKind.TheVariants.{Colon, Dedent, Indent}
+use Rattle.justfile_vocabulary.specs.declared.token_kind.TokenKind.TheVariants.{Colon, Dedent, Indent}
 use Rattle.justfile_model.specs.Tok.{Tok}
 
 -- a colon came, and no dedent after it

@@ -1,9 +1,9 @@
 -- Bytes by class, and runs of bytes. A place past the end of a text reads as 0.
 use Rattle.std.specs.Prelude.{ℕ, Bool, true, false, ◌&&◌, ◌||◌, ◌==◌, List, [], ◌∷◌, drop, slice_index, if◌then◌else◌, chars}
 use Rattle.std.specs.List.{prefix_len, list_any}
-use Rattle.justfile_word.specs.ByteClass.{class_of}
-use Rattle.justfile_word.specs.declared.byte_class.ByteClass.{ByteClass}
-use Rattle.justfile_word.specs.declared.byte_class.ByteClass.TheVariants.{Blank, LineFeed, CarriageReturn, IdentifierStart, IdentifierContinue}
+use Rattle.justfile_vocabulary.specs.ByteClass.{class_of}
+use Rattle.justfile_vocabulary.specs.declared.byte_class.ByteClass.{ByteClass}
+use Rattle.justfile_vocabulary.specs.declared.byte_class.ByteClass.TheVariants.{Blank, LineFeed, CarriageReturn, IdentifierStart, IdentifierContinue}
 
 -- a space or a tab
 abbrev pub blank : ByteClass → Bool

@@ -1,30 +1,30 @@
 -- Which rules a construct with its attributes breaks, each at its token.
 use Rattle.std.specs.Prelude.{List, [], ◌++◌}
-use Rattle.justfile_word.specs.declared.item_kind.ItemKind.{ItemKind}
-use Rattle.justfile_word.specs.declared.item_kind.ItemKind.TheVariants as items
+use Rattle.justfile_vocabulary.specs.declared.item_kind.ItemKind.{ItemKind}
+use Rattle.justfile_vocabulary.specs.declared.item_kind.ItemKind.TheVariants as items
 use Rattle.justfile_model.specs.AttributeRules.{allowed_broken, attributes_broken, of_some}
 use Rattle.justfile_model.specs.Conditions.{VersionNumbers}
 use Rattle.justfile_model.specs.Meaning.{entries_of}
 use Rattle.justfile_model.specs.RecipeRules.{header_broken, recipe_broken}
 use Rattle.justfile_model.specs.Rules.{Broken}
 use Rattle.justfile_model.specs.SettingRules.{setting_broken}
-use Rattle.justfile_model.specs.Sight.{Sight}
+use Rattle.justfile_model.specs.LeafView.{LeafView}
 use Rattle.justfile_model.specs.Tree.{Alias, Assignment, Content, Entry, Function, Import, Module, Recipe, Setting, Unexport, WrittenAttribute}
 
-module _ {A B : Type 0} (sight : Sight A B) where
+module _ {A B : Type 0} (view : LeafView A B) where
   -- by what its attributes mean; an import has its path in place of a name
   abbrev pub meaning_broken : {C S : Type 0} → Content A B C S → List (Entry A B) → List (Broken B)
-  meaning_broken (Alias parts) entries = allowed_broken sight items.Alias (sight.place parts.name) entries
-  meaning_broken (Assignment parts) entries = allowed_broken sight items.Assignment (sight.place parts.name) entries
-  meaning_broken (Function parts) entries = allowed_broken sight items.Function (sight.place parts.name) entries
-  meaning_broken (Import parts) entries = allowed_broken sight items.Import (sight.place parts.path.token) entries
-  meaning_broken (Module parts) entries = allowed_broken sight items.Module (sight.place parts.name) entries
-  meaning_broken (Recipe parts) entries = recipe_broken sight parts.header entries
-  meaning_broken (Setting parts) entries = allowed_broken sight items.Setting (sight.place parts.name) entries
-  meaning_broken (Unexport name) entries = allowed_broken sight items.Unexport (sight.place name) entries
+  meaning_broken (Alias parts) entries = allowed_broken view items.Alias (view.place parts.name) entries
+  meaning_broken (Assignment parts) entries = allowed_broken view items.Assignment (view.place parts.name) entries
+  meaning_broken (Function parts) entries = allowed_broken view items.Function (view.place parts.name) entries
+  meaning_broken (Import parts) entries = allowed_broken view items.Import (view.place parts.path.token) entries
+  meaning_broken (Module parts) entries = allowed_broken view items.Module (view.place parts.name) entries
+  meaning_broken (Recipe parts) entries = recipe_broken view parts.header entries
+  meaning_broken (Setting parts) entries = allowed_broken view items.Setting (view.place parts.name) entries
+  meaning_broken (Unexport name) entries = allowed_broken view items.Unexport (view.place name) entries
 
 -- where this is the running version
-module _ {A B : Type 0} (current : VersionNumbers) (sight : Sight A B) where
+module _ {A B : Type 0} (current : VersionNumbers) (view : LeafView A B) where
   -- whatever its attributes are
   abbrev pub form_broken : {C : Type 0} → Content A B C B → List (Broken B)
   form_broken (Alias parts) = []
@@ -33,8 +33,8 @@ module _ {A B : Type 0} (current : VersionNumbers) (sight : Sight A B) where
   form_broken (Import parts) = []
   form_broken (Module parts) = []
   form_broken (Recipe parts) = header_broken parts.header
-  form_broken (Setting parts) = setting_broken current sight parts
+  form_broken (Setting parts) = setting_broken current view parts
   form_broken (Unexport name) = []
 
   abbrev pub construct_broken : {C : Type 0} → List (WrittenAttribute A B) → Content A B C B → List (Broken B)
-  construct_broken ws content = attributes_broken sight ws ++ of_some (meaning_broken sight content) (entries_of sight ws) ++ form_broken content
+  construct_broken ws content = attributes_broken view ws ++ of_some (meaning_broken view content) (entries_of view ws) ++ form_broken content

@@ -4,11 +4,11 @@ use Rattle.std.specs.Prelude.{ℕ, Bool, true, false, List, ◌∷◌, Option, c
 use denote.Enum.Declared.{tag_of}
 use Rattle.std.specs.List.{list_any}
 use Rattle.std.specs.declared.cmp.Ordering.{Ordering}
-use Rattle.justfile_word.specs.contracts.attribute_kind.AttributeKind as attribute_kinds
-use Rattle.justfile_word.specs.declared.attribute_kind.AttributeKind.{AttributeKind}
-use Rattle.justfile_word.specs.declared.attribute_kind.AttributeKind.TheVariants as attributes
-use Rattle.justfile_word.specs.declared.token_kind.TokenKind.{TokenKind}
-use Rattle.justfile_word.specs.declared.token_kind.TokenKind.TheVariants as kinds
+use Rattle.justfile_vocabulary.specs.contracts.attribute_kind.AttributeKind as attribute_kinds
+use Rattle.justfile_vocabulary.specs.declared.attribute_kind.AttributeKind.{AttributeKind}
+use Rattle.justfile_vocabulary.specs.declared.attribute_kind.AttributeKind.TheVariants as attributes
+use Rattle.justfile_vocabulary.specs.declared.token_kind.TokenKind.{TokenKind}
+use Rattle.justfile_vocabulary.specs.declared.token_kind.TokenKind.TheVariants as kinds
 use Rattle.justfile_model.specs.AttributeKinds.{same_attribute}
 use Rattle.justfile_model.specs.ConditionalOperator.{operator_sign}
 use Rattle.justfile_model.specs.ContentLeaf.{ContentLeaf, token, literal, operator, text, count, signal, unseen, content_cmp}
@@ -16,7 +16,7 @@ use Rattle.justfile_model.specs.Expressions.{operator_kind}
 use Rattle.justfile_model.specs.Key.{Key, Keys, leaf, node, end, next, row, keys_of, absent_key, present_key, option_key, key_cmp}
 use Rattle.justfile_model.specs.Literals as literals
 use Rattle.justfile_model.specs.Literals.{Literal, string_of}
-use Rattle.justfile_model.specs.Sight.{Sight, or_empty}
+use Rattle.justfile_model.specs.LeafView.{LeafView, or_empty}
 use Rattle.justfile_model.specs.Tree as tree
 use Rattle.justfile_model.specs.Tree.{Expr, Exprs, Parts, Quoted, OptionName, Property, Bound, ArgumentRules, Attribute, Entry}
 
@@ -33,38 +33,38 @@ kind_of_attribute (tree.Arg rules) = attributes.Arg
 abbrev pub has_attribute : {A B : Type 0} → AttributeKind → List (Entry A B) → Bool
 has_attribute kind entries = list_any (λ (e : Entry _ _). same_attribute (kind_of_attribute e.attribute) kind) entries
 
-module _ {A B : Type 0} (sight : Sight A B) where
+module _ {A B : Type 0} (view : LeafView A B) where
   abbrev pub name_key : A → Key ContentLeaf
-  name_key name = leaf (token (sight.leaf_content kinds.Identifier name))
+  name_key name = leaf (token (view.leaf_content kinds.Identifier name))
 
   -- a token of which the grammar fixes the kind and the lexeme
-  abbrev pub spot_key : TokenKind → List ℕ → B → Key ContentLeaf
-  spot_key kind spelled spot = leaf (token (sight.spot_content kind spelled spot))
+  abbrev pub position_key : TokenKind → List ℕ → B → Key ContentLeaf
+  position_key kind spelled position = leaf (token (view.position_content kind spelled position))
 
   abbrev pub literal_key : Literal A → Key ContentLeaf
-  literal_key l = leaf (literal (sight.literal_content l))
+  literal_key l = leaf (literal (view.literal_content l))
 
   abbrev mutual
     pub expr_key : Expr A B → Key ContentLeaf
     expr_key (tree.And l r) = node 0 (next (expr_key l) (next (expr_key r) end))
-    expr_key (tree.Assert name c) = node 1 (next (expr_key c) (next absent_key (next (spot_key kinds.Identifier (codes "assert") name) end)))
+    expr_key (tree.Assert name c) = node 1 (next (expr_key c) (next absent_key (next (position_key kinds.Identifier (codes "assert") name) end)))
     expr_key (tree.AssertMessage name c m) =
-        node 1 (next (expr_key c) (next (present_key (expr_key m)) (next (spot_key kinds.Identifier (codes "assert") name) end)))
+        node 1 (next (expr_key c) (next (present_key (expr_key m)) (next (position_key kinds.Identifier (codes "assert") name) end)))
     expr_key (tree.Backtick command) =
-        node 2 (next (leaf (text (or_empty (sight.cooked (literals.Command command))))) (next (leaf (token (sight.leaf_content kinds.Backtick command))) end))
+        node 2 (next (leaf (text (or_empty (view.cooked (literals.Command command))))) (next (leaf (token (view.leaf_content kinds.Backtick command))) end))
     expr_key (tree.Call name arguments) = node 3 (next (name_key name) (next (row (exprs_keys arguments)) end))
-    expr_key (tree.Comparison l o spot r) =
-        node 4 (next (expr_key l) (next (leaf (operator o)) (next (expr_key r) (next (spot_key (operator_kind o) (operator_sign o) spot) end))))
-    expr_key (tree.Concatenation l spot r) = node 5 (next (expr_key l) (next (spot_key kinds.Plus (codes "+") spot) (next (expr_key r) end)))
+    expr_key (tree.Comparison l o position r) =
+        node 4 (next (expr_key l) (next (leaf (operator o)) (next (expr_key r) (next (position_key (operator_kind o) (operator_sign o) position) end))))
+    expr_key (tree.Concatenation l position r) = node 5 (next (expr_key l) (next (position_key kinds.Plus (codes "+") position) (next (expr_key r) end)))
     expr_key (tree.If c b) = node 6 (next (expr_key c) (next (expr_key b) (next absent_key end)))
     expr_key (tree.IfElse c b o) = node 6 (next (expr_key c) (next (expr_key b) (next (present_key (expr_key o)) end)))
     expr_key (tree.FormatLiteral l) = node 7 (next (literal_key (literals.Single l)) (next (row end) end))
     expr_key (tree.FormatString start e parts) = node 7 (next (literal_key (literals.Start start)) (next (row (parts_keys start (expr_key e) parts)) end))
     expr_key (tree.Group e) = node 8 (next (expr_key e) end)
-    expr_key (tree.Root spot r) = node 9 (next absent_key (next (spot_key kinds.Slash (codes "/") spot) (next (expr_key r) end)))
-    expr_key (tree.Join l spot r) = node 9 (next (present_key (expr_key l)) (next (spot_key kinds.Slash (codes "/") spot) (next (expr_key r) end)))
-    expr_key (tree.ListOf opener elements) = node 10 (next (row (exprs_keys elements)) (next (spot_key kinds.BracketL (codes "[") opener) end))
-    expr_key (tree.ListConcatenation l spot r) = node 11 (next (expr_key l) (next (spot_key kinds.PlusPlus (codes "++") spot) (next (expr_key r) end)))
+    expr_key (tree.Root position r) = node 9 (next absent_key (next (position_key kinds.Slash (codes "/") position) (next (expr_key r) end)))
+    expr_key (tree.Join l position r) = node 9 (next (present_key (expr_key l)) (next (position_key kinds.Slash (codes "/") position) (next (expr_key r) end)))
+    expr_key (tree.ListOf opener elements) = node 10 (next (row (exprs_keys elements)) (next (position_key kinds.BracketL (codes "[") opener) end))
+    expr_key (tree.ListConcatenation l position r) = node 11 (next (expr_key l) (next (position_key kinds.PlusPlus (codes "++") position) (next (expr_key r) end)))
     expr_key (tree.Not e) = node 12 (next (expr_key e) end)
     expr_key (tree.Or l r) = node 13 (next (expr_key l) (next (expr_key r) end))
     expr_key (tree.StringLiteral expanded l) = node 14 (next (literal_key (string_of expanded l)) end)
@@ -91,7 +91,7 @@ module _ {A B : Type 0} (sight : Sight A B) where
 
   -- a key of this name
   abbrev pub word_key : List ℕ → B → Key ContentLeaf
-  word_key word key = spot_key kinds.Identifier word key
+  word_key word key = position_key kinds.Identifier word key
 
   -- the key that has no value
   abbrev pub own_name_key : (word : List ℕ) → OptionName A B → Key ContentLeaf

@@ -5,13 +5,13 @@ use Rattle.std.specs.Cmp.Lexicographic.{options_total, nat_list_cmp_total, slice
 use Rattle.std.specs.Option.{option_cmp}
 use Rattle.std.specs.Ordering.{ordering_then, nat_cmp}
 use Rattle.std.specs.declared.cmp.Ordering.{Ordering}
-use Rattle.justfile_word.specs.contracts.format_string_part.FormatStringPartOrd.TheImpl.Laws.{total-law as part_total}
-use Rattle.justfile_base.specs.contracts.string_kind.StringDelimiterOrd.TheImpl.Laws.{total-law as delimiter_total}
-use Rattle.justfile_word.specs.contracts.token_kind.TokenKindOrd.TheImpl.Laws.{total-law as kind_total}
-use Rattle.justfile_word.specs.contracts.signal.SignalOrd.TheImpl as signals
-use Rattle.justfile_word.specs.contracts.signal.SignalOrd.TheImpl.Laws.{total-law as signal_total}
-use Rattle.justfile_word.specs.declared.signal.Signal.{Signal}
-use Rattle.justfile_base.specs.declared.string_kind.StringKind.{StringKind}
+use Rattle.justfile_vocabulary.specs.contracts.format_string_part.FormatStringPartOrd.TheImpl.Laws.{total-law as part_total}
+use Rattle.justfile_token.specs.contracts.string_kind.StringDelimiterOrd.TheImpl.Laws.{total-law as delimiter_total}
+use Rattle.justfile_vocabulary.specs.contracts.token_kind.TokenKindOrd.TheImpl.Laws.{total-law as kind_total}
+use Rattle.justfile_vocabulary.specs.contracts.signal.SignalOrd.TheImpl as signals
+use Rattle.justfile_vocabulary.specs.contracts.signal.SignalOrd.TheImpl.Laws.{total-law as signal_total}
+use Rattle.justfile_vocabulary.specs.declared.signal.Signal.{Signal}
+use Rattle.justfile_token.specs.declared.string_kind.StringKind.{StringKind}
 use Rattle.justfile_model.specs.contracts.conditional_operator.ConditionalOperatorOrd.TheImpl as operators
 use Rattle.justfile_model.specs.contracts.conditional_operator.ConditionalOperatorOrd.TheImpl.Laws.{total-law as operator_total}
 use Rattle.justfile_model.specs.declared.conditional_operator.ConditionalOperator.{ConditionalOperator}

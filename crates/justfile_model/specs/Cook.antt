@@ -4,10 +4,10 @@ use Rattle.std.specs.Prelude.{◌≡◌, ◌≢◌, ℕ, ◌<◌, ◌≤◌, ◌
 use Rattle.std.specs.List.{AllByRecursion}
 use Rattle.std.specs.Char.{IsScalar, is_ascii_hexdigit}
 use Rattle.std.specs.Str.Parse.{digits_value}
-use Rattle.justfile_base.specs.declared.compile_error.CompileError.{CompileError}
-use Rattle.justfile_base.specs.declared.fault.Fault.{Fault}
-use Rattle.justfile_base.specs.declared.fault.Fault.TheVariants.{Compile, Memory, Numbers}
-use Rattle.justfile_base.specs.declared.token.Token.{Token}
+use Rattle.justfile_token.specs.declared.compile_error.CompileError.{CompileError}
+use Rattle.justfile_token.specs.declared.fault.Fault.{Fault}
+use Rattle.justfile_token.specs.declared.fault.Fault.TheVariants.{Compile, Memory, Numbers}
+use Rattle.justfile_token.specs.declared.token.Token.{Token}
 use Rattle.justfile_model.specs.EscapeFault.{EscapeFault, InvalidEscapeSequence, UnicodeEscapeCharacter, UnicodeEscapeDelimiter, UnicodeEscapeEmpty, UnicodeEscapeLength, UnicodeEscapeRange, UnicodeEscapeUnterminated, escape_fault_of}
 
 -- the character that a backslash and this one name: a line feed for `n`, a carriage return for `r`, a tab for `t`, and `\` and

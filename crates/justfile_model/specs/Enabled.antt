@@ -1,10 +1,10 @@
 -- Which items are there on this system, which is Linux, and how a file says that it is indented.
 use Rattle.std.specs.Prelude.{Bool, true, false, ◌||◌, not, List, [], ◌∷◌, Option, Some, None, if◌then◌else◌}
 use Rattle.std.specs.List.{list_any}
-use Rattle.justfile_word.specs.AttributeKind.{is_enabler_kind}
-use Rattle.justfile_word.specs.declared.attribute_kind.AttributeKind.TheVariants.{Linux, Unix}
-use Rattle.justfile_word.specs.declared.keyword.Keyword.{Keyword}
-use Rattle.justfile_word.specs.declared.keyword.Keyword.TheVariants as words
+use Rattle.justfile_vocabulary.specs.AttributeKind.{is_enabler_kind}
+use Rattle.justfile_vocabulary.specs.declared.attribute_kind.AttributeKind.TheVariants.{Linux, Unix}
+use Rattle.justfile_vocabulary.specs.declared.keyword.Keyword.{Keyword}
+use Rattle.justfile_vocabulary.specs.declared.keyword.Keyword.TheVariants as words
 use Rattle.justfile_model.specs.ContentKeys.{has_attribute, kind_of_attribute}
 use Rattle.justfile_model.specs.RecipeRules.{or_else}
 use Rattle.justfile_model.specs.Tree.{Content, Comment, Construct, Entry, Newline, OrderedItem, Setting, SettingValue, StringLiteral, Value}

@@ -1,10 +1,10 @@
 -- Reading expressions, with their features and the texts of their literals. That it agrees with the grammar is a law.
 use Rattle.std.specs.Prelude.{ℕ, ◌+◌, ◌*◌, Bool, true, false, List, [], ◌∷◌, length, Option, Some, None, Result, Ok, Err, nat_lt, if◌then◌else◌, codes}
-use Rattle.justfile_word.specs.declared.token_kind.TokenKind.{TokenKind}
-use Rattle.justfile_word.specs.declared.token_kind.TokenKind.TheVariants as kinds
+use Rattle.justfile_vocabulary.specs.declared.token_kind.TokenKind.{TokenKind}
+use Rattle.justfile_vocabulary.specs.declared.token_kind.TokenKind.TheVariants as kinds
 use Rattle.justfile_model.specs.declared.level.Level.{Level}
 use Rattle.justfile_model.specs.declared.level.Level.TheVariants.{Expression, Conjunct, Value}
-use Rattle.justfile_word.specs.declared.list_feature.ListFeature.TheVariants as features
+use Rattle.justfile_vocabulary.specs.declared.list_feature.ListFeature.TheVariants as features
 use Rattle.justfile_model.specs.declared.operator.Operator.{Operator}
 use Rattle.justfile_model.specs.Tree as t
 use Rattle.justfile_model.specs.Tree.{Expr, Exprs, Parts}
@@ -13,7 +13,7 @@ use Rattle.justfile_model.specs.Expressions.{ends_open}
 use Rattle.justfile_model.specs.Literals as literals
 use Rattle.justfile_model.specs.Literals.{Literal, LiteralFault, cooked_text, string_of}
 use Rattle.justfile_model.specs.Operators.{binary, feature_of, is_at, operand, operator_of, rank, right}
-use Rattle.justfile_model.specs.Reading.{◌>>=◌, Leaves, NotCooked, Read, State, TooDeep, Unexpected, accept, accept_marked, accept_word, at, choose, deeper, expect, note, refused, shallower, with}
+use Rattle.justfile_model.specs.ReaderState.{◌>>=◌, Leaves, NotCooked, Read, State, TooDeep, Unexpected, accept, accept_marked, accept_construct_keyword, at, choose, deeper, expect, note, refused, shallower, with}
 use Rattle.justfile_model.specs.Recursive.{recursive}
 
 -- what is read, and where
@@ -65,7 +65,7 @@ module _ {R T A B S : Type 0} (leaves : Leaves R T A B S) where
   -- what is made of a literal's text, if it has one
   abbrev pub by_text : {X : Type 0} → (List ℕ → X) → T × State R T B → Result (List ℕ) LiteralFault → Read R T B X
   by_text make x (Ok text) = Ok (make text, x.1)
-  by_text make x (Err fault) = Err (NotCooked fault (leaves.spot x.0))
+  by_text make x (Err fault) = Err (NotCooked fault (leaves.position x.0))
 
   -- a literal, and what is made of its leaf
   abbrev pub cooked_by : {X : Type 0} → (A → X) → T × State R T B → Literal (List ℕ) → Read R T B X
@@ -127,12 +127,12 @@ module _ {R T A B S : Type 0} (leaves : Leaves R T A B S) where
   -- after the other branch: no `else` where that ends in a conditional without one
   abbrev pub ended_by : Bool → Expr A B → State R T B → ReadExpr
   ended_by false e s = Ok (e, s)
-  ended_by true e s = choose (accept_word leaves (codes "else") s) (Ok (e, s)) (λ w. Err (Unexpected (Some w.0)))
+  ended_by true e s = choose (accept_construct_keyword leaves (codes "else") s) (Ok (e, s)) (λ w. Err (Unexpected (Some w.0)))
 
   -- a condition that is no comparison, noted at its first token
   abbrev pub note_uncompared : Expr A B → (from : List T) → State R T B → State R T B
   note_uncompared e [] s = s
-  note_uncompared e (first ∷ from) s = with (uncompared e (leaves.spot first)) s
+  note_uncompared e (first ∷ from) s = with (uncompared e (leaves.position first)) s
 
   -- ---- what is read at a place
 
@@ -141,8 +141,8 @@ module _ {R T A B S : Type 0} (leaves : Leaves R T A B S) where
     abbrev pub binary_tail : Level → Bool → Expr A B × State R T B → Met R T B → ReadExpr
     binary_tail level c l None = Ok (l.0, closed level l.1)
     binary_tail level c l (Some op) = do
-      r ← read (At (right level) false (with (noted_if (feature_of op.0 c) (leaves.spot op.1)) op.2))
-      Ok (binary op.0 l.0 (leaves.spot op.1) r.0, closed level r.1)
+      r ← read (At (right level) false (with (noted_if (feature_of op.0 c) (leaves.position op.1)) op.2))
+      Ok (binary op.0 l.0 (leaves.position op.1) r.0, closed level r.1)
 
     -- an operator of the level, and what stands on either side of it, or the left side alone
     unfoldable pub binary_rule : Level → Bool → State R T B → ReadExpr
@@ -153,12 +153,12 @@ module _ {R T A B S : Type 0} (leaves : Leaves R T A B S) where
 
     unfoldable pub conjunct_rule : Bool → State R T B → ReadExpr
     conjunct_rule c s =
-        choose (accept_word leaves (codes "if") s)
+        choose (accept_construct_keyword leaves (codes "if") s)
         (choose (accept leaves kinds.Slash s)
         (binary_rule Conjunct c s)
         (λ op. do
           r ← read (At Conjunct false op.1)
-          Ok (t.Root (leaves.spot op.0) r.0, r.1)))
+          Ok (t.Root (leaves.position op.0) r.0, r.1)))
         (λ w. read (Conditional w.0 w.1))
 
     -- the condition of an `if` or `assert`
@@ -178,7 +178,7 @@ module _ {R T A B S : Type 0} (leaves : Leaves R T A B S) where
     -- what follows `else`: the other branch of a conditional
     unfoldable pub otherwise_rule : State R T B → ReadExpr
     otherwise_rule s =
-        choose (accept_word leaves (codes "if") s)
+        choose (accept_construct_keyword leaves (codes "if") s)
         (do
           o ← braced_rule s
           ended_by (ends_open o.0) o.0 o.1)
@@ -188,7 +188,7 @@ module _ {R T A B S : Type 0} (leaves : Leaves R T A B S) where
     conditional_rule word s = do
       c ← condition_rule s
       b ← braced_rule c.1
-      choose (accept_word leaves (codes "else") b.1)
+      choose (accept_construct_keyword leaves (codes "else") b.1)
           (Ok (t.If c.0 b.0, note leaves features.IfWithoutElse word b.1))
           (λ w. do
             o ← otherwise_rule w.1
@@ -248,7 +248,7 @@ module _ {R T A B S : Type 0} (leaves : Leaves R T A B S) where
     unfoldable pub list_rule : State R T B → ReadExpr
     list_rule s = choose (accept leaves kinds.BracketL s) (Err (refused Unexpected s)) (λ o. do
       es ← read (Sequence kinds.BracketR (note leaves features.ListLiteral o.0 o.1))
-      Ok (t.ListOf (leaves.spot o.0) es.0, es.1))
+      Ok (t.ListOf (leaves.position o.0) es.0, es.1))
 
     unfoldable pub group_rule : State R T B → ReadExpr
     group_rule s = choose (accept leaves kinds.ParenL s) (list_rule s) (λ o. do
@@ -260,20 +260,20 @@ module _ {R T A B S : Type 0} (leaves : Leaves R T A B S) where
     name_rule s = choose (accept leaves kinds.Identifier s) (group_rule s) (λ n.
         choose (accept leaves kinds.ParenL n.1) (Ok (t.Variable (leaves.name n.0), n.1)) (λ o. do
           es ← read (Sequence kinds.ParenR o.1)
-          Ok (t.Call (leaves.name n.0) es.0, with (called (leaves.see n.0).tok.lexeme (leaves.spot n.0)) es.1)))
+          Ok (t.Call (leaves.name n.0) es.0, with (called (leaves.see n.0).tok.lexeme (leaves.position n.0)) es.1)))
 
     unfoldable pub assert_rule : State R T B → ReadExpr
-    assert_rule s = choose (accept_word leaves (codes "assert") s) (name_rule s) (λ w. do
+    assert_rule s = choose (accept_construct_keyword leaves (codes "assert") s) (name_rule s) (λ w. do
       o ← expect leaves kinds.ParenL w.1
       c ← condition_rule o.1
       choose (accept leaves kinds.Comma c.1)
           (do
             p ← expect leaves kinds.ParenR c.1
-            Ok (t.Assert (leaves.spot w.0) c.0, p.1))
+            Ok (t.Assert (leaves.position w.0) c.0, p.1))
           (λ comma. do
             m ← read (At Expression false comma.1)
             p ← expect leaves kinds.ParenR m.1
-            Ok (t.AssertMessage (leaves.spot w.0) c.0 m.0, p.1)))
+            Ok (t.AssertMessage (leaves.position w.0) c.0 m.0, p.1)))
 
     -- a format string with something to fill in, or a value that is no literal
     unfoldable pub format_rule : State R T B → ReadExpr

@@ -1,13 +1,13 @@
--- The grammar of expressions: which significant tokens are which tree. In `Rule leaf spot Open depth tree features tokens rest` the
--- tokens begin with the tree, and rest is what follows it; `leaf` and `spot` say what the tree keeps of a token; `depth` expressions
--- are open around it, and `Open` says at which depth, before which token, an expression may be entered. The features are those that
+-- The grammar of expressions: which significant tokens are which tree. In `Rule leaf position MayEnter depth tree features tokens rest` the
+-- tokens begin with the tree, and rest is what follows it; `leaf` and `position` say what the tree keeps of a token; `depth` expressions
+-- are open around it, and `MayEnter` says at which depth, before which token, an expression may be entered. The features are those that
 -- need the setting for lists, in the order in which they are met.
 use Rattle.std.specs.Prelude.{◌≡◌, ◌≢◌, ℕ, ◌+◌, ◌<◌, Bool, true, false, List, [], ◌∷◌, ◌++◌, Option, Some, None, codes}
-use Rattle.justfile_word.specs.declared.token_kind.TokenKind.{TokenKind}
-use Rattle.justfile_word.specs.declared.token_kind.TokenKind.TheVariants as kinds
+use Rattle.justfile_vocabulary.specs.declared.token_kind.TokenKind.{TokenKind}
+use Rattle.justfile_vocabulary.specs.declared.token_kind.TokenKind.TheVariants as kinds
 use Rattle.justfile_model.specs.declared.conditional_operator.ConditionalOperator.{ConditionalOperator}
 use Rattle.justfile_model.specs.declared.conditional_operator.ConditionalOperator.TheVariants.{Equality, Inequality, RegexMatch, RegexMismatch}
-use Rattle.justfile_word.specs.declared.list_feature.ListFeature.TheVariants as features
+use Rattle.justfile_vocabulary.specs.declared.list_feature.ListFeature.TheVariants as features
 use Rattle.justfile_model.specs.Tok.{Tok}
 use Rattle.justfile_model.specs.SignificantTokens.{SignificantToken}
 use Rattle.justfile_model.specs.Tree as tree
@@ -81,15 +81,15 @@ ends_open (tree.If c b) = true
 ends_open (tree.IfElse c b o) = ends_open o
 ends_open _ = false
 
-module _ {A B : Type 0} (leaf : Tok → A) (spot : Tok → B) (Open : ℕ → Option SignificantToken → Type 0) where
+module _ {A B : Type 0} (leaf : Tok → A) (position : Tok → B) (MayEnter : ℕ → Option SignificantToken → Type 0) where
   mutual
     -- `||`, to the right; a condition's first comparison is not noted
     pub data Expression : (condition : Bool) → ℕ → Expr A B → List (Noted B) → Tokens → Tokens → Type 0 where
       or : {condition : Bool} {depth : ℕ} {l r : Expr A B} {ls rs : List (Noted B)} {operator : SignificantToken} {tokens following rest : Tokens}
-          → Open depth (front tokens) → Disjunct condition (depth + 1) l ls tokens (operator ∷ following) → IsKind kinds.BarBar operator
+          → MayEnter depth (front tokens) → Disjunct condition (depth + 1) l ls tokens (operator ∷ following) → IsKind kinds.BarBar operator
           → Expression false (depth + 1) r rs following rest
-          → Expression condition depth (tree.Or l r) (ls ++ noted features.LogicalOperator (spot operator.tok) ++ rs) tokens rest
-      disjunct : {condition : Bool} {depth : ℕ} {e : Expr A B} {fs : List (Noted B)} {tokens rest : Tokens} → Open depth (front tokens)
+          → Expression condition depth (tree.Or l r) (ls ++ noted features.LogicalOperator (position operator.tok) ++ rs) tokens rest
+      disjunct : {condition : Bool} {depth : ℕ} {e : Expr A B} {fs : List (Noted B)} {tokens rest : Tokens} → MayEnter depth (front tokens)
           → Disjunct condition (depth + 1) e fs tokens rest → NotNext kinds.BarBar rest
           → Expression condition depth e fs tokens rest
 
@@ -98,7 +98,7 @@ module _ {A B : Type 0} (leaf : Tok → A) (spot : Tok → B) (Open : ℕ → Op
       and : {condition : Bool} {depth : ℕ} {l r : Expr A B} {ls rs : List (Noted B)} {operator : SignificantToken} {tokens following rest : Tokens}
           → Compared condition depth l ls tokens (operator ∷ following) → IsKind kinds.AmpersandAmpersand operator
           → Disjunct false depth r rs following rest
-          → Disjunct condition depth (tree.And l r) (ls ++ noted features.LogicalOperator (spot operator.tok) ++ rs) tokens rest
+          → Disjunct condition depth (tree.And l r) (ls ++ noted features.LogicalOperator (position operator.tok) ++ rs) tokens rest
       comparison : {condition : Bool} {depth : ℕ} {e : Expr A B} {fs : List (Noted B)} {tokens rest : Tokens}
           → Compared condition depth e fs tokens rest → NotNext kinds.AmpersandAmpersand rest
           → Disjunct condition depth e fs tokens rest
@@ -108,7 +108,7 @@ module _ {A B : Type 0} (leaf : Tok → A) (spot : Tok → B) (Open : ℕ → Op
       compare : {condition : Bool} {depth : ℕ} {l r : Expr A B} {ls rs : List (Noted B)} {operator : SignificantToken} {tokens following rest : Tokens}
           (by : ConditionalOperator) → Conjunct depth l ls tokens (operator ∷ following) → IsKind (operator_kind by) operator
           → Conjunct depth r rs following rest
-          → Compared condition depth (tree.Comparison l by (spot operator.tok) r) (ls ++ compared condition (spot operator.tok) ++ rs) tokens rest
+          → Compared condition depth (tree.Comparison l by (position operator.tok) r) (ls ++ compared condition (position operator.tok) ++ rs) tokens rest
       conjunct : {condition : Bool} {depth : ℕ} {e : Expr A B} {fs : List (Noted B)} {tokens rest : Tokens} → Conjunct depth e fs tokens rest
           → NotCompared rest
           → Compared condition depth e fs tokens rest
@@ -120,19 +120,19 @@ module _ {A B : Type 0} (leaf : Tok → A) (spot : Tok → B) (Open : ℕ → Op
           → Conjunct depth e fs (word ∷ tokens) rest
       root : {depth : ℕ} {r : Expr A B} {rs : List (Noted B)} {operator : SignificantToken} {tokens rest : Tokens} → IsKind kinds.Slash operator
           → Conjunct depth r rs tokens rest
-          → Conjunct depth (tree.Root (spot operator.tok) r) rs (operator ∷ tokens) rest
+          → Conjunct depth (tree.Root (position operator.tok) r) rs (operator ∷ tokens) rest
       join : {depth : ℕ} {l r : Expr A B} {ls rs : List (Noted B)} {operator : SignificantToken} {tokens following rest : Tokens} → NotWord (codes "if") tokens
           → Value depth l ls tokens (operator ∷ following) → IsKind kinds.Slash operator → Conjunct depth r rs following rest
-          → Conjunct depth (tree.Join l (spot operator.tok) r) (ls ++ rs) tokens rest
+          → Conjunct depth (tree.Join l (position operator.tok) r) (ls ++ rs) tokens rest
       list_concatenation : {depth : ℕ} {l r : Expr A B} {ls rs : List (Noted B)} {operator : SignificantToken} {tokens following rest : Tokens}
           → NotWord (codes "if") tokens → Value depth l ls tokens (operator ∷ following) → IsKind kinds.PlusPlus operator
           → Conjunct depth r rs following rest
-          → Conjunct depth (tree.ListConcatenation l (spot operator.tok) r)
-          (ls ++ noted features.ListConcatenationOperator (spot operator.tok) ++ rs) tokens rest
+          → Conjunct depth (tree.ListConcatenation l (position operator.tok) r)
+          (ls ++ noted features.ListConcatenationOperator (position operator.tok) ++ rs) tokens rest
       concatenation : {depth : ℕ} {l r : Expr A B} {ls rs : List (Noted B)} {operator : SignificantToken} {tokens following rest : Tokens}
           → NotWord (codes "if") tokens → Value depth l ls tokens (operator ∷ following) → IsKind kinds.Plus operator
           → Conjunct depth r rs following rest
-          → Conjunct depth (tree.Concatenation l (spot operator.tok) r) (ls ++ rs) tokens rest
+          → Conjunct depth (tree.Concatenation l (position operator.tok) r) (ls ++ rs) tokens rest
       value : {depth : ℕ} {e : Expr A B} {fs : List (Noted B)} {tokens rest : Tokens} → NotWord (codes "if") tokens
           → Value depth e fs tokens rest → NotJoined rest
           → Conjunct depth e fs tokens rest
@@ -141,7 +141,7 @@ module _ {A B : Type 0} (leaf : Tok → A) (spot : Tok → B) (Open : ℕ → Op
     pub data Condition : ℕ → Expr A B → List (Noted B) → Tokens → Tokens → Type 0 where
       condition : {depth : ℕ} {e : Expr A B} {fs : List (Noted B)} {first : SignificantToken} {tokens rest : Tokens}
           → Expression true depth e fs (first ∷ tokens) rest
-          → Condition depth e (fs ++ uncompared e (spot first.tok)) (first ∷ tokens) rest
+          → Condition depth e (fs ++ uncompared e (position first.tok)) (first ∷ tokens) rest
 
     -- an expression in braces
     pub data Braced : ℕ → Expr A B → List (Noted B) → Tokens → Tokens → Type 0 where
@@ -153,7 +153,7 @@ module _ {A B : Type 0} (leaf : Tok → A) (spot : Tok → B) (Open : ℕ → Op
     pub data Conditional : ℕ → (word : SignificantToken) → Expr A B → List (Noted B) → Tokens → Tokens → Type 0 where
       if_only : {depth : ℕ} {word : SignificantToken} {c b : Expr A B} {cs bs : List (Noted B)} {tokens following rest : Tokens}
           → Condition depth c cs tokens following → Braced depth b bs following rest → NotWord (codes "else") rest
-          → Conditional depth word (tree.If c b) (cs ++ bs ++ noted features.IfWithoutElse (spot word.tok)) tokens rest
+          → Conditional depth word (tree.If c b) (cs ++ bs ++ noted features.IfWithoutElse (position word.tok)) tokens rest
       if_else : {depth : ℕ} {word : SignificantToken} {c b o : Expr A B} {cs bs os : List (Noted B)} {otherwise : SignificantToken} {tokens following other rest : Tokens}
           → Condition depth c cs tokens following → Braced depth b bs following (otherwise ∷ other) → IsWord (codes "else") otherwise
           → Braced depth o os other rest → (ends_open o ≡ true → NotWord (codes "else") rest)
@@ -167,7 +167,7 @@ module _ {A B : Type 0} (leaf : Tok → A) (spot : Tok → B) (Open : ℕ → Op
     pub data Value : ℕ → Expr A B → List (Noted B) → Tokens → Tokens → Type 0 where
       not : {depth : ℕ} {e : Expr A B} {fs : List (Noted B)} {bang : SignificantToken} {tokens rest : Tokens} → IsKind kinds.Bang bang
           → Value depth e fs tokens rest
-          → Value depth (tree.Not e) (noted features.NegationOperator (spot bang.tok) ++ fs) (bang ∷ tokens) rest
+          → Value depth (tree.Not e) (noted features.NegationOperator (position bang.tok) ++ fs) (bang ∷ tokens) rest
       literal : {depth : ℕ} {token : SignificantToken} {rest : Tokens} → IsKind kinds.StringToken token
           → Value depth (tree.StringLiteral false (leaf token.tok)) [] (token ∷ rest) rest
       expanded : {depth : ℕ} {mark token : SignificantToken} {rest : Tokens} → IsMarked (codes "x") kinds.StringToken mark token
@@ -182,23 +182,23 @@ module _ {A B : Type 0} (leaf : Tok → A) (spot : Tok → B) (Open : ℕ → Op
           → Value depth (tree.Backtick (leaf token.tok)) [] (token ∷ rest) rest
       assert : {depth : ℕ} {c : Expr A B} {fs : List (Noted B)} {word opener closer : SignificantToken} {tokens rest : Tokens} → IsWord (codes "assert") word
           → IsKind kinds.ParenL opener → Condition depth c fs tokens (closer ∷ rest) → IsKind kinds.ParenR closer
-          → Value depth (tree.Assert (spot word.tok) c) fs (word ∷ opener ∷ tokens) rest
+          → Value depth (tree.Assert (position word.tok) c) fs (word ∷ opener ∷ tokens) rest
       assert_message : {depth : ℕ} {c m : Expr A B} {fs gs : List (Noted B)} {word opener comma closer : SignificantToken} {tokens following rest : Tokens}
           → IsWord (codes "assert") word → IsKind kinds.ParenL opener → Condition depth c fs tokens (comma ∷ following) → IsKind kinds.Comma comma
           → Expression false depth m gs following (closer ∷ rest) → IsKind kinds.ParenR closer
-          → Value depth (tree.AssertMessage (spot word.tok) c m) (fs ++ gs) (word ∷ opener ∷ tokens) rest
+          → Value depth (tree.AssertMessage (position word.tok) c m) (fs ++ gs) (word ∷ opener ∷ tokens) rest
       variable : {depth : ℕ} {name : SignificantToken} {rest : Tokens} → IsKind kinds.Identifier name → (IsWord (codes "assert") name → ⊥)
           → Unmarked name rest → NotNext kinds.ParenL rest
           → Value depth (tree.Variable (leaf name.tok)) [] (name ∷ rest) rest
       call : {depth : ℕ} {arguments : Exprs A B} {fs : List (Noted B)} {name opener : SignificantToken} {tokens rest : Tokens} → IsKind kinds.Identifier name
           → (IsWord (codes "assert") name → ⊥) → IsKind kinds.ParenL opener → Sequence kinds.ParenR depth arguments fs tokens rest
-          → Value depth (tree.Call (leaf name.tok) arguments) (fs ++ called name.tok.lexeme (spot name.tok)) (name ∷ opener ∷ tokens) rest
+          → Value depth (tree.Call (leaf name.tok) arguments) (fs ++ called name.tok.lexeme (position name.tok)) (name ∷ opener ∷ tokens) rest
       group : {depth : ℕ} {e : Expr A B} {fs : List (Noted B)} {opener closer : SignificantToken} {following rest : Tokens} → IsKind kinds.ParenL opener
           → Expression false depth e fs following (closer ∷ rest) → IsKind kinds.ParenR closer
           → Value depth (tree.Group e) fs (opener ∷ following) rest
       list : {depth : ℕ} {elements : Exprs A B} {fs : List (Noted B)} {opener : SignificantToken} {tokens rest : Tokens} → IsKind kinds.BracketL opener
           → Sequence kinds.BracketR depth elements fs tokens rest
-          → Value depth (tree.ListOf (spot opener.tok) elements) (noted features.ListLiteral (spot opener.tok) ++ fs) (opener ∷ tokens) rest
+          → Value depth (tree.ListOf (position opener.tok) elements) (noted features.ListLiteral (position opener.tok) ++ fs) (opener ∷ tokens) rest
 
     -- up to the closing delimiter and with it; a comma may stand before it
     pub data Sequence : (closing : TokenKind) → ℕ → Exprs A B → List (Noted B) → Tokens → Tokens → Type 0 where
@@ -221,13 +221,13 @@ module _ {A B : Type 0} (leaf : Tok → A) (spot : Tok → B) (Open : ℕ → Op
           → FormatParts depth (tree.Continue (leaf token.tok) e ps) (fs ++ gs) (token ∷ tokens) rest
 
 -- fewer expressions than the limit are open
-abbrev pub Under : ℕ → ℕ → Option SignificantToken → Type 0
-Under limit depth at = depth < limit
+abbrev pub BelowLimit : ℕ → ℕ → Option SignificantToken → Type 0
+BelowLimit limit depth at = depth < limit
 
 -- no limit
-abbrev pub Free : ℕ → Option SignificantToken → Type 0
-Free depth at = Unit {0}
+abbrev pub AnyDepth : ℕ → Option SignificantToken → Type 0
+AnyDepth depth at = Unit {0}
 
 -- the limit, waived for expressions that begin at some tokens, and within them
-abbrev pub Waived : (limit : ℕ) (Hit : Option SignificantToken → Type 0) → ℕ → Option SignificantToken → Type 0
-Waived limit Hit depth at = depth ≡ limit → Hit at
+abbrev pub PastLimitAt : (limit : ℕ) (Hit : Option SignificantToken → Type 0) → ℕ → Option SignificantToken → Type 0
+PastLimitAt limit Hit depth at = depth ≡ limit → Hit at

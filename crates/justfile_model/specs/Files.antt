@@ -2,15 +2,15 @@
 use Rattle.std.specs.Prelude.{◌≡◌, ℕ, Bool, ◌+◌, ◌-◌, ◌^◌, ◌≤◌, List, [], ◌∷◌, ◌++◌, map, length, Option, Some, None}
 use Rattle.std.specs.List.{flat_map}
 use Rattle.std.specs.Option.{option_map}
-use Rattle.justfile_word.specs.declared.attribute_kind.AttributeKind.TheVariants.{Doc}
+use Rattle.justfile_vocabulary.specs.declared.attribute_kind.AttributeKind.TheVariants.{Doc}
 use Rattle.justfile_model.specs.SignificantTokens.{SignificantToken}
 use Rattle.justfile_model.specs.Tree.{Expr, Or, And, Comparison, Concatenation, ListConcatenation, Join, Root, If, IfElse, Not, StringLiteral, FormatLiteral, FormatString, Backtick, Assert, AssertMessage, Variable, Call, Group, ListOf, Exprs, none, more, Parts, Last, Continue, Fragment, Text, Interpolation, BodyLine, Line, Quoted, Argument, Positional, Bare, Keyed, WrittenAttribute, OptionName, NoOption, OwnName, Named, ArgumentRules, Attribute, Plain, Single, Texts, Env, Signals, Cache, Arg, Entry, Parameter, Dependency, Header, SettingValue, Truth, Value, Interpreter, Content, Alias, Assignment, Function, Import, Module, Recipe, Setting, Unexport, Item, Newline, Comment, Construct, WrittenItem, OrderedItem, WrittenTree, WrittenShape, Tree, Shape, starless, lexeme, nothing, itself, line_of}
 use Rattle.justfile_model.specs.Tok.{Tok}
 use Rattle.justfile_model.specs.Features.{ConstructFeatures, Noted, rules_features}
 use Rattle.justfile_model.specs.Docs.{Nothing, documented}
 use Rattle.justfile_model.specs.Conditions.{Conditions, VersionNumbers}
-use Rattle.justfile_model.specs.Expressions.{Free, Under}
-use Rattle.justfile_model.specs.Grammar.{File, Kept}
+use Rattle.justfile_model.specs.Expressions.{AnyDepth, BelowLimit}
+use Rattle.justfile_model.specs.Grammar.{File, TokenProjection}
 use Rattle.justfile_model.specs.Literals as literal
 use Rattle.justfile_model.specs.Literals.{Literal, over_literal, AreCookedTexts}
 use Rattle.justfile_model.specs.AttributeRules.{arg_rules, of_some}
@@ -18,7 +18,7 @@ use Rattle.justfile_model.specs.ConstructRules.{construct_broken}
 use Rattle.justfile_model.specs.ContentKeys.{has_attribute}
 use Rattle.justfile_model.specs.Meaning.{entries_of}
 use Rattle.justfile_model.specs.Rules.{Broken}
-use Rattle.justfile_model.specs.Sight.{Sight, sees_lexemes, sees_tokens}
+use Rattle.justfile_model.specs.LeafView.{LeafView, views_lexemes, views_tokens}
 
 abbrev mutual
   -- the literals of an expression, in order
@@ -224,10 +224,10 @@ entries_features (Recipe parts) entries = flat_map rules_features (arg_rules ent
 entries_features (Setting parts) entries = []
 entries_features (Unexport name) entries = []
 
-module _ {A B C S : Type 0} (sight : Sight A B) where
+module _ {A B C S : Type 0} (view : LeafView A B) where
   -- the features of a construct, in the order in which they are noted
   abbrev pub construct_features : List (WrittenAttribute A B) → Content A B C S → ConstructFeatures B → List (Noted B)
-  construct_features ws content f = f.attributes ++ of_some (entries_features content) (entries_of sight ws) ++ f.content
+  construct_features ws content f = f.attributes ++ of_some (entries_features content) (entries_of view ws) ++ f.content
 
   -- the features of a file, by those of its constructs
   abbrev pub all_features : List (WrittenItem A B C S) → List (ConstructFeatures B) → List (Noted B)
@@ -240,7 +240,7 @@ module _ {A B C S : Type 0} (sight : Sight A B) where
   abbrev pub ordered_item : WrittenItem A B C S → Option (OrderedItem A B C)
   ordered_item Newline = Some Newline
   ordered_item (Comment text) = Some (Comment text)
-  ordered_item (Construct ws content) = with_entries content (entries_of sight ws)
+  ordered_item (Construct ws content) = with_entries content (entries_of view ws)
 
   -- a written tree with what its attributes mean, whose docs are comments still
   abbrev pub undocumented : List (WrittenItem A B C S) → Option (List (OrderedItem A B C))
@@ -252,50 +252,50 @@ module _ {A B C S : Type 0} (sight : Sight A B) where
   ordered items = option_map (documented says_doc Nothing) (undocumented items)
 
 -- where this is the running version
-module _ {A B C : Type 0} (current : VersionNumbers) (sight : Sight A B) where
+module _ {A B C : Type 0} (current : VersionNumbers) (view : LeafView A B) where
   abbrev pub item_broken : WrittenItem A B C B → List (Broken B)
   item_broken Newline = []
   item_broken (Comment text) = []
-  item_broken (Construct ws content) = construct_broken current sight ws content
+  item_broken (Construct ws content) = construct_broken current view ws content
 
   -- all rules that written items break, each at what is kept of its token
   abbrev pub broken : List (WrittenItem A B C B) → List (Broken B)
   broken items = flat_map item_broken items
 
 -- a written tree keeps tokens, and the lines on which bodies' lines begin
-abbrev pub keeps_tokens : Kept Tok Tok ℕ Tok
-keeps_tokens = record { leaf = itself; spot = itself; number = line_of; star = itself }
+abbrev pub to_tokens : TokenProjection Tok Tok ℕ Tok
+to_tokens = record { leaf = itself; position = itself; number = line_of; star = itself }
 
 -- a written shape keeps lexemes
-abbrev pub keeps_lexemes : Kept (List ℕ) (Unit {0}) (Unit {0}) (Unit {0})
-keeps_lexemes = record { leaf = lexeme; spot = nothing; number = nothing; star = nothing }
+abbrev pub to_lexemes : TokenProjection (List ℕ) (Unit {0}) (Unit {0}) (Unit {0})
+to_lexemes = record { leaf = lexeme; position = nothing; number = nothing; star = nothing }
 
 -- the grammar alone: no limit of depth, any text in a literal, and no other rule
 abbrev pub FileTree : List SignificantToken → WrittenTree → List (ConstructFeatures Tok) → Type 0
-FileTree tokens written features = File keeps_tokens Free written features tokens
+FileTree tokens written features = File to_tokens AnyDepth written features tokens
 
 -- a written tree under the conditions: its literals have texts, and no rule is broken
 pub record Obeys (conditions : Conditions) (written : WrittenTree) : Type 0 where
   pub cooked : List (List ℕ)
   pub cooks : AreCookedTexts conditions.expander (map (over_literal lexeme) (all_literals written)) cooked
-  pub unbroken : broken conditions.current (sees_tokens conditions.expander) written ≡ []
+  pub unbroken : broken conditions.current (views_tokens conditions.expander) written ≡ []
 
 -- the tree of a file's tokens, and its features
 pub record FileDerives (conditions : Conditions) (tokens : List SignificantToken) (tree : Tree) (features : List (Noted Tok)) : Type 0 where
   pub written : WrittenTree
   pub by_construct : List (ConstructFeatures Tok)
-  pub derives : File keeps_tokens (Under conditions.limit) written by_construct tokens
-  pub features_are : features ≡ all_features (sees_tokens conditions.expander) written by_construct
+  pub derives : File to_tokens (BelowLimit conditions.limit) written by_construct tokens
+  pub features_are : features ≡ all_features (views_tokens conditions.expander) written by_construct
   pub obeys : Obeys conditions written
-  pub ordered_is : ordered (sees_tokens conditions.expander) written ≡ Some tree
+  pub ordered_is : ordered (views_tokens conditions.expander) written ≡ Some tree
 
 -- a shape of a file's tokens, and its features
 pub record ShapeDerives (conditions : Conditions) (tokens : List SignificantToken) (shape : Shape) (features : List (Noted (Unit {0}))) : Type 0 where
   pub written : WrittenShape
   pub by_construct : List (ConstructFeatures (Unit {0}))
-  pub derives : File keeps_lexemes (Under conditions.limit) written by_construct tokens
-  pub features_are : features ≡ all_features (sees_lexemes conditions.expander) written by_construct
+  pub derives : File to_lexemes (BelowLimit conditions.limit) written by_construct tokens
+  pub features_are : features ≡ all_features (views_lexemes conditions.expander) written by_construct
   pub cooked : List (List ℕ)
   pub cooks : AreCookedTexts conditions.expander (all_literals written) cooked
-  pub unbroken : broken conditions.current (sees_lexemes conditions.expander) written ≡ []
-  pub ordered_is : ordered (sees_lexemes conditions.expander) written ≡ Some shape
+  pub unbroken : broken conditions.current (views_lexemes conditions.expander) written ≡ []
+  pub ordered_is : ordered (views_lexemes conditions.expander) written ≡ Some shape

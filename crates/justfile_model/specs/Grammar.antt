@@ -1,12 +1,12 @@
--- The grammar of files: which significant tokens are which items. In `Relation kept Open item features tokens rest` the tokens begin with
--- the item, and rest is what follows it; `kept` says what the tree keeps of a token, and `Open` at which depth, before which token, an
+-- The grammar of files: which significant tokens are which items. In `Relation projection MayEnter item features tokens rest` the tokens begin with
+-- the item, and rest is what follows it; `projection` says what the tree keeps of a token, and `MayEnter` at which depth, before which token, an
 -- expression may be entered. The features are those of the expressions, of files by construct. The trees are written ones: no rule is
 -- looked at but those of form.
 use Rattle.std.specs.Prelude.{◌≡◌, ℕ, false, true, List, [], ◌∷◌, ◌++◌, Option, Some, None, codes}
 use Rattle.std.specs.Str.{trim_end}
-use Rattle.justfile_word.specs.Keyword.{keyword_text}
-use Rattle.justfile_word.specs.declared.keyword.Keyword.{Keyword}
-use Rattle.justfile_word.specs.declared.token_kind.TokenKind.TheVariants as kinds
+use Rattle.justfile_vocabulary.specs.Keyword.{keyword_text}
+use Rattle.justfile_vocabulary.specs.declared.keyword.Keyword.{Keyword}
+use Rattle.justfile_vocabulary.specs.declared.token_kind.TokenKind.TheVariants as kinds
 use Rattle.justfile_model.specs.AttributeLines.{AttributeLines}
 use Rattle.justfile_model.specs.Tok.{Tok}
 use Rattle.justfile_model.specs.SignificantTokens.{SignificantToken}
@@ -19,17 +19,17 @@ use Rattle.justfile_model.specs.ItemParts.{EndsLine, FilePath, Names, NoPath, Va
 use Rattle.justfile_model.specs.Settings.{SettingForm, setting_form}
 
 -- what a tree keeps of tokens
-pub record Kept (A B C S : Type 0) : Type 0 where
+pub record TokenProjection (A B C S : Type 0) : Type 0 where
   -- of a name, a literal or a text
   pub leaf : Tok → A
   -- of an operator, a word or a delimiter, and where a feature is noted
-  pub spot : Tok → B
+  pub position : Tok → B
   -- of the first token of a line of a body
   pub number : Tok → C
   -- of the star of a dependency
   pub star : Tok → S
 
-module _ {A B : Type 0} (leaf : Tok → A) (spot : Tok → B) (Open : ℕ → Option SignificantToken → Type 0) where
+module _ {A B : Type 0} (leaf : Tok → A) (position : Tok → B) (MayEnter : ℕ → Option SignificantToken → Type 0) where
   -- what is left of a line of a body: fragments, and the line's end, which is an `Eol`, or nothing before the body's end
   pub data LineRest : List (Fragment A B) → List (Noted B) → List SignificantToken → List SignificantToken → Type 0 where
     line_ends : {token : SignificantToken} {rest : List SignificantToken} → IsKind kinds.Eol token
@@ -40,7 +40,7 @@ module _ {A B : Type 0} (leaf : Tok → A) (spot : Tok → B) (Open : ℕ → Op
         → LineRest fragments fs tokens rest
         → LineRest (tree.Text (leaf token.tok) ∷ fragments) fs (token ∷ tokens) rest
     interpolation : {e : Expr A B} {fragments : List (Fragment A B)} {es fs : List (Noted B)} {start end : SignificantToken} {tokens others rest : List SignificantToken}
-        → IsKind kinds.InterpolationStart start → Expression leaf spot Open false 0 e es tokens (end ∷ others) → IsKind kinds.InterpolationEnd end
+        → IsKind kinds.InterpolationStart start → Expression leaf position MayEnter false 0 e es tokens (end ∷ others) → IsKind kinds.InterpolationEnd end
         → LineRest fragments fs others rest
         → LineRest (tree.Interpolation e ∷ fragments) (es ++ fs) (start ∷ tokens) rest
 
@@ -57,69 +57,69 @@ abbrev pub NotEmpty : {X : Type 0} → List X → Type 0
 NotEmpty [] = ⊥
 NotEmpty (x ∷ xs) = Unit {0}
 
-module _ {A B C S : Type 0} (kept : Kept A B C S) (Open : ℕ → Option SignificantToken → Type 0) where
+module _ {A B C S : Type 0} (projection : TokenProjection A B C S) (MayEnter : ℕ → Option SignificantToken → Type 0) where
   -- the lines of a body, and the `Dedent` that ends it
   pub data BodyLines : List (BodyLine A B C) → List (Noted B) → List SignificantToken → List SignificantToken → Type 0 where
     no_line : {token : SignificantToken} {rest : List SignificantToken} → IsKind kinds.Dedent token
         → BodyLines [] [] (token ∷ rest) rest
     empty_line : {lines : List (BodyLine A B C)} {fs : List (Noted B)} {token : SignificantToken} {tokens rest : List SignificantToken} → IsKind kinds.Eol token
         → BodyLines lines fs tokens rest
-        → BodyLines (Line (kept.number token.tok) [] ∷ lines) fs (token ∷ tokens) rest
+        → BodyLines (Line (projection.number token.tok) [] ∷ lines) fs (token ∷ tokens) rest
     some_line : {f : Fragment A B} {fragments : List (Fragment A B)} {lines : List (BodyLine A B C)} {fs gs : List (Noted B)} {first : SignificantToken}
-        {tokens between rest : List SignificantToken} → LineRest kept.leaf kept.spot Open (f ∷ fragments) fs (first ∷ tokens) between
+        {tokens between rest : List SignificantToken} → LineRest projection.leaf projection.position MayEnter (f ∷ fragments) fs (first ∷ tokens) between
         → BodyLines lines gs between rest
-        → BodyLines (Line (kept.number first.tok) (f ∷ fragments) ∷ lines) (fs ++ gs) (first ∷ tokens) rest
+        → BodyLines (Line (projection.number first.tok) (f ∷ fragments) ∷ lines) (fs ++ gs) (first ∷ tokens) rest
 
   -- A construct on one line. The words that it begins with are names, too: which construct it is shows in what follows, as no header of a
   -- recipe goes on like the constructs that begin with a word.
   pub data OnLine : Content A B C S → List (Noted B) → List SignificantToken → List SignificantToken → Type 0 where
     alias : {names : List A} {word name operator : SignificantToken} {tokens rest : List SignificantToken} → IsWord (codes "alias") word
-        → IsKind kinds.Identifier name → IsKind kinds.ColonEquals operator → PathOf kept.leaf names tokens rest
-        → OnLine (tree.Alias (record { name = kept.leaf name.tok; target = names })) [] (word ∷ name ∷ operator ∷ tokens) rest
+        → IsKind kinds.Identifier name → IsKind kinds.ColonEquals operator → PathOf projection.leaf names tokens rest
+        → OnLine (tree.Alias (record { name = projection.leaf name.tok; target = names })) [] (word ∷ name ∷ operator ∷ tokens) rest
     assignment : {e : Expr A B} {fs : List (Noted B)} {name operator : SignificantToken} {tokens rest : List SignificantToken} → IsKind kinds.Identifier name
-        → IsKind kinds.ColonEquals operator → Expression kept.leaf kept.spot Open false 0 e fs tokens rest
-        → OnLine (tree.Assignment (assignment_of false false (kept.leaf name.tok) e)) fs (name ∷ operator ∷ tokens) rest
+        → IsKind kinds.ColonEquals operator → Expression projection.leaf projection.position MayEnter false 0 e fs tokens rest
+        → OnLine (tree.Assignment (assignment_of false false (projection.leaf name.tok) e)) fs (name ∷ operator ∷ tokens) rest
     eager : {e : Expr A B} {fs : List (Noted B)} {word name operator : SignificantToken} {tokens rest : List SignificantToken} → IsWord (codes "eager") word
-        → IsKind kinds.Identifier name → IsKind kinds.ColonEquals operator → Expression kept.leaf kept.spot Open false 0 e fs tokens rest
-        → OnLine (tree.Assignment (assignment_of true false (kept.leaf name.tok) e)) fs (word ∷ name ∷ operator ∷ tokens) rest
+        → IsKind kinds.Identifier name → IsKind kinds.ColonEquals operator → Expression projection.leaf projection.position MayEnter false 0 e fs tokens rest
+        → OnLine (tree.Assignment (assignment_of true false (projection.leaf name.tok) e)) fs (word ∷ name ∷ operator ∷ tokens) rest
     export : {e : Expr A B} {fs : List (Noted B)} {word name operator : SignificantToken} {tokens rest : List SignificantToken} → IsWord (codes "export") word
-        → IsKind kinds.Identifier name → IsKind kinds.ColonEquals operator → Expression kept.leaf kept.spot Open false 0 e fs tokens rest
-        → OnLine (tree.Assignment (assignment_of false true (kept.leaf name.tok) e)) fs (word ∷ name ∷ operator ∷ tokens) rest
+        → IsKind kinds.Identifier name → IsKind kinds.ColonEquals operator → Expression projection.leaf projection.position MayEnter false 0 e fs tokens rest
+        → OnLine (tree.Assignment (assignment_of false true (projection.leaf name.tok) e)) fs (word ∷ name ∷ operator ∷ tokens) rest
     function : {names : List A} {e : Expr A B} {fs : List (Noted B)} {name opener operator : SignificantToken} {tokens next rest : List SignificantToken}
-        → IsKind kinds.Identifier name → IsKind kinds.ParenL opener → Names kept.leaf names tokens (operator ∷ next) → IsKind kinds.ColonEquals operator
-        → Expression kept.leaf kept.spot Open false 0 e fs next rest
-        → OnLine (tree.Function (record { name = kept.leaf name.tok; parameters = names; body = e })) fs (name ∷ opener ∷ tokens) rest
+        → IsKind kinds.Identifier name → IsKind kinds.ParenL opener → Names projection.leaf names tokens (operator ∷ next) → IsKind kinds.ColonEquals operator
+        → Expression projection.leaf projection.position MayEnter false 0 e fs next rest
+        → OnLine (tree.Function (record { name = projection.leaf name.tok; parameters = names; body = e })) fs (name ∷ opener ∷ tokens) rest
     import : {path : Quoted A} {word : SignificantToken} {tokens rest : List SignificantToken} → IsWord (codes "import") word
-        → FilePath kept.leaf path tokens rest
+        → FilePath projection.leaf path tokens rest
         → OnLine (tree.Import (record { optional = false; path = path })) [] (word ∷ tokens) rest
     optional_import : {path : Quoted A} {word mark : SignificantToken} {tokens rest : List SignificantToken} → IsWord (codes "import") word
-        → IsKind kinds.QuestionMark mark → FilePath kept.leaf path tokens rest
+        → IsKind kinds.QuestionMark mark → FilePath projection.leaf path tokens rest
         → OnLine (tree.Import (record { optional = true; path = path })) [] (word ∷ mark ∷ tokens) rest
     module_alone : {word name : SignificantToken} {rest : List SignificantToken} → IsWord (codes "mod") word → IsKind kinds.Identifier name → EndsLine rest
-        → OnLine (tree.Module (bare_module false (kept.leaf name.tok) None)) [] (word ∷ name ∷ rest) rest
+        → OnLine (tree.Module (bare_module false (projection.leaf name.tok) None)) [] (word ∷ name ∷ rest) rest
     module_at : {path : Quoted A} {word name : SignificantToken} {tokens rest : List SignificantToken} → IsWord (codes "mod") word
-        → IsKind kinds.Identifier name → FilePath kept.leaf path tokens rest
-        → OnLine (tree.Module (bare_module false (kept.leaf name.tok) (Some path))) [] (word ∷ name ∷ tokens) rest
+        → IsKind kinds.Identifier name → FilePath projection.leaf path tokens rest
+        → OnLine (tree.Module (bare_module false (projection.leaf name.tok) (Some path))) [] (word ∷ name ∷ tokens) rest
     optional_module_alone : {word mark name : SignificantToken} {rest : List SignificantToken} → IsWord (codes "mod") word → IsKind kinds.QuestionMark mark
         → IsKind kinds.Identifier name → NoPath rest
-        → OnLine (tree.Module (bare_module true (kept.leaf name.tok) None)) [] (word ∷ mark ∷ name ∷ rest) rest
+        → OnLine (tree.Module (bare_module true (projection.leaf name.tok) None)) [] (word ∷ mark ∷ name ∷ rest) rest
     optional_module_at : {path : Quoted A} {word mark name : SignificantToken} {tokens rest : List SignificantToken} → IsWord (codes "mod") word
-        → IsKind kinds.QuestionMark mark → IsKind kinds.Identifier name → FilePath kept.leaf path tokens rest
-        → OnLine (tree.Module (bare_module true (kept.leaf name.tok) (Some path))) [] (word ∷ mark ∷ name ∷ tokens) rest
+        → IsKind kinds.QuestionMark mark → IsKind kinds.Identifier name → FilePath projection.leaf path tokens rest
+        → OnLine (tree.Module (bare_module true (projection.leaf name.tok) (Some path))) [] (word ∷ mark ∷ name ∷ tokens) rest
     setting : {keyword : Keyword} {form : SettingForm} {value : SettingValue A B} {fs : List (Noted B)} {word name : SignificantToken}
         {tokens rest : List SignificantToken} → IsWord (codes "set") word → IsWord (keyword_text keyword) name → setting_form keyword ≡ Some form
-        → ValueOf kept.leaf kept.spot Open form value fs tokens rest
-        → OnLine (tree.Setting (record { keyword = keyword; name = kept.leaf name.tok; value = value })) fs (word ∷ name ∷ tokens) rest
+        → ValueOf projection.leaf projection.position MayEnter form value fs tokens rest
+        → OnLine (tree.Setting (record { keyword = keyword; name = projection.leaf name.tok; value = value })) fs (word ∷ name ∷ tokens) rest
     unexport : {word name : SignificantToken} {rest : List SignificantToken} → IsWord (codes "unexport") word → IsKind kinds.Identifier name → EndsLine rest
-        → OnLine (tree.Unexport (kept.leaf name.tok)) [] (word ∷ name ∷ rest) rest
-    header : {h : Header A B S} {fs : List (Noted B)} {tokens rest : List SignificantToken} → HeaderOf kept.leaf kept.spot kept.star Open h fs tokens rest
+        → OnLine (tree.Unexport (projection.leaf name.tok)) [] (word ∷ name ∷ rest) rest
+    header : {h : Header A B S} {fs : List (Noted B)} {tokens rest : List SignificantToken} → HeaderOf projection.leaf projection.position projection.star MayEnter h fs tokens rest
         → OnLine (tree.Recipe (bare_recipe h None [])) fs tokens rest
 
   -- A recipe with a body: a header and lines, of which empty ones at the end are left out and some are left. A comment after the header is
   -- the recipe's.
   pub data Block : Content A B C S → List (Noted B) → List SignificantToken → List SignificantToken → Type 0 where
     recipe : {h : Header A B S} {lines : List (BodyLine A B C)} {fs gs : List (Noted B)} {comment : Option (List ℕ)}
-        {tokens next body rest : List SignificantToken} → HeaderOf kept.leaf kept.spot kept.star Open h fs tokens next → BeforeBody comment next body
+        {tokens next body rest : List SignificantToken} → HeaderOf projection.leaf projection.position projection.star MayEnter h fs tokens next → BeforeBody comment next body
         → BodyLines lines gs body rest → NotEmpty (trimmed lines)
         → Block (tree.Recipe (bare_recipe h comment (trimmed lines))) (fs ++ gs) tokens rest
 
@@ -135,12 +135,12 @@ module _ {A B C S : Type 0} (kept : Kept A B C S) (Open : ℕ → Option Signifi
           → ItemRest items fs rest
           → Items (tree.Comment (trim_end token.tok.lexeme) ∷ items) fs (token ∷ rest)
       on_line : {ws : List (WrittenAttribute A B)} {c : Content A B C S} {items : List (WrittenItem A B C S)} {gs cs : List (Noted B)} {fs : List (ConstructFeatures B)}
-          {tokens header rest : List SignificantToken} → AttributeLines kept.leaf kept.spot Open ws gs tokens header → OnLine c cs header rest
+          {tokens header rest : List SignificantToken} → AttributeLines projection.leaf projection.position MayEnter ws gs tokens header → OnLine c cs header rest
           → ItemRest items fs rest
           → Items (Construct ws c ∷ items) (record { attributes = gs; content = cs } ∷ fs) tokens
       -- after a body a line starts, and a line end is made
       block : {ws : List (WrittenAttribute A B)} {c : Content A B C S} {items : List (WrittenItem A B C S)} {gs cs : List (Noted B)} {fs : List (ConstructFeatures B)}
-          {tokens header rest : List SignificantToken} → AttributeLines kept.leaf kept.spot Open ws gs tokens header → Block c cs header rest
+          {tokens header rest : List SignificantToken} → AttributeLines projection.leaf projection.position MayEnter ws gs tokens header → Block c cs header rest
           → Items items fs rest
           → Items (Construct ws c ∷ tree.Newline ∷ items) (record { attributes = gs; content = cs } ∷ fs) tokens
 

@@ -4,16 +4,16 @@ use Rattle.std.specs.List.{flat_map}
 use Rattle.std.specs.Option.{option_map}
 use Rattle.justfile_model.specs.declared.parameter_kind.ParameterKind.{ParameterKind}
 use Rattle.justfile_model.specs.declared.parameter_kind.ParameterKind.TheVariants.{Plus, Singular, Star}
-use Rattle.justfile_word.specs.declared.token_kind.TokenKind.TheVariants as kinds
+use Rattle.justfile_vocabulary.specs.declared.token_kind.TokenKind.TheVariants as kinds
 use Rattle.justfile_model.specs.declared.level.Level.TheVariants.{Expression}
 use Rattle.justfile_model.specs.AttributeRules.{arg_rules}
 use Rattle.justfile_model.specs.ExpressionReader as expressions
 use Rattle.justfile_model.specs.Features.{rules_features}
-use Rattle.justfile_model.specs.Reading.{◌>>=◌, AfterVariadic, BreaksRule, Counters, Leaves, NoNumber, Read, State, Unexpected, accept, accepted, choose, expect, next_are, prepend, refused, with}
+use Rattle.justfile_model.specs.ReaderState.{◌>>=◌, AfterVariadic, BreaksRule, Counters, Leaves, NoNumber, Read, State, Unexpected, accept, accepted, choose, expect, next_are, prepend, refused, with}
 use Rattle.justfile_model.specs.RecipeRules.{misplaced_broken, options_broken, parameter_broken, rules_for, second_broken, stars, undefined_broken}
 use Rattle.justfile_model.specs.Recursive.{recursive}
 use Rattle.justfile_model.specs.Rules.{Broken}
-use Rattle.justfile_model.specs.Sight.{Sight}
+use Rattle.justfile_model.specs.LeafView.{LeafView}
 use Rattle.justfile_model.specs.Tree.{ArgumentRules, Dependency, DependencyArgument, Expr, Parameter, over_dependency_argument}
 
 abbrev pub with_bindings : ℕ → Counters → Counters
@@ -36,8 +36,8 @@ module _ {R T A B S : Type 0} (leaves : Leaves R T A B S) where
   expression s = expressions.read leaves (expressions.At Expression false s)
 
   -- the next number of a binding
-  unfoldable pub draw_binding : Counters → State R T B → Read R T B (ℕ × Counters)
-  draw_binding n s = if leaves.has_number n.bindings then Ok ((n.bindings, with_bindings (n.bindings + 1) n), s) else Err (NoNumber n)
+  unfoldable pub next_binding_number : Counters → State R T B → Read R T B (ℕ × Counters)
+  next_binding_number n s = if leaves.has_number n.bindings then Ok ((n.bindings, with_bindings (n.bindings + 1) n), s) else Err (NoNumber n)
 
   -- ---- paths
 
@@ -69,7 +69,7 @@ module _ {R T A B S : Type 0} (leaves : Leaves R T A B S) where
   -- an argument after its star, and after others: a second star is refused
   unfoldable pub starred_argument : (before : List (DependencyArgument A B T)) (star : T) → State R T B → Read R T B (DependencyArgument A B T)
   starred_argument before star s = do
-    checked ← obeying (second_broken (map leaves.spot (stars before ++ star ∷ []))) s
+    checked ← obeying (second_broken (map leaves.position (stars before ++ star ∷ []))) s
     e ← expressions.value leaves checked.1
     Ok (record { star = Some star; value = e.0 }, e.1)
 
@@ -107,7 +107,7 @@ module _ {R T A B S : Type 0} (leaves : Leaves R T A B S) where
     opener ← expect leaves kinds.ParenL s
     names ← path opener.1
     arguments ← dependency_arguments ([], names.1)
-    checked ← obeying (misplaced_broken (option_map leaves.spot star) (map leaves.spot (stars arguments.0))) arguments.1
+    checked ← obeying (misplaced_broken (option_map leaves.position star) (map leaves.position (stars arguments.0))) arguments.1
     Ok (dependency_of star names.0 arguments.0, checked.1)
 
   unfoldable pub bare_dependency : State R T B → Read R T B (Dependency A B S)
@@ -164,9 +164,9 @@ module _ {R T A B S : Type 0} (leaves : Leaves R T A B S) where
 
   -- no name follows a parameter that takes several arguments
   unfoldable pub nothing_after : State R T B → Read R T B (Unit {0})
-  nothing_after s = choose (accept leaves kinds.Identifier s) (Ok (tt, s)) (λ name. Err (AfterVariadic (leaves.spot name.0)))
+  nothing_after s = choose (accept leaves kinds.Identifier s) (Ok (tt, s)) (λ name. Err (AfterVariadic (leaves.position name.0)))
 
-  module _ (sight : R → Sight A B) (rules : List (ArgumentRules A B)) where
+  module _ (view : R → LeafView A B) (rules : List (ArgumentRules A B)) where
     -- the parameters that were read, and where reading stands
     abbrev pub Parameters : Type 0
     Parameters = List (Parameter A B) × Counters
@@ -177,15 +177,15 @@ module _ {R T A B S : Type 0} (leaves : Leaves R T A B S) where
     -- a parameter with its number, after others
     abbrev pub numbered : ParameterKind → (export : Bool) → (before : List (Parameter A B)) → T → Option (Expr A B) → (ℕ × Counters) × State R T B → Read R T B Parameters
     numbered kind export before name default x =
-        Ok ((before ++ parameter_of kind export (leaves.parameter x.1.run name (rules_for (sight x.1.run) rules before (leaves.name name)) x.0.0) default ∷ [], x.0.1), x.1)
+        Ok ((before ++ parameter_of kind export (leaves.parameter x.1.run name (rules_for (view x.1.run) rules before (leaves.name name)) x.0.0) default ∷ [], x.0.1), x.1)
 
     -- a parameter after `$`, or where none stands, and after others
     unfoldable pub named_parameter : ParameterKind → (export : Bool) → Parameters → State R T B → Read R T B Parameters
     named_parameter kind export x s = do
       name ← expect leaves kinds.Identifier s
       default ← default_value name.1
-      checked ← obeying (parameter_broken (sight default.1.run) rules x.0 (parameter_of kind export (leaves.name name.0) default.0)) default.1
-      number ← draw_binding x.1 checked.1
+      checked ← obeying (parameter_broken (view default.1.run) rules x.0 (parameter_of kind export (leaves.name name.0) default.0)) default.1
+      number ← next_binding_number x.1 checked.1
       numbered kind export x.0 name.0 default.0 number
 
     -- the parameters with one more
@@ -230,7 +230,7 @@ module _ {R T A B S : Type 0} (leaves : Leaves R T A B S) where
 
     -- what is noted at the name of a recipe, whose options are called differently
     unfoldable pub distinct_options : (name : T) → State R T B → Read R T B (Unit {0})
-    distinct_options name s = obeying (options_broken (sight s.run) (leaves.spot name) rules) (with (flat_map rules_features rules) s)
+    distinct_options name s = obeying (options_broken (view s.run) (leaves.position name) rules) (with (flat_map rules_features rules) s)
 
     abbrev pub header_of : (name : T) → List (Parameter A B) → List (Dependency A B S) → List (Dependency A B S) → ReadHeader T A B S
     header_of name parameters priors subsequents = record { name = name; parameters = parameters; priors = priors; subsequents = subsequents }
@@ -241,7 +241,7 @@ module _ {R T A B S : Type 0} (leaves : Leaves R T A B S) where
       name ← expect leaves kinds.Identifier s
       options ← distinct_options name.0 name.1
       ps ← parameters n options.1
-      checked ← obeying (undefined_broken (sight ps.1.run) ps.0.0 rules) ps.1
+      checked ← obeying (undefined_broken (view ps.1.run) ps.0.0 rules) ps.1
       priors ← dependencies checked.1
       others ← subsequents priors.1
       Ok ((header_of name.0 ps.0.0 priors.0 others.0, ps.0.1), others.1)

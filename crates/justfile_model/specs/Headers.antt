@@ -2,7 +2,7 @@
 use Rattle.std.specs.Prelude.{ℕ, Bool, true, false, List, [], ◌∷◌, ◌++◌, Option, Some, None}
 use Rattle.justfile_model.specs.declared.parameter_kind.ParameterKind.{ParameterKind}
 use Rattle.justfile_model.specs.declared.parameter_kind.ParameterKind.TheVariants.{Plus, Singular, Star}
-use Rattle.justfile_word.specs.declared.token_kind.TokenKind.TheVariants as kinds
+use Rattle.justfile_vocabulary.specs.declared.token_kind.TokenKind.TheVariants as kinds
 use Rattle.justfile_model.specs.Expressions.{Tokens, IsKind, NotNext, Expression, Value}
 use Rattle.justfile_model.specs.Features.{Noted}
 use Rattle.justfile_model.specs.SignificantTokens.{SignificantToken}
@@ -23,13 +23,13 @@ module _ {A : Type 0} (leaf : Tok → A) where
     path : {names : List A} {name : SignificantToken} {tokens rest : Tokens} → IsKind kinds.Identifier name → PathRest names tokens rest
         → PathOf (leaf name.tok ∷ names) (name ∷ tokens) rest
 
-module _ {A B : Type 0} (leaf : Tok → A) (spot : Tok → B) (Open : ℕ → Option SignificantToken → Type 0) where
+module _ {A B : Type 0} (leaf : Tok → A) (position : Tok → B) (MayEnter : ℕ → Option SignificantToken → Type 0) where
   -- a name, with `=` and the value that it has by default, or without
   pub data NamedParameter : ParameterKind → (export : Bool) → Parameter A B → List (Noted B) → Tokens → Tokens → Type 0 where
     required : {kind : ParameterKind} {export : Bool} {name : SignificantToken} {rest : Tokens} → IsKind kinds.Identifier name → NotNext kinds.Equals rest
         → NamedParameter kind export (record { kind = kind; export = export; name = leaf name.tok; default = None }) [] (name ∷ rest) rest
     optional : {kind : ParameterKind} {export : Bool} {e : Expr A B} {fs : List (Noted B)} {name equals : SignificantToken} {tokens rest : Tokens}
-        → IsKind kinds.Identifier name → IsKind kinds.Equals equals → Value leaf spot Open 0 e fs tokens rest
+        → IsKind kinds.Identifier name → IsKind kinds.Equals equals → Value leaf position MayEnter 0 e fs tokens rest
         → NamedParameter kind export (record { kind = kind; export = export; name = leaf name.tok; default = Some e }) fs (name ∷ equals ∷ tokens) rest
 
   -- a parameter, exported or not
@@ -54,16 +54,16 @@ module _ {A B : Type 0} (leaf : Tok → A) (spot : Tok → B) (Open : ℕ → Op
         → ParameterOf Star p fs tokens (colon ∷ rest) → IsKind kinds.Colon colon
         → Parameters (p ∷ []) fs (prefix ∷ tokens) rest
 
-module _ {A B S : Type 0} (leaf : Tok → A) (spot : Tok → B) (star : Tok → S) (Open : ℕ → Option SignificantToken → Type 0) where
+module _ {A B S : Type 0} (leaf : Tok → A) (position : Tok → B) (star : Tok → S) (MayEnter : ℕ → Option SignificantToken → Type 0) where
   -- The arguments of a dependency stand side by side, up to the closing parenthesis and with it. A starred one is a value.
   pub data DependencyArguments : List (DependencyArgument A B S) → List (Noted B) → Tokens → Tokens → Type 0 where
     none : {closer : SignificantToken} {rest : Tokens} → IsKind kinds.ParenR closer
         → DependencyArguments [] [] (closer ∷ rest) rest
     plain : {e : Expr A B} {others : List (DependencyArgument A B S)} {fs gs : List (Noted B)} {tokens next rest : Tokens}
-        → Expression leaf spot Open false 0 e fs tokens next → DependencyArguments others gs next rest
+        → Expression leaf position MayEnter false 0 e fs tokens next → DependencyArguments others gs next rest
         → DependencyArguments (record { star = None; value = e } ∷ others) (fs ++ gs) tokens rest
     starred : {e : Expr A B} {others : List (DependencyArgument A B S)} {fs gs : List (Noted B)} {mark : SignificantToken} {tokens next rest : Tokens}
-        → IsKind kinds.Asterisk mark → Value leaf spot Open 0 e fs tokens next → DependencyArguments others gs next rest
+        → IsKind kinds.Asterisk mark → Value leaf position MayEnter 0 e fs tokens next → DependencyArguments others gs next rest
         → DependencyArguments (record { star = Some (star mark.tok); value = e } ∷ others) (fs ++ gs) (mark ∷ tokens) rest
 
   -- a path alone, or a path and arguments in parentheses, with a star before them or not
@@ -96,7 +96,7 @@ module _ {A B S : Type 0} (leaf : Tok → A) (spot : Tok → B) (star : Tok → 
   -- from the name of a recipe to the end of its header
   pub data NamedHeader : (quiet : Bool) → Header A B S → List (Noted B) → Tokens → Tokens → Type 0 where
     header : {quiet : Bool} {ps : List (Parameter A B)} {ds ss : List (Dependency A B S)} {fs gs : List (Noted B)} {name : SignificantToken} {tokens next rest : Tokens}
-        → IsKind kinds.Identifier name → Parameters leaf spot Open ps fs tokens next → AllDependencies ds ss gs next rest
+        → IsKind kinds.Identifier name → Parameters leaf position MayEnter ps fs tokens next → AllDependencies ds ss gs next rest
         → NamedHeader quiet (record { quiet = quiet; name = leaf name.tok; parameters = ps; priors = ds; subsequents = ss }) (fs ++ gs) (name ∷ tokens) rest
 
   -- a header, with `@` before it or without

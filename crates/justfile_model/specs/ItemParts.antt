@@ -1,6 +1,6 @@
 -- The grammar of what items are made of, beside headers: paths of files, parameters of functions, values of settings.
 use Rattle.std.specs.Prelude.{ℕ, true, false, List, [], ◌∷◌, Option, codes}
-use Rattle.justfile_word.specs.declared.token_kind.TokenKind.TheVariants as kinds
+use Rattle.justfile_vocabulary.specs.declared.token_kind.TokenKind.TheVariants as kinds
 use Rattle.justfile_model.specs.Expressions.{Tokens, IsKind, IsWord, NotNext, Expression, Sequence}
 use Rattle.justfile_model.specs.Features.{Noted}
 use Rattle.justfile_model.specs.Settings.{ExpressionForm, InterpreterForm, PlainForm, SettingForm, TruthForm}
@@ -43,7 +43,7 @@ module _ {A : Type 0} (leaf : Tok → A) where
         → Names names tokens rest
         → Names (leaf name.tok ∷ names) (name ∷ comma ∷ tokens) rest
 
-module _ {A B : Type 0} (leaf : Tok → A) (spot : Tok → B) (Open : ℕ → Option SignificantToken → Type 0) where
+module _ {A B : Type 0} (leaf : Tok → A) (position : Tok → B) (MayEnter : ℕ → Option SignificantToken → Type 0) where
   -- the value of a setting of this form, after its name
   pub data ValueOf : SettingForm → SettingValue A B → List (Noted B) → Tokens → Tokens → Type 0 where
     bare : {rest : Tokens} → EndsLine rest
@@ -53,12 +53,12 @@ module _ {A B : Type 0} (leaf : Tok → A) (spot : Tok → B) (Open : ℕ → Op
     no : {operator word : SignificantToken} {rest : Tokens} → IsKind kinds.ColonEquals operator → IsWord (codes "false") word
         → ValueOf TruthForm (tree.Truth false) [] (operator ∷ word ∷ rest) rest
     expression : {e : Expr A B} {fs : List (Noted B)} {operator : SignificantToken} {tokens rest : Tokens} → IsKind kinds.ColonEquals operator
-        → Expression leaf spot Open false 0 e fs tokens rest
+        → Expression leaf position MayEnter false 0 e fs tokens rest
         → ValueOf ExpressionForm (tree.Value e) fs (operator ∷ tokens) rest
     -- that it is a plain literal is a rule of its own
     plain : {e : Expr A B} {fs : List (Noted B)} {operator : SignificantToken} {tokens rest : Tokens} → IsKind kinds.ColonEquals operator
-        → Expression leaf spot Open false 0 e fs tokens rest
+        → Expression leaf position MayEnter false 0 e fs tokens rest
         → ValueOf PlainForm (tree.Value e) fs (operator ∷ tokens) rest
     interpreter : {e : Expr A B} {es : Exprs A B} {fs : List (Noted B)} {operator opener : SignificantToken} {tokens rest : Tokens}
-        → IsKind kinds.ColonEquals operator → IsKind kinds.BracketL opener → Sequence leaf spot Open kinds.BracketR 0 (tree.more e es) fs tokens rest
+        → IsKind kinds.ColonEquals operator → IsKind kinds.BracketL opener → Sequence leaf position MayEnter kinds.BracketR 0 (tree.more e es) fs tokens rest
         → ValueOf InterpreterForm (tree.Interpreter e es) fs (operator ∷ opener ∷ tokens) rest

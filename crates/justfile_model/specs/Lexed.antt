@@ -1,12 +1,12 @@
 -- The tokens of a text.
 use Rattle.std.specs.Prelude.{◌≡◌, ◌≢◌, ℕ, ◌+◌, List, [], ◌∷◌, ◌++◌, ◌⊎◌, length, drop, reverse, Ok, Err}
 use Rattle.std.specs.List.{All}
-use Rattle.justfile_word.specs.declared.token_kind.TokenKind.TheVariants.{Eof, Unspecified}
-use Rattle.justfile_base.specs.Slice.{slice_of}
+use Rattle.justfile_vocabulary.specs.declared.token_kind.TokenKind.TheVariants.{Eof, Unspecified}
+use Rattle.justfile_token.specs.Slice.{slice_of}
 use Rattle.justfile_model.specs.Tok.{Tok}
 use Rattle.justfile_model.specs.Modes.{mode}
 use Rattle.justfile_model.specs.Places.{line_of_offset, column_at}
-use Rattle.justfile_model.specs.LexicalFault.{LexicalFault, UnterminatedInterpolation, LexicalRefusal, Here, Unclosed}
+use Rattle.justfile_model.specs.LexicalFault.{LexicalFault, UnterminatedInterpolation, LexicalError, Here, Unclosed}
 use Rattle.justfile_model.specs.Next.{NextToken, next}
 
 -- where the earlier tokens end; in their list the last one comes first
@@ -65,7 +65,7 @@ Follows text earlier (t ∷ []) = IsNext text earlier t × (t.kind ≡ Eof)
 Follows text earlier (t ∷ u ∷ ts) = IsNext text earlier t × (t.kind ≢ Eof) × Follows text (t ∷ earlier) (u ∷ ts)
 
 -- the error that a refusal is, and the part of the text to which it points
-abbrev pub IsSpan : List ℕ → List Tok → LexicalRefusal → LexicalFault → Tok → Type 0
+abbrev pub IsSpan : List ℕ → List Tok → LexicalError → LexicalFault → Tok → Type 0
 IsSpan text earlier (Here p skip n) fault span = (fault ≡ p) × (span.kind ≡ Unspecified) × (length span.lexeme ≡ n) × StandsAt text (end_of earlier + skip) span
 IsSpan text earlier (Unclosed t) fault span = (fault ≡ UnterminatedInterpolation) × (span ≡ t)
 
@@ -73,7 +73,7 @@ IsSpan text earlier (Unclosed t) fault span = (fault ≡ UnterminatedInterpolati
 pub record IsFault (text : List ℕ) (fault : LexicalFault) (span : Tok) : Type 0 where
   pub earlier : List Tok
   pub begins : Begins text earlier
-  pub refusal : LexicalRefusal
+  pub refusal : LexicalError
   pub refused : next_of text earlier ≡ Err refusal
   pub spans : IsSpan text earlier refusal fault span
 

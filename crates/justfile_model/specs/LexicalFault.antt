@@ -1,8 +1,8 @@
 -- Why no token comes next.
 use Rattle.std.specs.Prelude.{ℕ, List}
-use Rattle.justfile_base.specs.declared.delimiter.Delimiter.{Delimiter}
-use Rattle.justfile_base.specs.declared.compile_error_kind.CompileErrorKind.{CompileErrorKind}
-use Rattle.justfile_base.specs.declared.compile_error_kind.CompileErrorKind.TheVariants as kinds
+use Rattle.justfile_token.specs.declared.delimiter.Delimiter.{Delimiter}
+use Rattle.justfile_token.specs.declared.compile_error_kind.CompileErrorKind.{CompileErrorKind}
+use Rattle.justfile_token.specs.declared.compile_error_kind.CompileErrorKind.TheVariants as kinds
 use Rattle.justfile_model.specs.Tok.{Tok}
 
 -- the faults of lexing, with what their messages say; a character is its number
@@ -41,8 +41,8 @@ lexical_fault_of kinds.UnterminatedString = UnterminatedString
 lexical_fault_of _ = NotLexical
 
 -- a fault, and where it points to
-pub data LexicalRefusal : Type 0 where
+pub data LexicalError : Type 0 where
   -- a fault, whose span begins so many bytes after the earlier tokens and is so many bytes long
-  Here : (fault : LexicalFault) (skip span : ℕ) → LexicalRefusal
+  Here : (fault : LexicalFault) (skip span : ℕ) → LexicalError
   -- the interpolation that begins with this token has no end
-  Unclosed : Tok → LexicalRefusal
+  Unclosed : Tok → LexicalError

@@ -1,4 +1,4 @@
-pub mod Answers
+pub mod LexResult
 pub mod ArgumentTexts
 pub mod AttributeKinds
 pub mod AttributeLines
@@ -49,15 +49,15 @@ pub mod Places
 pub mod Printing
 pub mod ReadAttribute
 pub mod Reader
-pub mod Reading
+pub mod ReaderState
 pub mod RecipeRules
 pub mod Recursive
-pub mod Refusals
-pub mod Rewritten
+pub mod ReadErrors
+pub mod PrintedAttributes
 pub mod Rules
 pub mod SettingRules
 pub mod Settings
-pub mod Sight
+pub mod LeafView
 pub mod SignificantTokens
 pub mod Tok
 pub mod Tree

@@ -1,8 +1,8 @@
 -- A literal, or a part of a format string, as its text: an opener, an inside, and what ends it.
 use Rattle.std.specs.Prelude.{◌≡◌, ℕ, Bool, List, ◌++◌, length, codes, Ok, Err}
-use Rattle.justfile_base.specs.declared.string_kind.StringKind.{StringKind}
-use Rattle.justfile_word.specs.declared.token_kind.TokenKind.{TokenKind}
-use Rattle.justfile_base.specs.StringKind.{delimiter_text}
+use Rattle.justfile_token.specs.declared.string_kind.StringKind.{StringKind}
+use Rattle.justfile_vocabulary.specs.declared.token_kind.TokenKind.{TokenKind}
+use Rattle.justfile_token.specs.StringKind.{delimiter_text}
 use Rattle.justfile_model.specs.declared.raw_text.RawText.TheVariants.{Literal}
 use Rattle.justfile_model.specs.LexicalFault.{Here}
 use Rattle.justfile_model.specs.Next.{NextToken, unterminated}

@@ -1,9 +1,9 @@
 -- Text that is read byte by byte up to an end: comments, body text, and what stands between the delimiters of a literal.
 use Rattle.std.specs.Prelude.{ℕ, zero, suc, Bool, ◌||◌, ◌&&◌, ◌==◌, nat_lt, List, [], ◌∷◌, drop, slice_index, if◌then◌else◌}
-use Rattle.justfile_base.specs.declared.string_kind.StringKind.{StringKind}
+use Rattle.justfile_token.specs.declared.string_kind.StringKind.{StringKind}
 use Rattle.justfile_model.specs.declared.raw_text.RawText.{RawText}
 use Rattle.justfile_model.specs.declared.raw_text.RawText.TheVariants.{Comment, Body, Literal}
-use Rattle.justfile_base.specs.StringKind.{quote_of, escapes}
+use Rattle.justfile_token.specs.StringKind.{quote_of, escapes}
 use Rattle.justfile_model.specs.Bytes.{is_line_end, is_interpolation_start, is_interpolation_escape}
 
 -- how many bytes are before the first end; a byte may hide so many bytes after it, and no end is looked for at it nor at those

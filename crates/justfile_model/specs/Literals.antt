@@ -2,10 +2,10 @@
 use Rattle.std.specs.Prelude.{◌≡◌, ℕ, zero, suc, ◌-◌, ◌+◌, ◌⊎◌, Bool, true, false, List, [], ◌∷◌, ◌++◌, length, take, drop, if◌then◌else◌, Option, Some, None, Result, Ok, Err, codes}
 use Rattle.std.specs.List.{starts_with}
 use Rattle.std.specs.Prelude.{nat_eq}
-use Rattle.justfile_word.specs.declared.format_string_part.FormatStringPart.{FormatStringPart}
-use Rattle.justfile_word.specs.declared.format_string_part.FormatStringPart.TheVariants as parts
-use Rattle.justfile_base.specs.declared.string_kind.StringKind.{StringKind}
-use Rattle.justfile_base.specs.StringKind.{kind_of, delimiter_len, escapes}
+use Rattle.justfile_vocabulary.specs.declared.format_string_part.FormatStringPart.{FormatStringPart}
+use Rattle.justfile_vocabulary.specs.declared.format_string_part.FormatStringPart.TheVariants as parts
+use Rattle.justfile_token.specs.declared.string_kind.StringKind.{StringKind}
+use Rattle.justfile_token.specs.StringKind.{kind_of, delimiter_len, escapes}
 use Rattle.justfile_model.specs.Bytes.{is_interpolation_escape}
 use Rattle.justfile_model.specs.Unindent.{unindented}
 use Rattle.justfile_model.specs.EscapeFault.{EscapeFault}

@@ -4,17 +4,17 @@ use Rattle.std.specs.List.{find, filter, list_all, list_any}
 use Rattle.std.specs.Str.{bytes_eq}
 use Rattle.std.specs.Str.Parse.{digits_value}
 use denote.Enum.Bare.{sameb}
-use Rattle.justfile_word.specs.AttributeKind.{kind_named}
-use Rattle.justfile_word.specs.Signal.{signals, signal_named}
-use Rattle.justfile_word.specs.contracts.signal.Signal as signal_type
-use Rattle.justfile_word.specs.declared.attribute_kind.AttributeKind.{AttributeKind}
-use Rattle.justfile_word.specs.declared.attribute_kind.AttributeKind.TheVariants as kinds
-use Rattle.justfile_word.specs.declared.signal.Signal.{Signal}
+use Rattle.justfile_vocabulary.specs.AttributeKind.{kind_named}
+use Rattle.justfile_vocabulary.specs.Signal.{signals, signal_named}
+use Rattle.justfile_vocabulary.specs.contracts.signal.Signal as signal_type
+use Rattle.justfile_vocabulary.specs.declared.attribute_kind.AttributeKind.{AttributeKind}
+use Rattle.justfile_vocabulary.specs.declared.attribute_kind.AttributeKind.TheVariants as kinds
+use Rattle.justfile_vocabulary.specs.declared.signal.Signal.{Signal}
 use Rattle.justfile_model.specs.AttributeKinds.{takes_expressions}
 use Rattle.justfile_model.specs.ContentKeys.{entry_cmp}
 use Rattle.justfile_model.specs.Literals.{string_of}
 use Rattle.justfile_model.specs.Order.{in_order}
-use Rattle.justfile_model.specs.Sight.{Sight, or_empty}
+use Rattle.justfile_model.specs.LeafView.{LeafView, or_empty}
 use Rattle.justfile_model.specs.Tree as tree
 use Rattle.justfile_model.specs.Tree.{Expr, Quoted, Argument, WrittenAttribute, OptionName, Property, Bound, ArgumentRules, Attribute, Entry}
 
@@ -85,16 +85,16 @@ count_of text = if is_count text && nat_lt (digits_value 10 text) (2 ^ 64) then 
 abbrev pub signal_set : List Signal → List Signal
 signal_set given = filter (λ s. list_any (sameb signal_type.the_type s) given) signals
 
-module _ {A B : Type 0} (sight : Sight A B) where
+module _ {A B : Type 0} (view : LeafView A B) where
   -- the text of a string literal, if it has one
   abbrev pub quoted_text : Quoted A → Option (List ℕ)
-  quoted_text q = sight.cooked (string_of q.expanded q.token)
+  quoted_text q = view.cooked (string_of q.expanded q.token)
 
   abbrev pub text_of : Quoted A → List ℕ
   text_of q = or_empty (quoted_text q)
 
   abbrev pub is_key : (word : List ℕ) → KeyArgument A B → Bool
-  is_key word k = bytes_eq (sight.bytes k.key) word
+  is_key word k = bytes_eq (view.bytes k.key) word
 
   -- the argument of this key
   abbrev pub at_key : (word : List ℕ) → List (KeyArgument A B) → Option (KeyArgument A B)
@@ -104,21 +104,21 @@ module _ {A B : Type 0} (sight : Sight A B) where
   abbrev pub property_of : KeyArgument A B → Option (Property A B)
   property_of k = do
     value ← k.value
-    Some (record { key = sight.place k.key; value = value })
+    Some (record { key = view.place k.key; value = value })
 
   abbrev pub value_of : KeyArgument A B → Option (Expr A B)
   value_of k = k.value
 
   -- a key without a value
   abbrev pub bare_key : A → Option (Expr A B) → Option B
-  bare_key key None = Some (sight.place key)
+  bare_key key None = Some (view.place key)
   bare_key key (Some value) = None
 
   abbrev pub bare_of : KeyArgument A B → Option B
   bare_of k = bare_key k.key k.value
 
   abbrev pub option_named : A → Option (Expr A B) → Option (OptionName A B)
-  option_named key None = Some (tree.OwnName (sight.place key))
+  option_named key None = Some (tree.OwnName (view.place key))
   option_named key (Some value) = do
     name ← quoted value
     Some (tree.Named name)
@@ -134,7 +134,7 @@ module _ {A B : Type 0} (sight : Sight A B) where
     value ← k.value
     literal ← quoted value
     number ← count_of (text_of literal)
-    Some (record { key = sight.place k.key; number = number })
+    Some (record { key = view.place k.key; number = number })
 
   abbrev pub rules_of : List (Quoted A) → List (KeyArgument A B) → Option (ArgumentRules A B)
   rules_of texts keys = do
@@ -199,12 +199,12 @@ module _ {A B : Type 0} (sight : Sight A B) where
 
   abbrev pub entry_of : WrittenAttribute A B → Option (Entry A B)
   entry_of w = do
-    kind ← kind_named (sight.bytes w.name)
+    kind ← kind_named (view.bytes w.name)
     attribute ← attribute_of kind (by_position w.arguments) (by_key w.arguments)
-    Some (record { name = sight.place w.name; attribute = attribute; comment = w.comment })
+    Some (record { name = view.place w.name; attribute = attribute; comment = w.comment })
 
   -- what the attributes of an item mean, in the order of their content; of the same content as they stand
   abbrev pub entries_of : List (WrittenAttribute A B) → Option (List (Entry A B))
   entries_of ws = do
     entries ← all_of entry_of ws
-    Some (in_order (entry_cmp sight) entries)
+    Some (in_order (entry_cmp view) entries)

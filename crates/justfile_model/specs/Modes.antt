@@ -2,14 +2,14 @@
 use Rattle.std.specs.Prelude.{ℕ, ◌+◌, ◌-◌, Bool, true, false, not, ◌||◌, ◌==◌, List, [], ◌∷◌, length, slice_index, Option, Some, None, is_some}
 use Rattle.std.specs.List.{count_by}
 use Rattle.std.specs.Str.{bytes_eq}
-use Rattle.justfile_base.specs.declared.delimiter.Delimiter.{Delimiter}
-use Rattle.justfile_base.specs.declared.delimiter.Delimiter.TheVariants.{Brace, Bracket, FormatString, Paren}
+use Rattle.justfile_token.specs.declared.delimiter.Delimiter.{Delimiter}
+use Rattle.justfile_token.specs.declared.delimiter.Delimiter.TheVariants.{Brace, Bracket, FormatString, Paren}
 use Rattle.justfile_model.specs.declared.open_delimiter.OpenDelimiter.{OpenDelimiter}
-use Rattle.justfile_word.specs.declared.token_kind.TokenKind.{TokenKind}
-use Rattle.justfile_word.specs.declared.token_kind.TokenKind.TheVariants.{BraceL, BraceR, BracketL, BracketR, Colon, Dedent, Eol, FormatStringEnd, FormatStringStart, Identifier, Indent, InterpolationStart, InterpolationEnd, ParenL, ParenR, Whitespace}
+use Rattle.justfile_vocabulary.specs.declared.token_kind.TokenKind.{TokenKind}
+use Rattle.justfile_vocabulary.specs.declared.token_kind.TokenKind.TheVariants.{BraceL, BraceR, BracketL, BracketR, Colon, Dedent, Eol, FormatStringEnd, FormatStringStart, Identifier, Indent, InterpolationStart, InterpolationEnd, ParenL, ParenR, Whitespace}
 use Rattle.justfile_model.specs.Places.{is_newline}
 use Rattle.justfile_model.specs.Tok.{Tok}
-use Rattle.justfile_base.specs.StringKind.{kind_of}
+use Rattle.justfile_token.specs.StringKind.{kind_of}
 
 -- what the next token depends on, besides the text that is left
 pub record Mode : Type 0 where

@@ -4,15 +4,15 @@ use Rattle.std.specs.Prelude.{ℕ, Bool, true, false, ◌&&◌, ◌||◌, not, �
 use Rattle.std.specs.List.{filter, list_any}
 use Rattle.std.specs.Option.{is_some}
 use Rattle.std.specs.Str.{chars}
-use Rattle.justfile_word.specs.Signal.{signal_named}
-use Rattle.justfile_word.specs.declared.attribute_kind.AttributeKind.{AttributeKind}
-use Rattle.justfile_word.specs.declared.attribute_kind.AttributeKind.TheVariants as kinds
-use Rattle.justfile_word.specs.declared.signal.Signal.{Signal}
+use Rattle.justfile_vocabulary.specs.Signal.{signal_named}
+use Rattle.justfile_vocabulary.specs.declared.attribute_kind.AttributeKind.{AttributeKind}
+use Rattle.justfile_vocabulary.specs.declared.attribute_kind.AttributeKind.TheVariants as kinds
+use Rattle.justfile_vocabulary.specs.declared.signal.Signal.{Signal}
 use Rattle.justfile_model.specs.AttributeKinds.{takes_expressions, least_count, most_count}
 use Rattle.justfile_model.specs.AttributeRules.{has_more, is_known, least, excludes, duplicate_rule}
 use Rattle.justfile_model.specs.Meaning.{quoted, Placed, KeyArgument, text_of, at_key, is_count, count_of, signal_set, single_of, texts_of}
 use Rattle.justfile_model.specs.Rules.{Rule, AttributeArgumentCountMismatch, AttributeArgumentExpression, UnknownAttributeKey, AttributeKeyMissingValue, AttributeKeyTakesNoValue, InvalidSignal, OptionNameContainsEqualSign, OptionNameStartsWithDash, OptionNameEmpty, ShortOptionWithMultipleCharacters, ArgAttributeRequiresOption, FlagAttributeTakesNoValue, FlagAndValueArgAttribute, FlagAndPatternArgAttribute, ArgumentCountValue, ArgumentCountParse, ArgAttributeMinExceedsMax, Broken}
-use Rattle.justfile_model.specs.Sight.{Sight}
+use Rattle.justfile_model.specs.LeafView.{LeafView}
 use Rattle.justfile_model.specs.Tree as tree
 use Rattle.justfile_model.specs.Tree.{Expr, Quoted, WrittenAttribute, OptionName, Property, Bound, ArgumentRules, Attribute, Entry, bare_entry}
 
@@ -52,22 +52,22 @@ abbrev pub or_refuse : {B X : Type 0} → Option X → Rule B → B → Made B X
 or_refuse None rule token = refuse rule token
 or_refuse (Some x) rule token = Ok x
 
-module _ {A B : Type 0} (sight : Sight A B) (at : B) where
+module _ {A B : Type 0} (view : LeafView A B) (at : B) where
   -- the value of a key that needs one
   abbrev pub required : KeyArgument A B → Made B (Expr A B)
-  required k = or_refuse k.value (AttributeKeyMissingValue (sight.place k.key)) (sight.place k.key)
+  required k = or_refuse k.value (AttributeKeyMissingValue (view.place k.key)) (view.place k.key)
 
   abbrev pub required_at : (word : List ℕ) → List (KeyArgument A B) → Made B (Option (Expr A B))
-  required_at word keys = if_given required (at_key sight word keys)
+  required_at word keys = if_given required (at_key view word keys)
 
   abbrev pub property : KeyArgument A B → Made B (Property A B)
   property k = do
     value ← required k
-    Ok (record { key = sight.place k.key; value = value })
+    Ok (record { key = view.place k.key; value = value })
 
   -- a value that has to be a literal
   abbrev pub literal : (key : A) → Expr A B → Made B (Quoted A)
-  literal key value = or_refuse (quoted value) (AttributeArgumentExpression at) (sight.place key)
+  literal key value = or_refuse (quoted value) (AttributeArgumentExpression at) (view.place key)
 
   -- an argument by position that has to be a literal
   abbrev pub placed_literal : Placed A B → Made B (Quoted A)
@@ -79,33 +79,33 @@ module _ {A B : Type 0} (sight : Sight A B) (at : B) where
 
   abbrev pub refuse_key : Option (KeyArgument A B) → Made B (Unit {0})
   refuse_key None = Ok tt
-  refuse_key (Some k) = refuse (UnknownAttributeKey at (sight.place k.key)) (sight.place k.key)
+  refuse_key (Some k) = refuse (UnknownAttributeKey at (view.place k.key)) (view.place k.key)
 
   -- the least of the keys that the kind doesn't know is refused
   abbrev pub check_keys : AttributeKind → List (KeyArgument A B) → Made B (Unit {0})
-  check_keys kind keys = refuse_key (least (λ (k : KeyArgument A B). sight.bytes k.key) (filter (λ k. not (is_known sight at kind k)) keys))
+  check_keys kind keys = refuse_key (least (λ (k : KeyArgument A B). view.bytes k.key) (filter (λ k. not (is_known view at kind k)) keys))
 
   abbrev pub signal : Quoted A → Made B Signal
-  signal q = or_refuse (signal_named (text_of sight q)) (InvalidSignal (text_of sight q)) (sight.place q.token)
+  signal q = or_refuse (signal_named (text_of view q)) (InvalidSignal (text_of view q)) (view.place q.token)
 
   -- ---- the rules of `arg`, of the argument with this text
 
   module _ (argument : List ℕ) where
     abbrev pub check_option_name : Quoted A → (option : List ℕ) → Made B (Unit {0})
     check_option_name q option = do
-      equal ← check (list_any (λ b. b == 61) option) (OptionNameContainsEqualSign argument) (sight.place q.token)
-      dash ← check (slice_index option 0 == 45) (OptionNameStartsWithDash argument) (sight.place q.token)
-      check (length option == 0) (OptionNameEmpty argument) (sight.place q.token)
+      equal ← check (list_any (λ b. b == 61) option) (OptionNameContainsEqualSign argument) (view.place q.token)
+      dash ← check (slice_index option 0 == 45) (OptionNameStartsWithDash argument) (view.place q.token)
+      check (length option == 0) (OptionNameEmpty argument) (view.place q.token)
 
     abbrev pub check_short : (is_short : Bool) → Quoted A → (option : List ℕ) → Made B (Unit {0})
-    check_short is_short q option = check (is_short && not (length (chars option) == 1)) (ShortOptionWithMultipleCharacters argument) (sight.place q.token)
+    check_short is_short q option = check (is_short && not (length (chars option) == 1)) (ShortOptionWithMultipleCharacters argument) (view.place q.token)
 
     abbrev pub option_by : (is_short : Bool) → (key : A) → Option (Expr A B) → Made B (OptionName A B)
-    option_by is_short key None = Ok (tree.OwnName (sight.place key))
+    option_by is_short key None = Ok (tree.OwnName (view.place key))
     option_by is_short key (Some value) = do
       q ← literal key value
-      name ← check_option_name q (text_of sight q)
-      short ← check_short is_short q (text_of sight q)
+      name ← check_option_name q (text_of view q)
+      short ← check_short is_short q (text_of view q)
       Ok (tree.Named q)
 
     -- `long` or `short`
@@ -119,7 +119,7 @@ module _ {A B : Type 0} (sight : Sight A B) (at : B) where
 
     -- a key that wants an option
     abbrev pub check_wanted : (long short : OptionName A B) → KeyArgument A B → Made B (Unit {0})
-    check_wanted long short k = check (not (is_option long) && not (is_option short)) (ArgAttributeRequiresOption (sight.place k.key)) (sight.place k.key)
+    check_wanted long short k = check (not (is_option long) && not (is_option short)) (ArgAttributeRequiresOption (view.place k.key)) (view.place k.key)
 
     abbrev pub option_value : (long short : OptionName A B) → KeyArgument A B → Made B (Expr A B)
     option_value long short k = do
@@ -129,26 +129,26 @@ module _ {A B : Type 0} (sight : Sight A B) (at : B) where
 
     abbrev pub flag : (long short : OptionName A B) (has_value has_pattern : Bool) → KeyArgument A B → Made B B
     flag long short has_value has_pattern k = do
-      bare ← check (is_some k.value) (FlagAttributeTakesNoValue argument) (sight.place k.key)
+      bare ← check (is_some k.value) (FlagAttributeTakesNoValue argument) (view.place k.key)
       wanted ← check_wanted long short k
-      no_value ← check has_value (FlagAndValueArgAttribute argument) (sight.place k.key)
-      no_pattern ← check has_pattern (FlagAndPatternArgAttribute argument) (sight.place k.key)
-      Ok (sight.place k.key)
+      no_value ← check has_value (FlagAndValueArgAttribute argument) (view.place k.key)
+      no_pattern ← check has_pattern (FlagAndPatternArgAttribute argument) (view.place k.key)
+      Ok (view.place k.key)
 
     abbrev pub multiple : (long short : OptionName A B) → KeyArgument A B → Made B B
     multiple long short k = do
-      bare ← check (is_some k.value) (AttributeKeyTakesNoValue (sight.place k.key)) (sight.place k.key)
+      bare ← check (is_some k.value) (AttributeKeyTakesNoValue (view.place k.key)) (view.place k.key)
       wanted ← check_wanted long short k
-      Ok (sight.place k.key)
+      Ok (view.place k.key)
 
     -- `max` or `min`
     abbrev pub bound : KeyArgument A B → Made B (Bound B)
     bound k = do
       value ← required k
       q ← literal k.key value
-      digits ← check (not (is_count (text_of sight q))) (ArgumentCountValue (sight.place k.key) (text_of sight q)) (sight.place q.token)
-      number ← or_refuse (count_of (text_of sight q)) (ArgumentCountParse (sight.place k.key) (text_of sight q)) (sight.place q.token)
-      Ok (record { key = sight.place k.key; number = number })
+      digits ← check (not (is_count (text_of view q))) (ArgumentCountValue (view.place k.key) (text_of view q)) (view.place q.token)
+      number ← or_refuse (count_of (text_of view q)) (ArgumentCountParse (view.place k.key) (text_of view q)) (view.place q.token)
+      Ok (record { key = view.place k.key; number = number })
 
     abbrev pub check_bounds : (min max : Option (Bound B)) → Made B (Unit {0})
     check_bounds (Some min) (Some max) = check (nat_lt max.number min.number) (ArgAttributeMinExceedsMax min.number max.number) min.key
@@ -156,22 +156,22 @@ module _ {A B : Type 0} (sight : Sight A B) (at : B) where
 
     abbrev pub new_rules : (name : Quoted A) → List (KeyArgument A B) → Made B (ArgumentRules A B)
     new_rules name keys = do
-      long ← option false (at_key sight (codes "long") keys)
-      short ← option true (at_key sight (codes "short") keys)
-      pattern ← if_given property (at_key sight (codes "pattern") keys)
-      value ← if_given (option_value long short) (at_key sight (codes "value") keys)
-      flag ← if_given (flag long short (is_some value) (is_some pattern)) (at_key sight (codes "flag") keys)
-      multiple ← if_given (multiple long short) (at_key sight (codes "multiple") keys)
-      max ← if_given bound (at_key sight (codes "max") keys)
-      min ← if_given bound (at_key sight (codes "min") keys)
+      long ← option false (at_key view (codes "long") keys)
+      short ← option true (at_key view (codes "short") keys)
+      pattern ← if_given property (at_key view (codes "pattern") keys)
+      value ← if_given (option_value long short) (at_key view (codes "value") keys)
+      flag ← if_given (flag long short (is_some value) (is_some pattern)) (at_key view (codes "flag") keys)
+      multiple ← if_given (multiple long short) (at_key view (codes "multiple") keys)
+      max ← if_given bound (at_key view (codes "max") keys)
+      min ← if_given bound (at_key view (codes "min") keys)
       bounds ← check_bounds min max
-      help ← if_given property (at_key sight (codes "help") keys)
+      help ← if_given property (at_key view (codes "help") keys)
       Ok (record { flag = flag; help = help; long = long; max = max; min = min; multiple = multiple; name = name; pattern = pattern; short = short; value = value })
 
   abbrev pub new_arg : List (Quoted A) → List (KeyArgument A B) → Made B (Attribute A B)
   new_arg [] keys = Ok (tree.Plain kinds.Arg)
   new_arg (name ∷ texts) keys = do
-    rules ← new_rules (text_of sight name) name keys
+    rules ← new_rules (text_of view name) name keys
     Ok (tree.Arg rules)
 
   abbrev pub new_cache : List (KeyArgument A B) → Made B (Attribute A B)
@@ -191,12 +191,12 @@ module _ {A B : Type 0} (sight : Sight A B) (at : B) where
   new_of_literals kinds.Arg texts keys = new_arg texts keys
   new_of_literals kinds.Cache texts keys = new_cache keys
   new_of_literals kinds.Continue texts keys = new_continue texts
-  new_of_literals kind texts keys = Ok (texts_of sight kind texts)
+  new_of_literals kind texts keys = Ok (texts_of view kind texts)
 
   -- an `env` without two arguments is not made, as they were counted
   abbrev pub new_of_expressions : AttributeKind → List (Expr A B) → Attribute A B
   new_of_expressions kinds.Env (key ∷ value ∷ es) = tree.Env key value
-  new_of_expressions kind values = single_of sight kind values
+  new_of_expressions kind values = single_of view kind values
 
   -- literals alone are taken: the count, the literals, the kind's own rules, the keys
   abbrev pub from_literals : AttributeKind → List (Placed A B) → List (KeyArgument A B) → Made B (Attribute A B)
@@ -217,15 +217,15 @@ module _ {A B : Type 0} (sight : Sight A B) (at : B) where
     counted ← check_count kind (length placed)
     if takes_expressions kind then from_expressions kind placed keys else from_literals kind placed keys
 
-module _ {A B : Type 0} (sight : Sight A B) where
+module _ {A B : Type 0} (view : LeafView A B) where
   -- the first attribute before it that excludes it
   abbrev pub check_repeated : (before : List (Entry A B)) → Entry A B → Made B (Unit {0})
   check_repeated [] e = Ok tt
-  check_repeated (d ∷ before) e = if excludes sight d.attribute e.attribute then refuse (duplicate_rule sight e.name e.attribute d.name) e.name else check_repeated before e
+  check_repeated (d ∷ before) e = if excludes view d.attribute e.attribute then refuse (duplicate_rule view e.name e.attribute d.name) e.name else check_repeated before e
 
   -- an attribute after others of its item
   abbrev pub new_entry : (before : List (Entry A B)) → (name : B) → AttributeKind → List (Placed A B) → List (KeyArgument A B) → Made B (Entry A B)
   new_entry before name kind placed keys = do
-    attribute ← new_attribute sight name kind placed keys
+    attribute ← new_attribute view name kind placed keys
     distinct ← check_repeated before (bare_entry name attribute)
     Ok (bare_entry name attribute)

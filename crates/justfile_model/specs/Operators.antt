@@ -1,12 +1,12 @@
 -- The operators between two expressions, and how tightly they bind.
 use Rattle.std.specs.Prelude.{ℕ, Bool, true, false, Option, Some, None}
-use Rattle.justfile_word.specs.declared.token_kind.TokenKind.{TokenKind}
-use Rattle.justfile_word.specs.declared.token_kind.TokenKind.TheVariants as kinds
+use Rattle.justfile_vocabulary.specs.declared.token_kind.TokenKind.{TokenKind}
+use Rattle.justfile_vocabulary.specs.declared.token_kind.TokenKind.TheVariants as kinds
 use Rattle.justfile_model.specs.declared.conditional_operator.ConditionalOperator.TheVariants.{Equality, Inequality, RegexMatch, RegexMismatch}
 use Rattle.justfile_model.specs.declared.level.Level.{Level}
 use Rattle.justfile_model.specs.declared.level.Level.TheVariants.{Expression, Disjunct, Compared, Conjunct, Value}
-use Rattle.justfile_word.specs.declared.list_feature.ListFeature.{ListFeature}
-use Rattle.justfile_word.specs.declared.list_feature.ListFeature.TheVariants as features
+use Rattle.justfile_vocabulary.specs.declared.list_feature.ListFeature.{ListFeature}
+use Rattle.justfile_vocabulary.specs.declared.list_feature.ListFeature.TheVariants as features
 use Rattle.justfile_model.specs.declared.operator.Operator.{Operator}
 use Rattle.justfile_model.specs.declared.operator.Operator.TheVariants.{Or, And, Compare, Join, ListConcatenation, Concatenation}
 use Rattle.justfile_model.specs.Tree as tree

@@ -1,21 +1,21 @@
 -- Reading what items are made of, beside headers: paths of files, parameters of functions, values of settings; and the words that items begin
 -- with.
 use Rattle.std.specs.Prelude.{ℕ, Bool, true, false, ◌||◌, List, [], ◌∷◌, ◌++◌, length, Option, Some, None, Ok, Err, codes, if◌then◌else◌}
-use Rattle.justfile_word.specs.Keyword.{keyword_named}
-use Rattle.justfile_word.specs.declared.keyword.Keyword.{Keyword}
-use Rattle.justfile_word.specs.declared.keyword.Keyword.TheVariants as words
-use Rattle.justfile_word.specs.declared.token_kind.TokenKind.{TokenKind}
-use Rattle.justfile_word.specs.declared.token_kind.TokenKind.TheVariants as kinds
+use Rattle.justfile_vocabulary.specs.Keyword.{keyword_named}
+use Rattle.justfile_vocabulary.specs.declared.keyword.Keyword.{Keyword}
+use Rattle.justfile_vocabulary.specs.declared.keyword.Keyword.TheVariants as words
+use Rattle.justfile_vocabulary.specs.declared.token_kind.TokenKind.{TokenKind}
+use Rattle.justfile_vocabulary.specs.declared.token_kind.TokenKind.TheVariants as kinds
 use Rattle.justfile_model.specs.Conditions.{VersionNumbers}
 use Rattle.justfile_model.specs.ExpressionReader as expressions
 use Rattle.justfile_model.specs.ExpressionReader.{cooked}
-use Rattle.justfile_model.specs.HeaderReader.{draw_binding, expression, obeying}
+use Rattle.justfile_model.specs.HeaderReader.{next_binding_number, expression, obeying}
 use Rattle.justfile_model.specs.Literals.{string_of}
-use Rattle.justfile_model.specs.Reading.{◌>>=◌, Counters, ExpectedKeyword, Leaves, Read, State, Taken, Unexpected, UnknownSetting, accept, accept_word, choose, expect, is_word, next_are, refused}
+use Rattle.justfile_model.specs.ReaderState.{◌>>=◌, Counters, ExpectedKeyword, Leaves, Read, State, Taken, Unexpected, UnknownSetting, accept, accept_construct_keyword, choose, expect, is_word, next_are, refused}
 use Rattle.justfile_model.specs.Recursive.{recursive}
 use Rattle.justfile_model.specs.SettingRules.{value_broken}
 use Rattle.justfile_model.specs.Settings.{ExpressionForm, InterpreterForm, PlainForm, SettingForm, TruthForm}
-use Rattle.justfile_model.specs.Sight.{Sight}
+use Rattle.justfile_model.specs.LeafView.{LeafView}
 use Rattle.justfile_model.specs.Tree as tree
 use Rattle.justfile_model.specs.Tree.{Expr, Exprs, Quoted, SettingValue}
 
@@ -38,12 +38,12 @@ module _ {R T A B S : Type 0} (leaves : Leaves R T A B S) where
   if_follows follows (Some word) = if follows word.1 then Some word else None
 
   -- the next token if it spells this word, and that follows it
-  unfoldable pub accept_before : List ℕ → (follows : State R T B → Bool) → State R T B → Taken R T B
-  accept_before word follows s = if_follows follows (accept_word leaves word s)
+  unfoldable pub accept_keyword_before : List ℕ → (follows : State R T B → Bool) → State R T B → Taken R T B
+  accept_keyword_before word follows s = if_follows follows (accept_construct_keyword leaves word s)
 
   -- NAME `:=`
-  abbrev pub is_assigned : State R T B → Bool
-  is_assigned s = next_are leaves (kinds.Identifier ∷ kinds.ColonEquals ∷ []) s
+  abbrev pub peek_assignment : State R T B → Bool
+  peek_assignment s = next_are leaves (kinds.Identifier ∷ kinds.ColonEquals ∷ []) s
 
   -- the path of a file, with a mark or without
   abbrev pub begins_path : State R T B → Bool
@@ -61,7 +61,7 @@ module _ {R T A B S : Type 0} (leaves : Leaves R T A B S) where
 
   -- the name of a setting, before `:=` or alone on its line
   abbrev pub is_set : State R T B → Bool
-  is_set s = is_assigned s || line_is (kinds.Identifier ∷ []) s
+  is_set s = peek_assignment s || line_is (kinds.Identifier ∷ []) s
 
   -- ---- paths of files
 
@@ -69,7 +69,7 @@ module _ {R T A B S : Type 0} (leaves : Leaves R T A B S) where
   unfoldable pub expansion_mark : State R T B → Read R T B Bool
   expansion_mark s =
       choose (accept leaves kinds.Identifier s) (Ok (false, s)) (λ mark.
-      if is_word (codes "x") (leaves.see mark.0) then Ok (true, mark.1) else Err (ExpectedKeyword (words.X ∷ []) (leaves.spot mark.0)))
+      if is_word (codes "x") (leaves.see mark.0) then Ok (true, mark.1) else Err (ExpectedKeyword (words.X ∷ []) (leaves.position mark.0)))
 
   abbrev pub quoted_of : (expanded : Bool) → A → Quoted A
   quoted_of expanded token = record { expanded = expanded; token = token }
@@ -103,7 +103,7 @@ module _ {R T A B S : Type 0} (leaves : Leaves R T A B S) where
   unfoldable pub numbered_name : Counters → State R T B → Read R T B (A × Counters)
   numbered_name n s = do
     name ← expect leaves kinds.Identifier s
-    number ← draw_binding leaves n name.1
+    number ← next_binding_number leaves n name.1
     Ok ((leaves.function_parameter number.1.run name.0 number.0.0, number.0.1), number.1)
 
   -- the end of the parameters
@@ -131,19 +131,19 @@ module _ {R T A B S : Type 0} (leaves : Leaves R T A B S) where
   -- ---- settings
 
   abbrev pub keyword_or_none : T → State R T B → Option Keyword → Read R T B Keyword
-  keyword_or_none name s None = Err (UnknownSetting (leaves.spot name))
+  keyword_or_none name s None = Err (UnknownSetting (leaves.position name))
   keyword_or_none name s (Some keyword) = Ok (keyword, s)
 
   -- the keyword that the name of a setting spells
-  unfoldable pub keyword_at : T → State R T B → Read R T B Keyword
-  keyword_at name s = keyword_or_none name s (keyword_named (leaves.see name).tok.lexeme)
+  unfoldable pub setting_keyword : T → State R T B → Read R T B Keyword
+  setting_keyword name s = keyword_or_none name s (keyword_named (leaves.see name).tok.lexeme)
 
   -- `true` or `false`
   unfoldable pub truth_of : T × State R T B → Read R T B (SettingValue A B)
   truth_of word =
       if is_word (codes "true") (leaves.see word.0) then Ok (tree.Truth true, word.1)
       else if is_word (codes "false") (leaves.see word.0) then Ok (tree.Truth false, word.1)
-      else Err (ExpectedKeyword (words.True ∷ words.False ∷ []) (leaves.spot word.0))
+      else Err (ExpectedKeyword (words.True ∷ words.False ∷ []) (leaves.position word.0))
 
   -- nothing, which is true, or `:=` and a truth value
   unfoldable pub truth : State R T B → Read R T B (SettingValue A B)
@@ -164,12 +164,12 @@ module _ {R T A B S : Type 0} (leaves : Leaves R T A B S) where
     e ← expression leaves s
     Ok (tree.Value e.0, e.1)
 
-  module _ (sight : R → Sight A B) (name : T) (keyword : Keyword) where
+  module _ (view : R → LeafView A B) (name : T) (keyword : Keyword) where
     -- an expression that has to be a plain literal
     unfoldable pub plain_value : State R T B → Read R T B (SettingValue A B)
     plain_value s = do
       value ← expression_value s
-      checked ← obeying (value_broken (leaves.conditions value.1.run).current (sight value.1.run) (Some PlainForm) keyword (leaves.spot name) value.0) value.1
+      checked ← obeying (value_broken (leaves.conditions value.1.run).current (view value.1.run) (Some PlainForm) keyword (leaves.position name) value.0) value.1
       Ok (value.0, checked.1)
 
     -- what follows `:=`, where a truth value is no such form
@@ -177,7 +177,7 @@ module _ {R T A B S : Type 0} (leaves : Leaves R T A B S) where
     assigned_value (Some ExpressionForm) s = expression_value s
     assigned_value (Some InterpreterForm) s = interpreter s
     assigned_value (Some PlainForm) s = plain_value s
-    assigned_value form s = Err (UnknownSetting (leaves.spot name))
+    assigned_value form s = Err (UnknownSetting (leaves.position name))
 
     -- the value of the setting with this name, by its form; a keyword that is no setting is refused after `:=`
     abbrev pub setting_value : Option SettingForm → State R T B → Read R T B (SettingValue A B)

@@ -2,11 +2,11 @@
 use Rattle.std.specs.Prelude.{ℕ, Bool, true, not, ◌&&◌, List, [], ◌∷◌, ◌++◌, ◌==◌, false, codes, Option, Some, None, map, if◌then◌else◌}
 use Rattle.std.specs.Fmt.{decimal}
 use Rattle.std.specs.List.{flat_map}
-use Rattle.justfile_word.specs.AttributeKind.{attribute_name}
-use Rattle.justfile_base.specs.Path.{path_text}
-use Rattle.justfile_word.specs.Signal.{signal_name}
-use Rattle.justfile_word.specs.declared.signal.Signal.{Signal}
-use Rattle.justfile_word.specs.declared.attribute_kind.AttributeKind.TheVariants.{Doc}
+use Rattle.justfile_vocabulary.specs.AttributeKind.{attribute_name}
+use Rattle.justfile_token.specs.Path.{path_text}
+use Rattle.justfile_vocabulary.specs.Signal.{signal_name}
+use Rattle.justfile_vocabulary.specs.declared.signal.Signal.{Signal}
+use Rattle.justfile_vocabulary.specs.declared.attribute_kind.AttributeKind.TheVariants.{Doc}
 use Rattle.justfile_model.specs.ContentKeys.{has_attribute, kind_of_attribute}
 use Rattle.justfile_model.specs.Docs.{doc_of}
 use Rattle.justfile_model.specs.declared.conditional_operator.ConditionalOperator.{ConditionalOperator}

@@ -1,7 +1,7 @@
 -- What is kept of an attribute where significant tokens are read: how it is written, and what it means.
 use Rattle.std.specs.Prelude.{ℕ, List}
 use Rattle.justfile_model.specs.Conditions.{Conditions}
-use Rattle.justfile_model.specs.Sight.{Sight, sees_tokens}
+use Rattle.justfile_model.specs.LeafView.{LeafView, views_tokens}
 use Rattle.justfile_model.specs.Tok.{Tok}
 use Rattle.justfile_model.specs.Tree.{Entry, WrittenAttribute, commented_attribute, commented_entry}
 
@@ -11,8 +11,8 @@ pub record ReadAttribute : Type 0 where
   pub entry : Entry Tok Tok
 
 -- what is seen of tokens where a file is read under these conditions
-abbrev pub token_sight : Conditions → Sight Tok Tok
-token_sight conditions = sees_tokens conditions.expander
+abbrev pub token_view : Conditions → LeafView Tok Tok
+token_view conditions = views_tokens conditions.expander
 
 abbrev pub keep_both : WrittenAttribute Tok Tok → Entry Tok Tok → ReadAttribute
 keep_both written entry = record { written = written; entry = entry }

@@ -2,9 +2,9 @@
 -- grammar is a law.
 use Rattle.std.specs.Prelude.{ℕ, ◌+◌, Bool, true, false, ◌||◌, List, [], ◌∷◌, length, drop, map, Option, None, Ok, Err, codes, if◌then◌else◌}
 use Rattle.std.specs.Option.{option_map}
-use Rattle.justfile_word.specs.declared.item_kind.ItemKind.{ItemKind}
-use Rattle.justfile_word.specs.declared.item_kind.ItemKind.TheVariants as item_kinds
-use Rattle.justfile_word.specs.declared.token_kind.TokenKind.TheVariants as kinds
+use Rattle.justfile_vocabulary.specs.declared.item_kind.ItemKind.{ItemKind}
+use Rattle.justfile_vocabulary.specs.declared.item_kind.ItemKind.TheVariants as item_kinds
+use Rattle.justfile_vocabulary.specs.declared.token_kind.TokenKind.TheVariants as kinds
 use Rattle.justfile_model.specs.AttributeReader as attribute_reader
 use Rattle.justfile_model.specs.AttributeReader.{AttributeLeaves}
 use Rattle.justfile_model.specs.AttributeRules.{allowed_broken, arg_rules}
@@ -13,11 +13,11 @@ use Rattle.justfile_model.specs.Order.{in_order}
 use Rattle.justfile_model.specs.RecipeRules.{exclusions_broken}
 use Rattle.justfile_model.specs.Tree as tree
 use Rattle.justfile_model.specs.Expressions.{front}
-use Rattle.justfile_model.specs.HeaderReader.{ReadHeader, draw_binding, expression, header, obeying, path}
+use Rattle.justfile_model.specs.HeaderReader.{ReadHeader, next_binding_number, expression, header, obeying, path}
 use Rattle.justfile_model.specs.Tree.{ArgumentRules, BodyLine, Construct, Content, Entry, Expr, Fragment, Header, Item, Line, RecipeParts, assignment_of, bare_module, bare_recipe, trimmed}
 use Rattle.justfile_model.specs.Recursive.{recursive}
-use Rattle.justfile_model.specs.Reading.{◌>>=◌, Counters, Extraneous, Leaves, NoNumber, Read, State, Unexpected, accept, accepted, prepend, at, choose, comment_in, expect, next_are, refused}
-use Rattle.justfile_model.specs.PartReader.{accept_before, after_numbered, file_path, is_assigned, is_imported, is_module, is_set, keyword_at, line_is, names, optional_path, setting_value}
+use Rattle.justfile_model.specs.ReaderState.{◌>>=◌, Counters, Extraneous, Leaves, NoNumber, Read, State, Unexpected, accept, accepted, prepend, at, choose, comment_in, expect, next_are, refused}
+use Rattle.justfile_model.specs.PartReader.{accept_keyword_before, after_numbered, file_path, peek_assignment, is_imported, is_module, is_set, setting_keyword, line_is, names, optional_path, setting_value}
 use Rattle.justfile_model.specs.Settings.{setting_form}
 
 abbrev pub with_recipes : ℕ → Counters → Counters
@@ -53,8 +53,8 @@ module _ {R T A B S : Type 0} (leaves : Leaves R T A B S) where
   -- ---- numbers
 
   -- the next number of a recipe
-  unfoldable pub draw_recipe : Counters → State R T B → Read R T B (ℕ × Counters)
-  draw_recipe n s = if leaves.has_number n.recipes then Ok ((n.recipes, with_recipes (n.recipes + 1) n), s) else Err (NoNumber n)
+  unfoldable pub next_recipe_number : Counters → State R T B → Read R T B (ℕ × Counters)
+  next_recipe_number n s = if leaves.has_number n.recipes then Ok ((n.recipes, with_recipes (n.recipes + 1) n), s) else Err (NoNumber n)
 
   -- ---- bodies
 
@@ -138,7 +138,7 @@ module _ {R T A B S D W : Type 0} (leaves : Leaves R T A B S) (kept : AttributeL
 
   -- what attributes mean, in the order of their content
   abbrev pub entries_read : R → List W → List (Entry A B)
-  entries_read run ws = in_order (entry_cmp (kept.sight run)) (map kept.entry ws)
+  entries_read run ws = in_order (entry_cmp (kept.view run)) (map kept.entry ws)
 
   -- a blank line or a comment comes next
   abbrev pub stands_alone : State R T B → Bool
@@ -146,13 +146,13 @@ module _ {R T A B S D W : Type 0} (leaves : Leaves R T A B S) (kept : AttributeL
 
   -- attributes that begin with this bracket stand before no blank line and no comment
   abbrev pub before_item : (opener : T) → List W × State R T B → Read R T B (List W)
-  before_item opener x = if stands_alone x.1 then Err (Extraneous (length x.0) (leaves.spot opener)) else Ok x
+  before_item opener x = if stands_alone x.1 then Err (Extraneous (length x.0) (leaves.position opener)) else Ok x
 
   -- the attributes before a construct, which follows them
   unfoldable pub attributes : State R T B → Read R T B (List W)
   attributes s =
       choose (accept leaves kinds.BracketL s) (Ok ([], s)) (λ opener. do
-        ws ← attribute_reader.attribute_lines leaves kept.sight kept.keep kept.entry kept.comment s
+        ws ← attribute_reader.attribute_lines leaves kept.view kept.keep kept.entry kept.comment s
         before_item opener.0 ws)
 
   -- ---- items
@@ -171,7 +171,7 @@ module _ {R T A B S D W : Type 0} (leaves : Leaves R T A B S) (kept : AttributeL
 
   -- the attributes of an item of this kind with this name are those that it may have
   abbrev pub allowed : ItemKind → List W → T → State R T B → Read R T B (Unit {0})
-  allowed item ws name s = obeying (allowed_broken (kept.sight s.run) item (leaves.spot name) (entries_read s.run ws)) s
+  allowed item ws name s = obeying (allowed_broken (kept.view s.run) item (leaves.position name) (entries_read s.run ws)) s
 
   -- an alias after its attributes and its word
   unfoldable pub alias : List W → Counters → State R T B → ReadItem
@@ -194,7 +194,7 @@ module _ {R T A B S D W : Type 0} (leaves : Leaves R T A B S) (kept : AttributeL
     operator ← expect leaves kinds.ColonEquals name.1
     e ← expression leaves operator.1
     checked ← allowed item_kinds.Assignment ws name.0 e.1
-    number ← draw_binding leaves n checked.1
+    number ← next_binding_number leaves n checked.1
     assigned eager export ws name.0 e.0 number
 
   -- a function after its attributes
@@ -235,9 +235,9 @@ module _ {R T A B S D W : Type 0} (leaves : Leaves R T A B S) (kept : AttributeL
   unfoldable pub setting : List W → Counters → State R T B → ReadItem
   setting ws n s = do
     name ← expect leaves kinds.Identifier s
-    keyword ← keyword_at leaves name.0 name.1
+    keyword ← setting_keyword leaves name.0 name.1
     checked ← allowed item_kinds.Setting ws name.0 keyword.1
-    value ← setting_value leaves kept.sight name.0 keyword.0 (setting_form keyword.0) checked.1
+    value ← setting_value leaves kept.view name.0 keyword.0 (setting_form keyword.0) checked.1
     constructed ws (tree.Setting (record { keyword = keyword.0; name = leaves.name name.0; value = value.0 })) n value.1
 
   -- a variable that is not exported, after its attributes and its word
@@ -262,7 +262,7 @@ module _ {R T A B S D W : Type 0} (leaves : Leaves R T A B S) (kept : AttributeL
 
   -- no two attributes of the recipe with this name exclude each other
   abbrev pub no_exclusion : List W → T → State R T B → Read R T B (Unit {0})
-  no_exclusion ws name s = obeying (exclusions_broken (kept.sight s.run) (leaves.spot name) (entries_read s.run ws)) s
+  no_exclusion ws name s = obeying (exclusions_broken (kept.view s.run) (leaves.position name) (entries_read s.run ws)) s
 
   -- what attributes say of parameters
   abbrev pub argument_rules : R → List W → List (ArgumentRules A B)
@@ -271,10 +271,10 @@ module _ {R T A B S D W : Type 0} (leaves : Leaves R T A B S) (kept : AttributeL
   -- a recipe after its attributes and its `@`, up to its end; then it gets its number
   unfoldable pub recipe : (quiet : Bool) → List W → Counters → State R T B → Read R T B (Item A B ℕ S D × Counters)
   recipe quiet ws n s = do
-    h ← header leaves kept.sight (argument_rules s.run ws) n s
+    h ← header leaves kept.view (argument_rules s.run ws) n s
     b ← optional_body leaves h.1
     checked ← no_exclusion ws h.0.0.name b.1
-    number ← draw_recipe leaves h.0.1 checked.1
+    number ← next_recipe_number leaves h.0.1 checked.1
     headed quiet ws h.0.0 b.0 number
 
   -- a recipe after its attributes
@@ -285,19 +285,19 @@ module _ {R T A B S D W : Type 0} (leaves : Leaves R T A B S) (kept : AttributeL
   unfoldable pub wordless : List W → Counters → State R T B → ReadItem
   wordless ws n s =
       if next_are leaves (kinds.Identifier ∷ kinds.ParenL ∷ []) s then function ws n s
-      else if is_assigned leaves s then assignment false false ws n s
+      else if peek_assignment leaves s then assignment false false ws n s
       else any_recipe ws n s
 
   -- a construct after its attributes; the words that it may begin with are names where nothing follows that goes with them
   unfoldable pub content : List W → Counters → State R T B → ReadItem
   content ws n s =
-      choose (accept_before leaves (codes "alias") (is_assigned leaves) s)
-      (choose (accept_before leaves (codes "eager") (is_assigned leaves) s)
-      (choose (accept_before leaves (codes "export") (is_assigned leaves) s)
-      (choose (accept_before leaves (codes "unexport") (line_is leaves (kinds.Identifier ∷ [])) s)
-      (choose (accept_before leaves (codes "import") (is_imported leaves) s)
-      (choose (accept_before leaves (codes "mod") (is_module leaves) s)
-      (choose (accept_before leaves (codes "set") (is_set leaves) s)
+      choose (accept_keyword_before leaves (codes "alias") (peek_assignment leaves) s)
+      (choose (accept_keyword_before leaves (codes "eager") (peek_assignment leaves) s)
+      (choose (accept_keyword_before leaves (codes "export") (peek_assignment leaves) s)
+      (choose (accept_keyword_before leaves (codes "unexport") (line_is leaves (kinds.Identifier ∷ [])) s)
+      (choose (accept_keyword_before leaves (codes "import") (is_imported leaves) s)
+      (choose (accept_keyword_before leaves (codes "mod") (is_module leaves) s)
+      (choose (accept_keyword_before leaves (codes "set") (is_set leaves) s)
       (wordless ws n s)
       (λ word. setting ws n word.1))
       (λ word. any_module ws n word.1))

@@ -3,7 +3,7 @@ use Rattle.std.specs.Prelude.{ℕ, Bool, true, false, ◌&&◌, not, List, [], �
 use Rattle.std.specs.List.{filter, find, filter_map, flat_map, list_any}
 use Rattle.std.specs.Option.{is_some, option_map}
 use Rattle.std.specs.Str.{bytes_eq, chars}
-use Rattle.justfile_word.specs.declared.attribute_kind.AttributeKind.TheVariants as kinds
+use Rattle.justfile_vocabulary.specs.declared.attribute_kind.AttributeKind.TheVariants as kinds
 use Rattle.justfile_model.specs.declared.parameter_kind.ParameterKind.{ParameterKind}
 use Rattle.justfile_model.specs.declared.parameter_kind.ParameterKind.TheVariants.{Plus, Singular, Star}
 use Rattle.justfile_model.specs.AttributeRules.{arg_rules, least, of_some}
@@ -11,7 +11,7 @@ use Rattle.justfile_model.specs.ContentKeys.{has_attribute}
 use Rattle.justfile_model.specs.Features.{bound_place}
 use Rattle.justfile_model.specs.Meaning.{first_of, text_of}
 use Rattle.justfile_model.specs.Rules.{Rule, UndefinedArgAttribute, DuplicateLongOption, DuplicateShortOption, FlagWithDefault, ArgAttributeRequiresMultipleOrVariadic, NoCdAndWorkingDirectoryAttribute, ExitMessageAndNoExitMessageAttribute, ScriptAndShellAttribute, MappedDependencyMultipleStarredArguments, MappedDependencyWithoutStarredArgument, StarredArgumentOutsideMappedDependency, Broken, broken_if}
-use Rattle.justfile_model.specs.Sight.{Sight}
+use Rattle.justfile_model.specs.LeafView.{LeafView}
 use Rattle.justfile_model.specs.Tree as tree
 use Rattle.justfile_model.specs.Tree.{ArgumentRules, Dependency, DependencyArgument, Entry, Header, OptionName, Parameter, Quoted}
 
@@ -61,17 +61,17 @@ dependency_broken d = second_broken (stars d.arguments) ++ misplaced_broken d.st
 abbrev pub header_broken : {A B : Type 0} → Header A B B → List (Broken B)
 header_broken h = flat_map dependency_broken h.priors ++ flat_map dependency_broken h.subsequents
 
-module _ {A B : Type 0} (sight : Sight A B) where
+module _ {A B : Type 0} (view : LeafView A B) where
   -- ---- options
 
   -- the literal that names an option, which may be the argument's own, and where the option is refused
   abbrev pub option_of : (argument : Quoted A) → OptionName A B → Option (Placed (Quoted A) B)
   option_of argument tree.NoOption = None
   option_of argument (tree.OwnName key) = Some (argument, key)
-  option_of argument (tree.Named name) = Some (name, sight.place name.token)
+  option_of argument (tree.Named name) = Some (name, view.place name.token)
 
   abbrev pub with_text : Placed (Quoted A) B → Placed (List ℕ) B
-  with_text option = (text_of sight option.0, option.1)
+  with_text option = (text_of view option.0, option.1)
 
   -- what an option is called that is one character, the first
   abbrev pub first_character : Placed (List ℕ) B → Option (Placed ℕ B)
@@ -93,19 +93,19 @@ module _ {A B : Type 0} (sight : Sight A B) where
 
   -- a parameter of that name is among them
   abbrev pub is_parameter : List (Parameter A B) → ArgumentRules A B → Bool
-  is_parameter parameters a = list_any (λ (p : Parameter A B). bytes_eq (sight.bytes p.name) (text_of sight a.name)) parameters
+  is_parameter parameters a = list_any (λ (p : Parameter A B). bytes_eq (view.bytes p.name) (text_of view a.name)) parameters
 
   -- what is said of no parameter: the least text is refused, at its literal
   abbrev pub undefined_broken : List (Parameter A B) → List (ArgumentRules A B) → List (Broken B)
   undefined_broken parameters rules =
-      of_some (λ (a : ArgumentRules A B). record { rule = UndefinedArgAttribute (text_of sight a.name); token = sight.place a.name.token } ∷ [])
-      (least (λ (a : ArgumentRules A B). text_of sight a.name) (filter (λ a. not (is_parameter parameters a)) rules))
+      of_some (λ (a : ArgumentRules A B). record { rule = UndefinedArgAttribute (text_of view a.name); token = view.place a.name.token } ∷ [])
+      (least (λ (a : ArgumentRules A B). text_of view a.name) (filter (λ a. not (is_parameter parameters a)) rules))
 
   -- what is said of a parameter after others: the first of its name is spoken of
   abbrev pub rules_for : List (ArgumentRules A B) → (before : List (Parameter A B)) → (name : A) → Option (ArgumentRules A B)
   rules_for rules before name =
-      if list_any (λ (p : Parameter A B). bytes_eq (sight.bytes p.name) (sight.bytes name)) before then None
-      else find (λ (a : ArgumentRules A B). bytes_eq (text_of sight a.name) (sight.bytes name)) rules
+      if list_any (λ (p : Parameter A B). bytes_eq (view.bytes p.name) (view.bytes name)) before then None
+      else find (λ (a : ArgumentRules A B). bytes_eq (text_of view a.name) (view.bytes name)) rules
 
   -- the key of `max`, or else that of `min`
   abbrev pub bound_key : ArgumentRules A B → Option B
@@ -114,7 +114,7 @@ module _ {A B : Type 0} (sight : Sight A B) where
   -- what is said of a parameter goes with its default and its kind
   abbrev pub ruled_broken : Parameter A B → ArgumentRules A B → List (Broken B)
   ruled_broken p a =
-      broken_if (is_some a.flag && is_some p.default) (FlagWithDefault (sight.place p.name)) (sight.place p.name)
+      broken_if (is_some a.flag && is_some p.default) (FlagWithDefault (view.place p.name)) (view.place p.name)
       ++ of_some (λ (key : B). broken_if (not (is_some a.multiple) && not (is_variadic p.kind)) (ArgAttributeRequiresMultipleOrVariadic key) key) (bound_key a)
 
   abbrev pub parameter_broken : List (ArgumentRules A B) → (before : List (Parameter A B)) → Parameter A B → List (Broken B)
@@ -135,7 +135,7 @@ module _ {A B : Type 0} (sight : Sight A B) where
   -- what a recipe breaks by what its attributes mean
   abbrev pub recipe_broken : {S : Type 0} → Header A B S → List (Entry A B) → List (Broken B)
   recipe_broken h entries =
-      options_broken (sight.place h.name) (arg_rules entries)
+      options_broken (view.place h.name) (arg_rules entries)
       ++ parameters_broken (arg_rules entries) [] h.parameters
       ++ undefined_broken h.parameters (arg_rules entries)
-      ++ exclusions_broken (sight.place h.name) entries
+      ++ exclusions_broken (view.place h.name) entries

@@ -1,15 +1,15 @@
 -- Which rules the value of a setting breaks, each at its token.
 use Rattle.std.specs.Prelude.{ℕ, Bool, true, false, List, [], ◌∷◌, Option, Some, None, if◌then◌else◌}
-use Rattle.justfile_word.specs.Indentation.{indentation_refusal}
-use Rattle.justfile_base.specs.StringKind.{kind_of}
-use Rattle.justfile_word.specs.declared.keyword.Keyword.{Keyword}
-use Rattle.justfile_word.specs.declared.keyword.Keyword.TheVariants as words
+use Rattle.justfile_vocabulary.specs.Indentation.{indentation_refusal}
+use Rattle.justfile_token.specs.StringKind.{kind_of}
+use Rattle.justfile_vocabulary.specs.declared.keyword.Keyword.{Keyword}
+use Rattle.justfile_vocabulary.specs.declared.keyword.Keyword.TheVariants as words
 use Rattle.justfile_model.specs.AttributeRules.{of_some}
 use Rattle.justfile_model.specs.Conditions.{VersionNumbers}
 use Rattle.justfile_model.specs.Meaning.{quoted_text}
 use Rattle.justfile_model.specs.Rules.{Broken, InvalidIndentation, InvalidMinimumVersion, MinimumVersion, SettingExpression, broken_if}
 use Rattle.justfile_model.specs.Settings.{PlainForm, SettingForm, setting_form}
-use Rattle.justfile_model.specs.Sight.{Sight}
+use Rattle.justfile_model.specs.LeafView.{LeafView}
 use Rattle.justfile_model.specs.Tree as tree
 use Rattle.justfile_model.specs.Tree.{Expr, Quoted, SettingParts, SettingValue}
 use Rattle.justfile_model.specs.Versions.{is_above, version_of}
@@ -27,20 +27,20 @@ module _ {B : Type 0} (current : VersionNumbers) where
   text_broken words.MinimumVersion place text = version_broken place text (version_of text)
   text_broken keyword place text = []
 
-module _ {A B : Type 0} (current : VersionNumbers) (sight : Sight A B) where
+module _ {A B : Type 0} (current : VersionNumbers) (view : LeafView A B) where
   -- a literal that is not expanded, not tripled, and no format string
   abbrev pub plain_literal : Expr A B → Option (Quoted A)
-  plain_literal (tree.StringLiteral false token) = if (kind_of (sight.bytes token)).indented then None else Some (record { expanded = false; token = token })
+  plain_literal (tree.StringLiteral false token) = if (kind_of (view.bytes token)).indented then None else Some (record { expanded = false; token = token })
   plain_literal e = None
 
   -- the value of a setting that takes a plain literal
   abbrev pub literal_broken : Keyword → (name : B) → Option (Quoted A) → List (Broken B)
   literal_broken keyword name None = broken_if true (SettingExpression keyword) name
-  literal_broken keyword name (Some literal) = of_some (text_broken current keyword (sight.place literal.token)) (quoted_text sight literal)
+  literal_broken keyword name (Some literal) = of_some (text_broken current keyword (view.place literal.token)) (quoted_text view literal)
 
   abbrev pub value_broken : Option SettingForm → Keyword → (name : B) → SettingValue A B → List (Broken B)
   value_broken (Some PlainForm) keyword name (tree.Value value) = literal_broken keyword name (plain_literal value)
   value_broken form keyword name value = []
 
   abbrev pub setting_broken : SettingParts A B → List (Broken B)
-  setting_broken parts = value_broken (setting_form parts.keyword) parts.keyword (sight.place parts.name) parts.value
+  setting_broken parts = value_broken (setting_form parts.keyword) parts.keyword (view.place parts.name) parts.value

@@ -1,8 +1,8 @@
 -- What the parser reads: all tokens but whitespace.
 use Rattle.std.specs.Prelude.{◌≡◌, ℕ, ◌+◌, Bool, true, false, cond, List, [], ◌∷◌, codes}
 use Rattle.std.specs.List.{AllByRecursion}
-use Rattle.justfile_word.specs.declared.token_kind.TokenKind.{TokenKind}
-use Rattle.justfile_word.specs.declared.token_kind.TokenKind.TheVariants.{BangEquals, BangTilde, BracketL, EqualsEquals, EqualsTilde, Identifier, Plus, PlusPlus, Slash, Whitespace}
+use Rattle.justfile_vocabulary.specs.declared.token_kind.TokenKind.{TokenKind}
+use Rattle.justfile_vocabulary.specs.declared.token_kind.TokenKind.TheVariants.{BangEquals, BangTilde, BracketL, EqualsEquals, EqualsTilde, Identifier, Plus, PlusPlus, Slash, Whitespace}
 use Rattle.justfile_model.specs.Tok.{Tok}
 
 -- a token, and whether it is glued to the one before: no token stands between

@@ -1,8 +1,8 @@
 -- Tokens without their path and their source.
 use Rattle.std.specs.Prelude.{ℕ, List}
-use Rattle.justfile_word.specs.declared.token_kind.TokenKind.{TokenKind}
-use Rattle.justfile_base.specs.declared.token.Token.{Token}
-use Rattle.justfile_base.specs.Slice.{slice_of}
+use Rattle.justfile_vocabulary.specs.declared.token_kind.TokenKind.{TokenKind}
+use Rattle.justfile_token.specs.declared.token.Token.{Token}
+use Rattle.justfile_token.specs.Slice.{slice_of}
 
 -- a token: its kind, its bytes, and the place where it begins
 pub record Tok : Type 0 where

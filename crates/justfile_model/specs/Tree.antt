@@ -5,242 +5,242 @@
 -- mean, in the order of their content.
 use Rattle.std.specs.Prelude.{ℕ, Bool, List, [], ◌∷◌, map, Option, Some, None}
 use Rattle.std.specs.Option.{option_map}
-use Rattle.justfile_word.specs.declared.attribute_kind.AttributeKind.{AttributeKind}
-use Rattle.justfile_word.specs.declared.keyword.Keyword.{Keyword}
-use Rattle.justfile_word.specs.declared.signal.Signal.{Signal}
+use Rattle.justfile_vocabulary.specs.declared.attribute_kind.AttributeKind.{AttributeKind}
+use Rattle.justfile_vocabulary.specs.declared.keyword.Keyword.{Keyword}
+use Rattle.justfile_vocabulary.specs.declared.signal.Signal.{Signal}
 use Rattle.justfile_model.specs.declared.conditional_operator.ConditionalOperator.{ConditionalOperator}
 use Rattle.justfile_model.specs.declared.parameter_kind.ParameterKind.{ParameterKind}
 use Rattle.justfile_model.specs.Tok.{Tok}
 
 mutual
-  pub data Expr (A B : Type 0) : Type 0 where
+  pub data Expr (Leaf Position : Type 0) : Type 0 where
     -- `lhs || rhs`
-    Or : (lhs rhs : Expr A B) → Expr A B
+    Or : (lhs rhs : Expr Leaf Position) → Expr Leaf Position
     -- `lhs && rhs`
-    And : (lhs rhs : Expr A B) → Expr A B
-    Comparison : (lhs : Expr A B) (operator : ConditionalOperator) (token : B) (rhs : Expr A B) → Expr A B
+    And : (lhs rhs : Expr Leaf Position) → Expr Leaf Position
+    Comparison : (lhs : Expr Leaf Position) (operator : ConditionalOperator) (token : Position) (rhs : Expr Leaf Position) → Expr Leaf Position
     -- `lhs + rhs`
-    Concatenation : (lhs : Expr A B) (operator : B) (rhs : Expr A B) → Expr A B
+    Concatenation : (lhs : Expr Leaf Position) (operator : Position) (rhs : Expr Leaf Position) → Expr Leaf Position
     -- `lhs ++ rhs`
-    ListConcatenation : (lhs : Expr A B) (operator : B) (rhs : Expr A B) → Expr A B
+    ListConcatenation : (lhs : Expr Leaf Position) (operator : Position) (rhs : Expr Leaf Position) → Expr Leaf Position
     -- `lhs / rhs`
-    Join : (lhs : Expr A B) (operator : B) (rhs : Expr A B) → Expr A B
+    Join : (lhs : Expr Leaf Position) (operator : Position) (rhs : Expr Leaf Position) → Expr Leaf Position
     -- `/ rhs`
-    Root : (operator : B) (rhs : Expr A B) → Expr A B
+    Root : (operator : Position) (rhs : Expr Leaf Position) → Expr Leaf Position
     -- `if condition { branch }`
-    If : (condition branch : Expr A B) → Expr A B
+    If : (condition branch : Expr Leaf Position) → Expr Leaf Position
     -- `if condition { branch } else { other }`, or with `else other` where that is a conditional itself
-    IfElse : (condition branch other : Expr A B) → Expr A B
+    IfElse : (condition branch other : Expr Leaf Position) → Expr Leaf Position
     -- `!operand`
-    Not : (operand : Expr A B) → Expr A B
+    Not : (operand : Expr Leaf Position) → Expr Leaf Position
     -- a string literal; it is expanded if it is marked `x`
-    StringLiteral : (expanded : Bool) (token : A) → Expr A B
+    StringLiteral : (expanded : Bool) (token : Leaf) → Expr Leaf Position
     -- a format string with nothing to fill in
-    FormatLiteral : (token : A) → Expr A B
+    FormatLiteral : (token : Leaf) → Expr Leaf Position
     -- a format string, from its start over an expression to its other parts
-    FormatString : (start : A) (e : Expr A B) (parts : Parts A B) → Expr A B
+    FormatString : (start : Leaf) (e : Expr Leaf Position) (parts : Parts Leaf Position) → Expr Leaf Position
     -- a command between backticks
-    Backtick : (token : A) → Expr A B
+    Backtick : (token : Leaf) → Expr Leaf Position
     -- `assert(condition)`
-    Assert : (name : B) (condition : Expr A B) → Expr A B
+    Assert : (name : Position) (condition : Expr Leaf Position) → Expr Leaf Position
     -- `assert(condition, message)`
-    AssertMessage : (name : B) (condition message : Expr A B) → Expr A B
-    Variable : (name : A) → Expr A B
+    AssertMessage : (name : Position) (condition message : Expr Leaf Position) → Expr Leaf Position
+    Variable : (name : Leaf) → Expr Leaf Position
     -- `name(arguments)`
-    Call : (name : A) (arguments : Exprs A B) → Expr A B
+    Call : (name : Leaf) (arguments : Exprs Leaf Position) → Expr Leaf Position
     -- `(contents)`
-    Group : (contents : Expr A B) → Expr A B
+    Group : (contents : Expr Leaf Position) → Expr Leaf Position
     -- `[elements]`
-    ListOf : (opener : B) (elements : Exprs A B) → Expr A B
+    ListOf : (opener : Position) (elements : Exprs Leaf Position) → Expr Leaf Position
 
-  pub data Exprs (A B : Type 0) : Type 0 where
-    none : Exprs A B
-    more : (e : Expr A B) (others : Exprs A B) → Exprs A B
+  pub data Exprs (Leaf Position : Type 0) : Type 0 where
+    none : Exprs Leaf Position
+    more : (e : Expr Leaf Position) (others : Exprs Leaf Position) → Exprs Leaf Position
 
   -- what stands after an expression in a format string
-  pub data Parts (A B : Type 0) : Type 0 where
-    Last : (token : A) → Parts A B
-    Continue : (token : A) (e : Expr A B) (parts : Parts A B) → Parts A B
+  pub data Parts (Leaf Position : Type 0) : Type 0 where
+    Last : (token : Leaf) → Parts Leaf Position
+    Continue : (token : Leaf) (e : Expr Leaf Position) (parts : Parts Leaf Position) → Parts Leaf Position
 
 -- a part of a line of a body: text that stands for itself, or an expression between `{{` and `}}`
-pub data Fragment (A B : Type 0) : Type 0 where
-  Text : (token : A) → Fragment A B
-  Interpolation : (value : Expr A B) → Fragment A B
+pub data Fragment (Leaf Position : Type 0) : Type 0 where
+  Text : (token : Leaf) → Fragment Leaf Position
+  Interpolation : (value : Expr Leaf Position) → Fragment Leaf Position
 
 -- a line of a body, and the line of the file that it begins on
-pub data BodyLine (A B C : Type 0) : Type 0 where
-  Line : (number : C) (fragments : List (Fragment A B)) → BodyLine A B C
+pub data BodyLine (Leaf Position LineNumber : Type 0) : Type 0 where
+  Line : (number : LineNumber) (fragments : List (Fragment Leaf Position)) → BodyLine Leaf Position LineNumber
 
 -- a string literal; it is expanded if it is marked `x`
-pub record Quoted (A : Type 0) : Type 0 where
+pub record Quoted (Leaf : Type 0) : Type 0 where
   pub expanded : Bool
-  pub token : A
+  pub token : Leaf
 
 -- an argument of an attribute as it is written
-pub data Argument (A B : Type 0) : Type 0 where
+pub data Argument (Leaf Position : Type 0) : Type 0 where
   -- an expression, and its first token
-  Positional : (first : B) (value : Expr A B) → Argument A B
+  Positional : (first : Position) (value : Expr Leaf Position) → Argument Leaf Position
   -- `key`
-  Bare : (key : A) → Argument A B
+  Bare : (key : Leaf) → Argument Leaf Position
   -- `key=value`
-  Keyed : (key : A) (value : Expr A B) → Argument A B
+  Keyed : (key : Leaf) (value : Expr Leaf Position) → Argument Leaf Position
 
 -- an attribute as it is written: its arguments in order
-pub record WrittenAttribute (A B : Type 0) : Type 0 where
-  pub name : A
-  pub arguments : List (Argument A B)
+pub record WrittenAttribute (Leaf Position : Type 0) : Type 0 where
+  pub name : Leaf
+  pub arguments : List (Argument Leaf Position)
   -- the comment after its line, of the last attribute on it; none of the others
   pub comment : Option (List ℕ)
 
 -- what an argument of a recipe is called as an option
-pub data OptionName (A B : Type 0) : Type 0 where
-  NoOption : OptionName A B
+pub data OptionName (Leaf Position : Type 0) : Type 0 where
+  NoOption : OptionName Leaf Position
   -- as the argument itself, where the key stands without a value
-  OwnName : (key : B) → OptionName A B
-  Named : (name : Quoted A) → OptionName A B
+  OwnName : (key : Position) → OptionName Leaf Position
+  Named : (name : Quoted Leaf) → OptionName Leaf Position
 
 -- a key and its value
-pub record Property (A B : Type 0) : Type 0 where
-  pub key : B
-  pub value : Expr A B
+pub record Property (Leaf Position : Type 0) : Type 0 where
+  pub key : Position
+  pub value : Expr Leaf Position
 
 -- a number, and the key that it is the value of
-pub record Bound (B : Type 0) : Type 0 where
-  pub key : B
+pub record Bound (Position : Type 0) : Type 0 where
+  pub key : Position
   pub number : ℕ
 
 -- what the attribute `arg` says of a parameter
-pub record ArgumentRules (A B : Type 0) : Type 0 where
-  pub flag : Option B
-  pub help : Option (Property A B)
-  pub long : OptionName A B
-  pub max : Option (Bound B)
-  pub min : Option (Bound B)
-  pub multiple : Option B
-  pub name : Quoted A
-  pub pattern : Option (Property A B)
-  pub short : OptionName A B
-  pub value : Option (Expr A B)
+pub record ArgumentRules (Leaf Position : Type 0) : Type 0 where
+  pub flag : Option Position
+  pub help : Option (Property Leaf Position)
+  pub long : OptionName Leaf Position
+  pub max : Option (Bound Position)
+  pub min : Option (Bound Position)
+  pub multiple : Option Position
+  pub name : Quoted Leaf
+  pub pattern : Option (Property Leaf Position)
+  pub short : OptionName Leaf Position
+  pub value : Option (Expr Leaf Position)
 
 -- An attribute by what it means. Those of one form are one case, with their kind.
-pub data Attribute (A B : Type 0) : Type 0 where
+pub data Attribute (Leaf Position : Type 0) : Type 0 where
   -- without arguments
-  Plain : (kind : AttributeKind) → Attribute A B
+  Plain : (kind : AttributeKind) → Attribute Leaf Position
   -- with one expression
-  Single : (kind : AttributeKind) (value : Expr A B) → Attribute A B
+  Single : (kind : AttributeKind) (value : Expr Leaf Position) → Attribute Leaf Position
   -- with literals
-  Texts : (kind : AttributeKind) (texts : List (Quoted A)) → Attribute A B
-  Env : (key value : Expr A B) → Attribute A B
+  Texts : (kind : AttributeKind) (texts : List (Quoted Leaf)) → Attribute Leaf Position
+  Env : (key value : Expr Leaf Position) → Attribute Leaf Position
   -- `continue`: signals in their order, each once
-  Signals : (signals : List Signal) → Attribute A B
-  Cache : (extra inputs outputs : Option (Expr A B)) → Attribute A B
-  Arg : (rules : ArgumentRules A B) → Attribute A B
+  Signals : (signals : List Signal) → Attribute Leaf Position
+  Cache : (extra inputs outputs : Option (Expr Leaf Position)) → Attribute Leaf Position
+  Arg : (rules : ArgumentRules Leaf Position) → Attribute Leaf Position
 
 -- an attribute of an item by what it means, the place of its name, and the comment that it is written with
-pub record Entry (A B : Type 0) : Type 0 where
-  pub name : B
-  pub attribute : Attribute A B
+pub record Entry (Leaf Position : Type 0) : Type 0 where
+  pub name : Position
+  pub attribute : Attribute Leaf Position
   pub comment : Option (List ℕ)
 
-pub record Parameter (A B : Type 0) : Type 0 where
+pub record Parameter (Leaf Position : Type 0) : Type 0 where
   pub kind : ParameterKind
   -- `$` stands before the name
   pub export : Bool
-  pub name : A
-  pub default : Option (Expr A B)
+  pub name : Leaf
+  pub default : Option (Expr Leaf Position)
 
 -- an argument of a dependency, starred or not
-pub record DependencyArgument (A B S : Type 0) : Type 0 where
-  pub star : Option S
-  pub value : Expr A B
+pub record DependencyArgument (Leaf Position Star : Type 0) : Type 0 where
+  pub star : Option Star
+  pub value : Expr Leaf Position
 
 -- a dependency, by the names of its path; in a tree it is starred if one of its arguments is
-pub record Dependency (A B S : Type 0) : Type 0 where
-  pub star : Option S
-  pub path : List A
-  pub arguments : List (DependencyArgument A B S)
+pub record Dependency (Leaf Position Star : Type 0) : Type 0 where
+  pub star : Option Star
+  pub path : List Leaf
+  pub arguments : List (DependencyArgument Leaf Position Star)
 
 -- the header of a recipe
-pub record Header (A B S : Type 0) : Type 0 where
+pub record Header (Leaf Position Star : Type 0) : Type 0 where
   -- `@` stands before the name
   pub quiet : Bool
-  pub name : A
-  pub parameters : List (Parameter A B)
+  pub name : Leaf
+  pub parameters : List (Parameter Leaf Position)
   -- the dependencies before `&&`, or all of them
-  pub priors : List (Dependency A B S)
-  pub subsequents : List (Dependency A B S)
+  pub priors : List (Dependency Leaf Position Star)
+  pub subsequents : List (Dependency Leaf Position Star)
 
 -- `alias name := target`, by the names of the target's path
-pub record AliasParts (A : Type 0) : Type 0 where
-  pub name : A
-  pub target : List A
+pub record AliasParts (Leaf : Type 0) : Type 0 where
+  pub name : Leaf
+  pub target : List Leaf
 
 -- `name := value`, with `eager` or `export` before it or not
-pub record AssignmentParts (A B : Type 0) : Type 0 where
+pub record AssignmentParts (Leaf Position : Type 0) : Type 0 where
   pub eager : Bool
   pub export : Bool
-  pub name : A
-  pub value : Expr A B
+  pub name : Leaf
+  pub value : Expr Leaf Position
 
 -- `name(parameters) := body`
-pub record FunctionParts (A B : Type 0) : Type 0 where
-  pub name : A
-  pub parameters : List A
-  pub body : Expr A B
+pub record FunctionParts (Leaf Position : Type 0) : Type 0 where
+  pub name : Leaf
+  pub parameters : List Leaf
+  pub body : Expr Leaf Position
 
 -- `import path`, or `import? path`
-pub record ImportParts (A : Type 0) : Type 0 where
+pub record ImportParts (Leaf : Type 0) : Type 0 where
   pub optional : Bool
-  pub path : Quoted A
+  pub path : Quoted Leaf
 
 -- `mod name` or `mod? name`, with a path or without; a written one has no doc
-pub record ModuleParts (A : Type 0) : Type 0 where
+pub record ModuleParts (Leaf : Type 0) : Type 0 where
   pub doc : Option (List ℕ)
   pub optional : Bool
-  pub name : A
-  pub path : Option (Quoted A)
+  pub name : Leaf
+  pub path : Option (Quoted Leaf)
 
 -- A recipe and the lines of its body; none if it has no body. A written one has no doc. The comment is the one between the header and the
 -- body.
-pub record RecipeParts (A B C S : Type 0) : Type 0 where
+pub record RecipeParts (Leaf Position LineNumber Star : Type 0) : Type 0 where
   pub doc : Option (List ℕ)
-  pub header : Header A B S
+  pub header : Header Leaf Position Star
   pub comment : Option (List ℕ)
-  pub body : List (BodyLine A B C)
+  pub body : List (BodyLine Leaf Position LineNumber)
 
 -- the value of a setting
-pub data SettingValue (A B : Type 0) : Type 0 where
+pub data SettingValue (Leaf Position : Type 0) : Type 0 where
   -- nothing, which is true, or a truth value
-  Truth : (value : Bool) → SettingValue A B
-  Value : (value : Expr A B) → SettingValue A B
+  Truth : (value : Bool) → SettingValue Leaf Position
+  Value : (value : Expr Leaf Position) → SettingValue Leaf Position
   -- `[command, arguments]`
-  Interpreter : (command : Expr A B) (arguments : Exprs A B) → SettingValue A B
+  Interpreter : (command : Expr Leaf Position) (arguments : Exprs Leaf Position) → SettingValue Leaf Position
 
 -- `set name := value`; the name spells the keyword
-pub record SettingParts (A B : Type 0) : Type 0 where
+pub record SettingParts (Leaf Position : Type 0) : Type 0 where
   pub keyword : Keyword
-  pub name : A
-  pub value : SettingValue A B
+  pub name : Leaf
+  pub value : SettingValue Leaf Position
 
 -- what may have attributes
-pub data Content (A B C S : Type 0) : Type 0 where
-  Alias : (parts : AliasParts A) → Content A B C S
-  Assignment : (parts : AssignmentParts A B) → Content A B C S
-  Function : (parts : FunctionParts A B) → Content A B C S
-  Import : (parts : ImportParts A) → Content A B C S
-  Module : (parts : ModuleParts A) → Content A B C S
-  Recipe : (parts : RecipeParts A B C S) → Content A B C S
-  Setting : (parts : SettingParts A B) → Content A B C S
+pub data Content (Leaf Position LineNumber Star : Type 0) : Type 0 where
+  Alias : (parts : AliasParts Leaf) → Content Leaf Position LineNumber Star
+  Assignment : (parts : AssignmentParts Leaf Position) → Content Leaf Position LineNumber Star
+  Function : (parts : FunctionParts Leaf Position) → Content Leaf Position LineNumber Star
+  Import : (parts : ImportParts Leaf) → Content Leaf Position LineNumber Star
+  Module : (parts : ModuleParts Leaf) → Content Leaf Position LineNumber Star
+  Recipe : (parts : RecipeParts Leaf Position LineNumber Star) → Content Leaf Position LineNumber Star
+  Setting : (parts : SettingParts Leaf Position) → Content Leaf Position LineNumber Star
   -- `unexport name`
-  Unexport : (name : A) → Content A B C S
+  Unexport : (name : Leaf) → Content Leaf Position LineNumber Star
 
-pub data Item (A B C S D : Type 0) : Type 0 where
+pub data Item (Leaf Position LineNumber Star Attributes : Type 0) : Type 0 where
   -- the end of a line, or a blank line
-  Newline : Item A B C S D
+  Newline : Item Leaf Position LineNumber Star Attributes
   -- a comment without the white space at its end
-  Comment : (text : List ℕ) → Item A B C S D
+  Comment : (text : List ℕ) → Item Leaf Position LineNumber Star Attributes
   -- a construct, after its attributes
-  Construct : (attributes : D) (content : Content A B C S) → Item A B C S D
+  Construct : (attributes : Attributes) (content : Content Leaf Position LineNumber Star) → Item Leaf Position LineNumber Star Attributes
 
 -- an item as it is written
 abbrev pub WrittenItem : (A B C S : Type 0) → Type 0

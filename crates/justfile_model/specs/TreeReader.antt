@@ -4,10 +4,10 @@ use Rattle.justfile_model.specs.Features.{Noted}
 use Rattle.justfile_model.specs.Conditions.{Conditions}
 use Rattle.justfile_model.specs.AttributeReader as attribute_reader
 use Rattle.justfile_model.specs.AttributeReader.{AttributeLeaves}
-use Rattle.justfile_model.specs.ReadAttribute.{ReadAttribute, commented_both, entry_read, keep_both, token_sight}
+use Rattle.justfile_model.specs.ReadAttribute.{ReadAttribute, commented_both, entry_read, keep_both, token_view}
 use Rattle.justfile_model.specs.Reader as reader
-use Rattle.justfile_model.specs.Reading as reading
-use Rattle.justfile_model.specs.Reading.{Counters, ◌>>=◌, Leaves}
+use Rattle.justfile_model.specs.ReaderState as reading
+use Rattle.justfile_model.specs.ReaderState.{Counters, ◌>>=◌, Leaves}
 use Rattle.justfile_model.specs.SignificantTokens.{SignificantToken}
 use Rattle.justfile_model.specs.Tok.{Tok}
 use Rattle.justfile_model.specs.Tree.{WrittenAttribute, WrittenTree}
@@ -17,7 +17,7 @@ abbrev pub token_leaves : Leaves Conditions SignificantToken Tok Tok Tok
 token_leaves = record {
   conditions = λ conditions. conditions;
   see = λ t. t;
-  spot = λ t. t.tok;
+  position = λ t. t.tok;
   name = λ t. t.tok;
   literal = λ t literal text. t.tok;
   text = λ t. t.tok;
@@ -32,7 +32,7 @@ token_leaves = record {
 -- its constructs have attributes as they are written
 abbrev pub token_attributes : AttributeLeaves Conditions Tok Tok (List (WrittenAttribute Tok Tok)) ReadAttribute
 token_attributes = record {
-  sight = token_sight;
+  view = token_view;
   keep = keep_both;
   entry = entry_read;
   comment = commented_both;
@@ -43,8 +43,8 @@ token_attributes = record {
 abbrev pub State : Type 0
 State = reading.State Conditions SignificantToken Tok
 
-abbrev pub Refusal : Type 0
-Refusal = reading.Refusal SignificantToken Tok
+abbrev pub ReadError : Type 0
+ReadError = reading.ReadError SignificantToken Tok
 
 abbrev pub Read : Type 0 → Type 0
 Read X = reading.Read Conditions SignificantToken Tok X
@@ -54,7 +54,7 @@ Taken = reading.Taken Conditions SignificantToken Tok
 
 -- the lines of attributes before a construct
 abbrev pub read_attributes : State → Read (List ReadAttribute)
-read_attributes = attribute_reader.attribute_lines token_leaves token_sight keep_both entry_read commented_both
+read_attributes = attribute_reader.attribute_lines token_leaves token_view keep_both entry_read commented_both
 
 -- no number was drawn yet
 abbrev pub unnumbered : Counters
@@ -65,7 +65,7 @@ abbrev pub start_state : Conditions → List SignificantToken → State
 start_state conditions tokens = record { run = conditions; depth = 0; left = tokens; noted = [] }
 
 -- a file, and its features
-unfoldable pub tree_of_tokens : Conditions → List SignificantToken → Result (WrittenTree × List (Noted Tok)) Refusal
+unfoldable pub tree_of_tokens : Conditions → List SignificantToken → Result (WrittenTree × List (Noted Tok)) ReadError
 tree_of_tokens conditions tokens = do
   x ← reader.file token_leaves token_attributes unnumbered (start_state conditions tokens)
   Ok (x.0.0, x.1.noted)

@@ -1,7 +1,7 @@
 -- A text without the indentation that its lines share.
 use Rattle.std.specs.Prelude.{◌≡◌, ◌≤◌, ℕ, Bool, true, false, not, ◌||◌, ◌==◌, nat_eq, List, [], ◌∷◌, ◌++◌, map, drop, length, codes, filter, take_while, if◌then◌else◌}
 use Rattle.std.specs.List.{All, list_all, onto_first, ends_with}
-use Rattle.justfile_word.specs.Indentation.{is_space_or_tab}
+use Rattle.justfile_vocabulary.specs.Indentation.{is_space_or_tab}
 
 -- the lines, each with its line feed. None is empty
 abbrev pub lines_of_text : List ℕ → List (List ℕ)

@@ -1,11 +1,11 @@
 -- What a file uses that only an unstable justfile may.
 use Rattle.std.specs.Prelude.{Bool, true, false, List, [], ◌∷◌, ◌++◌, if◌then◌else◌}
 use Rattle.std.specs.List.{list_any}
-use Rattle.justfile_word.specs.declared.attribute_kind.AttributeKind.TheVariants.{Cache}
-use Rattle.justfile_word.specs.declared.keyword.Keyword.{Keyword}
-use Rattle.justfile_word.specs.declared.keyword.Keyword.TheVariants.{Lists}
-use Rattle.justfile_word.specs.declared.unstable_feature.UnstableFeature.{UnstableFeature}
-use Rattle.justfile_word.specs.declared.unstable_feature.UnstableFeature.TheVariants.{CachedRecipes, ListsSetting, UserDefinedFunctions}
+use Rattle.justfile_vocabulary.specs.declared.attribute_kind.AttributeKind.TheVariants.{Cache}
+use Rattle.justfile_vocabulary.specs.declared.keyword.Keyword.{Keyword}
+use Rattle.justfile_vocabulary.specs.declared.keyword.Keyword.TheVariants.{Lists}
+use Rattle.justfile_vocabulary.specs.declared.unstable_feature.UnstableFeature.{UnstableFeature}
+use Rattle.justfile_vocabulary.specs.declared.unstable_feature.UnstableFeature.TheVariants.{CachedRecipes, ListsSetting, UserDefinedFunctions}
 use Rattle.justfile_model.specs.ContentKeys.{has_attribute}
 use Rattle.justfile_model.specs.Tree.{Construct, Content, Function, OrderedItem, Setting}
 

@@ -1,8 +1,8 @@
 //! Texts and their tokens or faults, computed by the checker.
 ghost use Rattle.std.specs.Prelude.{false, [], ◌∷◌, codes};
-ghost use Rattle.justfile_base.specs.declared.delimiter.Delimiter.TheVariants.{Bracket, FormatString, Paren};
-ghost use Rattle.justfile_base.specs.declared.string_kind.StringDelimiter.TheVariants.{QuoteSingle};
-ghost use Rattle.justfile_word.specs.declared.token_kind.TokenKind.TheVariants.{AmpersandAmpersand, Asterisk, At, Backtick, Bang, BangEquals, BangTilde, BarBar, BraceL, BraceR, ByteOrderMark, Colon, ColonColon, ColonEquals, Comma, Comment, Dedent, Dollar, Eof, Eol, Equals, EqualsEquals, EqualsTilde, FormatStringContinue, FormatStringEnd, FormatStringStart, Identifier, Indent, InterpolationEnd, InterpolationStart, ParenL, ParenR, Plus, PlusPlus, QuestionMark, Slash, StringToken, Text, Unspecified, Whitespace};
+ghost use Rattle.justfile_token.specs.declared.delimiter.Delimiter.TheVariants.{Bracket, FormatString, Paren};
+ghost use Rattle.justfile_token.specs.declared.string_kind.StringDelimiter.TheVariants.{QuoteSingle};
+ghost use Rattle.justfile_vocabulary.specs.declared.token_kind.TokenKind.TheVariants.{AmpersandAmpersand, Asterisk, At, Backtick, Bang, BangEquals, BangTilde, BarBar, BraceL, BraceR, ByteOrderMark, Colon, ColonColon, ColonEquals, Comma, Comment, Dedent, Dollar, Eof, Eol, Equals, EqualsEquals, EqualsTilde, FormatStringContinue, FormatStringEnd, FormatStringStart, Identifier, Indent, InterpolationEnd, InterpolationStart, ParenL, ParenR, Plus, PlusPlus, QuestionMark, Slash, StringToken, Text, Unspecified, Whitespace};
 ghost use Rattle.justfile_model.specs.Tok.{tok};
 ghost use Rattle.justfile_model.specs.LexicalFault.{EscapeEndOfFile, InconsistentLeadingWhitespace, InvalidEscapeSequence, MismatchedClosingDelimiter, MixedLeadingWhitespace, UnexpectedCharacter, UnexpectedClosingDelimiter, UnexpectedEndOfToken, UnknownStartOfToken, UnpairedCarriageReturn, UnterminatedBacktick, UnterminatedInterpolation, UnterminatedString};
 ghost use Rattle.justfile_model.specs.Lexed.{IsFault, Lexed};

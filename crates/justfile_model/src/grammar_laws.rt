@@ -1,12 +1,12 @@
 //! Laws of the grammar, each the contract of a function that does nothing.
 ghost use Rattle.std.specs.Prelude.{◌≡◌, ◌<◌, ◌≤◌, ◌⊎◌, ℕ, ◌+◌, Bool, IsTrue, List, length, map, slice_index, Option, Some, IfSome, Ok, Err};
 ghost use Rattle.std.specs.Option.{option_map};
-ghost use Rattle.justfile_word.specs.Indentation.{IsIndentation};
+ghost use Rattle.justfile_vocabulary.specs.Indentation.{IsIndentation};
 ghost use Rattle.justfile_model.specs.Conditions.{Conditions, with_expander, with_limit};
 ghost use Rattle.justfile_model.specs.Enabled.{indentation_of};
-ghost use Rattle.justfile_model.specs.Expressions.{Under, Waived};
+ghost use Rattle.justfile_model.specs.Expressions.{BelowLimit, PastLimitAt};
 ghost use Rattle.justfile_model.specs.Features.{ConstructFeatures, Noted, over_noted};
-ghost use Rattle.justfile_model.specs.Files.{FileTree, FileDerives, NumbersFrom, Obeys, ShapeDerives, all_features, keeps_tokens, literals, ordered, bindings, recipes};
+ghost use Rattle.justfile_model.specs.Files.{FileTree, FileDerives, NumbersFrom, Obeys, ShapeDerives, all_features, to_tokens, literals, ordered, bindings, recipes};
 ghost use Rattle.justfile_model.specs.Grammar.{File};
 ghost use Rattle.justfile_model.specs.Lexed.{Lexed};
 ghost use Rattle.justfile_model.specs.Literals.{Literal, Expansions, Within, AreCookedTexts, string_text};
@@ -14,52 +14,52 @@ ghost use Rattle.justfile_model.specs.Need.{DerivesUnder, IsNeed};
 ghost use Rattle.justfile_model.specs.NormalShape.{normal};
 ghost use Rattle.justfile_model.specs.Printing.{printable, text};
 ghost use Rattle.justfile_model.specs.Reader.{items};
-ghost use Rattle.justfile_model.specs.Reading.{Counters, TooDeep};
-ghost use Rattle.justfile_model.specs.Refusals.{IsDue};
-ghost use Rattle.justfile_model.specs.Sight.{sees_tokens};
+ghost use Rattle.justfile_model.specs.ReaderState.{Counters, TooDeep};
+ghost use Rattle.justfile_model.specs.ReadErrors.{IsDue};
+ghost use Rattle.justfile_model.specs.LeafView.{views_tokens};
 ghost use Rattle.justfile_model.specs.SignificantTokens.{AllSpelled, SignificantToken, identifiers, significant_tokens};
 ghost use Rattle.justfile_model.specs.Tok.{Tok};
 ghost use Rattle.justfile_model.specs.Tree.{Tree, Shape, WrittenTree, lexeme, nothing, shape_of};
 ghost use Rattle.justfile_model.specs.Uncommented.{HasNoComments, uncommented_text};
-ghost use Rattle.justfile_model.specs.TreeReader.{Refusal, State, tree_of_tokens, token_attributes, token_leaves};
+ghost use Rattle.justfile_model.specs.TreeReader.{ReadError, State, tree_of_tokens, token_attributes, token_leaves};
 
 /// The reader and the grammar agree, and tokens derive at most one tree with its features.
 pub fn reads()
     // A written tree is read exactly where the grammar derives it under the limit, and it obeys the conditions.
     ensures derives { (C : Conditions) (ts : List SignificantToken) (written : WrittenTree) (features : List (Noted Tok))
         → tree_of_tokens C ts ≡ Ok (written, features)
-        → (fs : List (ConstructFeatures Tok)) × File keeps_tokens (Under C.limit) written fs ts × Obeys C written
-        × (features ≡ all_features (sees_tokens C.expander) written fs) }
+        → (fs : List (ConstructFeatures Tok)) × File to_tokens (BelowLimit C.limit) written fs ts × Obeys C written
+        × (features ≡ all_features (views_tokens C.expander) written fs) }
     ensures read { (C : Conditions) (ts : List SignificantToken) (written : WrittenTree) (fs : List (ConstructFeatures Tok))
-        → File keeps_tokens (Under C.limit) written fs ts → Obeys C written
-        → tree_of_tokens C ts ≡ Ok (written, all_features (sees_tokens C.expander) written fs) }
+        → File to_tokens (BelowLimit C.limit) written fs ts → Obeys C written
+        → tree_of_tokens C ts ≡ Ok (written, all_features (views_tokens C.expander) written fs) }
     // A tree derives exactly where a written tree is read that means it.
     ensures sound { (C : Conditions) (ts : List SignificantToken) (written : WrittenTree) (features : List (Noted Tok))
         → tree_of_tokens C ts ≡ Ok (written, features)
-        → (tree : Tree) × (ordered (sees_tokens C.expander) written ≡ Some tree) × FileDerives C ts tree features }
+        → (tree : Tree) × (ordered (views_tokens C.expander) written ≡ Some tree) × FileDerives C ts tree features }
     ensures complete { (C : Conditions) (ts : List SignificantToken) (tree : Tree) (features : List (Noted Tok))
         → FileDerives C ts tree features
-        → (written : WrittenTree) × (ordered (sees_tokens C.expander) written ≡ Some tree) × (tree_of_tokens C ts ≡ Ok (written, features)) }
+        → (written : WrittenTree) × (ordered (views_tokens C.expander) written ≡ Some tree) × (tree_of_tokens C ts ≡ Ok (written, features)) }
     // Where the expressions that are entered at the limit begin at some tokens, it is read, or too deep at one of them.
     ensures deep { (C : Conditions) (ts : List SignificantToken) (written : WrittenTree) (fs : List (ConstructFeatures Tok))
         (Hit : Option SignificantToken → Bool)
-        → File keeps_tokens (Waived C.limit (λ at. IsTrue (Hit at))) written fs ts → Obeys C written
-        → (tree_of_tokens C ts ≡ Ok (written, all_features (sees_tokens C.expander) written fs)) ⊎ ((at : Option SignificantToken) × IsTrue (Hit at)
+        → File to_tokens (PastLimitAt C.limit (λ at. IsTrue (Hit at))) written fs ts → Obeys C written
+        → (tree_of_tokens C ts ≡ Ok (written, all_features (views_tokens C.expander) written fs)) ⊎ ((at : Option SignificantToken) × IsTrue (Hit at)
         × (tree_of_tokens C ts ≡ Err (TooDeep at))) }
     // Without the limit: it is read, or some expression is too deep.
     ensures free { (C : Conditions) (ts : List SignificantToken) (written : WrittenTree) (fs : List (ConstructFeatures Tok))
         → FileTree ts written fs → Obeys C written
-        → (tree_of_tokens C ts ≡ Ok (written, all_features (sees_tokens C.expander) written fs)) ⊎ ((at : Option SignificantToken) × (tree_of_tokens C ts ≡ Err (TooDeep at))) }
+        → (tree_of_tokens C ts ≡ Ok (written, all_features (views_tokens C.expander) written fs)) ⊎ ((at : Option SignificantToken) × (tree_of_tokens C ts ≡ Err (TooDeep at))) }
     // Where they begin at some tokens, it is refused for its first literal without a text, for a rule that it breaks, or as too
     // deep at one of these tokens, and for nothing else.
     ensures due { (C : Conditions) (ts : List SignificantToken) (written : WrittenTree) (fs : List (ConstructFeatures Tok))
         (Hit : Option SignificantToken → Bool)
-        → File keeps_tokens (Waived C.limit (λ at. IsTrue (Hit at))) written fs ts
-        → (r : Refusal) → tree_of_tokens C ts ≡ Err r → IsDue C (λ at. IsTrue (Hit at)) written r }
+        → File to_tokens (PastLimitAt C.limit (λ at. IsTrue (Hit at))) written fs ts
+        → (r : ReadError) → tree_of_tokens C ts ≡ Err r → IsDue C (λ at. IsTrue (Hit at)) written r }
     // Of the grammar alone: for its first literal without a text, for a rule that it breaks, or as too deep somewhere.
     ensures refused { (C : Conditions) (ts : List SignificantToken) (written : WrittenTree) (fs : List (ConstructFeatures Tok))
         → FileTree ts written fs
-        → (r : Refusal) → tree_of_tokens C ts ≡ Err r → IsDue C (λ at. Unit {0}) written r }
+        → (r : ReadError) → tree_of_tokens C ts ≡ Err r → IsDue C (λ at. Unit {0}) written r }
     ensures one { (C : Conditions) (ts : List SignificantToken) (tree other : Tree) (features others : List (Noted Tok))
         → FileDerives C ts tree features → FileDerives C ts other others → (tree ≡ other) × (features ≡ others) }
 {}
@@ -98,13 +98,13 @@ pub fn needs()
     // entered at the limit begin at some tokens, it is refused at one of these.
     ensures deep { (C : Conditions) (ts : List SignificantToken) (limit : ℕ) (tree : Tree)
         (features : List (Noted Tok)) → FileDerives (with_limit limit C) ts tree features
-        → (r : Refusal) → tree_of_tokens C ts ≡ Err r
+        → (r : ReadError) → tree_of_tokens C ts ≡ Err r
         → (at : Option SignificantToken) × (r ≡ TooDeep at) }
     ensures deep_at { (C : Conditions) (ts : List SignificantToken) (limit : ℕ) (tree : Tree)
         (features : List (Noted Tok)) (h : FileDerives (with_limit limit C) ts tree features)
-        (r : Refusal) → tree_of_tokens C ts ≡ Err r
+        (r : ReadError) → tree_of_tokens C ts ≡ Err r
         → (fs : List (ConstructFeatures Tok)) (Hit : Option SignificantToken → Bool)
-        → File keeps_tokens (Waived C.limit (λ at. IsTrue (Hit at))) h.written fs ts
+        → File to_tokens (PastLimitAt C.limit (λ at. IsTrue (Hit at))) h.written fs ts
         → (at : Option SignificantToken) × IsTrue (Hit at) × (r ≡ TooDeep at) }
 {}
 

@@ -1,8 +1,8 @@
 //! What the definitions of lexing compute, said of whole lists: each law the contract of a function that does nothing.
 ghost use Rattle.std.specs.Prelude.{◌≡◌, ◌≢◌, ◌↔◌, ℕ, Bool, IsTrue, List, [], ◌++◌, length, drop, reverse, option_to_list, Ok};
-ghost use Rattle.justfile_base.specs.declared.string_kind.StringKind.{StringKind};
-ghost use Rattle.justfile_word.specs.declared.token_kind.TokenKind.{TokenKind};
-ghost use Rattle.justfile_word.specs.declared.token_kind.TokenKind.TheVariants.{Dedent};
+ghost use Rattle.justfile_token.specs.declared.string_kind.StringKind.{StringKind};
+ghost use Rattle.justfile_vocabulary.specs.declared.token_kind.TokenKind.{TokenKind};
+ghost use Rattle.justfile_vocabulary.specs.declared.token_kind.TokenKind.TheVariants.{Dedent};
 ghost use Rattle.justfile_model.specs.declared.open_delimiter.OpenDelimiter.{OpenDelimiter};
 ghost use Rattle.justfile_model.specs.declared.raw_text.RawText.{RawText};
 ghost use Rattle.justfile_model.specs.BlankLines.{BeginsWithBlankLine, BeginsWithWhiteLines, IsAtLineStart, LevelsClose};

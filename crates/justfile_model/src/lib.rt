@@ -9,7 +9,7 @@ pub mod laws;
 mod level;
 pub mod lexing_laws;
 
-pub use justfile_word::list_feature;
+pub use justfile_vocabulary::list_feature;
 
 mod open_delimiter;
 mod operator;
@@ -23,4 +23,4 @@ pub use crate::open_delimiter::OpenDelimiter;
 pub use crate::operator::Operator;
 pub use crate::parameter_kind::ParameterKind;
 pub use crate::raw_text::RawText;
-pub use justfile_word::ListFeature;
+pub use justfile_vocabulary::ListFeature;

@@ -1,4 +1,4 @@
-use justfile_base::Delimiter;
+use justfile_token::Delimiter;
 
 /// An open delimiter, and the line on which it was opened; for a format string the line on which
 /// its first part ends.

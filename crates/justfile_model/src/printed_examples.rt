@@ -1,6 +1,6 @@
 //! What is printed of headers and constructs, computed by the checker.
 ghost use Rattle.std.specs.Prelude.{◌≡◌, false, true, [], ◌∷◌, None, Some, codes};
-ghost use Rattle.justfile_word.specs.declared.attribute_kind.AttributeKind.TheVariants.{Private};
+ghost use Rattle.justfile_vocabulary.specs.declared.attribute_kind.AttributeKind.TheVariants.{Private};
 ghost use Rattle.justfile_model.specs.Printing.{content_text, header_text, item_text};
 ghost use Rattle.justfile_model.specs.Tree.{Assignment, Construct, Line, ListOf, Plain, Recipe, Root, StringLiteral, Text, Variable, bare_entry, bare_recipe, commented_entry, more, none};
 ghost use Rattle.justfile_model.specs.declared.parameter_kind.ParameterKind.TheVariants.{Plus, Singular, Star};

@@ -1,4 +1,4 @@
-use justfile_base::StringKind;
+use justfile_token::StringKind;
 
 /// Text that is read byte by byte up to an end.
 #[derive(Clone, Copy, Debug, PartialEq, Eq)]

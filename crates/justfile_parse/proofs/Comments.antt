@@ -3,11 +3,11 @@ use Rattle.std.proofs.Common.{◌≡◌, ℕ, Bool, true, false, List, [], ◌�
 use Rattle.std.specs.Prelude.{nat_eq}
 use Rattle.std.specs.List.{starts_with}
 use Rattle.std.specs.Str.{IsUtf8}
-use Rattle.justfile_word.specs.declared.token_kind.TokenKind.TheVariants as kinds
+use Rattle.justfile_vocabulary.specs.declared.token_kind.TokenKind.TheVariants as kinds
 use Rattle.justfile_model.specs.Lexed.{Lexed}
 use Rattle.justfile_model.specs.SignificantTokens.{SignificantToken, significant_tokens}
 use Rattle.justfile_model.specs.Tok.{Tok}
-use Rattle.justfile_round_trip.proofs.Sound.{Around, LexedComment, LexemeFact, Sound, around, is_comment, lexed_sound, outside}
+use Rattle.justfile_round_trip.proofs.TokenFacts.{Around, LexedComment, LexemeFact, Sound, around, is_comment, lexed_sound, outside}
 
 begins_with : (l : List ℕ) → get_or l 0 0 ≡ 35 → starts_with nat_eq l (codes "#") ≡ true
 begins_with [] h = cc

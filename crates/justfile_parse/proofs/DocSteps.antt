@@ -13,21 +13,21 @@ use Rattle.justfile_attribute_set.specs.AttributeSet.{AttributeSet, attributes_o
 use Rattle.justfile_attribute_set.specs.Attributes.{has_kind, is_of_kind, kind_of}
 use Rattle.justfile_attribute_set.specs.Keys.{firsts}
 use Rattle.justfile_attribute_set.specs.Pairs.{Pair, leaf_entry_of}
-use Rattle.justfile_word.specs.declared.attribute_kind.AttributeKind.{AttributeKind}
-use Rattle.justfile_word.specs.declared.attribute_kind.AttributeKind.TheVariants as kinds
+use Rattle.justfile_vocabulary.specs.declared.attribute_kind.AttributeKind.{AttributeKind}
+use Rattle.justfile_vocabulary.specs.declared.attribute_kind.AttributeKind.TheVariants as kinds
 use Rattle.justfile_item.specs.declared.item.Item.{Item}
 use Rattle.justfile_item.specs.declared.item.Item.TheVariants as items
 use Rattle.justfile_model.specs.AttributeKinds.{same_attribute}
 use Rattle.justfile_model.specs.ContentKeys.{kind_of_attribute}
-use Rattle.justfile_base.specs.declared.token.Token.{Token}
+use Rattle.justfile_token.specs.declared.token.Token.{Token}
 use Rattle.justfile_model.specs.Docs.{LineEnd, doc_in, item_with_doc, redocumented, wants_doc}
 use Rattle.justfile_model.specs.Files.{says_doc}
 use Rattle.justfile_model.specs.Tree as tree
 use Rattle.justfile_model.specs.Tree.{Content, Entry}
 use Rattle.justfile_parse.specs.Docs.{LeafItem, comment_of, doc_before, doc_first, is_newline}
 use Rattle.justfile_parse_item.specs.Tree.{item_tree}
-use Rattle.justfile_parse_item.specs.Whole.{AreWhole, IsWholeItem}
-use Rattle.justfile_tree.specs.LeafTree.{Leaf}
+use Rattle.justfile_parse_item.specs.DerivedFields.{HaveDerivedFields, HasDerivedItemFields}
+use Rattle.justfile_expression.specs.LeafTree.{Leaf}
 
 -- ---- an item among others
 
@@ -40,16 +40,16 @@ last_first xs n x h e =
     ap (λ (l : List Item). reverse (map item_tree l)) (take_more xs n x h ∙ ap (λ (y : Item). take n xs ++ y ∷ []) (sym e))
     ∙ ap (λ (l : List LeafItem). reverse l) (map-append item_tree (take n xs) (x ∷ [])) ∙ reverse-append (map item_tree (take n xs)) (item_tree x ∷ [])
 
-pub item_whole : (xs : List Item) (n : ℕ) (x : Item) → n < length xs → x ≡ get_or xs n x → AreWhole xs → IsWholeItem x
-unfolding AreWhole
-item_whole xs n x h e whole = subst IsWholeItem (sym e) (All-get_or IsWholeItem xs n x h whole)
+pub item_whole : (xs : List Item) (n : ℕ) (x : Item) → n < length xs → x ≡ get_or xs n x → HaveDerivedFields xs → HasDerivedItemFields x
+unfolding HaveDerivedFields
+item_whole xs n x h e whole = subst HasDerivedItemFields (sym e) (All-get_or HasDerivedItemFields xs n x h whole)
 
 -- the comment that an item is begins with its sign
-pub comment_begins : (xs : List Item) (n : ℕ) (x : Item) → n < length xs → x ≡ get_or xs n x → AreWhole xs → (text : List ℕ) → comment_of (item_tree x) ≡ Some text
+pub comment_begins : (xs : List Item) (n : ℕ) (x : Item) → n < length xs → x ≡ get_or xs n x → HaveDerivedFields xs → (text : List ℕ) → comment_of (item_tree x) ≡ Some text
     → IsTrue (starts_with nat_eq text (codes "#"))
 comment_begins xs n x h e whole text is = go x (item_whole xs n x h e whole) is
   where
-    go : (y : Item) → IsWholeItem y → comment_of (item_tree y) ≡ Some text → IsTrue (starts_with nat_eq text (codes "#"))
+    go : (y : Item) → HasDerivedItemFields y → comment_of (item_tree y) ≡ Some text → IsTrue (starts_with nat_eq text (codes "#"))
     go (items.Comment other) w k = subst (λ (t : List ℕ). IsTrue (starts_with nat_eq t (codes "#"))) (some_is other.now text k) w
     go (items.Alias a) w k = cc
     go (items.Assignment a) w k = cc

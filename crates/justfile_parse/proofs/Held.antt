@@ -2,12 +2,12 @@
 use Rattle.std.proofs.Common.{◌≡◌, ◌∙◌, ◌⊎◌, inl, inr, ℕ, List, [], ◌∷◌, All, Option, Some, None, refl, sym, subst}
 use Rattle.std.proofs.lemmas.List.Elements.{All-cons, All-nil}
 use Rattle.justfile_attribute_rules.specs.RuleErrors.{SaysRule}
-use Rattle.justfile_base.specs.CompileErrorKind.{tokens_in}
-use Rattle.justfile_base.specs.declared.compile_error_kind.CompileErrorKind.{CompileErrorKind}
-use Rattle.justfile_base.specs.declared.compile_error_kind.CompileErrorKind.TheVariants as kinds
-use Rattle.justfile_base.specs.declared.name.Name.{Name}
-use Rattle.justfile_base.specs.declared.string_literal.StringLiteral.{StringLiteral}
-use Rattle.justfile_base.specs.declared.token.Token.{Token}
+use Rattle.justfile_token.specs.CompileErrorKind.{tokens_in}
+use Rattle.justfile_token.specs.declared.compile_error_kind.CompileErrorKind.{CompileErrorKind}
+use Rattle.justfile_token.specs.declared.compile_error_kind.CompileErrorKind.TheVariants as kinds
+use Rattle.justfile_token.specs.declared.name.Name.{Name}
+use Rattle.justfile_token.specs.declared.string_literal.StringLiteral.{StringLiteral}
+use Rattle.justfile_token.specs.declared.token.Token.{Token}
 use Rattle.justfile_literal.specs.Literal.{IsKindOf, literal_fault_of}
 use Rattle.justfile_model.specs.LexicalFault.{NotLexical, lexical_fault_of}
 use Rattle.justfile_model.specs.Literals.{LiteralFault}
@@ -17,8 +17,8 @@ use Rattle.justfile_model.specs.Tok.{Tok}
 use Rattle.justfile_model.proofs.AlikeRules as alike
 use Rattle.justfile_model.proofs.AlikeRules.{AlikeRule}
 use Rattle.justfile_parse.specs.Errors.{IsUnexpected}
-use Rattle.justfile_parse_attribute.specs.Halting.{IsAfterVariadic, IsExpectedKeyword, IsExtraneous, IsUnknownSetting}
-use Rattle.justfile_word.specs.declared.keyword.Keyword.{Keyword}
+use Rattle.justfile_parse_attribute.specs.ParseErrors.{IsAfterVariadic, IsExpectedKeyword, IsExtraneous, IsUnknownSetting}
+use Rattle.justfile_vocabulary.specs.declared.keyword.Keyword.{Keyword}
 
 -- ---- kinds that hold none
 
@@ -102,65 +102,65 @@ module _ (IsToken : Token → Type 0) where
 
   -- ---- of a rule
 
-  module _ (Spot : Token → Tok → Type 0) (among : (t : Token) (k : Tok) → Spot t k → IsToken t) (at : Token) where
-    several_held : {r : Rule Token} {s : Rule Tok} (key : Name) → AlikeRule Spot r s → SaysRule at r (kinds.ArgAttributeRequiresMultipleOrVariadic key) → IsToken key.token
+  module _ (Position : Token → Tok → Type 0) (among : (t : Token) (k : Tok) → Position t k → IsToken t) (at : Token) where
+    several_held : {r : Rule Token} {s : Rule Tok} (key : Name) → AlikeRule Position r s → SaysRule at r (kinds.ArgAttributeRequiresMultipleOrVariadic key) → IsToken key.token
     several_held key (alike.requires_several k) says = subst IsToken (sym says) (among _ _ k)
     several_held key _ says = absurd says
 
-    option_held : {r : Rule Token} {s : Rule Tok} (key : Name) → AlikeRule Spot r s → SaysRule at r (kinds.ArgAttributeRequiresOption key) → IsToken key.token
+    option_held : {r : Rule Token} {s : Rule Tok} (key : Name) → AlikeRule Position r s → SaysRule at r (kinds.ArgAttributeRequiresOption key) → IsToken key.token
     option_held key (alike.requires_option k) says = subst IsToken (sym says) (among _ _ k)
     option_held key _ says = absurd says
 
-    big_held : {r : Rule Token} {s : Rule Tok} (key : Name) (source value : _) → AlikeRule Spot r s → SaysRule at r (kinds.ArgumentCountParse key source value) → IsToken key.token
+    big_held : {r : Rule Token} {s : Rule Tok} (key : Name) (source value : _) → AlikeRule Position r s → SaysRule at r (kinds.ArgumentCountParse key source value) → IsToken key.token
     big_held key source value (alike.big_count k e) says = subst IsToken (sym says.0) (among _ _ k)
     big_held key source value _ says = absurd says
 
-    count_held : {r : Rule Token} {s : Rule Tok} (key : Name) (value : _) → AlikeRule Spot r s → SaysRule at r (kinds.ArgumentCountValue key value) → IsToken key.token
+    count_held : {r : Rule Token} {s : Rule Tok} (key : Name) (value : _) → AlikeRule Position r s → SaysRule at r (kinds.ArgumentCountValue key value) → IsToken key.token
     count_held key value (alike.no_count k e) says = subst IsToken (sym says.0) (among _ _ k)
     count_held key value _ says = absurd says
 
-    mismatch_held : {r : Rule Token} {s : Rule Tok} (attribute : Name) (found min max : ℕ) → AlikeRule Spot r s → SaysRule at r (kinds.AttributeArgumentCountMismatch attribute found min max)
+    mismatch_held : {r : Rule Token} {s : Rule Tok} (attribute : Name) (found min max : ℕ) → AlikeRule Position r s → SaysRule at r (kinds.AttributeArgumentCountMismatch attribute found min max)
         → IsToken attribute.token
     mismatch_held attribute found min max (alike.count_mismatch a e) says = subst IsToken (sym says.0) (among _ _ a)
     mismatch_held attribute found min max _ says = absurd says
 
-    expression_held : {r : Rule Token} {s : Rule Tok} (attribute : Name) → AlikeRule Spot r s → SaysRule at r (kinds.AttributeArgumentExpression attribute) → IsToken attribute.token
+    expression_held : {r : Rule Token} {s : Rule Tok} (attribute : Name) → AlikeRule Position r s → SaysRule at r (kinds.AttributeArgumentExpression attribute) → IsToken attribute.token
     expression_held attribute (alike.argument_expression a) says = subst IsToken (sym says) (among _ _ a)
     expression_held attribute _ says = absurd says
 
-    missing_held : {r : Rule Token} {s : Rule Tok} (key : Name) → AlikeRule Spot r s → SaysRule at r (kinds.AttributeKeyMissingValue key) → IsToken key.token
+    missing_held : {r : Rule Token} {s : Rule Tok} (key : Name) → AlikeRule Position r s → SaysRule at r (kinds.AttributeKeyMissingValue key) → IsToken key.token
     missing_held key (alike.missing_value k) says = subst IsToken (sym says) (among _ _ k)
     missing_held key _ says = absurd says
 
-    valued_held : {r : Rule Token} {s : Rule Tok} (key : Name) → AlikeRule Spot r s → SaysRule at r (kinds.AttributeKeyTakesNoValue key) → IsToken key.token
+    valued_held : {r : Rule Token} {s : Rule Tok} (key : Name) → AlikeRule Position r s → SaysRule at r (kinds.AttributeKeyTakesNoValue key) → IsToken key.token
     valued_held key (alike.takes_no_value k) says = subst IsToken (sym says) (among _ _ k)
     valued_held key _ says = absurd says
 
-    duplicate_held : {r : Rule Token} {s : Rule Tok} (attribute : Name) (first : ℕ) → AlikeRule Spot r s → SaysRule at r (kinds.DuplicateAttribute attribute first) → IsToken attribute.token
+    duplicate_held : {r : Rule Token} {s : Rule Tok} (attribute : Name) (first : ℕ) → AlikeRule Position r s → SaysRule at r (kinds.DuplicateAttribute attribute first) → IsToken attribute.token
     duplicate_held attribute first (alike.duplicate a f) says = subst IsToken (sym says.0) (among _ _ a)
     duplicate_held attribute first _ says = absurd says
 
-    group_held : {r : Rule Token} {s : Rule Tok} (first : ℕ) (group : StringLiteral) → AlikeRule Spot r s → SaysRule at r (kinds.DuplicateGroupAttribute first group) → IsToken group.token
+    group_held : {r : Rule Token} {s : Rule Tok} (first : ℕ) (group : StringLiteral) → AlikeRule Position r s → SaysRule at r (kinds.DuplicateGroupAttribute first group) → IsToken group.token
     group_held first group (alike.duplicate_group v g f) says = subst IsToken (sym says.1) (among _ _ g)
     group_held first group _ says = absurd says
 
-    no_dependency : {r : Rule Token} {s : Rule Tok} (dependency found min max : _) → AlikeRule Spot r s → SaysRule at r (kinds.DependencyArgumentCountMismatch dependency found min max) → ⊥
+    no_dependency : {r : Rule Token} {s : Rule Tok} (dependency found min max : _) → AlikeRule Position r s → SaysRule at r (kinds.DependencyArgumentCountMismatch dependency found min max) → ⊥
     no_dependency dependency found min max (alike.unknown_attribute a) says = says
     no_dependency dependency found min max _ says = says
 
-    no_keyword : {r : Rule Token} {s : Rule Tok} (expected found : _) → AlikeRule Spot r s → SaysRule at r (kinds.ExpectedKeyword expected found) → ⊥
+    no_keyword : {r : Rule Token} {s : Rule Tok} (expected found : _) → AlikeRule Position r s → SaysRule at r (kinds.ExpectedKeyword expected found) → ⊥
     no_keyword expected found (alike.unknown_attribute a) says = says
     no_keyword expected found _ says = says
 
-    no_target : {r : Rule Token} {s : Rule Tok} (alias target : _) → AlikeRule Spot r s → SaysRule at r (kinds.UnknownAliasTarget alias target) → ⊥
+    no_target : {r : Rule Token} {s : Rule Tok} (alias target : _) → AlikeRule Position r s → SaysRule at r (kinds.UnknownAliasTarget alias target) → ⊥
     no_target alias target (alike.unknown_attribute a) says = says
     no_target alias target _ says = says
 
-    no_unknown : {r : Rule Token} {s : Rule Tok} (recipe unknown : _) → AlikeRule Spot r s → SaysRule at r (kinds.UnknownDependency recipe unknown) → ⊥
+    no_unknown : {r : Rule Token} {s : Rule Tok} (recipe unknown : _) → AlikeRule Position r s → SaysRule at r (kinds.UnknownDependency recipe unknown) → ⊥
     no_unknown recipe unknown (alike.unknown_attribute a) says = says
     no_unknown recipe unknown _ says = says
 
-    pub rule_held : {r : Rule Token} {s : Rule Tok} → AlikeRule Spot r s → (kind : CompileErrorKind) → SaysRule at r kind → All IsToken (tokens_in kind)
+    pub rule_held : {r : Rule Token} {s : Rule Tok} → AlikeRule Position r s → (kind : CompileErrorKind) → SaysRule at r kind → All IsToken (tokens_in kind)
     rule_held h (kinds.ArgAttributeRequiresMultipleOrVariadic key) says = one key.token (several_held key h says)
     rule_held h (kinds.ArgAttributeRequiresOption key) says = one key.token (option_held key h says)
     rule_held h (kinds.ArgumentCountParse key source value) says = one key.token (big_held key source value h says)

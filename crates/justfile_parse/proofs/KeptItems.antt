@@ -14,7 +14,7 @@ use Rattle.justfile_model.specs.Tree as tree
 use Rattle.justfile_parse.specs.Docs.{LeafItem, doc_before, doc_first, doc_taken, says_no_doc, taken_docs, with_doc, with_item, with_items}
 use Rattle.justfile_parse.proofs.TakenDocs.{from_first}
 use Rattle.justfile_parse_item.specs.Tree.{item_tree}
-use Rattle.justfile_parse_item.specs.Whole.{AreWhole, IsWholeItem}
+use Rattle.justfile_parse_item.specs.DerivedFields.{HaveDerivedFields, HasDerivedItemFields}
 
 -- ---- an element that changes places with one before it
 
@@ -47,17 +47,17 @@ take_of_take : {X : Type 0} (n k : ℕ) (xs : List X) → n ≤ length (take k x
 take_of_take n k xs h = sym (take-append-le n (take k xs) (drop k xs) h) ∙ ap (λ (l : List _). take n l) (take-append-drop k xs)
 
 -- all that are there are whole, in any order
-pub swapped_whole : (xs ys : List Item) (k p : ℕ) → k < length xs → p < length xs → ys ≡ swap xs k p → AreWhole xs → AreWhole ys
-unfolding AreWhole
-swapped_whole xs ys k p below within e h = All-permutation IsWholeItem xs ys (IsPermutation-swap xs ys k p below within e) h
+pub swapped_whole : (xs ys : List Item) (k p : ℕ) → k < length xs → p < length xs → ys ≡ swap xs k p → HaveDerivedFields xs → HaveDerivedFields ys
+unfolding HaveDerivedFields
+swapped_whole xs ys k p below within e h = All-permutation HasDerivedItemFields xs ys (IsPermutation-swap xs ys k p below within e) h
 
-pub set_whole : (xs ys : List Item) (p : ℕ) (x : Item) → ys ≡ set xs p x → IsWholeItem x → AreWhole xs → AreWhole ys
-unfolding AreWhole
-set_whole xs ys p x e h whole = subst (All IsWholeItem) (sym e) (All-set IsWholeItem xs p x h whole)
+pub set_whole : (xs ys : List Item) (p : ℕ) (x : Item) → ys ≡ set xs p x → HasDerivedItemFields x → HaveDerivedFields xs → HaveDerivedFields ys
+unfolding HaveDerivedFields
+set_whole xs ys p x e h whole = subst (All HasDerivedItemFields) (sym e) (All-set HasDerivedItemFields xs p x h whole)
 
-pub cut_whole : (xs ys : List Item) (n : ℕ) → ys ≡ take n xs → AreWhole xs → AreWhole ys
-unfolding AreWhole
-cut_whole xs ys n e h = subst (All IsWholeItem) (sym e) (All-take IsWholeItem n xs h)
+pub cut_whole : (xs ys : List Item) (n : ℕ) → ys ≡ take n xs → HaveDerivedFields xs → HaveDerivedFields ys
+unfolding HaveDerivedFields
+cut_whole xs ys n e h = subst (All HasDerivedItemFields) (sym e) (All-take HasDerivedItemFields n xs h)
 
 -- ---- an item that is kept
 
@@ -114,7 +114,7 @@ module _ (xs : List Item) (kept place : ℕ) (x : Item) (order : kept ≤ place)
         ∙ take-map item_tree n (take kept xs)
         ∙ ap (map item_tree) (take_of_take n kept xs (omega (arith, kept_count)))
 
-    pub documented_whole : IsWholeItem y → AreWhole xs → AreWhole ys
+    pub documented_whole : HasDerivedItemFields y → HaveDerivedFields xs → HaveDerivedFields ys
     documented_whole h whole = swapped_whole zs ys n place (omega (arith, two, order, in_zs)) in_zs e (set_whole xs zs place y zs_are h whole)
 
     pub kept_documented : doc_taken (item_tree x) (doc_before before) ≡ Some (item_tree y) → taken_docs m (place + 1) ys ≡ taken_docs kept place xs

@@ -1,8 +1,8 @@
 pub mod Comments
 pub mod DocSteps
-pub mod Formats
-pub mod GivenAttributes
-pub mod GivenParts
+pub mod FormatStrings
+pub mod FilledAttributes
+pub mod FilledParts
 pub mod Held
 pub mod KeptItems
 pub mod NotInternal
@@ -16,4 +16,4 @@ pub mod Tables
 pub mod TakenDocs
 pub mod UsedFeatures
 pub mod Wanting
-pub mod Whole
+pub mod FileResults

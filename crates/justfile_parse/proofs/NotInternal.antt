@@ -3,35 +3,35 @@ use Rattle.std.proofs.Common.{◌≡◌, ℕ, zero, suc, Bool, true, false, cond
 use Rattle.std.specs.Prelude.{◌&&◌, not, nat_eq}
 use Rattle.std.specs.List.{starts_with}
 use Rattle.std.specs.Str.{bytes_eq}
-use Rattle.justfile_base.specs.StringKind.{delimiter_len, kind_of, token_kind_of}
-use Rattle.justfile_word.specs.declared.token_kind.TokenKind.TheVariants.{FormatStringStart}
+use Rattle.justfile_token.specs.StringKind.{delimiter_len, kind_of, token_kind_of}
+use Rattle.justfile_vocabulary.specs.declared.token_kind.TokenKind.TheVariants.{FormatStringStart}
 use Rattle.justfile_model.specs.Bytes.{is_interpolation_start, is_interpolation_end, is_mixed, closes_levels, first_char}
-use Rattle.justfile_base.specs.CompileErrorKind.{internal_message}
-use Rattle.justfile_word.specs.declared.byte_class.ByteClass.{ByteClass}
-use Rattle.justfile_word.specs.declared.byte_class.ByteClass.TheVariants as classes
-use Rattle.justfile_base.specs.declared.compile_error.CompileError.{CompileError}
-use Rattle.justfile_base.specs.declared.compile_error_kind.CompileErrorKind.{CompileErrorKind}
-use Rattle.justfile_base.specs.declared.compile_error_kind.CompileErrorKind.TheVariants.{Internal}
-use Rattle.justfile_base.specs.declared.delimiter.Delimiter.{Delimiter}
-use Rattle.justfile_word.specs.declared.keyword.Keyword.{Keyword}
-use Rattle.justfile_base.specs.declared.string_kind.StringDelimiter.{StringDelimiter}
-use Rattle.justfile_base.specs.declared.string_kind.StringDelimiter.TheVariants as delimiters
-use Rattle.justfile_base.specs.declared.string_kind.StringKind.{StringKind}
-use Rattle.justfile_base.specs.declared.token.Token.{Token}
-use Rattle.justfile_word.specs.declared.token_kind.TokenKind.{TokenKind}
+use Rattle.justfile_token.specs.CompileErrorKind.{internal_message}
+use Rattle.justfile_vocabulary.specs.declared.byte_class.ByteClass.{ByteClass}
+use Rattle.justfile_vocabulary.specs.declared.byte_class.ByteClass.TheVariants as classes
+use Rattle.justfile_token.specs.declared.compile_error.CompileError.{CompileError}
+use Rattle.justfile_token.specs.declared.compile_error_kind.CompileErrorKind.{CompileErrorKind}
+use Rattle.justfile_token.specs.declared.compile_error_kind.CompileErrorKind.TheVariants.{Internal}
+use Rattle.justfile_token.specs.declared.delimiter.Delimiter.{Delimiter}
+use Rattle.justfile_vocabulary.specs.declared.keyword.Keyword.{Keyword}
+use Rattle.justfile_token.specs.declared.string_kind.StringDelimiter.{StringDelimiter}
+use Rattle.justfile_token.specs.declared.string_kind.StringDelimiter.TheVariants as delimiters
+use Rattle.justfile_token.specs.declared.string_kind.StringKind.{StringKind}
+use Rattle.justfile_token.specs.declared.token.Token.{Token}
+use Rattle.justfile_vocabulary.specs.declared.token_kind.TokenKind.{TokenKind}
 use Rattle.justfile_literal.specs.Literal.{IsKindOf}
-use Rattle.justfile_word.specs.ByteClass.{class_of}
+use Rattle.justfile_vocabulary.specs.ByteClass.{class_of}
 use Rattle.justfile_model.specs.Lexed.{IsFault, IsSpan}
 use Rattle.justfile_model.specs.Literals as literals
-use Rattle.justfile_model.specs.Reading as reader
+use Rattle.justfile_model.specs.ReaderState as reader
 use Rattle.justfile_model.specs.TreeReader as model
 use Rattle.justfile_model.specs.SignificantTokens.{SignificantToken}
 use Rattle.justfile_attribute_rules.specs.RuleErrors.{SaysRule}
 use Rattle.justfile_model.specs.Rules as rules
 use Rattle.justfile_model.specs.Rules.{Rule}
 use Rattle.justfile_parse.specs.Errors.{IsErrorOf, IsUnexpected}
-use Rattle.justfile_parse_attribute.specs.Halting.{IsAfterVariadic, IsExpectedKeyword, IsExtraneous, IsUnknownSetting}
-use Rattle.justfile_model.specs.LexicalFault.{LexicalFault, NotLexical, LexicalRefusal, Here, Unclosed, lexical_fault_of}
+use Rattle.justfile_parse_attribute.specs.ParseErrors.{IsAfterVariadic, IsExpectedKeyword, IsExtraneous, IsUnknownSetting}
+use Rattle.justfile_model.specs.LexicalFault.{LexicalFault, NotLexical, LexicalError, Here, Unclosed, lexical_fault_of}
 use Rattle.justfile_model.specs.LiteralText.{raw_len}
 use Rattle.justfile_model.specs.Modes.{Mode, head_of, innermost, is_empty, mode, nested}
 use Rattle.justfile_model.specs.Next.{NextToken, doubled_token, fixed_token, unterminated, literal_part, closing_delimiter, format_kind, brace_by, closing, escaped_line_end, token_by_class, text_or, body_token, at_end_by, Region, InText, InInterpolation, Inline, region_by, token_in_region, token_within_line, blanks_or, layout, next_by, next, is_same, is_backtick, begins_blank_line, is_level, tested_blanks}
@@ -165,7 +165,7 @@ unfolding next
 next_lexical m [] = end_lexical m.interpolation m.levels
 next_lexical m (b ∷ bs) = next_by_lexical (b ∷ bs) m.line_start m
 
-span_lexical : (text : List ℕ) (earlier : List Tok) (fault : LexicalFault) (t : Tok) (refusal : LexicalRefusal) → lexical_found (Err refusal) ≡ true → IsSpan text earlier refusal fault t → is_lexical fault ≡ true
+span_lexical : (text : List ℕ) (earlier : List Tok) (fault : LexicalFault) (t : Tok) (refusal : LexicalError) → lexical_found (Err refusal) ≡ true → IsSpan text earlier refusal fault t → is_lexical fault ≡ true
 span_lexical text earlier fault t (Here p skip n) h s = ap is_lexical s.0 ∙ h
 span_lexical text earlier fault t (Unclosed u) h s = ap is_lexical s.0
 
@@ -221,7 +221,7 @@ expected_kind : (expected : List Keyword) (found : Token) (kind : CompileErrorKi
 expected_kind expected found (Internal message) h = absurd h
 expected_kind expected found _ h = refl
 
-pub refusal_not_internal : (tokens : List SignificantToken) (r : model.Refusal) (e : CompileError) → IsErrorOf tokens r e → internal_message e.kind ≡ None
+pub refusal_not_internal : (tokens : List SignificantToken) (r : model.ReadError) (e : CompileError) → IsErrorOf tokens r e → internal_message e.kind ≡ None
 refusal_not_internal tokens (reader.Unexpected at) e h = unexpected_kind e.kind e.token h.0
 refusal_not_internal tokens (reader.TooDeep at) e h = ap internal_message h.0
 refusal_not_internal tokens (reader.NotCooked fault t) e h = literal_kind fault e.kind h.0

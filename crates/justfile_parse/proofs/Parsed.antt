@@ -7,31 +7,31 @@ use Rattle.std.specs.Option.{option_map}
 use Rattle.std.proofs.lemmas.Bool.Decides.{nat_tests}
 use Rattle.std.proofs.lemmas.List.{append-nil, append_assoc, length-map, reverse-append, reverse-reverse}
 use Rattle.std.proofs.lemmas.List.Elements.{All-contains, All-drop, All-head, All-tail, All-take, All-weaker}
-use Rattle.justfile_base.specs.CompileErrorKind.{tokens_in}
-use Rattle.justfile_base.specs.StringKind.{delimiter_len, kind_of}
-use Rattle.justfile_base.specs.StringLiteral.{begins_format_string}
-use Rattle.justfile_word.specs.declared.format_string_part.FormatStringPart.TheVariants as format_parts
-use Rattle.justfile_base.specs.declared.name.Name.{Name}
-use Rattle.justfile_base.specs.Token.{lexeme_of}
-use Rattle.justfile_base.specs.Namepath.{names_in}
-use Rattle.justfile_word.specs.Numerator.{bindings_of, recipes_of}
-use Rattle.justfile_base.specs.declared.fault.Fault.{Fault}
-use Rattle.justfile_base.specs.declared.fault.Fault.TheVariants as faults
-use Rattle.justfile_word.specs.declared.numerator.Numerator.{Numerator}
-use Rattle.justfile_base.specs.declared.string_kind.StringKind.{StringKind}
-use Rattle.justfile_base.specs.declared.string_literal.StringLiteral as literals
-use Rattle.justfile_base.specs.declared.token.Token.{Token}
-use Rattle.justfile_word.specs.declared.token_kind.TokenKind.{TokenKind}
-use Rattle.justfile_word.specs.declared.token_kind.TokenKind.TheVariants as kinds
+use Rattle.justfile_token.specs.CompileErrorKind.{tokens_in}
+use Rattle.justfile_token.specs.StringKind.{delimiter_len, kind_of}
+use Rattle.justfile_token.specs.StringLiteral.{begins_format_string}
+use Rattle.justfile_vocabulary.specs.declared.format_string_part.FormatStringPart.TheVariants as format_parts
+use Rattle.justfile_token.specs.declared.name.Name.{Name}
+use Rattle.justfile_token.specs.Token.{lexeme_of}
+use Rattle.justfile_token.specs.Namepath.{names_in}
+use Rattle.justfile_vocabulary.specs.Numerator.{bindings_of, recipes_of}
+use Rattle.justfile_token.specs.declared.fault.Fault.{Fault}
+use Rattle.justfile_token.specs.declared.fault.Fault.TheVariants as faults
+use Rattle.justfile_vocabulary.specs.declared.numerator.Numerator.{Numerator}
+use Rattle.justfile_token.specs.declared.string_kind.StringKind.{StringKind}
+use Rattle.justfile_token.specs.declared.string_literal.StringLiteral as literals
+use Rattle.justfile_token.specs.declared.token.Token.{Token}
+use Rattle.justfile_vocabulary.specs.declared.token_kind.TokenKind.{TokenKind}
+use Rattle.justfile_vocabulary.specs.declared.token_kind.TokenKind.TheVariants as kinds
 use Rattle.std.specs.Str.{IsUtf8}
 use Rattle.justfile_round_trip.specs.RoundTrip.{TextDerives}
 use Rattle.justfile_round_trip.proofs.Quoted.{AreFramed, AreQuoted, IsFramed, IsQuoted, lexed_framed, lexed_quoted}
 use Rattle.justfile_line.specs.Body.{fragment_of, fragment_cooked, body_line_of, line_cooked}
 use Rattle.justfile_item.specs.Item.{header_cooked, header_of, item_of, item_cooked, priors_of, subsequents_of}
-use Rattle.justfile_header.specs.Header.{argument_cooked, boxed_of, dependency_argument_of, dependency_cooked, dependency_of, option_cooked, parameter_cooked, parameter_of}
-use Rattle.justfile_header.specs.declared.parameter.Parameter.{Parameter}
-use Rattle.justfile_header.specs.declared.unresolved_dependency.DependencyArgument.{DependencyArgument}
-use Rattle.justfile_header.specs.declared.unresolved_dependency.UnresolvedDependency.{UnresolvedDependency}
+use Rattle.justfile_recipe_header.specs.Header.{argument_cooked, boxed_of, dependency_argument_of, dependency_cooked, dependency_of, option_cooked, parameter_cooked, parameter_of}
+use Rattle.justfile_recipe_header.specs.declared.parameter.Parameter.{Parameter}
+use Rattle.justfile_recipe_header.specs.declared.unresolved_dependency.DependencyArgument.{DependencyArgument}
+use Rattle.justfile_recipe_header.specs.declared.unresolved_dependency.UnresolvedDependency.{UnresolvedDependency}
 use Rattle.justfile_item.specs.declared.recipe.UnresolvedRecipe.{UnresolvedRecipe}
 use Rattle.justfile_attribute_set.specs.AttributeSet.{entries_of}
 use Rattle.justfile_line.specs.declared.fragment.Fragment.{Fragment}
@@ -40,9 +40,9 @@ use Rattle.justfile_line.specs.declared.line.Line.{Line}
 use Rattle.justfile_item.specs.Attributes.{set_cooked}
 use Rattle.justfile_item.specs.declared.item.Item.{Item}
 use Rattle.justfile_item.specs.declared.item.Item.TheVariants.{Alias, Assignment, Comment, Function, Import, Module, Newline, Recipe, Setting, Unexport}
-use Rattle.justfile_file.specs.Ast.{features_of, tree_of}
-use Rattle.justfile_file.specs.declared.ast.Ast.{Ast}
-use Rattle.justfile_model.specs.Answers.{IsFrom, IsLexerFault}
+use Rattle.justfile_ast.specs.Ast.{features_of, tree_of}
+use Rattle.justfile_ast.specs.declared.ast.Ast.{Ast}
+use Rattle.justfile_model.specs.LexResult.{IsFrom, IsLexerFault}
 use Rattle.justfile_model.specs.Conditions.{Conditions, with_limit}
 use Rattle.justfile_model.specs.Files.{FileDerives, NumbersSuffice, body_literals, dependency_literals, entries_literals, expr_literals, exprs_literals, fragments_literals, header_literals, item_literals, literals, optional_literals, ordered, parameter_literals, parts_literals}
 use Rattle.justfile_model.specs.Lexed.{Lexed, IsFault}
@@ -50,8 +50,8 @@ use Rattle.justfile_model.specs.LexicalFault.{LexicalFault, lexical_fault_of}
 use Rattle.justfile_model.specs.Features.{Noted}
 use Rattle.justfile_model.specs.Literals as lits
 use Rattle.justfile_model.specs.Literals.{Expansions, Expanded, Literal, Plain, over_literal, string_of, cooked_text, AreCookedTexts}
-use Rattle.justfile_word.specs.declared.list_feature.ListFeature.{ListFeature}
-use Rattle.justfile_model.specs.Sight.{sees_tokens}
+use Rattle.justfile_vocabulary.specs.declared.list_feature.ListFeature.{ListFeature}
+use Rattle.justfile_model.specs.LeafView.{views_tokens}
 use Rattle.justfile_model.specs.TreeReader as model
 use Rattle.justfile_model.specs.SignificantTokens.{SignificantToken, is_whitespace, significant_from, significant_tokens}
 use Rattle.justfile_model.specs.Tok.{Tok, tok_of}
@@ -61,9 +61,9 @@ use Rattle.justfile_model.proofs.LexedLaws.{one_list, never_both}
 use Rattle.std.proofs.lemmas.Bool.{cases_order}
 use Rattle.justfile_model.proofs.Agreement.{complete, due, refused}
 use Rattle.justfile_model.proofs.Needs.{deep_at, only_deep, raised}
-use Rattle.justfile_model.proofs.Soundness.{sound}
+use Rattle.justfile_model.proofs.FileObeys.{sound}
 use Rattle.justfile_model.proofs.Ordered.{ordered_bindings, ordered_recipes}
-use Rattle.justfile_parse_item.specs.Filled.{AreGivenExpressions, AreGivenParts, IfThere, IsGivenArgument, IsGivenBoxed, IsGivenDependency, IsGivenName, IsGivenParameter, IsGivenRecipe, IsGivenFragment, IsGivenOptional, IsGivenItem, IsGivenExpression, IsGivenLine, IsGivenPart, IsInTable, first_part, later_part}
+use Rattle.justfile_parse_item.specs.Filled.{AreFilledExpressions, AreFilledParts, IfThere, IsFilledArgument, IsFilledBoxed, IsFilledDependency, IsFilledName, IsFilledParameter, IsFilledRecipe, IsFilledFragment, IsFilledOptional, IsFilledItem, IsFilledExpression, IsFilledLine, IsFilledPart, IsInTable, first_part, later_part}
 use Rattle.justfile_literal.specs.Literal.{IsPartOf, is_framed, is_quoted}
 use Rattle.justfile_parse.specs.Errors.{IsErrorOf, IsTooDeepError}
 use Rattle.justfile_parse_expression.specs.Literal.{is_delimited, is_sound}
@@ -74,15 +74,15 @@ use Rattle.justfile_parse_expression.specs.declared.significant.TableEntry.{Tabl
 use Rattle.justfile_model.specs.UnstableFeatures.{unstable_features}
 use Rattle.justfile_parse.specs.WantsNumber.{WantsNumber}
 use Rattle.justfile_parse.proofs.Comments.{AreComments, lexed_comments}
-use Rattle.justfile_parse.proofs.GivenAttributes.{given_set, joined_cook, lexemes, set_cooks, string_cooks, string_tok}
-use Rattle.justfile_parse.proofs.GivenParts as parts
+use Rattle.justfile_parse.proofs.FilledAttributes.{given_set, joined_cook, lexemes, set_cooks, string_cooks, string_tok}
+use Rattle.justfile_parse.proofs.FilledParts as parts
 use Rattle.justfile_parse.proofs.Held.{lexical_held}
 use Rattle.justfile_parse.proofs.NotInternal.{not_internal, not_lexical, refusal_not_internal}
-use Rattle.justfile_tree.specs.Expression.{assert_of, conditional_of, expr_of, expr_cooked, exprs_cooked, exprs_of_row, format_of, optional_cooked, join_of, literal_tok, part_tok, parts_cooked, parts_of_row}
-use Rattle.justfile_tree.specs.declared.expression.Expression.{Expression, And', Assert', Backtick, Call', Comparison', Concatenation', Conditional', FormatString', Group', Join', List', ListConcatenation', Not', Or', StringLiteral, Variable, Held-Expression-Assert-1 as OptionalExpression, None', Some', Row_of-Expression as ExpressionRow, end_of-Expression as row_end, more_of-Expression as row_more, Row_of-Expression-FormatString-1-2 as FormatRow, end_of-Expression-FormatString-1-2 as format_row_end, more_of-Expression-FormatString-1-2 as format_row_more}
+use Rattle.justfile_expression.specs.Expression.{assert_of, conditional_of, expr_of, expr_cooked, exprs_cooked, exprs_of_row, format_of, optional_cooked, join_of, literal_tok, part_tok, parts_cooked, parts_of_row}
+use Rattle.justfile_expression.specs.declared.expression.Expression.{Expression, And', Assert', Backtick, Call', Comparison', Concatenation', Conditional', FormatString', Group', Join', List', ListConcatenation', Not', Or', StringLiteral, Variable, Held-Expression-Assert-1 as OptionalExpression, None', Some', Row_of-Expression as ExpressionRow, end_of-Expression as row_end, more_of-Expression as row_more, Row_of-Expression-FormatString-1-2 as FormatRow, end_of-Expression-FormatString-1-2 as format_row_end, more_of-Expression-FormatString-1-2 as format_row_more}
 
-ok_is_no_error : (e : model.Refusal) (x : WrittenTree × List (Noted Tok)) (found : Result (WrittenTree × List (Noted Tok)) model.Refusal) → found ≡ Err e → found ≡ Ok x → ⊥
-ok_is_no_error e x found h k = let both : ◌≡◌ {A = Result (WrittenTree × List (Noted Tok)) model.Refusal} (Err e) (Ok x) = sym h ∙ k in cc
+ok_is_no_error : (e : model.ReadError) (x : WrittenTree × List (Noted Tok)) (found : Result (WrittenTree × List (Noted Tok)) model.ReadError) → found ≡ Err e → found ≡ Ok x → ⊥
+ok_is_no_error e x found h k = let both : ◌≡◌ {A = Result (WrittenTree × List (Noted Tok)) model.ReadError} (Err e) (Ok x) = sym h ∙ k in cc
 
 -- ---- the tokens of one lex
 
@@ -150,7 +150,7 @@ in_tokens tokens table all t h = All-contains (λ (entry : TableEntry). Contains
 
 module _ (expander : Expansions) (P Q : Token → Type 0) (weaker : (t : Token) → P t → Q t) where
   mutual
-    given_expression : (e : Expression) → IsGivenExpression expander P e → IsGivenExpression expander Q e
+    given_expression : (e : Expression) → IsFilledExpression expander P e → IsFilledExpression expander Q e
     given_expression (And' p lhs q rhs) h = (given_expression lhs h.0, given_expression rhs h.1)
     given_expression (Assert' p condition message name) h = (given_expression condition h.0, given_optional message h.1, weaker name.token h.2)
     given_expression (Backtick contents token) h = record { among = weaker token h.among; cooked = h.cooked }
@@ -168,39 +168,39 @@ module _ (expander : Expansions) (P Q : Token → Type 0) (weaker : (t : Token) 
     given_expression (StringLiteral l) h = record { among = weaker l.token h.among; cooked = h.cooked; kind = h.kind; part = h.part }
     given_expression (Variable name number) h = (weaker name.token h.0, h.1)
 
-    given_optional : (e : OptionalExpression) → IsGivenOptional expander P e → IsGivenOptional expander Q e
+    given_optional : (e : OptionalExpression) → IsFilledOptional expander P e → IsFilledOptional expander Q e
     given_optional None' h = tt
     given_optional (Some' p e) h = given_expression e h
 
-    given_row : {n : _} (es : ExpressionRow n) → AreGivenExpressions expander P es → AreGivenExpressions expander Q es
+    given_row : {n : _} (es : ExpressionRow n) → AreFilledExpressions expander P es → AreFilledExpressions expander Q es
     given_row row_end h = tt
     given_row (row_more e others) h = (given_expression e h.0, given_row others h.1)
 
-    given_parts : (kind : StringKind) {n : _} (es : FormatRow n) → AreGivenParts expander P kind es → AreGivenParts expander Q kind es
+    given_parts : (kind : StringKind) {n : _} (es : FormatRow n) → AreFilledParts expander P kind es → AreFilledParts expander Q kind es
     given_parts kind format_row_end h = tt
     given_parts kind (format_row_more e literal others) h = (given_expression e h.0, record { among = weaker literal.token h.1.among; is = h.1.is }, given_parts kind others h.2)
 
-  given_fragment : (f : Fragment) → IsGivenFragment expander P f → IsGivenFragment expander Q f
+  given_fragment : (f : Fragment) → IsFilledFragment expander P f → IsFilledFragment expander Q f
   given_fragment (fragments.Interpolation e) h = given_expression e h
   given_fragment (fragments.Text token) h = weaker token h
 
-  given_line : (l : Line) → IsGivenLine expander P l → IsGivenLine expander Q l
-  given_line l = All-weaker (IsGivenFragment expander P) (IsGivenFragment expander Q) given_fragment l.fragments.items
+  given_line : (l : Line) → IsFilledLine expander P l → IsFilledLine expander Q l
+  given_line l = All-weaker (IsFilledFragment expander P) (IsFilledFragment expander Q) given_fragment l.fragments.items
 
-  given_default : (o : Option (Box Expression)) → IfThere (IsGivenBoxed expander P) o → IfThere (IsGivenBoxed expander Q) o
+  given_default : (o : Option (Box Expression)) → IfThere (IsFilledBoxed expander P) o → IfThere (IsFilledBoxed expander Q) o
   given_default None h = tt
   given_default (Some e) h = given_expression e.value h
 
-  given_parameter : (p : Parameter) → IsGivenParameter expander P p → IsGivenParameter expander Q p
+  given_parameter : (p : Parameter) → IsFilledParameter expander P p → IsFilledParameter expander Q p
   given_parameter p h = (weaker p.name.token h.0, given_default p.default h.1)
 
-  given_dependency : (d : UnresolvedDependency) → IsGivenDependency expander P d → IsGivenDependency expander Q d
+  given_dependency : (d : UnresolvedDependency) → IsFilledDependency expander P d → IsFilledDependency expander Q d
   given_dependency d h = (
-    All-weaker (IsGivenName expander P) (IsGivenName expander Q) (λ name. weaker name.token) (names_in d.recipe) h.0,
-    All-weaker (IsGivenArgument expander P) (IsGivenArgument expander Q) (λ a. given_expression a.expression.value) d.arguments.items h.1,
+    All-weaker (IsFilledName expander P) (IsFilledName expander Q) (λ name. weaker name.token) (names_in d.recipe) h.0,
+    All-weaker (IsFilledArgument expander P) (IsFilledArgument expander Q) (λ a. given_expression a.expression.value) d.arguments.items h.1,
   )
 
-  pub given_weaker : (file_depth : ℕ) (import_offsets : List ℕ) (i : Item) → IsGivenItem expander P file_depth import_offsets i → IsGivenItem expander Q file_depth import_offsets i
+  pub given_weaker : (file_depth : ℕ) (import_offsets : List ℕ) (i : Item) → IsFilledItem expander P file_depth import_offsets i → IsFilledItem expander Q file_depth import_offsets i
   given_weaker file_depth import_offsets (Alias a) h =
       record {
         among = weaker a.name.token h.among;
@@ -239,11 +239,11 @@ module _ (expander : Expansions) (P Q : Token → Type 0) (weaker : (t : Token) 
   given_weaker file_depth import_offsets (Recipe r) h =
       record {
         among = weaker r.name.token h.among;
-        parameters = All-weaker (IsGivenParameter expander P) (IsGivenParameter expander Q) given_parameter r.parameters.items h.parameters;
+        parameters = All-weaker (IsFilledParameter expander P) (IsFilledParameter expander Q) given_parameter r.parameters.items h.parameters;
         said = h.said;
         priors = h.priors;
-        dependencies = All-weaker (IsGivenDependency expander P) (IsGivenDependency expander Q) given_dependency r.dependencies.items h.dependencies;
-        body = All-weaker (IsGivenLine expander P) (IsGivenLine expander Q) given_line r.body.items h.body;
+        dependencies = All-weaker (IsFilledDependency expander P) (IsFilledDependency expander Q) given_dependency r.dependencies.items h.dependencies;
+        body = All-weaker (IsFilledLine expander P) (IsFilledLine expander Q) given_line r.body.items h.body;
         file_depth_is = h.file_depth_is;
         import_offsets_are = h.import_offsets_are;
         private = h.private;
@@ -280,7 +280,7 @@ module _ (expander : Expansions) (start : Tok) (bytes : List ℕ) (same : start.
 
 module _ (expander : Expansions) (P : Token → Type 0) where
   mutual
-    expression_cooks : (e : Expression) → IsGivenExpression expander P e → AreCookedTexts expander (lexemes (expr_literals (expr_of e))) (expr_cooked e)
+    expression_cooks : (e : Expression) → IsFilledExpression expander P e → AreCookedTexts expander (lexemes (expr_literals (expr_of e))) (expr_cooked e)
     expression_cooks (And' p lhs q rhs) h = joined_cook expander (expr_literals (expr_of lhs)) _ (expr_cooked lhs) _ (expression_cooks lhs h.0) (expression_cooks rhs h.1)
     expression_cooks (Assert' p condition message name) h = assert_cooks condition message name (expression_cooks condition h.0) h.1
     expression_cooks (Backtick contents token) h = (h.cooked, tt)
@@ -298,12 +298,12 @@ module _ (expander : Expansions) (P : Token → Type 0) where
     expression_cooks (StringLiteral l) g = string_cooks expander l.expand (literal_tok l) (lexeme_of l.token) (string_bytes l.cooked) (ap (λ (t : Tok). t.lexeme) (string_tok l g.part)) g.cooked
     expression_cooks (Variable name number) h = tt
 
-    assert_cooks : (condition : Expression) (message : OptionalExpression) (name : Name) → AreCookedTexts expander (lexemes (expr_literals (expr_of condition))) (expr_cooked condition) → IsGivenOptional expander P message
+    assert_cooks : (condition : Expression) (message : OptionalExpression) (name : Name) → AreCookedTexts expander (lexemes (expr_literals (expr_of condition))) (expr_cooked condition) → IsFilledOptional expander P message
         → AreCookedTexts expander (lexemes (expr_literals (assert_of (tok_of name.token) (expr_of condition) message))) (expr_cooked condition ++ optional_cooked message)
     assert_cooks condition None' name h k = subst (AreCookedTexts expander (lexemes (expr_literals (expr_of condition)))) (sym (append-nil (expr_cooked condition))) h
     assert_cooks condition (Some' p message) name h k = joined_cook expander (expr_literals (expr_of condition)) _ (expr_cooked condition) _ h (expression_cooks message k)
 
-    conditional_cooks : (condition branch : Expression) (otherwise : OptionalExpression) → AreCookedTexts expander (lexemes (expr_literals (expr_of condition))) (expr_cooked condition) → AreCookedTexts expander (lexemes (expr_literals (expr_of branch))) (expr_cooked branch) → IsGivenOptional expander P otherwise
+    conditional_cooks : (condition branch : Expression) (otherwise : OptionalExpression) → AreCookedTexts expander (lexemes (expr_literals (expr_of condition))) (expr_cooked condition) → AreCookedTexts expander (lexemes (expr_literals (expr_of branch))) (expr_cooked branch) → IsFilledOptional expander P otherwise
         → AreCookedTexts expander (lexemes (expr_literals (conditional_of (expr_of condition) (expr_of branch) otherwise))) (expr_cooked condition ++ expr_cooked branch ++ optional_cooked otherwise)
     conditional_cooks condition branch None' h k m =
         subst (AreCookedTexts expander (lexemes (expr_literals (tree.If (expr_of condition) (expr_of branch))))) (sym (append-nil (expr_cooked condition ++ expr_cooked branch)))
@@ -313,74 +313,74 @@ module _ (expander : Expansions) (P : Token → Type 0) where
         (joined_cook expander (expr_literals (expr_of condition)) _ (expr_cooked condition) _ h k)
         (expression_cooks other m)
 
-    join_cooks : (lhs : OptionalExpression) (operator : Token) (rhs : Expression) → IsGivenOptional expander P lhs → AreCookedTexts expander (lexemes (expr_literals (expr_of rhs))) (expr_cooked rhs)
+    join_cooks : (lhs : OptionalExpression) (operator : Token) (rhs : Expression) → IsFilledOptional expander P lhs → AreCookedTexts expander (lexemes (expr_literals (expr_of rhs))) (expr_cooked rhs)
         → AreCookedTexts expander (lexemes (expr_literals (join_of lhs (tok_of operator) (expr_of rhs)))) (optional_cooked lhs ++ expr_cooked rhs)
     join_cooks None' operator rhs h k = k
     join_cooks (Some' p lhs) operator rhs h k = joined_cook expander (expr_literals (expr_of lhs)) _ (expr_cooked lhs) _ (expression_cooks lhs h) k
 
-    row_cooks : {n : _} (es : ExpressionRow n) → AreGivenExpressions expander P es → AreCookedTexts expander (lexemes (exprs_literals (exprs_of_row es))) (exprs_cooked es)
+    row_cooks : {n : _} (es : ExpressionRow n) → AreFilledExpressions expander P es → AreCookedTexts expander (lexemes (exprs_literals (exprs_of_row es))) (exprs_cooked es)
     row_cooks row_end h = tt
     row_cooks (row_more e others) h = joined_cook expander (expr_literals (expr_of e)) _ (expr_cooked e) _ (expression_cooks e h.0) (row_cooks others h.1)
 
-    format_cooks : (start : literals.StringLiteral) {n : _} (es : FormatRow n) → IsGivenPart P (kind_of (lexeme_of start.token)) (first_part es) start → AreGivenParts expander P (kind_of (lexeme_of start.token)) es
+    format_cooks : (start : literals.StringLiteral) {n : _} (es : FormatRow n) → IsFilledPart P (kind_of (lexeme_of start.token)) (first_part es) start → AreFilledParts expander P (kind_of (lexeme_of start.token)) es
         → AreCookedTexts expander (lexemes (expr_literals (format_of (tok_of start.token) es))) (string_bytes start.cooked ∷ parts_cooked es)
     format_cooks start format_row_end h k = (h.is.cooked, tt)
     format_cooks start (format_row_more e literal others) h k =
         (h.is.cooked, joined_cook expander (expr_literals (expr_of e)) _ (expr_cooked e) _ (expression_cooks e k.0) (parts_cook (tok_of start.token) (lexeme_of start.token) refl literal others k.1 k.2))
 
-    parts_cook : (start : Tok) (bytes : List ℕ) → start.lexeme ≡ bytes → (literal : literals.StringLiteral) {n : _} (es : FormatRow n) → IsGivenPart P (kind_of bytes) (later_part es) literal → AreGivenParts expander P (kind_of bytes) es
+    parts_cook : (start : Tok) (bytes : List ℕ) → start.lexeme ≡ bytes → (literal : literals.StringLiteral) {n : _} (es : FormatRow n) → IsFilledPart P (kind_of bytes) (later_part es) literal → AreFilledParts expander P (kind_of bytes) es
         → AreCookedTexts expander (lexemes (parts_literals start (parts_of_row (part_tok literal) es))) (string_bytes literal.cooked ∷ parts_cooked es)
     parts_cook start bytes same literal format_row_end h k = (part_end expander start bytes same literal h.is, tt)
     parts_cook start bytes same literal (format_row_more e next others) h k =
         (part_continue expander start bytes same literal h.is, joined_cook expander (expr_literals (expr_of e)) _ (expr_cooked e) _ (expression_cooks e k.0) (parts_cook start bytes same next others k.1 k.2))
 
-  fragments_cook : (fs : List Fragment) → All (IsGivenFragment expander P) fs → AreCookedTexts expander (lexemes (fragments_literals (map fragment_of fs))) (flat_map fragment_cooked fs)
+  fragments_cook : (fs : List Fragment) → All (IsFilledFragment expander P) fs → AreCookedTexts expander (lexemes (fragments_literals (map fragment_of fs))) (flat_map fragment_cooked fs)
   fragments_cook [] all = tt
   fragments_cook (fragments.Interpolation e ∷ fs) all =
-      joined_cook expander (expr_literals (expr_of e)) _ (expr_cooked e) _ (expression_cooks e (All-head (IsGivenFragment expander P) (fragments.Interpolation e) fs all))
-      (fragments_cook fs (All-tail (IsGivenFragment expander P) (fragments.Interpolation e) fs all))
-  fragments_cook (fragments.Text token ∷ fs) all = fragments_cook fs (All-tail (IsGivenFragment expander P) (fragments.Text token) fs all)
+      joined_cook expander (expr_literals (expr_of e)) _ (expr_cooked e) _ (expression_cooks e (All-head (IsFilledFragment expander P) (fragments.Interpolation e) fs all))
+      (fragments_cook fs (All-tail (IsFilledFragment expander P) (fragments.Interpolation e) fs all))
+  fragments_cook (fragments.Text token ∷ fs) all = fragments_cook fs (All-tail (IsFilledFragment expander P) (fragments.Text token) fs all)
 
-  lines_cook : (ls : List Line) → All (IsGivenLine expander P) ls → AreCookedTexts expander (lexemes (body_literals (map body_line_of ls))) (flat_map line_cooked ls)
+  lines_cook : (ls : List Line) → All (IsFilledLine expander P) ls → AreCookedTexts expander (lexemes (body_literals (map body_line_of ls))) (flat_map line_cooked ls)
   lines_cook [] all = tt
   lines_cook (l ∷ ls) all =
-      joined_cook expander (fragments_literals (map fragment_of l.fragments.items)) _ (line_cooked l) _ (fragments_cook l.fragments.items (All-head (IsGivenLine expander P) l ls all))
-      (lines_cook ls (All-tail (IsGivenLine expander P) l ls all))
+      joined_cook expander (fragments_literals (map fragment_of l.fragments.items)) _ (line_cooked l) _ (fragments_cook l.fragments.items (All-head (IsFilledLine expander P) l ls all))
+      (lines_cook ls (All-tail (IsFilledLine expander P) l ls all))
 
-  default_cooks : (o : Option (Box Expression)) → IfThere (IsGivenBoxed expander P) o → AreCookedTexts expander (lexemes (optional_literals expr_literals (option_map boxed_of o))) (option_cooked o)
+  default_cooks : (o : Option (Box Expression)) → IfThere (IsFilledBoxed expander P) o → AreCookedTexts expander (lexemes (optional_literals expr_literals (option_map boxed_of o))) (option_cooked o)
   default_cooks None h = tt
   default_cooks (Some e) h = expression_cooks e.value h
 
-  parameters_cook : (ps : List Parameter) → All (IsGivenParameter expander P) ps → AreCookedTexts expander (lexemes (flat_map parameter_literals (map parameter_of ps))) (flat_map parameter_cooked ps)
+  parameters_cook : (ps : List Parameter) → All (IsFilledParameter expander P) ps → AreCookedTexts expander (lexemes (flat_map parameter_literals (map parameter_of ps))) (flat_map parameter_cooked ps)
   parameters_cook [] all = tt
   parameters_cook (p ∷ ps) all =
-      joined_cook expander (parameter_literals (parameter_of p)) _ (parameter_cooked p) _ (default_cooks p.default (All-head (IsGivenParameter expander P) p ps all).1)
-      (parameters_cook ps (All-tail (IsGivenParameter expander P) p ps all))
+      joined_cook expander (parameter_literals (parameter_of p)) _ (parameter_cooked p) _ (default_cooks p.default (All-head (IsFilledParameter expander P) p ps all).1)
+      (parameters_cook ps (All-tail (IsFilledParameter expander P) p ps all))
 
-  arguments_cook : (given : List DependencyArgument) → All (IsGivenArgument expander P) given
+  arguments_cook : (given : List DependencyArgument) → All (IsFilledArgument expander P) given
       → AreCookedTexts expander (lexemes (flat_map (λ (a : tree.DependencyArgument Tok Tok (Unit {0})). expr_literals a.value) (map dependency_argument_of given))) (flat_map argument_cooked given)
   arguments_cook [] all = tt
   arguments_cook (a ∷ given) all =
-      joined_cook expander (expr_literals (expr_of a.expression.value)) _ (argument_cooked a) _ (expression_cooks a.expression.value (All-head (IsGivenArgument expander P) a given all))
-      (arguments_cook given (All-tail (IsGivenArgument expander P) a given all))
+      joined_cook expander (expr_literals (expr_of a.expression.value)) _ (argument_cooked a) _ (expression_cooks a.expression.value (All-head (IsFilledArgument expander P) a given all))
+      (arguments_cook given (All-tail (IsFilledArgument expander P) a given all))
 
-  dependencies_cook : (ds : List UnresolvedDependency) → All (IsGivenDependency expander P) ds → AreCookedTexts expander (lexemes (flat_map dependency_literals (map dependency_of ds))) (flat_map dependency_cooked ds)
+  dependencies_cook : (ds : List UnresolvedDependency) → All (IsFilledDependency expander P) ds → AreCookedTexts expander (lexemes (flat_map dependency_literals (map dependency_of ds))) (flat_map dependency_cooked ds)
   dependencies_cook [] all = tt
   dependencies_cook (d ∷ ds) all =
-      joined_cook expander (dependency_literals (dependency_of d)) _ (dependency_cooked d) _ (arguments_cook d.arguments.items (All-head (IsGivenDependency expander P) d ds all).1)
-      (dependencies_cook ds (All-tail (IsGivenDependency expander P) d ds all))
+      joined_cook expander (dependency_literals (dependency_of d)) _ (dependency_cooked d) _ (arguments_cook d.arguments.items (All-head (IsFilledDependency expander P) d ds all).1)
+      (dependencies_cook ds (All-tail (IsFilledDependency expander P) d ds all))
 
-  header_cooks : {file_depth : ℕ} {import_offsets : List ℕ} (r : UnresolvedRecipe) → IsGivenRecipe expander P file_depth import_offsets r
+  header_cooks : {file_depth : ℕ} {import_offsets : List ℕ} (r : UnresolvedRecipe) → IsFilledRecipe expander P file_depth import_offsets r
       → AreCookedTexts expander (lexemes (header_literals (header_of r))) (header_cooked r)
   header_cooks r h =
       let parameters = flat_map parameter_literals (map parameter_of r.parameters.items) in
       let priors = flat_map dependency_literals (map dependency_of (priors_of r)) in
       joined_cook expander (parameters ++ priors) _ (flat_map parameter_cooked r.parameters.items ++ flat_map dependency_cooked (priors_of r)) _
       (joined_cook expander parameters _ (flat_map parameter_cooked r.parameters.items) _ (parameters_cook r.parameters.items h.parameters)
-      (dependencies_cook (priors_of r) (All-take (IsGivenDependency expander P) r.priors r.dependencies.items h.dependencies)))
-      (dependencies_cook (subsequents_of r) (All-drop (IsGivenDependency expander P) r.priors r.dependencies.items h.dependencies))
+      (dependencies_cook (priors_of r) (All-take (IsFilledDependency expander P) r.priors r.dependencies.items h.dependencies)))
+      (dependencies_cook (subsequents_of r) (All-drop (IsFilledDependency expander P) r.priors r.dependencies.items h.dependencies))
 
-  item_cooks : (file_depth : ℕ) (import_offsets : List ℕ) (i : Item) → IsGivenItem expander P file_depth import_offsets i → AreCookedTexts expander (lexemes (item_literals entries_literals (item_of i))) (item_cooked i)
+  item_cooks : (file_depth : ℕ) (import_offsets : List ℕ) (i : Item) → IsFilledItem expander P file_depth import_offsets i → AreCookedTexts expander (lexemes (item_literals entries_literals (item_of i))) (item_cooked i)
   item_cooks file_depth import_offsets (Alias a) h =
       parts.bare_cook expander (entries_literals (entries_of a.attributes)) (set_cooked a.attributes) (set_cooks expander P expression_cooks a.attributes h.attributes)
   item_cooks file_depth import_offsets (Assignment a) h =
@@ -410,19 +410,19 @@ module _ (expander : Expansions) (P : Token → Type 0) where
       parts.bare_cook expander (entries_literals (entries_of set)) (set_cooked set) (set_cooks expander P expression_cooks set h.attributes_are)
 
 -- the literals' texts are theirs
-pub cooks_of : (expander : Expansions) (P : Token → Type 0) (file_depth : ℕ) (import_offsets : List ℕ) (items : List Item) → All (IsGivenItem expander P file_depth import_offsets) items → AreCookedTexts expander (lexemes (literals (map item_of items))) (flat_map item_cooked items)
+pub cooks_of : (expander : Expansions) (P : Token → Type 0) (file_depth : ℕ) (import_offsets : List ℕ) (items : List Item) → All (IsFilledItem expander P file_depth import_offsets) items → AreCookedTexts expander (lexemes (literals (map item_of items))) (flat_map item_cooked items)
 cooks_of expander P file_depth import_offsets [] all = tt
 cooks_of expander P file_depth import_offsets (i ∷ items) all =
     joined_cook expander (item_literals entries_literals (item_of i)) _ (item_cooked i) _
-    (item_cooks expander P file_depth import_offsets i (All-head (IsGivenItem expander P file_depth import_offsets) i items all))
-    (cooks_of expander P file_depth import_offsets items (All-tail (IsGivenItem expander P file_depth import_offsets) i items all))
+    (item_cooks expander P file_depth import_offsets i (All-head (IsFilledItem expander P file_depth import_offsets) i items all))
+    (cooks_of expander P file_depth import_offsets items (All-tail (IsFilledItem expander P file_depth import_offsets) i items all))
 
 -- ---- what is read derives
 
-pub given_tokens : (expander : Expansions) (tokens : List Token) (table : List TableEntry) (file_depth : ℕ) (import_offsets : List ℕ) (items : List Item) → All (λ entry. Contains tokens entry.token.now) table → All (IsGivenItem expander (IsInTable table) file_depth import_offsets) items
-    → All (IsGivenItem expander (Contains tokens) file_depth import_offsets) items
+pub given_tokens : (expander : Expansions) (tokens : List Token) (table : List TableEntry) (file_depth : ℕ) (import_offsets : List ℕ) (items : List Item) → All (λ entry. Contains tokens entry.token.now) table → All (IsFilledItem expander (IsInTable table) file_depth import_offsets) items
+    → All (IsFilledItem expander (Contains tokens) file_depth import_offsets) items
 given_tokens expander tokens table file_depth import_offsets items all =
-    All-weaker (IsGivenItem expander (IsInTable table) file_depth import_offsets) (IsGivenItem expander (Contains tokens) file_depth import_offsets)
+    All-weaker (IsFilledItem expander (IsInTable table) file_depth import_offsets) (IsFilledItem expander (Contains tokens) file_depth import_offsets)
     (given_weaker expander (IsInTable table) (Contains tokens) (in_tokens tokens table all) file_depth import_offsets) items
 
 module _ (conditions : Conditions) (tokens : List Token) (table : List TableEntry) (old new : Numerator) (is : map significant_of table ≡ significant_tokens (map tok_of tokens)) where
@@ -430,19 +430,19 @@ module _ (conditions : Conditions) (tokens : List Token) (table : List TableEntr
   abbrev Derives : Tree → List (Noted Tok) → Type 0
   Derives tree features = FileDerives conditions (significant_tokens (map tok_of tokens)) tree features
 
-  abbrev there : Result (WrittenTree × List (Noted Tok)) model.Refusal
+  abbrev there : Result (WrittenTree × List (Noted Tok)) model.ReadError
   there = model.tree_of_tokens conditions (map significant_of table)
 
   found_under : (limit : ℕ) (tree : Tree) (features : List (Noted Tok)) → FileDerives (with_limit limit conditions) (significant_tokens (map tok_of tokens)) tree features
-      → (written : WrittenTree) × (ordered (sees_tokens conditions.expander) written ≡ Some tree) × (model.tree_of_tokens (with_limit limit conditions) (map significant_of table) ≡ Ok (written, features))
+      → (written : WrittenTree) × (ordered (views_tokens conditions.expander) written ≡ Some tree) × (model.tree_of_tokens (with_limit limit conditions) (map significant_of table) ≡ Ok (written, features))
   found_under limit tree features d =
       let x = complete (with_limit limit conditions) (significant_tokens (map tok_of tokens)) tree features d in
       (x.0, x.1, ap (model.tree_of_tokens (with_limit limit conditions)) is ∙ x.2)
 
-  found : (tree : Tree) (features : List (Noted Tok)) → Derives tree features → (written : WrittenTree) × (ordered (sees_tokens conditions.expander) written ≡ Some tree) × (there ≡ Ok (written, features))
+  found : (tree : Tree) (features : List (Noted Tok)) → Derives tree features → (written : WrittenTree) × (ordered (views_tokens conditions.expander) written ≡ Some tree) × (there ≡ Ok (written, features))
   found tree features d = found_under conditions.limit tree features d
 
-  pub derives_of : (written : WrittenTree) (tree : Tree) (features : List (Noted Tok)) → there ≡ Ok (written, features) → ordered (sees_tokens conditions.expander) written ≡ Some tree → Derives tree features
+  pub derives_of : (written : WrittenTree) (tree : Tree) (features : List (Noted Tok)) → there ≡ Ok (written, features) → ordered (views_tokens conditions.expander) written ≡ Some tree → Derives tree features
   derives_of written tree features h meaning =
       let x = sound conditions (significant_tokens (map tok_of tokens)) written features (sym (ap (model.tree_of_tokens conditions) is) ∙ h) in
       let e : Some x.0 ≡ Some tree = sym x.1 ∙ meaning in
@@ -470,7 +470,7 @@ module _ (conditions : Conditions) (tokens : List Token) (table : List TableEntr
         };
         deep = λ limit tree features d.
             let x = only_deep conditions ts limit tree features d h.refusal read in
-            let E : model.Refusal → Type 0 = λ r. IsErrorOf ts r e in
+            let E : model.ReadError → Type 0 = λ r. IsErrorOf ts r e in
             record {
               kind_is = (subst E x.1 error).0;
               at_one = λ fs Hit waived.
@@ -489,8 +489,8 @@ module _ (conditions : Conditions) (tokens : List Token) (table : List TableEntr
       under limit above tree features d enough =
           let x = found_under limit tree features d in
           h.1 limit above x.0 features x.2 (record {
-            bindings_suffice = subst (λ (n : ℕ). bindings_of old + n ≤ 2 ^ 32 - 1) (ordered_bindings (sees_tokens conditions.expander) x.0 tree x.1) enough.bindings_suffice;
-            recipes_suffice = subst (λ (n : ℕ). recipes_of old + n ≤ 2 ^ 32 - 1) (ordered_recipes (sees_tokens conditions.expander) x.0 tree x.1) enough.recipes_suffice;
+            bindings_suffice = subst (λ (n : ℕ). bindings_of old + n ≤ 2 ^ 32 - 1) (ordered_bindings (views_tokens conditions.expander) x.0 tree x.1) enough.bindings_suffice;
+            recipes_suffice = subst (λ (n : ℕ). recipes_of old + n ≤ 2 ^ 32 - 1) (ordered_recipes (views_tokens conditions.expander) x.0 tree x.1) enough.recipes_suffice;
           })
 
       by_order : (limit : ℕ) (tree : Tree) (features : List (Noted Tok)) → FileDerives (with_limit limit conditions) (significant_tokens (map tok_of tokens)) tree features
@@ -558,7 +558,7 @@ module _ (conditions : Conditions) (path src : List ℕ) (utf8 : IsUtf8 src) (to
           counted = h.filled.counted;
           recipes_counted = h.filled.recipes_counted;
           given =
-              All-weaker (IsGivenItem conditions.expander (Contains tokens) file_depth import_offsets) (IsGivenItem conditions.expander (IsFrom path src) file_depth import_offsets)
+              All-weaker (IsFilledItem conditions.expander (Contains tokens) file_depth import_offsets) (IsFilledItem conditions.expander (IsFrom path src) file_depth import_offsets)
               (given_weaker conditions.expander (Contains tokens) (IsFrom path src) from_tokens file_depth import_offsets) ast.items.items h.filled.given;
           noted = All-weaker (λ (x : ListFeature × Token). Contains tokens x.1) (λ (x : ListFeature × Token). IsFrom path src x.1) (λ x. from_tokens x.1) ast.list_features.items h.filled.noted;
           unstable = h.filled.unstable;

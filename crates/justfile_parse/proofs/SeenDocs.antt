@@ -7,8 +7,8 @@ use Rattle.justfile_attribute.proofs.Ordered.{kind_seen}
 use Rattle.justfile_attribute_set.specs.AttributeSet as sets
 use Rattle.justfile_attribute_set.specs.AttributeSet.{AttributeSet, leaf_entries_of, written_of}
 use Rattle.justfile_attribute_set.specs.Pairs.{Pair, entry_of, leaf_entry_of}
-use Rattle.justfile_word.specs.declared.attribute_kind.AttributeKind.TheVariants.{Doc}
-use Rattle.justfile_base.specs.declared.token.Token.{Token}
+use Rattle.justfile_vocabulary.specs.declared.attribute_kind.AttributeKind.TheVariants.{Doc}
+use Rattle.justfile_token.specs.declared.token.Token.{Token}
 use Rattle.justfile_item.specs.Item.{item_numbers, item_of, item_recipe_numbers}
 use Rattle.justfile_item.specs.declared.item.Item.{Item}
 use Rattle.justfile_item.specs.declared.item.Item.TheVariants as items
@@ -16,8 +16,8 @@ use Rattle.justfile_model.specs.AttributeKinds.{same_attribute}
 use Rattle.justfile_model.specs.Conditions.{Conditions}
 use Rattle.justfile_model.specs.Docs.{Before, LineEnd, Nothing, Other, comment_taken, doc_in, doc_of, doc_or_comment, documented, redocumented, taken, takes_doc}
 use Rattle.justfile_model.specs.Files.{NumbersFrom, if_both, ordered, ordered_item, says_doc, undocumented}
-use Rattle.justfile_model.specs.Reading.{Counters}
-use Rattle.justfile_model.specs.Sight.{sees_tokens}
+use Rattle.justfile_model.specs.ReaderState.{Counters}
+use Rattle.justfile_model.specs.LeafView.{views_tokens}
 use Rattle.justfile_model.specs.Tok.{Tok}
 use Rattle.justfile_model.specs.Tree as tree
 use Rattle.justfile_model.specs.Tree.{Content, Entry, Item as AnyItem, OrderedItem, Tree, WrittenItem, WrittenTree}
@@ -25,11 +25,11 @@ use Rattle.justfile_model.proofs.Binds.{some_back}
 use Rattle.justfile_model.proofs.Counters.{count, count_content}
 use Rattle.justfile_model.proofs.Related as a
 use Rattle.justfile_model.proofs.Related.{AlikeItem, AlikeItems}
-use Rattle.justfile_parse_item.specs.Filled.{IsGivenItem}
+use Rattle.justfile_parse_item.specs.Filled.{IsFilledItem}
 use Rattle.justfile_parse_item.specs.Tree.{item_tree}
-use Rattle.justfile_parse_item.specs.Whole.{IsWholeItem}
+use Rattle.justfile_parse_item.specs.DerivedFields.{HasDerivedItemFields}
 use Rattle.justfile_parse_expression.proofs.Seen.{Relates}
-use Rattle.justfile_tree.specs.LeafTree.{Leaf}
+use Rattle.justfile_expression.specs.LeafTree.{Leaf}
 use Rattle.justfile_parse_item.proofs.Seen as seeing
 use Rattle.justfile_parse.proofs.SeenItems.{SeenItem, item_seen, undoc}
 
@@ -120,7 +120,7 @@ module _ (conditions : Conditions) (bound : ℕ) (IsToken : Token → Type 0) (f
 
   -- what a written item means
   abbrev meant : WrittenItem Tok Tok ℕ Tok → Option TreeItem
-  meant = ordered_item (sees_tokens conditions.expander)
+  meant = ordered_item (views_tokens conditions.expander)
 
   -- An item with its doc, where the counters stand before it, beside one with the same doc: without it, the one is read beside a written item, which
   -- means the other.
@@ -253,7 +253,7 @@ module _ (conditions : Conditions) (bound : ℕ) (IsToken : Token → Type 0) (f
 
   -- what is read means these items
   record Begun (n : Counters) (is : List Item) (ts : WrittenTree) : Type 0 where
-    same : undocumented (sees_tokens conditions.expander) ts ≡ Some (map item_of is)
+    same : undocumented (views_tokens conditions.expander) ts ≡ Some (map item_of is)
     docs : AllDocs n (map item_tree is) (map item_of is)
 
   begun : (n : Counters) (is : List Item) {ts : WrittenTree} → AlikeItems seen n (map item_tree is) ts → Begun n is ts
@@ -272,7 +272,7 @@ module _ (conditions : Conditions) (bound : ℕ) (IsToken : Token → Type 0) (f
 
   record Ended (n : Counters) (is : List Item) (us : Tree) : Type 0 where
     same : us ≡ map item_of is
-    given : All IsWholeItem is → All (IsGivenItem conditions.expander IsToken file_depth import_offsets) is
+    given : All HasDerivedItemFields is → All (IsFilledItem conditions.expander IsToken file_depth import_offsets) is
     numbered : NumbersFrom n.bindings (flat_map item_numbers is)
     recipes_numbered : NumbersFrom n.recipes (flat_map item_recipe_numbers is)
 
@@ -319,13 +319,13 @@ module _ (conditions : Conditions) (bound : ℕ) (IsToken : Token → Type 0) (f
   ended_item n (items.Unexport set name) (construct says takes docs h means) = ended_construct n (items.Unexport set name) docs h means
 
   ended : (n : Counters) (is : List Item) {us : Tree} → AllDocs n (map item_tree is) us → Ended n is us
-  ended n [] no_docs = record { same = refl; given = λ whole. All-nil (IsGivenItem conditions.expander IsToken file_depth import_offsets); numbered = tt; recipes_numbered = tt }
+  ended n [] no_docs = record { same = refl; given = λ whole. All-nil (IsFilledItem conditions.expander IsToken file_depth import_offsets); numbered = tt; recipes_numbered = tt }
   ended n (i ∷ is) (more_docs h hs) =
       let x = ended_item n i h in
       let y = ended (count n (item_tree i)) is hs in
       record {
         same = λ j. x.same j ∷ y.same j;
-        given = λ whole. All-cons (IsGivenItem conditions.expander IsToken file_depth import_offsets) i is (x.seen_is.given (All-head IsWholeItem i is whole)) (y.given (All-tail IsWholeItem i is whole));
+        given = λ whole. All-cons (IsFilledItem conditions.expander IsToken file_depth import_offsets) i is (x.seen_is.given (All-head HasDerivedItemFields i is whole)) (y.given (All-tail HasDerivedItemFields i is whole));
         numbered = x.seen_is.numbers (flat_map item_numbers is) y.numbered;
         recipes_numbered = x.seen_is.recipe_numbers (flat_map item_recipe_numbers is) y.recipes_numbered;
       }
@@ -334,8 +334,8 @@ module _ (conditions : Conditions) (bound : ℕ) (IsToken : Token → Type 0) (f
 
   -- items with their docs, where the counters stand before the first
   pub record SeenItems (n : Counters) (docs : List Item) (ts : WrittenTree) : Type 0 where
-    pub same : ordered (sees_tokens conditions.expander) ts ≡ Some (map item_of docs)
-    pub given : All IsWholeItem docs → All (IsGivenItem conditions.expander IsToken file_depth import_offsets) docs
+    pub same : ordered (views_tokens conditions.expander) ts ≡ Some (map item_of docs)
+    pub given : All HasDerivedItemFields docs → All (IsFilledItem conditions.expander IsToken file_depth import_offsets) docs
     pub numbered : NumbersFrom n.bindings (flat_map item_numbers docs)
     pub recipes_numbered : NumbersFrom n.recipes (flat_map item_recipe_numbers docs)
 

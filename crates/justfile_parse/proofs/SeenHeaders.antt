@@ -3,31 +3,31 @@ use Rattle.std.proofs.Common.{◌≡◌, ℕ, ◌+◌, Bool, true, false, List, 
 use Rattle.std.specs.Option.{option_map}
 use Rattle.std.proofs.lemmas.List.{take-append-drop}
 use Rattle.std.proofs.lemmas.List.Elements.{All-append, All-cons, All-nil}
-use Rattle.justfile_base.specs.Namepath.{names_in}
-use Rattle.justfile_word.specs.Numerator.{number_of}
-use Rattle.justfile_base.specs.declared.name.Name.{Name}
-use Rattle.justfile_word.specs.declared.number.Number.{Number}
-use Rattle.justfile_base.specs.declared.token.Token.{Token}
+use Rattle.justfile_token.specs.Namepath.{names_in}
+use Rattle.justfile_vocabulary.specs.Numerator.{number_of}
+use Rattle.justfile_token.specs.declared.name.Name.{Name}
+use Rattle.justfile_vocabulary.specs.declared.number.Number.{Number}
+use Rattle.justfile_token.specs.declared.token.Token.{Token}
 use Rattle.justfile_item.specs.Item.{parameter_number}
-use Rattle.justfile_header.specs.Header.{dependency_argument_of, dependency_of, is_starred, name_of, parameter_of, star_of}
-use Rattle.justfile_header.specs.declared.parameter.Parameter.{Parameter}
-use Rattle.justfile_header.specs.declared.unresolved_dependency.DependencyArgument.{DependencyArgument}
-use Rattle.justfile_header.specs.declared.unresolved_dependency.UnresolvedDependency.{UnresolvedDependency}
+use Rattle.justfile_recipe_header.specs.Header.{dependency_argument_of, dependency_of, is_starred, name_of, parameter_of, star_of}
+use Rattle.justfile_recipe_header.specs.declared.parameter.Parameter.{Parameter}
+use Rattle.justfile_recipe_header.specs.declared.unresolved_dependency.DependencyArgument.{DependencyArgument}
+use Rattle.justfile_recipe_header.specs.declared.unresolved_dependency.UnresolvedDependency.{UnresolvedDependency}
 use Rattle.justfile_model.specs.Conditions.{Conditions}
 use Rattle.justfile_model.specs.Files.{NumbersFrom}
 use Rattle.justfile_model.specs.HeaderReader.{with_bindings}
-use Rattle.justfile_model.specs.Reading.{Counters}
+use Rattle.justfile_model.specs.ReaderState.{Counters}
 use Rattle.justfile_model.specs.Tok.{Tok}
 use Rattle.justfile_model.specs.Tree as tree
 use Rattle.justfile_model.specs.Tree.{starless_argument, starless_dependency}
 use Rattle.justfile_model.proofs.Counters.{after_parameters}
 use Rattle.justfile_model.proofs.Related as a
 use Rattle.justfile_model.proofs.Related.{AlikeDependency, AlikeDependencyArgument, AlikeOption, AlikeParameter, AlikeParameters, Each, absent, present}
-use Rattle.justfile_parse_item.specs.Filled.{IsGivenArgument, IsGivenDependency, IsGivenName, IsGivenParameter}
+use Rattle.justfile_parse_item.specs.Filled.{IsFilledArgument, IsFilledDependency, IsFilledName, IsFilledParameter}
 use Rattle.justfile_parse_expression.proofs.Seen as table
 use Rattle.justfile_parse_expression.proofs.Seen.{Relates}
 use Rattle.justfile_parse_header.specs.Tree.{argument_tree, dependency_tree, name_tree, parameter_name, parameter_tree}
-use Rattle.justfile_tree.specs.LeafTree.{Leaf, Named}
+use Rattle.justfile_expression.specs.LeafTree.{Leaf, Named}
 use Rattle.justfile_parse_item.proofs.Seen as seeing
 use Rattle.justfile_parse_item.proofs.SeenAttributes as attributes
 
@@ -40,16 +40,16 @@ module _ (conditions : Conditions) (bound : ℕ) (IsToken : Token → Type 0) (f
 
   -- ---- names
 
-  pub name_seen : (name : Name) (tok : Tok) → IsLeaf (λ token. Named token None) (name_tree name) tok → (tok ≡ name_of name) × IsGivenName conditions.expander IsToken name
+  pub name_seen : (name : Name) (tok : Tok) → IsLeaf (λ token. Named token None) (name_tree name) tok → (tok ≡ name_of name) × IsFilledName conditions.expander IsToken name
   name_seen name tok h =
       let x = seeing.variable_seen conditions bound IsToken file_depth import_offsets name.token None tok h in
       (x.1, x.0)
 
   -- the names of a path
   pub path_seen : (names : List Name) {ts : List Tok} → Each (IsLeaf (λ token. Named token None)) (map name_tree names) ts
-      → (ts ≡ map name_of names) × All (IsGivenName conditions.expander IsToken) names
+      → (ts ≡ map name_of names) × All (IsFilledName conditions.expander IsToken) names
   path_seen names h =
-      seeing.all_seen conditions bound IsToken file_depth import_offsets name_tree name_of (IsGivenName conditions.expander IsToken) name_seen names h
+      seeing.all_seen conditions bound IsToken file_depth import_offsets name_tree name_of (IsFilledName conditions.expander IsToken) name_seen names h
 
   -- ---- dependencies
 
@@ -58,29 +58,29 @@ module _ (conditions : Conditions) (bound : ℕ) (IsToken : Token → Type 0) (f
   star_seen false absent = refl
 
   argument_seen : (d : DependencyArgument) (t : tree.DependencyArgument Tok Tok Tok) → AlikeDependencyArgument seen seen.star (argument_tree d) t
-      → (starless_argument t ≡ dependency_argument_of d) × IsGivenArgument conditions.expander IsToken d
+      → (starless_argument t ≡ dependency_argument_of d) × IsFilledArgument conditions.expander IsToken d
   argument_seen d t h =
       let x = seeing.seen_expression conditions bound IsToken file_depth import_offsets d.expression.value h.value in
       ((λ i. record { star = star_seen d.starred h.star i; value = x.same i }), x.given)
 
   dependency_seen : (d : UnresolvedDependency) (t : tree.Dependency Tok Tok Tok) → AlikeDependency seen (dependency_tree d) t
-      → (starless_dependency t ≡ dependency_of d) × IsGivenDependency conditions.expander IsToken d
+      → (starless_dependency t ≡ dependency_of d) × IsFilledDependency conditions.expander IsToken d
   dependency_seen d t h =
       let p = path_seen (names_in d.recipe) h.path in
-      let q = seeing.each_seen conditions bound IsToken file_depth import_offsets argument_tree dependency_argument_of starless_argument (IsGivenArgument conditions.expander IsToken) argument_seen d.arguments.items h.arguments in
+      let q = seeing.each_seen conditions bound IsToken file_depth import_offsets argument_tree dependency_argument_of starless_argument (IsFilledArgument conditions.expander IsToken) argument_seen d.arguments.items h.arguments in
       ((λ i. record { star = star_seen (is_starred d) h.star i; path = p.0 i; arguments = q.0 i }), (p.1, q.1))
 
   pub dependencies_seen : (ds : List UnresolvedDependency) {ts : List (tree.Dependency Tok Tok Tok)} → Each (AlikeDependency seen) (map dependency_tree ds) ts
-      → (map starless_dependency ts ≡ map dependency_of ds) × All (IsGivenDependency conditions.expander IsToken) ds
+      → (map starless_dependency ts ≡ map dependency_of ds) × All (IsFilledDependency conditions.expander IsToken) ds
   dependencies_seen ds h =
-      seeing.each_seen conditions bound IsToken file_depth import_offsets dependency_tree dependency_of starless_dependency (IsGivenDependency conditions.expander IsToken) dependency_seen ds h
+      seeing.each_seen conditions bound IsToken file_depth import_offsets dependency_tree dependency_of starless_dependency (IsFilledDependency conditions.expander IsToken) dependency_seen ds h
 
   -- those before `&&` and those after it are all
-  pub both_given : (priors : ℕ) (ds : List UnresolvedDependency) → All (IsGivenDependency conditions.expander IsToken) (take priors ds)
-      → All (IsGivenDependency conditions.expander IsToken) (drop priors ds) → All (IsGivenDependency conditions.expander IsToken) ds
+  pub both_given : (priors : ℕ) (ds : List UnresolvedDependency) → All (IsFilledDependency conditions.expander IsToken) (take priors ds)
+      → All (IsFilledDependency conditions.expander IsToken) (drop priors ds) → All (IsFilledDependency conditions.expander IsToken) ds
   both_given priors ds h k =
-      subst (All (IsGivenDependency conditions.expander IsToken)) (take-append-drop priors ds)
-      (All-append (IsGivenDependency conditions.expander IsToken) (take priors ds) (drop priors ds) h k)
+      subst (All (IsFilledDependency conditions.expander IsToken)) (take-append-drop priors ds)
+      (All-append (IsFilledDependency conditions.expander IsToken) (take priors ds) (drop priors ds) h k)
 
   -- ---- parameters
 
@@ -96,7 +96,7 @@ module _ (conditions : Conditions) (bound : ℕ) (IsToken : Token → Type 0) (f
   -- a parameter with this number
   record SeenParameter (number : ℕ) (p : Parameter) (t : tree.Parameter Tok Tok) : Type 0 where
     same : t ≡ parameter_of p
-    given : IsGivenParameter conditions.expander IsToken p
+    given : IsFilledParameter conditions.expander IsToken p
     numbered : p.number.0 ≡ number
 
   parameter_seen : (number : ℕ) (p : Parameter) (t : tree.Parameter Tok Tok) → AlikeParameter seen number (parameter_tree p) t → SeenParameter number p t
@@ -112,16 +112,16 @@ module _ (conditions : Conditions) (bound : ℕ) (IsToken : Token → Type 0) (f
   -- parameters, where the counters stand before the first
   pub record SeenParameters (n : Counters) (ps : List Parameter) (ts : List (tree.Parameter Tok Tok)) : Type 0 where
     pub same : ts ≡ map parameter_of ps
-    pub given : All (IsGivenParameter conditions.expander IsToken) ps
+    pub given : All (IsFilledParameter conditions.expander IsToken) ps
     pub numbers : (more : List ℕ) → NumbersFrom (after_parameters n (map parameter_tree ps)).bindings more → NumbersFrom n.bindings (map parameter_number ps ++ more)
 
   pub parameters_seen : (n : Counters) (ps : List Parameter) {ts : List (tree.Parameter Tok Tok)} → AlikeParameters seen n.bindings (map parameter_tree ps) ts → SeenParameters n ps ts
-  parameters_seen n [] a.no_parameter = record { same = refl; given = All-nil (IsGivenParameter conditions.expander IsToken); numbers = λ more h. h }
+  parameters_seen n [] a.no_parameter = record { same = refl; given = All-nil (IsFilledParameter conditions.expander IsToken); numbers = λ more h. h }
   parameters_seen n (p ∷ ps) (a.a_parameter {p' = t} h hs) =
       let x = parameter_seen n.bindings p t h in
       let y = parameters_seen (with_bindings (n.bindings + 1) n) ps hs in
       record {
         same = λ i. x.same i ∷ y.same i;
-        given = All-cons (IsGivenParameter conditions.expander IsToken) p ps x.given y.given;
+        given = All-cons (IsFilledParameter conditions.expander IsToken) p ps x.given y.given;
         numbers = λ more k. (x.numbered, y.numbers more k);
       }

@@ -4,11 +4,11 @@ use Rattle.std.specs.Prelude.{String}
 use Rattle.std.specs.Global.{Global}
 use Rattle.std.specs.Option.{option_copied, option_map}
 use Rattle.std.proofs.lemmas.List.Elements.{All-cons, All-head, All-nil, All-tail}
-use Rattle.justfile_base.specs.Namepath.{names_in}
-use Rattle.justfile_base.specs.declared.name.Name.{Name}
-use Rattle.justfile_base.specs.declared.namepath.Namepath.{Namepath}
-use Rattle.justfile_base.specs.declared.string_literal.StringLiteral.{StringLiteral}
-use Rattle.justfile_base.specs.declared.token.Token.{Token}
+use Rattle.justfile_token.specs.Namepath.{names_in}
+use Rattle.justfile_token.specs.declared.name.Name.{Name}
+use Rattle.justfile_token.specs.declared.namepath.Namepath.{Namepath}
+use Rattle.justfile_token.specs.declared.string_literal.StringLiteral.{StringLiteral}
+use Rattle.justfile_token.specs.declared.token.Token.{Token}
 use Rattle.justfile_line.specs.Body.{body_line_of}
 use Rattle.justfile_item.specs.Item.{header_of, item_numbers, item_of, item_recipe_numbers, priors_of, subsequents_of}
 use Rattle.justfile_item.specs.declared.alias.Alias.{Alias}
@@ -18,37 +18,37 @@ use Rattle.justfile_item.specs.declared.item.Item.{Item}
 use Rattle.justfile_item.specs.declared.item.Item.TheVariants as items
 use Rattle.justfile_item.specs.declared.recipe.UnresolvedRecipe.{UnresolvedRecipe}
 use Rattle.justfile_item.specs.declared.set.Set.{Set}
-use Rattle.justfile_file.specs.Ast.{noted_of}
+use Rattle.justfile_ast.specs.Ast.{noted_of}
 use Rattle.justfile_model.specs.Conditions.{Conditions}
 use Rattle.justfile_model.specs.Docs.{redocumented}
 use Rattle.justfile_model.specs.Features.{Noted}
 use Rattle.justfile_model.specs.Files.{NumbersFrom, ordered_item, with_entries}
 use Rattle.justfile_model.specs.Literals.{Expansions}
 use Rattle.justfile_model.specs.Meaning.{entries_of}
-use Rattle.justfile_model.specs.Reading.{Counters}
-use Rattle.justfile_model.specs.Sight.{sees_tokens}
+use Rattle.justfile_model.specs.ReaderState.{Counters}
+use Rattle.justfile_model.specs.LeafView.{views_tokens}
 use Rattle.justfile_model.specs.Tok.{Tok, tok_of}
 use Rattle.justfile_model.specs.Tree as tree
 use Rattle.justfile_model.specs.Tree.{BodyLine, Content, Entry, Expr, Header, Item as AnyItem, Quoted, SettingValue, WrittenAttribute, WrittenItem, assignment_of, bare_module, bare_recipe, starless, starless_header}
-use Rattle.justfile_word.specs.declared.list_feature.ListFeature.{ListFeature}
+use Rattle.justfile_vocabulary.specs.declared.list_feature.ListFeature.{ListFeature}
 use Rattle.justfile_model.proofs.Counters.{count, parameters_recipes}
 use Rattle.justfile_model.proofs.Related as a
 use Rattle.justfile_model.proofs.Related.{Alike, AlikeHeader, AlikeItem, AlikeLine, AlikeNames, AlikeOption, AlikeQuoted, AlikeValue, Each}
 use Rattle.justfile_setting.specs.LeafSetting.{leaf_value_of}
 use Rattle.justfile_setting.specs.Setting.{keyword_of}
-use Rattle.justfile_tree.specs.LeafTree.{Assigned, AssignmentName, Headed, Leaf, Named, RecipeName, leaf_tree_of}
-use Rattle.justfile_tree.specs.declared.expression.Expression.{Expression}
-use Rattle.justfile_attribute.specs.New.{IsWholeAttribute}
+use Rattle.justfile_expression.specs.LeafTree.{Assigned, AssignmentName, Headed, Leaf, Named, RecipeName, leaf_tree_of}
+use Rattle.justfile_expression.specs.declared.expression.Expression.{Expression}
+use Rattle.justfile_attribute.specs.New.{HasDerivedAttributeFields}
 use Rattle.justfile_attribute_set.specs.AttributeSet as sets
 use Rattle.justfile_attribute_set.specs.AttributeSet.{AttributeSet, leaf_entries_of, written_of}
 use Rattle.justfile_attribute_set.specs.Keys.{firsts}
 use Rattle.justfile_attribute_set.specs.Pairs.{Pair}
-use Rattle.justfile_parse_item.specs.Filled.{AreGivenAttributes, IsGivenAttribute, IsGivenItem, IsGivenLine}
+use Rattle.justfile_parse_item.specs.Filled.{AreFilledAttributes, IsFilledAttribute, IsFilledItem, IsFilledLine}
 use Rattle.justfile_parse_expression.specs.TableReader.{assigned_leaf, headed_leaf}
 use Rattle.justfile_parse_item.specs.Tree.{assignment_name, item_tree, line_tree, numbered_tree, quoted_tree, recipe_header, recipe_name}
 use Rattle.justfile_parse_header.specs.Tree.{name_tree, path_tree}
-use Rattle.justfile_parse_item.specs.Whole.{HasWholeAttributes, IsWholeItem}
-use Rattle.justfile_parse_attribute.specs.WholeAttributes.{AreWholeAttributes}
+use Rattle.justfile_parse_item.specs.DerivedFields.{HasDerivedSetAttributes, HasDerivedItemFields}
+use Rattle.justfile_parse_attribute.specs.DerivedAttributeFields.{HaveDerivedAttributeFields}
 use Rattle.justfile_parse_expression.proofs.Seen as table
 use Rattle.justfile_parse_item.proofs.Seen as seeing
 use Rattle.justfile_parse.proofs.SeenHeaders as headers
@@ -64,8 +64,8 @@ undoc (tree.Comment text) = tree.Comment text
 undoc (tree.Construct attributes content) = tree.Construct attributes (redocumented None content)
 
 -- an item by what its attributes mean
-meant_item : (expander : Expansions) (content : Content Tok Tok ℕ Tok) (ws : List (WrittenAttribute Tok Tok)) (entries : List (Entry Tok Tok)) → entries_of (sees_tokens expander) ws ≡ Some entries
-    → ordered_item (sees_tokens expander) (tree.Construct ws content) ≡ Some (tree.Construct entries (starless content))
+meant_item : (expander : Expansions) (content : Content Tok Tok ℕ Tok) (ws : List (WrittenAttribute Tok Tok)) (entries : List (Entry Tok Tok)) → entries_of (views_tokens expander) ws ≡ Some entries
+    → ordered_item (views_tokens expander) (tree.Construct ws content) ≡ Some (tree.Construct entries (starless content))
 meant_item expander content ws entries e = ap (with_entries content) e
 
 module _ (conditions : Conditions) (bound : ℕ) (IsToken : Token → Type 0) (file_depth : ℕ) (import_offsets : List ℕ) where
@@ -75,20 +75,20 @@ module _ (conditions : Conditions) (bound : ℕ) (IsToken : Token → Type 0) (f
   abbrev IsLeaf : (Token → Leaf) → Leaf → Tok → Type 0
   IsLeaf = table.IsLeaf conditions bound IsToken file_depth import_offsets
 
-  abbrev IsGivenPair : Pair → Type 0
-  IsGivenPair = seeing.IsGivenPair conditions bound IsToken file_depth import_offsets
+  abbrev IsFilledPair : Pair → Type 0
+  IsFilledPair = seeing.IsFilledPair conditions bound IsToken file_depth import_offsets
 
   -- the attributes of a set are given, with what the tree doesn't show of them
-  pairs_given : (ps : List Pair) → All IsGivenPair ps → All IsWholeAttribute (firsts ps) → All (λ (p : Pair). IsToken p.1.name.token × IsGivenAttribute conditions.expander IsToken p.0 × IsWholeAttribute p.0) ps
-  pairs_given [] given whole = All-nil (λ (p : Pair). IsToken p.1.name.token × IsGivenAttribute conditions.expander IsToken p.0 × IsWholeAttribute p.0)
+  pairs_given : (ps : List Pair) → All IsFilledPair ps → All HasDerivedAttributeFields (firsts ps) → All (λ (p : Pair). IsToken p.1.name.token × IsFilledAttribute conditions.expander IsToken p.0 × HasDerivedAttributeFields p.0) ps
+  pairs_given [] given whole = All-nil (λ (p : Pair). IsToken p.1.name.token × IsFilledAttribute conditions.expander IsToken p.0 × HasDerivedAttributeFields p.0)
   pairs_given (p ∷ ps) given whole =
-      let here = All-head IsGivenPair p ps given in
-      All-cons (λ (p : Pair). IsToken p.1.name.token × IsGivenAttribute conditions.expander IsToken p.0 × IsWholeAttribute p.0) p ps
-      (here.0, here.1, All-head IsWholeAttribute p.0 (firsts ps) whole)
-      (pairs_given ps (All-tail IsGivenPair p ps given) (All-tail IsWholeAttribute p.0 (firsts ps) whole))
+      let here = All-head IsFilledPair p ps given in
+      All-cons (λ (p : Pair). IsToken p.1.name.token × IsFilledAttribute conditions.expander IsToken p.0 × HasDerivedAttributeFields p.0) p ps
+      (here.0, here.1, All-head HasDerivedAttributeFields p.0 (firsts ps) whole)
+      (pairs_given ps (All-tail IsFilledPair p ps given) (All-tail HasDerivedAttributeFields p.0 (firsts ps) whole))
 
-  whole_given : (set : AttributeSet) → All IsGivenPair (written_of set) → HasWholeAttributes set → AreGivenAttributes conditions.expander IsToken set
-  unfolding AreWholeAttributes
+  whole_given : (set : AttributeSet) → All IsFilledPair (written_of set) → HasDerivedSetAttributes set → AreFilledAttributes conditions.expander IsToken set
+  unfolding HaveDerivedAttributeFields
   whole_given set given whole = pairs_given (written_of set) given whole
 
   -- ---- items
@@ -103,8 +103,8 @@ module _ (conditions : Conditions) (bound : ℕ) (IsToken : Token → Type 0) (f
 
   -- an item, where the counters stand before it
   pub record SeenItem (n : Counters) (i : Item) (t : WrittenItem Tok Tok ℕ Tok) : Type 0 where
-    pub same : ordered_item (sees_tokens conditions.expander) t ≡ Some (undoc (item_of i))
-    pub given : IsWholeItem i → IsGivenItem conditions.expander IsToken file_depth import_offsets i
+    pub same : ordered_item (views_tokens conditions.expander) t ≡ Some (undoc (item_of i))
+    pub given : HasDerivedItemFields i → IsFilledItem conditions.expander IsToken file_depth import_offsets i
     pub numbers : (more : List ℕ) → NumbersFrom (count n (item_tree i)).bindings more → NumbersFrom n.bindings (item_numbers i ++ more)
     pub recipe_numbers : (more : List ℕ) → NumbersFrom (count n (item_tree i)).recipes more → NumbersFrom n.recipes (item_recipe_numbers i ++ more)
 
@@ -142,7 +142,7 @@ module _ (conditions : Conditions) (bound : ℕ) (IsToken : Token → Type 0) (f
       let token : name.token ≡ r.name.token = ap (λ (x : RecipeName). x.name) (sym same) in
       let number : r.number.0 ≡ n.recipes = ap (λ (x : RecipeName). x.number.0) same in
       let m = means r.attributes refl in
-      let x = seeing.all_seen conditions bound IsToken file_depth import_offsets line_tree body_line_of (IsGivenLine conditions.expander IsToken) (seeing.line_seen conditions bound IsToken file_depth import_offsets) r.body.items ls in
+      let x = seeing.all_seen conditions bound IsToken file_depth import_offsets line_tree body_line_of (IsFilledLine conditions.expander IsToken) (seeing.line_seen conditions bound IsToken file_depth import_offsets) r.body.items ls in
       let ps = headers.parameters_seen conditions bound IsToken file_depth import_offsets n r.parameters.items k.parameters in
       let ds = headers.dependencies_seen conditions bound IsToken file_depth import_offsets (priors_of r) k.priors in
       let es = headers.dependencies_seen conditions bound IsToken file_depth import_offsets (subsequents_of r) k.subsequents in

@@ -4,16 +4,16 @@ use Rattle.std.specs.Global.{Box}
 use Rattle.std.specs.Option.{option_map}
 use Rattle.std.proofs.lemmas.List.Elements.{All-cons, All-nil}
 use Rattle.justfile_attribute.specs.declared.interpreter.Interpreter.{Interpreter}
-use Rattle.justfile_word.specs.Numerator.{number_of}
-use Rattle.justfile_base.specs.declared.name.Name.{Name}
-use Rattle.justfile_word.specs.declared.number.Number.{Number}
-use Rattle.justfile_base.specs.declared.string_literal.StringLiteral as strings
-use Rattle.justfile_base.specs.declared.token.Token.{Token}
+use Rattle.justfile_vocabulary.specs.Numerator.{number_of}
+use Rattle.justfile_token.specs.declared.name.Name.{Name}
+use Rattle.justfile_vocabulary.specs.declared.number.Number.{Number}
+use Rattle.justfile_token.specs.declared.string_literal.StringLiteral as strings
+use Rattle.justfile_token.specs.declared.token.Token.{Token}
 use Rattle.justfile_item.specs.Item.{function_parameter_number, function_parameter_of, quoted_of}
 use Rattle.justfile_model.specs.Conditions.{Conditions}
 use Rattle.justfile_model.specs.Files.{NumbersFrom}
 use Rattle.justfile_model.specs.HeaderReader.{with_bindings}
-use Rattle.justfile_model.specs.Reading.{Counters}
+use Rattle.justfile_model.specs.ReaderState.{Counters}
 use Rattle.justfile_model.specs.Tok.{Tok}
 use Rattle.justfile_model.specs.Tree as tree
 use Rattle.justfile_model.specs.Tree.{Exprs, Quoted, SettingValue}
@@ -21,13 +21,13 @@ use Rattle.justfile_model.proofs.Counters.{after_parameters}
 use Rattle.justfile_model.proofs.Related as a
 use Rattle.justfile_model.proofs.Related.{AlikeAll, AlikeNames, AlikeOption, AlikeQuoted, AlikeValue}
 use Rattle.justfile_setting.specs.LeafSetting.{leaf_value_of}
-use Rattle.justfile_setting.specs.Setting.{IsWholeSetting, boxed_by, interpreter_by, literal_by, value_of}
+use Rattle.justfile_setting.specs.Setting.{HasDerivedSettingFields, boxed_by, interpreter_by, literal_by, value_of}
 use Rattle.justfile_setting.specs.declared.setting.Setting.{Setting}
 use Rattle.justfile_setting.specs.declared.setting.Setting.TheVariants as settings
-use Rattle.justfile_tree.specs.Expression.{expr_of, exprs_of, literal_tok}
-use Rattle.justfile_tree.specs.LeafTree.{Leaf, Literal, Named, leaf_tree_of, literal_of, trees_of}
-use Rattle.justfile_tree.specs.declared.expression.Expression.{Expression}
-use Rattle.justfile_parse_item.specs.Filled.{IsGivenBoxed, IsGivenCommandLine, IsGivenExpression, IsGivenLiteral, IsGivenNumbered, IsGivenPath, IsGivenSetting}
+use Rattle.justfile_expression.specs.Expression.{expr_of, exprs_of, literal_tok}
+use Rattle.justfile_expression.specs.LeafTree.{Leaf, Literal, Named, leaf_tree_of, literal_of, trees_of}
+use Rattle.justfile_expression.specs.declared.expression.Expression.{Expression}
+use Rattle.justfile_parse_item.specs.Filled.{IsFilledBoxed, IsFilledCommandLine, IsFilledExpression, IsFilledLiteral, IsFilledNumbered, IsFilledPath, IsFilledSetting}
 use Rattle.justfile_parse_item.specs.Tree.{numbered_tree, quoted_tree}
 use Rattle.justfile_parse_expression.proofs.Seen as table
 use Rattle.justfile_parse_expression.proofs.Seen.{Relates}
@@ -43,13 +43,13 @@ module _ (conditions : Conditions) (bound : ℕ) (IsToken : Token → Type 0) (f
 
   -- ---- paths of files
 
-  pub relative_seen : (l : strings.StringLiteral) (q : Quoted Tok) → AlikeQuoted seen (quoted_tree l) q → (q ≡ quoted_of l) × IsGivenLiteral conditions.expander IsToken l
+  pub relative_seen : (l : strings.StringLiteral) (q : Quoted Tok) → AlikeQuoted seen (quoted_tree l) q → (q ≡ quoted_of l) × IsFilledLiteral conditions.expander IsToken l
   relative_seen l q h = attributes.quoted_seen conditions bound IsToken file_depth import_offsets l h
 
   pub optional_relative_seen : (o : Option strings.StringLiteral) {p : Option (Quoted Tok)} → AlikeOption (AlikeQuoted seen) (option_map quoted_tree o) p
-      → (p ≡ option_map quoted_of o) × IsGivenPath conditions.expander IsToken o
+      → (p ≡ option_map quoted_of o) × IsFilledPath conditions.expander IsToken o
   optional_relative_seen o h =
-      attributes.if_seen conditions bound IsToken file_depth import_offsets quoted_tree quoted_of (IsGivenLiteral conditions.expander IsToken) relative_seen o h
+      attributes.if_seen conditions bound IsToken file_depth import_offsets quoted_tree quoted_of (IsFilledLiteral conditions.expander IsToken) relative_seen o h
 
   -- ---- the parameters of functions
 
@@ -64,7 +64,7 @@ module _ (conditions : Conditions) (bound : ℕ) (IsToken : Token → Type 0) (f
   -- a name with this number
   record SeenNumbered (number : ℕ) (x : Name × Number) (t : Tok) : Type 0 where
     same : t ≡ function_parameter_of x
-    given : IsGivenNumbered conditions.expander IsToken x
+    given : IsFilledNumbered conditions.expander IsToken x
     numbered : x.1.0 ≡ number
 
   numbered_seen : (number : ℕ) (x : Name × Number) (t : Tok) → IsLeaf (λ token. Named token (Some (number_of number))) (numbered_tree x) t → SeenNumbered number x t
@@ -75,41 +75,41 @@ module _ (conditions : Conditions) (bound : ℕ) (IsToken : Token → Type 0) (f
   -- names, where the counters stand before the first
   pub record SeenNames (n : Counters) (xs : List (Name × Number)) (ts : List Tok) : Type 0 where
     pub same : ts ≡ map function_parameter_of xs
-    pub given : All (IsGivenNumbered conditions.expander IsToken) xs
+    pub given : All (IsFilledNumbered conditions.expander IsToken) xs
     pub numbers : (more : List ℕ) → NumbersFrom (after_parameters n (map numbered_tree xs)).bindings more → NumbersFrom n.bindings (map function_parameter_number xs ++ more)
 
   pub names_seen : (n : Counters) (xs : List (Name × Number)) {ts : List Tok} → AlikeNames seen n.bindings (map numbered_tree xs) ts → SeenNames n xs ts
-  names_seen n [] a.no_name = record { same = refl; given = All-nil (IsGivenNumbered conditions.expander IsToken); numbers = λ more h. h }
+  names_seen n [] a.no_name = record { same = refl; given = All-nil (IsFilledNumbered conditions.expander IsToken); numbers = λ more h. h }
   names_seen n (x ∷ xs) (a.a_name {a' = t} h hs) =
       let y = numbered_seen n.bindings x t h in
       let ys = names_seen (with_bindings (n.bindings + 1) n) xs hs in
       record {
         same = λ i. y.same i ∷ ys.same i;
-        given = All-cons (IsGivenNumbered conditions.expander IsToken) x xs y.given ys.given;
+        given = All-cons (IsFilledNumbered conditions.expander IsToken) x xs y.given ys.given;
         numbers = λ more k. (y.numbered, ys.numbers more k);
       }
 
   -- ---- values of settings
 
-  expressions_seen : (es : List Expression) {ts : Exprs Tok Tok} → AlikeAll seen (trees_of es) ts → (ts ≡ exprs_of es) × All (IsGivenExpression conditions.expander IsToken) es
-  expressions_seen [] a.none = (refl, All-nil (IsGivenExpression conditions.expander IsToken))
+  expressions_seen : (es : List Expression) {ts : Exprs Tok Tok} → AlikeAll seen (trees_of es) ts → (ts ≡ exprs_of es) × All (IsFilledExpression conditions.expander IsToken) es
+  expressions_seen [] a.none = (refl, All-nil (IsFilledExpression conditions.expander IsToken))
   expressions_seen (e ∷ es) (a.more h hs) =
       let x = seeing.seen_expression conditions bound IsToken file_depth import_offsets e h in
       let y = expressions_seen es hs in
-      ((λ i. tree.more (x.same i) (y.0 i)), All-cons (IsGivenExpression conditions.expander IsToken) e es x.given y.1)
+      ((λ i. tree.more (x.same i) (y.0 i)), All-cons (IsFilledExpression conditions.expander IsToken) e es x.given y.1)
 
   boxed_seen : (e : Box Expression) {v : SettingValue Tok Tok} → AlikeValue seen (boxed_by leaf_tree_of trees_of (λ l. Literal (literal_of l)) e) v
-      → (v ≡ boxed_by expr_of exprs_of literal_tok e) × IsGivenBoxed conditions.expander IsToken e
+      → (v ≡ boxed_by expr_of exprs_of literal_tok e) × IsFilledBoxed conditions.expander IsToken e
   boxed_seen e (a.value h) = let x = seeing.seen_expression conditions bound IsToken file_depth import_offsets e.value h in (ap tree.Value x.same, x.given)
 
   literal_seen : (l : strings.StringLiteral) {v : SettingValue Tok Tok} → AlikeValue seen (literal_by leaf_tree_of trees_of (λ l. Literal (literal_of l)) l) v
-      → (v ≡ literal_by expr_of exprs_of literal_tok l) × IsGivenLiteral conditions.expander IsToken l
+      → (v ≡ literal_by expr_of exprs_of literal_tok l) × IsFilledLiteral conditions.expander IsToken l
   literal_seen l (a.value (a.string lexeme {a' = t} h)) =
       let x = seeing.string_seen conditions bound IsToken file_depth import_offsets lexeme l t h in
       (ap (λ (k : Tok). tree.Value (tree.StringLiteral l.expand k)) x.1, x.0)
 
   command_seen : (i : Box (Interpreter Expression)) {v : SettingValue Tok Tok} → AlikeValue seen (interpreter_by leaf_tree_of trees_of (λ l. Literal (literal_of l)) i) v
-      → (v ≡ interpreter_by expr_of exprs_of literal_tok i) × IsGivenCommandLine conditions.expander IsToken i
+      → (v ≡ interpreter_by expr_of exprs_of literal_tok i) × IsFilledCommandLine conditions.expander IsToken i
   command_seen i (a.interpreter h hs) =
       let x = seeing.seen_expression conditions bound IsToken file_depth import_offsets i.value.command h in
       let y = expressions_seen i.value.arguments.items hs in
@@ -118,7 +118,7 @@ module _ (conditions : Conditions) (bound : ℕ) (IsToken : Token → Type 0) (f
   -- a setting, by the tree of its value
   pub record SeenSetting (s : Setting) (v : SettingValue Tok Tok) : Type 0 where
     pub same : v ≡ value_of s
-    pub given : IsWholeSetting s → IsGivenSetting conditions.expander IsToken s
+    pub given : HasDerivedSettingFields s → IsFilledSetting conditions.expander IsToken s
 
   pub setting_seen : (s : Setting) {v : SettingValue Tok Tok} → AlikeValue seen (leaf_value_of s) v → SeenSetting s v
   setting_seen (settings.AllowDuplicateRecipes value) a.truth = record { same = refl; given = λ whole. tt }

@@ -1,14 +1,14 @@
 -- Broken rules of a table's tokens beside those of the tokens that the definitions see.
 use Rattle.std.proofs.Common.{◌≡◌, ap, refl}
-use Rattle.justfile_base.specs.declared.token.Token.{Token}
+use Rattle.justfile_token.specs.declared.token.Token.{Token}
 use Rattle.justfile_model.specs.Rules as rules
 use Rattle.justfile_model.specs.Rules.{Broken, Rule, over_broken, over_rule}
 use Rattle.justfile_model.specs.Tok.{Tok, tok_of}
 use Rattle.justfile_model.proofs.AlikeRules as alike
 use Rattle.justfile_model.proofs.AlikeRules.{AlikeBroken, AlikeRule}
 
-module _ (Spot : Token → Tok → Type 0) (is : (t : Token) (k : Tok) → Spot t k → tok_of t ≡ k) where
-  same_rule : {r : Rule Token} {s : Rule Tok} → AlikeRule Spot r s → over_rule tok_of r ≡ s
+module _ (Position : Token → Tok → Type 0) (is : (t : Token) (k : Tok) → Position t k → tok_of t ≡ k) where
+  same_rule : {r : Rule Token} {s : Rule Tok} → AlikeRule Position r s → over_rule tok_of r ≡ s
   same_rule (alike.unknown_attribute a) = ap rules.UnknownAttribute (is _ _ a)
   same_rule (alike.count_mismatch {least = least} {most = most} a e) = λ i. rules.AttributeArgumentCountMismatch (is _ _ a i) (e i) least most
   same_rule (alike.argument_expression a) = ap rules.AttributeArgumentExpression (is _ _ a)
@@ -50,5 +50,5 @@ module _ (Spot : Token → Tok → Type 0) (is : (t : Token) (k : Tok) → Spot 
   same_rule (alike.minimum_version e f) = λ i. rules.MinimumVersion (e i) (f i)
 
   -- the same rule, of the tokens that are seen
-  pub same_broken : {b : Broken Token} {c : Broken Tok} → AlikeBroken Spot b c → over_broken tok_of b ≡ c
+  pub same_broken : {b : Broken Token} {c : Broken Tok} → AlikeBroken Position b c → over_broken tok_of b ≡ c
   same_broken h = λ i. record { rule = same_rule h.rule i; token = is _ _ h.token i }

@@ -2,13 +2,13 @@
 use Rattle.std.proofs.Common.{◌≡◌, ◌∙◌, ℕ, Bool, true, false, cond, not, ◌&&◌, ◌-◌, arith, List, [], ◌∷◌, ◌++◌, length, take, Option, Some, None, reverse, refl, sym, ap}
 use Rattle.std.proofs.lemmas.List.{append-nil, append_assoc, length-append, reverse-append}
 use Rattle.std.proofs.Math.Seq.{take-append_seam}
-use Rattle.justfile_base.specs.declared.token.Token.{Token}
+use Rattle.justfile_token.specs.declared.token.Token.{Token}
 use Rattle.justfile_model.specs.Docs.{Before, LineEnd, Nothing, Other, after, comment_taken, doc_in, doc_or_comment, documented, item_with_doc, redocumented, taken, wants_doc}
 use Rattle.justfile_model.specs.Files.{says_doc}
 use Rattle.justfile_model.specs.Tree as tree
 use Rattle.justfile_model.specs.Tree.{Content, Entry, Comment, Construct, Newline}
 use Rattle.justfile_parse.specs.Docs.{LeafItem, doc_before, doc_first, doc_taken, with_doc, with_item, with_items}
-use Rattle.justfile_tree.specs.LeafTree.{Leaf}
+use Rattle.justfile_expression.specs.LeafTree.{Leaf}
 
 abbrev Items : Type 0
 Items = List LeafItem

@@ -2,9 +2,9 @@
 use Rattle.std.proofs.Common.{◌≡◌, ℕ, zero, suc, ◌+◌, ◌<◌, ◌≤◌, Bool, true, false, cond, List, [], length, Ok, Err, IfOk, IsOk, refl, sym, ap, ◌∙◌, subst, arith}
 use Rattle.std.specs.Prelude.{◌-◌, ◌^◌}
 use Rattle.justfile_model.specs.HeaderReader as r
-use Rattle.justfile_model.specs.ReadAttribute.{ReadAttribute, token_sight}
+use Rattle.justfile_model.specs.ReadAttribute.{ReadAttribute, token_view}
 use Rattle.justfile_model.specs.Reader.{any_recipe, with_recipes}
-use Rattle.justfile_model.specs.Reading.{◌>>=◌, Counters}
+use Rattle.justfile_model.specs.ReaderState.{◌>>=◌, Counters}
 use Rattle.justfile_model.specs.Tok.{Tok}
 use Rattle.justfile_model.specs.Tree.{WrittenItem}
 use Rattle.justfile_model.specs.TreeReader.{Read, State, token_attributes, token_leaves}
@@ -21,10 +21,10 @@ use Rattle.justfile_parse.specs.WantsNumber.{AreNamed, AreNumbered, HeaderLacks,
 module _ (rules : Rules) where
   -- what is read of parameters
   abbrev Found : Type 0
-  Found = Read (r.Parameters token_leaves token_sight rules)
+  Found = Read (r.Parameters token_leaves token_view rules)
 
   abbrev singulars : Place rules → Found
-  singulars = r.singulars token_leaves token_sight rules
+  singulars = r.singulars token_leaves token_view rules
 
   found_same : (x y : Place rules) → ◌≡◌ {A = Found} (Ok x) (Ok y) → x ≡ y
   found_same x y e = cc
@@ -32,7 +32,7 @@ module _ (rules : Rules) where
   -- the parameters that take one argument are read one after another
   module _ (most : ℕ) (all : (x y : Place rules) → length x.1.left < most → singulars x ≡ Ok y → AreNumbered rules x y) where
     after_first : (x y : Place rules) → length x.1.left ≤ most → (found : Found) → parameter rules Singular x ≡ found → (found >>= singulars) ≡ Ok y → AreNumbered rules x y
-    after_first x y few (Ok p) is e = more is (all p y (omega (arith, few, (past x.1 _ p (parameter_goes token_leaves token_sight rules Singular x) is).0)) e)
+    after_first x y few (Ok p) is e = more is (all p y (omega (arith, few, (past x.1 _ p (parameter_goes token_leaves token_view rules Singular x) is).0)) e)
     after_first x y few (Err refusal) is e = cc
 
     by_test : (x y : Place rules) → length x.1.left ≤ most → (b : Bool) → cond b (parameter rules Singular x >>= singulars) (Ok x) ≡ Ok y → AreNumbered rules x y
@@ -41,7 +41,7 @@ module _ (rules : Rules) where
 
     step : (x y : Place rules) → length x.1.left ≤ most → singulars x ≡ Ok y → AreNumbered rules x y
     unfolding r.singulars_rule
-    step x y few e = by_test x y few (r.begins_parameter token_leaves x.1) (sym (singulars_is token_leaves token_sight rules x) ∙ e)
+    step x y few e = by_test x y few (r.begins_parameter token_leaves x.1) (sym (singulars_is token_leaves token_view rules x) ∙ e)
 
   all_numbered : (most : ℕ) (x y : Place rules) → length x.1.left < most → singulars x ≡ Ok y → AreNumbered rules x y
   all_numbered zero x y less e = absurd (omega (arith, less))
@@ -60,24 +60,24 @@ module _ (rules : Rules) where
     prefixed : IsAfterPrefix rules place kind begin
     is_parameter : IsOk (parameter rules kind begin)
 
-  singular_lacking : {x : Place rules} {m : Counters} → LacksSingular token_leaves token_sight rules x m → Lacking x m
+  singular_lacking : {x : Place rules} {m : Counters} → LacksSingular token_leaves token_view rules x m → Lacking x m
   singular_lacking (natural.singular_lacks {x = x} reads) =
       record { place = x; numbered = none; counters = refl; kind = Singular; begin = x; prefixed = nothing; is_parameter = reads refl }
   singular_lacking (natural.later_lacks is lacks) =
       let l = singular_lacking lacks in
       record { place = l.place; numbered = more is l.numbered; counters = l.counters; kind = l.kind; begin = l.begin; prefixed = l.prefixed; is_parameter = l.is_parameter }
 
-  last_lacking : {from x : Place rules} → AreNumbered rules from x → LacksLast token_leaves token_sight rules x → Lacking from x.0.1
+  last_lacking : {from x : Place rules} → AreNumbered rules from x → LacksLast token_leaves token_view rules x → Lacking from x.0.1
   last_lacking {from} {x} before (natural.plus_lacks {p = p} taken reads) =
       record { place = x; numbered = before; counters = refl; kind = Plus; begin = (x.0, p.1); prefixed = plus taken; is_parameter = reads refl }
   last_lacking {from} {x} before (natural.star_lacks {p = p} taken reads) =
       record { place = x; numbered = before; counters = refl; kind = Star; begin = (x.0, p.1); prefixed = star taken; is_parameter = reads refl }
 
-  lacking : {n m : Counters} {s : State} → LacksParameter token_leaves token_sight rules n s m → Lacking (([], n), s) m
+  lacking : {n m : Counters} {s : State} → LacksParameter token_leaves token_view rules n s m → Lacking (([], n), s) m
   lacking (natural.lacks_singular lacks) = singular_lacking lacks
   lacking {n} {m} {s} (natural.lacks_last {x = x} is lacks) = last_lacking (are_numbered (([], n), s) x is) lacks
 
-  pub header_lacks : (n m : Counters) (s : State) → LacksHeader token_leaves token_sight rules n s m → m.bindings ≡ 2 ^ 32 - 1 → HeaderLacks rules s n m
+  pub header_lacks : (n m : Counters) (s : State) → LacksHeader token_leaves token_view rules n s m → m.bindings ≡ 2 ^ 32 - 1 → HeaderLacks rules s n m
   header_lacks n m s h last =
       let l = lacking h.lacks in
       record {

@@ -1,13 +1,13 @@
 -- The docs of recipes, as they are taken from the first item to the last.
 use Rattle.std.specs.Prelude.{ℕ, Bool, true, false, ◌-◌, List, [], ◌∷◌, ◌++◌, drop, length, map, take, Option, Some, None, reverse}
-use Rattle.justfile_base.specs.declared.token.Token.{Token}
+use Rattle.justfile_token.specs.declared.token.Token.{Token}
 use Rattle.justfile_item.specs.declared.item.Item.{Item}
 use Rattle.justfile_model.specs.Docs.{LineEnd, Nothing, doc_in, item_with_doc, wants_doc}
 use Rattle.justfile_model.specs.Files.{says_doc}
 use Rattle.justfile_model.specs.Tree as tree
 use Rattle.justfile_model.specs.Tree.{OrderedItem}
 use Rattle.justfile_parse_item.specs.Tree.{item_tree}
-use Rattle.justfile_tree.specs.LeafTree.{Leaf}
+use Rattle.justfile_expression.specs.LeafTree.{Leaf}
 
 abbrev pub LeafItem : Type 0
 LeafItem = OrderedItem Leaf Token ℕ

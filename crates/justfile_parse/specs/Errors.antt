@@ -1,24 +1,24 @@
 -- Which error a refusal is.
 use Rattle.std.specs.Prelude.{◌≡◌, Bool, IsTrue, List, [], ◌∷◌, ◌++◌, Option, Some, None, Err}
 use Rattle.justfile_attribute_rules.specs.RuleErrors.{IsErrorOfRule}
-use Rattle.justfile_base.specs.declared.compile_error.CompileError.{CompileError}
-use Rattle.justfile_base.specs.declared.compile_error_kind.CompileErrorKind.{CompileErrorKind}
-use Rattle.justfile_base.specs.declared.compile_error_kind.CompileErrorKind.TheVariants as kinds
-use Rattle.justfile_base.specs.declared.token.Token.{Token}
+use Rattle.justfile_token.specs.declared.compile_error.CompileError.{CompileError}
+use Rattle.justfile_token.specs.declared.compile_error_kind.CompileErrorKind.{CompileErrorKind}
+use Rattle.justfile_token.specs.declared.compile_error_kind.CompileErrorKind.TheVariants as kinds
+use Rattle.justfile_token.specs.declared.token.Token.{Token}
 use Rattle.justfile_literal.specs.Literal.{IsKindOf}
 use Rattle.justfile_model.specs.Conditions.{Conditions}
-use Rattle.justfile_model.specs.Expressions.{Waived}
+use Rattle.justfile_model.specs.Expressions.{PastLimitAt}
 use Rattle.justfile_model.specs.Features.{ConstructFeatures}
-use Rattle.justfile_model.specs.Files.{FileTree, keeps_tokens}
+use Rattle.justfile_model.specs.Files.{FileTree, to_tokens}
 use Rattle.justfile_model.specs.Grammar.{File}
-use Rattle.justfile_model.specs.Reading as reading
-use Rattle.justfile_model.specs.Refusals.{IsDue}
+use Rattle.justfile_model.specs.ReaderState as reading
+use Rattle.justfile_model.specs.ReadErrors.{IsDue}
 use Rattle.justfile_model.specs.Rules.{Broken, over_broken}
 use Rattle.justfile_model.specs.SignificantTokens.{SignificantToken}
 use Rattle.justfile_model.specs.Tok.{Tok, tok_of}
 use Rattle.justfile_model.specs.Tree.{WrittenTree}
-use Rattle.justfile_model.specs.TreeReader.{Refusal, tree_of_tokens}
-use Rattle.justfile_parse_attribute.specs.Halting.{IsAfterVariadic, IsExpectedKeyword, IsExtraneous, IsUnknownSetting}
+use Rattle.justfile_model.specs.TreeReader.{ReadError, tree_of_tokens}
+use Rattle.justfile_parse_attribute.specs.ParseErrors.{IsAfterVariadic, IsExpectedKeyword, IsExtraneous, IsUnknownSetting}
 
 -- the token is this one, or the last of the tokens where there is none
 abbrev pub IsAt : List SignificantToken → Option SignificantToken → Token → Type 0
@@ -37,7 +37,7 @@ pub record IsErrorOfBroken (broken : Broken Tok) (e : CompileError) : Type 0 whe
   pub same : over_broken tok_of rule ≡ broken
 
 -- The error has the kind and the place of a refusal of these tokens. They are never refused because numbers ran out.
-abbrev pub IsErrorOf : List SignificantToken → Refusal → CompileError → Type 0
+abbrev pub IsErrorOf : List SignificantToken → ReadError → CompileError → Type 0
 IsErrorOf tokens (reading.Unexpected at) e = IsUnexpected e.kind e.token × IsAt tokens at e.token
 IsErrorOf tokens (reading.TooDeep at) e = (e.kind ≡ kinds.ParsingRecursionDepthExceeded) × IsAt tokens at e.token
 IsErrorOf tokens (reading.NotCooked fault t) e = IsKindOf fault e.kind × (tok_of e.token ≡ t)
@@ -52,17 +52,17 @@ IsErrorOf tokens (reading.NoNumber counters) e = ⊥
 -- literals that has no text, or of a rule that it breaks, or too many expressions are open at a token; and then, where all expressions that
 -- are entered at the limit begin at some tokens, at one of these.
 pub record IsRefused (conditions : Conditions) (tokens : List SignificantToken) (e : CompileError) : Type 0 where
-  pub refusal : Refusal
+  pub refusal : ReadError
   pub read : tree_of_tokens conditions tokens ≡ Err refusal
   pub error : IsErrorOf tokens refusal e
   pub breaks : (written : WrittenTree) (features : List (ConstructFeatures Tok)) → FileTree tokens written features → IsDue conditions (λ at. Unit {0}) written refusal
   pub breaks_at : (written : WrittenTree) (features : List (ConstructFeatures Tok)) (Hit : Option SignificantToken → Bool)
-      → File keeps_tokens (Waived conditions.limit (λ at. IsTrue (Hit at))) written features tokens → IsDue conditions (λ at. IsTrue (Hit at)) written refusal
+      → File to_tokens (PastLimitAt conditions.limit (λ at. IsTrue (Hit at))) written features tokens → IsDue conditions (λ at. IsTrue (Hit at)) written refusal
 
 -- The error says that the limit of depth is exceeded. Where all expressions of the tree that are entered at the limit begin at some tokens, it
 -- stands at one of these.
 pub record IsTooDeepError (conditions : Conditions) (tokens : List SignificantToken) (written : WrittenTree) (e : CompileError) : Type 0 where
   pub kind_is : e.kind ≡ kinds.ParsingRecursionDepthExceeded
   pub at_one : (features : List (ConstructFeatures Tok)) (Hit : Option SignificantToken → Bool)
-      → File keeps_tokens (Waived conditions.limit (λ at. IsTrue (Hit at))) written features tokens
+      → File to_tokens (PastLimitAt conditions.limit (λ at. IsTrue (Hit at))) written features tokens
       → (at : Option SignificantToken) × IsTrue (Hit at) × IsAt tokens at e.token

@@ -1,6 +1,6 @@
 pub mod Docs
 pub mod Errors
-pub mod Halting
+pub mod ErrorFaults
 pub mod MethodResults
 pub mod Parsing
 pub mod Unstable

@@ -1,43 +1,43 @@
 -- What reading a table of tokens returns is what the definitions read.
 use Rattle.std.specs.Prelude.{◌≡◌, ℕ, ◌≤◌, List, All, Option, Some, None, Ok, Err, map}
-use Rattle.justfile_base.specs.CompileErrorKind.{tokens_in}
-use Rattle.justfile_word.specs.Numerator.{bindings_of, recipes_of}
-use Rattle.justfile_base.specs.declared.compile_error.CompileError.{CompileError}
-use Rattle.justfile_base.specs.declared.compile_error_kind.CompileErrorKind.{CompileErrorKind}
-use Rattle.justfile_base.specs.declared.compile_error_kind.CompileErrorKind.TheVariants as error_kinds
-use Rattle.justfile_base.specs.declared.fault.Fault.{Fault}
-use Rattle.justfile_base.specs.declared.fault.Fault.TheVariants as faults
-use Rattle.justfile_word.specs.declared.numerator.Numerator.{Numerator}
-use Rattle.justfile_base.specs.declared.token.Token.{Token}
+use Rattle.justfile_token.specs.CompileErrorKind.{tokens_in}
+use Rattle.justfile_vocabulary.specs.Numerator.{bindings_of, recipes_of}
+use Rattle.justfile_token.specs.declared.compile_error.CompileError.{CompileError}
+use Rattle.justfile_token.specs.declared.compile_error_kind.CompileErrorKind.{CompileErrorKind}
+use Rattle.justfile_token.specs.declared.compile_error_kind.CompileErrorKind.TheVariants as error_kinds
+use Rattle.justfile_token.specs.declared.fault.Fault.{Fault}
+use Rattle.justfile_token.specs.declared.fault.Fault.TheVariants as faults
+use Rattle.justfile_vocabulary.specs.declared.numerator.Numerator.{Numerator}
+use Rattle.justfile_token.specs.declared.token.Token.{Token}
 use Rattle.justfile_item.specs.Item.{item_of}
 use Rattle.justfile_item.specs.declared.item.Item.{Item}
-use Rattle.justfile_file.specs.Ast.{noted_of}
+use Rattle.justfile_ast.specs.Ast.{noted_of}
 use Rattle.justfile_model.specs.Features.{Noted}
 use Rattle.justfile_model.specs.Conditions.{Conditions, with_limit}
 use Rattle.justfile_model.specs.Files.{NumbersSuffice, ordered}
-use Rattle.justfile_model.specs.Sight.{sees_tokens}
+use Rattle.justfile_model.specs.LeafView.{views_tokens}
 use Rattle.justfile_model.specs.SignificantTokens.{SignificantToken}
 use Rattle.justfile_model.specs.Tok.{Tok}
 use Rattle.justfile_model.specs.Tree.{WrittenTree}
 use Rattle.justfile_model.specs.TreeReader as tree
-use Rattle.justfile_word.specs.declared.list_feature.ListFeature.{ListFeature}
+use Rattle.justfile_vocabulary.specs.declared.list_feature.ListFeature.{ListFeature}
 use Rattle.justfile_parse.specs.Errors.{IsAt, IsErrorOf, IsUnexpected}
-use Rattle.justfile_parse_item.specs.Filled.{AreNotedIn, IsGivenItems, IsInTable}
+use Rattle.justfile_parse_item.specs.Filled.{AreNotedIn, IsFilledItems, IsInTable}
 use Rattle.justfile_parse_expression.specs.Significant.{significant_of}
 use Rattle.justfile_parse.specs.WantsNumber.{WantsNumber}
 use Rattle.justfile_parse_expression.specs.declared.significant.TableEntry.{TableEntry}
-use Rattle.justfile_parse_expression.specs.declared.stop.Refusal.{Refusal}
-use Rattle.justfile_parse_expression.specs.declared.stop.Refusal.TheVariants.{Unexpected, TooDeep}
-use Rattle.justfile_parse_expression.specs.declared.stop.Stop.{Stop}
-use Rattle.justfile_parse_expression.specs.declared.stop.Stop.TheVariants as stops
+use Rattle.justfile_parse_expression.specs.declared.expression_error.SyntaxError.{SyntaxError}
+use Rattle.justfile_parse_expression.specs.declared.expression_error.SyntaxError.TheVariants.{Unexpected, TooDeep}
+use Rattle.justfile_parse_expression.specs.declared.expression_error.ExpressionError.{ExpressionError}
+use Rattle.justfile_parse_expression.specs.declared.expression_error.ExpressionError.TheVariants as causes
 
 -- the kind says why the token is refused
-abbrev pub IsKindAt : Refusal → CompileErrorKind → Token → Type 0
+abbrev pub IsKindAt : SyntaxError → CompileErrorKind → Token → Type 0
 IsKindAt Unexpected kind token = IsUnexpected kind token
 IsKindAt TooDeep kind token = kind ≡ error_kinds.ParsingRecursionDepthExceeded
 
 -- the error is that of the refusal, at this token
-abbrev pub IsErrorAt : Refusal → Token → CompileError → Type 0
+abbrev pub IsErrorAt : SyntaxError → Token → CompileError → Type 0
 IsErrorAt refusal token error = IsKindAt refusal error.kind error.token × (error.token ≡ token)
 
 -- the token is the next one, or the last of the table where none is left
@@ -47,25 +47,25 @@ IsNextPlace table None token = IsInTable table token × IsAt (map significant_of
 
 -- The fault says why reading stopped: at the next token, or for a literal. The list of what is expected in place of a token may find
 -- no memory.
-abbrev pub IsFaultOf : List TableEntry → (next : Option TableEntry) → Stop → Fault → Type 0
-IsFaultOf table next (stops.Refused refusal) (faults.Compile e) = IsKindAt refusal e.kind e.token × IsNextPlace table next e.token
-IsFaultOf table next (stops.Refused refusal) faults.Memory = refusal ≡ Unexpected
-IsFaultOf table next (stops.Literal refused) (faults.Compile e) = e ≡ refused.value.error
-IsFaultOf table next stops.Memory faults.Memory = Unit {0}
-IsFaultOf table next stops.Numbers faults.Numbers = Unit {0}
+abbrev pub IsFaultOf : List TableEntry → (next : Option TableEntry) → ExpressionError → Fault → Type 0
+IsFaultOf table next (causes.Refused refusal) (faults.Compile e) = IsKindAt refusal e.kind e.token × IsNextPlace table next e.token
+IsFaultOf table next (causes.Refused refusal) faults.Memory = refusal ≡ Unexpected
+IsFaultOf table next (causes.Literal refused) (faults.Compile e) = e ≡ refused.value.error
+IsFaultOf table next causes.Memory faults.Memory = Unit {0}
+IsFaultOf table next causes.Numbers faults.Numbers = Unit {0}
 IsFaultOf table next _ _ = ⊥
 
 -- The items are what the written tree that is read means, the features are those that are read, and the numerator gave the items' numbers.
 pub record IsRead (conditions : Conditions) (table : List TableEntry) (file_depth : ℕ) (import_offsets : List ℕ) (tokens : List SignificantToken) (old new : Numerator) (x : List Item × List (ListFeature × Token)) : Type 0 where
   pub written : WrittenTree
   pub read : tree.tree_of_tokens conditions tokens ≡ Ok (written, map noted_of x.1)
-  pub ordered_is : ordered (sees_tokens conditions.expander) written ≡ Some (map item_of x.0)
-  pub given : IsGivenItems conditions.expander (IsInTable table) file_depth import_offsets old new x.0
+  pub ordered_is : ordered (views_tokens conditions.expander) written ≡ Some (map item_of x.0)
+  pub given : IsFilledItems conditions.expander (IsInTable table) file_depth import_offsets old new x.0
   pub noted : AreNotedIn table x.1
 
 -- the error is that of the refusal, at a token that `IsToken` allows, and holds such tokens alone
 pub record IsReadError (conditions : Conditions) (tokens : List SignificantToken) (IsToken : Token → Type 0) (e : CompileError) : Type 0 where
-  pub refusal : tree.Refusal
+  pub refusal : tree.SyntaxError
   pub read : tree.tree_of_tokens conditions tokens ≡ Err refusal
   pub error : IsErrorOf tokens refusal e
   pub among : IsToken e.token

@@ -1,17 +1,17 @@
 -- What parsing answers.
 use Rattle.std.specs.Prelude.{◌≡◌, ℕ, ◌⊎◌, ◌+◌, List, map, All, None}
 use Rattle.std.specs.Str.{IsUtf8}
-use Rattle.justfile_base.specs.CompileErrorKind.{internal_message, tokens_in}
-use Rattle.justfile_base.specs.declared.compile_error.CompileError.{CompileError}
-use Rattle.justfile_word.specs.Numerator.{bindings_of, recipes_of}
-use Rattle.justfile_base.specs.declared.fault.Fault.{Fault}
-use Rattle.justfile_base.specs.declared.fault.Fault.TheVariants as faults
-use Rattle.justfile_word.specs.declared.numerator.Numerator.{Numerator}
-use Rattle.justfile_base.specs.declared.token.Token.{Token}
+use Rattle.justfile_token.specs.CompileErrorKind.{internal_message, tokens_in}
+use Rattle.justfile_token.specs.declared.compile_error.CompileError.{CompileError}
+use Rattle.justfile_vocabulary.specs.Numerator.{bindings_of, recipes_of}
+use Rattle.justfile_token.specs.declared.fault.Fault.{Fault}
+use Rattle.justfile_token.specs.declared.fault.Fault.TheVariants as faults
+use Rattle.justfile_vocabulary.specs.declared.numerator.Numerator.{Numerator}
+use Rattle.justfile_token.specs.declared.token.Token.{Token}
 use Rattle.justfile_round_trip.specs.RoundTrip.{TextDerives}
-use Rattle.justfile_file.specs.Ast.{tree_of, features_of, cooked_texts, binding_numbers, recipe_numbers}
-use Rattle.justfile_file.specs.declared.ast.Ast.{Ast}
-use Rattle.justfile_model.specs.Answers.{IsFrom, IsLexicalError}
+use Rattle.justfile_ast.specs.Ast.{tree_of, features_of, cooked_texts, binding_numbers, recipe_numbers}
+use Rattle.justfile_ast.specs.declared.ast.Ast.{Ast}
+use Rattle.justfile_model.specs.LexResult.{IsFrom, IsLexicalError}
 use Rattle.justfile_model.specs.Conditions.{Conditions, with_limit}
 use Rattle.justfile_model.specs.Features.{Noted}
 use Rattle.justfile_model.specs.Files.{FileDerives, NumbersFrom, NumbersSuffice, bindings, recipes, literals}
@@ -21,9 +21,9 @@ use Rattle.justfile_model.specs.SignificantTokens.{significant_tokens}
 use Rattle.justfile_model.specs.Tok.{Tok, tok_of}
 use Rattle.justfile_model.specs.Tree.{Tree, lexeme}
 use Rattle.justfile_model.specs.UnstableFeatures.{unstable_features}
-use Rattle.justfile_word.specs.declared.list_feature.ListFeature.{ListFeature}
+use Rattle.justfile_vocabulary.specs.declared.list_feature.ListFeature.{ListFeature}
 use Rattle.justfile_parse.specs.Errors.{IsRefused, IsTooDeepError}
-use Rattle.justfile_parse_item.specs.Filled.{IsGivenItem}
+use Rattle.justfile_parse_item.specs.Filled.{IsFilledItem}
 use Rattle.justfile_parse.specs.WantsNumber.{WantsNumber}
 
 -- the tokens, all of one source, are those of its text
@@ -41,7 +41,7 @@ pub record IsFilled (expander : Expansions) (IsToken : Token → Type 0) (file_d
   pub recipes_numbered : NumbersFrom (recipes_of old) (recipe_numbers ast)
   pub counted : bindings_of new ≡ bindings_of old + bindings (tree_of ast)
   pub recipes_counted : recipes_of new ≡ recipes_of old + recipes (tree_of ast)
-  pub given : All (IsGivenItem expander IsToken file_depth import_offsets) ast.items.items
+  pub given : All (IsFilledItem expander IsToken file_depth import_offsets) ast.items.items
   pub noted : All (λ (x : ListFeature × Token). IsToken x.1) ast.list_features.items
   pub unstable : ast.unstable_features.keys ≡ unstable_features (tree_of ast)
 

@@ -1,8 +1,8 @@
 -- What a file uses that only an unstable justfile may.
 use Rattle.std.specs.Prelude.{Bool, List, map, cond}
 use Rattle.std.specs.BTreeSet.{insert_key}
-use Rattle.justfile_word.specs.contracts.unstable_feature.UnstableFeatureOrd.TheImpl as feature_order
-use Rattle.justfile_word.specs.declared.unstable_feature.UnstableFeature.{UnstableFeature}
+use Rattle.justfile_vocabulary.specs.contracts.unstable_feature.UnstableFeatureOrd.TheImpl as feature_order
+use Rattle.justfile_vocabulary.specs.declared.unstable_feature.UnstableFeature.{UnstableFeature}
 use Rattle.justfile_item.specs.Item.{item_of}
 use Rattle.justfile_item.specs.declared.item.Item.{Item}
 use Rattle.justfile_model.specs.UnstableFeatures.{unstable_features, uses}

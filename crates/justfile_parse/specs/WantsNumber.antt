@@ -1,17 +1,17 @@
 -- Where a number is wanted.
 use Rattle.std.specs.Prelude.{◌≡◌, ℕ, ◌+◌, ◌-◌, ◌^◌, Bool, true, false, List, [], Some, Ok, IsOk, codes}
-use Rattle.justfile_word.specs.declared.numerator.Numerator.{Numerator}
-use Rattle.justfile_word.specs.declared.item_kind.ItemKind.TheVariants as item_kinds
-use Rattle.justfile_word.specs.declared.token_kind.TokenKind.{TokenKind}
-use Rattle.justfile_word.specs.declared.token_kind.TokenKind.TheVariants as kinds
+use Rattle.justfile_vocabulary.specs.declared.numerator.Numerator.{Numerator}
+use Rattle.justfile_vocabulary.specs.declared.item_kind.ItemKind.TheVariants as item_kinds
+use Rattle.justfile_vocabulary.specs.declared.token_kind.TokenKind.{TokenKind}
+use Rattle.justfile_vocabulary.specs.declared.token_kind.TokenKind.TheVariants as kinds
 use Rattle.justfile_model.specs.Conditions.{Conditions}
 use Rattle.justfile_model.specs.HeaderReader as headers
 use Rattle.justfile_model.specs.PartReader as parts
-use Rattle.justfile_model.specs.ReadAttribute.{ReadAttribute, token_sight}
+use Rattle.justfile_model.specs.ReadAttribute.{ReadAttribute, token_view}
 use Rattle.justfile_model.specs.Reader as files
 use Rattle.justfile_model.specs.Reader.{after_mark, any_recipe, argument_rules, assignment, line, with_recipes}
-use Rattle.justfile_model.specs.Reading as reading
-use Rattle.justfile_model.specs.Reading.{Counters}
+use Rattle.justfile_model.specs.ReaderState as reading
+use Rattle.justfile_model.specs.ReaderState.{Counters}
 use Rattle.justfile_model.specs.SignificantTokens.{SignificantToken}
 use Rattle.justfile_model.specs.Tok.{Tok}
 use Rattle.justfile_model.specs.Tree.{ArgumentRules, WrittenItem, WrittenTree}
@@ -32,7 +32,7 @@ next = reading.accept token_leaves
 
 -- this word comes next, and a name and `:=` follow it
 abbrev pub word_before : List ℕ → State → Taken
-word_before word = parts.accept_before token_leaves word (parts.is_assigned token_leaves)
+word_before word = parts.accept_keyword_before token_leaves word (parts.peek_assignment token_leaves)
 
 -- where an assignment begins: after `eager`, after `export`, or here
 pub data BeginsAssignment (s : State) : (eager export : Bool) → State → Type 0 where
@@ -96,11 +96,11 @@ Rules = List (ArgumentRules Tok Tok)
 
 -- parameters that got their numbers, the counters after them, and where reading stands
 abbrev pub Place : Rules → Type 0
-Place rules = headers.ParameterPlace token_leaves token_sight rules
+Place rules = headers.ParameterPlace token_leaves token_view rules
 
 -- a parameter that takes so many arguments, after its `+` or `*`, with its default and its number
-abbrev pub parameter : (rules : Rules) → ParameterKind → Place rules → Read (headers.Parameters token_leaves token_sight rules)
-parameter rules = headers.parameter token_leaves token_sight rules
+abbrev pub parameter : (rules : Rules) → ParameterKind → Place rules → Read (headers.Parameters token_leaves token_view rules)
+parameter rules = headers.parameter token_leaves token_view rules
 
 -- parameters that take one argument come next, each of which gets its number
 pub data AreNumbered (rules : Rules) : (from to : Place rules) → Type 0 where
@@ -120,7 +120,7 @@ pub record HeaderLacks (rules : Rules) (s : State) (old new : Counters) : Type 0
   pub name : SignificantToken × State
   pub name_read : reading.expect token_leaves kinds.Identifier s ≡ Ok name
   pub options : Unit {0} × State
-  pub options_apart : headers.distinct_options token_leaves token_sight rules name.0 name.1 ≡ Ok options
+  pub options_apart : headers.distinct_options token_leaves token_view rules name.0 name.1 ≡ Ok options
   pub place : Place rules
   pub numbered : AreNumbered rules (([], old), options.1) place
   pub counters : place.0.1 ≡ new

@@ -4,17 +4,17 @@ ghost use Rattle.std.specs.List.{starts_with};
 ghost use Rattle.std.specs.Option.{is_some, option_map};
 ghost use Rattle.justfile_attribute_set.specs.AttributeSet.{attributes_of};
 ghost use Rattle.justfile_attribute_set.specs.Attributes.{has_kind};
-ghost use Rattle.justfile_word.specs.declared.attribute_kind.AttributeKind.TheVariants as kinds;
+ghost use Rattle.justfile_vocabulary.specs.declared.attribute_kind.AttributeKind.TheVariants as kinds;
 ghost use Rattle.justfile_model.specs.Docs.{doc_in, documented, item_with_doc};
 ghost use Rattle.justfile_model.specs.Docs as before;
 ghost use Rattle.justfile_model.specs.Files.{says_doc};
 ghost use Rattle.justfile_parse.specs.Docs.{comment_of, doc_before, is_newline, says_no_doc, taken_docs};
 ghost use Rattle.justfile_parse_item.specs.Tree.{item_tree};
-ghost use Rattle.justfile_parse_item.specs.Whole.{AreWhole, IsWholeItem};
+ghost use Rattle.justfile_parse_item.specs.DerivedFields.{HaveDerivedFields, HasDerivedItemFields};
 
 use justfile_attribute_set::AttributeSet;
-use justfile_base::AttributeKind;
 use justfile_item::Item;
+use justfile_token::AttributeKind;
 use std::alloc::{AllocError, Global};
 
 /// The items with their docs, in place of comments.
@@ -26,9 +26,9 @@ pub(crate) fn take_docs<'src>(
     alloc: Global,
     mut items: Vec<Item<'src>>,
 ) -> Result<Vec<Item<'src>>, AllocError>
-    requires { AreWhole items.items }
+    requires { HaveDerivedFields items.items }
     ensures trees { IfOk result (λ docs. map item_tree docs.items ≡ documented says_doc before.Nothing (map item_tree items.entry.items)) }
-    ensures whole { IfOk result (λ docs. AreWhole docs.items) }
+    ensures whole { IfOk result (λ docs. HaveDerivedFields docs.items) }
 {
     set_docs(alloc, &mut items)?;
     Ok(items)
@@ -36,9 +36,9 @@ pub(crate) fn take_docs<'src>(
 
 /// Gives each item its doc, in place of the comment before it.
 fn set_docs(alloc: Global, items: &mut Vec<Item<'_>>) -> Result<(), AllocError>
-    requires { AreWhole items.old.items }
+    requires { HaveDerivedFields items.old.items }
     ensures trees { OnOk result (map item_tree items.new.items ≡ documented says_doc before.Nothing (map item_tree items.old.items)) }
-    ensures whole { OnOk result (AreWhole items.new.items) }
+    ensures whole { OnOk result (HaveDerivedFields items.new.items) }
 {
     let mut kept = 0;
     for place in 0..items.len() {
@@ -58,11 +58,11 @@ fn keep_item(
 ) -> Result<usize, AllocError>
     requires order { kept ≤ place }
     requires within { place < vec_len items.old }
-    requires whole { AreWhole items.old.items }
+    requires whole { HaveDerivedFields items.old.items }
     ensures trees { IfOk result (λ count. taken_docs count (place + 1) items.new.items ≡ taken_docs kept place items.old.items) }
     ensures order { IfOk result (λ count. count ≤ place + 1) }
     ensures len { vec_len items.new ≡ vec_len items.old }
-    ensures whole { AreWhole items.new.items }
+    ensures whole { HaveDerivedFields items.new.items }
 {
     if wants_doc(&items[place]) {
         if let Some(doc) = find_doc(&items[..kept]) {
@@ -78,10 +78,10 @@ fn keep_item(
 
 /// Sets the doc of an item that takes one.
 fn set_doc(item: &mut Item<'_>, text: String)
-    requires whole { IsWholeItem item.old }
-    requires wanted { says_no_doc (item_tree item.old) ≡ true }
+    requires whole { HasDerivedItemFields item.old }
+    requires expected_tokens { says_no_doc (item_tree item.old) ≡ true }
     ensures tree { Some (item_tree item.new) ≡ item_with_doc says_doc (string_bytes text) (item_tree item.old) }
-    ensures whole { IsWholeItem item.new }
+    ensures whole { HasDerivedItemFields item.new }
 {
     match item {
         Item::Module { doc, .. } => *doc = Some(text),
@@ -114,7 +114,7 @@ fn lacks_doc(attributes: &AttributeSet<'_>, doc: &Option<String>) -> bool
 
 /// The doc that ends these items: a comment and one line end, after a line end or nothing.
 fn find_doc<'src>(items: &[Item<'src>]) -> Option<&'src str>
-    requires { AreWhole items.now }
+    requires { HaveDerivedFields items.now }
     ensures { option_map (λ doc. doc.now) result ≡ doc_before (map item_tree items.now) }
 {
     let count = items.len();

@@ -1,40 +1,40 @@
 //! Files from tokens, and from texts: the public calls, and how a file is begun.
 ghost use Rattle.std.specs.Prelude.{◌≡◌, ◌<◌, ◌≤◌, All, List, length, map, Contains, IfOk, IfErr, OnErr, string_bytes};
-ghost use Rattle.justfile_base.specs.Modulepath.{module_names, names_of};
-ghost use Rattle.justfile_word.specs.Numerator.{constants_of};
+ghost use Rattle.justfile_token.specs.Modulepath.{module_names, names_of};
+ghost use Rattle.justfile_vocabulary.specs.Numerator.{constants_of};
 ghost use Rattle.justfile_model.specs.Lexed.{Lexed};
 ghost use Rattle.justfile_model.specs.SignificantTokens.{identifiers, significant_tokens};
 ghost use Rattle.justfile_model.specs.Tok.{Tok, tok_of};
 ghost use Rattle.justfile_parse.specs.Parsing.{HasNoTree, IsOneLex, IsParsed, IsParsedText, IsUnparsed};
 ghost use Rattle.justfile_parse_expression.specs.Conditions.{conditions_of};
-ghost use Rattle.justfile_parse_expression.specs.Formats.{IsTable};
+ghost use Rattle.justfile_parse_expression.specs.FormatStrings.{IsTable};
 ghost use Rattle.justfile_parse_item.specs.Filled.{IsInTable};
 ghost use Rattle.justfile_parse_item.specs.ItemTable as reader;
 ghost use Rattle.justfile_parse_item.specs.ItemTable.{after_mark};
 ghost use Rattle.justfile_parse.specs.MethodResults.{IsErrorAt, IsFaultOf, IsNextPlace, IsRead, IsUnread};
 ghost use Rattle.justfile_parse_item.specs.MethodResults.{IsMoved};
-ghost use Rattle.justfile_parse.specs.Halting.{IsFaultOfHalt};
-ghost use Rattle.justfile_parse_item.specs.Whole.{AreWhole};
+ghost use Rattle.justfile_parse.specs.ErrorFaults.{IsFaultOfError};
+ghost use Rattle.justfile_parse_item.specs.DerivedFields.{HaveDerivedFields};
 ghost use Rattle.justfile_parse_expression.specs.Significant.{significant_of};
 ghost use Rattle.justfile_parse_item.specs.Tree.{item_tree};
 ghost use Rattle.justfile_parse_expression.specs.View.{state_of};
-ghost use Rattle.justfile_parse_expression.specs.declared.stop.Refusal.TheVariants.{Unexpected};
+ghost use Rattle.justfile_parse_expression.specs.declared.expression_error.SyntaxError.TheVariants.{Unexpected};
 ghost use Rattle.justfile_parse_header.specs.Counting.{ReadsCounted, counters_of};
 
 use crate::docs::take_docs;
 use crate::unstable::with_unstable;
-use justfile_base::{
+use justfile_ast::Ast;
+use justfile_expression::ListFeature;
+use justfile_item::Item;
+use justfile_lex::Lexer;
+use justfile_parse_attribute::ParseError;
+use justfile_parse_expression::significant::{TableEntry, significant};
+use justfile_parse_expression::{ExpectedTokens, ExpressionError, ExpressionParser, SyntaxError};
+use justfile_parse_item::parse_items;
+use justfile_token::{
     CompileError, CompileErrorKind, CompileResult, Expander, Fault, Modulepath, Namepath,
     Numerator, Source, Token, TokenKind, Version,
 };
-use justfile_file::Ast;
-use justfile_item::Item;
-use justfile_lex::Lexer;
-use justfile_parse_attribute::Halt;
-use justfile_parse_expression::significant::{TableEntry, significant};
-use justfile_parse_expression::{ExpressionParser, Refusal, Stop, Wanted};
-use justfile_parse_item::parse_items;
-use justfile_tree::ListFeature;
 use std::alloc::{AllocError, Global};
 
 /// Reads files.
@@ -164,7 +164,13 @@ fn parse_table<'run, 'src, X: Expander>(
     );
     match parse_file(&mut parser, numerator) {
         Ok(items) => Ok((take_docs(alloc, items)?, parser.list_features)),
-        Err(halt) => Err(make_fault(alloc, tokens, parser.peek_front(), &parser.wanted, halt)),
+        Err(error) => Err(make_fault(
+            alloc,
+            tokens,
+            parser.peek_front(),
+            &parser.expected_tokens,
+            error,
+        )),
     }
 }
 
@@ -173,11 +179,11 @@ fn parse_table<'run, 'src, X: Expander>(
 fn parse_file<'src, X: Expander>(
     parser: &mut ExpressionParser<'_, 'src, X>,
     numerator: &mut Numerator,
-) -> Result<Vec<Item<'src>>, Halt<'src>>
+) -> Result<Vec<Item<'src>>, ParseError<'src>>
     requires { (state_of X.answer parser.old).depth ≡ 0 }
     ensures reads { ReadsCounted (λ items. map item_tree items.items) result numerator.new (state_of X.answer parser.new)
         (reader.file (counters_of numerator.old) (state_of X.answer parser.old)) }
-    ensures whole { IfOk result (λ items. AreWhole items.items) }
+    ensures whole { IfOk result (λ items. HaveDerivedFields items.items) }
     ensures moved { IsMoved numerator.old numerator.new (identifiers (map significant_of (state_of X.answer parser.old).left)) }
 {
     accept_byte_order_mark(parser);
@@ -196,39 +202,45 @@ fn make_fault<'src>(
     alloc: Global,
     tokens: &[TableEntry<'_, 'src>],
     next: Option<TableEntry<'_, 'src>>,
-    wanted: &Wanted,
-    halt: Halt<'src>,
+    expected_tokens: &ExpectedTokens,
+    failure: ParseError<'src>,
 ) -> Fault<'src>
     requires { 0 < length tokens.now }
-    ensures { IsFaultOfHalt tokens.now next.entry halt.entry result }
+    ensures { IsFaultOfError tokens.now next.entry failure.entry result }
 {
-    match halt {
-        Halt::Stopped(stop) => make_stop_fault(alloc, tokens, next, wanted, stop),
-        Halt::Broken(error) => Fault::Compile(Box::into_inner(error)),
+    match failure {
+        ParseError::Unreadable(cause) => expression_fault(
+            alloc,
+            tokens,
+            next,
+            expected_tokens,
+            cause,
+        ),
+        ParseError::BrokenRule(error) => Fault::Compile(Box::into_inner(error)),
     }
 }
 
 /// The fault for which reading stopped, where this token is next and others are wanted.
-fn make_stop_fault<'src>(
+fn expression_fault<'src>(
     alloc: Global,
     tokens: &[TableEntry<'_, 'src>],
     next: Option<TableEntry<'_, 'src>>,
-    wanted: &Wanted,
-    stop: Stop<'src>,
+    expected_tokens: &ExpectedTokens,
+    cause: ExpressionError<'src>,
 ) -> Fault<'src>
     requires { 0 < length tokens.now }
-    ensures { IsFaultOf tokens.now next.entry stop.entry result }
+    ensures { IsFaultOf tokens.now next.entry cause.entry result }
 {
-    match stop {
-        Stop::Refused(refusal) => {
-            match make_error(alloc, find_place(tokens, next), wanted, refusal) {
+    match cause {
+        ExpressionError::Refused(refusal) => {
+            match make_error(alloc, find_place(tokens, next), expected_tokens, refusal) {
                 Ok(error) => Fault::Compile(error),
                 Err(_) => Fault::Memory,
             }
         }
-        Stop::Literal(refused) => Fault::Compile(Box::into_inner(refused).error),
-        Stop::Memory => Fault::Memory,
-        Stop::Numbers => Fault::Numbers,
+        ExpressionError::Literal(refused) => Fault::Compile(Box::into_inner(refused).error),
+        ExpressionError::Memory => Fault::Memory,
+        ExpressionError::Numbers => Fault::Numbers,
     }
 }
 
@@ -236,18 +248,18 @@ fn make_stop_fault<'src>(
 fn make_error<'src>(
     alloc: Global,
     token: Token<'src>,
-    wanted: &Wanted,
-    refusal: Refusal,
+    expected_tokens: &ExpectedTokens,
+    refusal: SyntaxError,
 ) -> Result<CompileError<'src>, AllocError>
     ensures error { IfOk result (IsErrorAt refusal token.entry) }
     ensures memory { OnErr result (refusal ≡ Unexpected) }
 {
     let kind = match refusal {
-        Refusal::Unexpected => CompileErrorKind::UnexpectedToken {
-            expected: wanted.kinds(alloc)?,
+        SyntaxError::Unexpected => CompileErrorKind::UnexpectedToken {
+            expected: expected_tokens.kinds(alloc)?,
             found: token.kind,
         },
-        Refusal::TooDeep => CompileErrorKind::ParsingRecursionDepthExceeded,
+        SyntaxError::TooDeep => CompileErrorKind::ParsingRecursionDepthExceeded,
     };
     Ok(token.error(kind))
 }

@@ -2,17 +2,17 @@
 ghost use Rattle.std.specs.Prelude.{◌≡◌, IfOk, OnOk};
 ghost use Rattle.std.specs.List.{list_any};
 ghost use Rattle.justfile_attribute_set.specs.AttributeSet.{entries_of};
-ghost use Rattle.justfile_word.specs.declared.attribute_kind.AttributeKind.TheVariants as kinds;
-ghost use Rattle.justfile_word.specs.declared.unstable_feature.UnstableFeature.TheVariants as features;
+ghost use Rattle.justfile_vocabulary.specs.declared.attribute_kind.AttributeKind.TheVariants as kinds;
+ghost use Rattle.justfile_vocabulary.specs.declared.unstable_feature.UnstableFeature.TheVariants as features;
 ghost use Rattle.justfile_model.specs.ContentKeys.{has_attribute};
 ghost use Rattle.justfile_model.specs.UnstableFeatures.{is_lists};
 ghost use Rattle.justfile_parse.specs.Unstable.{unstable_of, uses_feature, with_used};
 ghost use Rattle.justfile_setting.specs.Setting.{keyword_of};
 
 use justfile_attribute_set::AttributeSet;
-use justfile_base::{AttributeKind, UnstableFeature};
 use justfile_item::Item;
 use justfile_setting::Setting;
+use justfile_token::{AttributeKind, UnstableFeature};
 use std::alloc::{AllocError, Global};
 use std::collections::BTreeSet;
 

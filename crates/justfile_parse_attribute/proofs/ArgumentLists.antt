@@ -7,20 +7,20 @@ use Rattle.std.specs.Str.{bytes_eq}
 use Rattle.std.proofs.lemmas.Bool.Decides.{nat_tests}
 use Rattle.std.proofs.lemmas.List.Folds.{list_any-append}
 use Rattle.std.proofs.lemmas.List.{append-nil, append_assoc, map-append}
-use Rattle.justfile_base.specs.declared.token.Token.{Token}
+use Rattle.justfile_token.specs.declared.token.Token.{Token}
 use Rattle.justfile_model.specs.AttributeReader as attributes
 use Rattle.justfile_model.specs.Meaning.{KeyArgument, at_key, by_key}
 use Rattle.justfile_model.specs.Tree as tree
 use Rattle.justfile_model.specs.Tree.{Argument, Expr}
 use Rattle.justfile_attribute_rules.specs.Keys.{key_text}
 use Rattle.justfile_parse_attribute.specs.ArgumentKeys.{Given, are_distinct, are_keys_distinct}
-use Rattle.justfile_parse_attribute.specs.AttributeTable.{meaning_in, meaning_kept, sight_of, some_key}
+use Rattle.justfile_parse_attribute.specs.AttributeTable.{meaning_in, meaning_kept, view_of, some_key}
 use Rattle.justfile_parse_attribute.specs.Attributes.{arguments_of, keyed_of, positional_of}
 use Rattle.justfile_parse_attribute.specs.declared.arguments.Arguments.{Arguments}
 use Rattle.justfile_parse_expression.specs.TableReader.{leaves}
-use Rattle.justfile_tree.specs.LeafSight.{sees_leaves}
-use Rattle.justfile_tree.specs.LeafTree.{Leaf, Named, leaf_tree_of}
-use Rattle.justfile_tree.specs.declared.expression.Expression.{Expression}
+use Rattle.justfile_expression.specs.LeafViews.{views_leaves}
+use Rattle.justfile_expression.specs.LeafTree.{Leaf, Named, leaf_tree_of}
+use Rattle.justfile_expression.specs.declared.expression.Expression.{Expression}
 
 abbrev Key : Type 0
 Key = KeyArgument Leaf Token
@@ -46,7 +46,7 @@ unfolding arguments_of
 keys_are a = keys_after a.positional.items a.keyed.items
 
 abbrev some_in : List Key → Bool
-some_in = attributes.some_key leaves sight_of meaning_kept meaning_in
+some_in = attributes.some_key leaves view_of meaning_kept meaning_in
 
 -- there is a key
 pub key_first : (a : Arguments) → some_key (arguments_of a) ≡ some_in (map key_of a.keyed.items)
@@ -60,17 +60,17 @@ key_counted a = go a.keyed.items ∙ sym (key_first a)
     go [] = refl
     go (g ∷ gs) = grind (arith, nat_tests)
 
-found_any : (text : List ℕ) (gs : List Given) → is_some (at_key sees_leaves text (map key_of gs)) ≡ list_any (λ g. bytes_eq (key_text g) text) gs
+found_any : (text : List ℕ) (gs : List Given) → is_some (at_key views_leaves text (map key_of gs)) ≡ list_any (λ g. bytes_eq (key_text g) text) gs
 found_any text [] = refl
 found_any text (g ∷ gs) = go (bytes_eq (key_text g) text) (found_any text gs)
   where
-    go : (b : Bool) → is_some (at_key sees_leaves text (map key_of gs)) ≡ list_any (λ g. bytes_eq (key_text g) text) gs
-        → is_some (cond b (Some (key_of g)) (at_key sees_leaves text (map key_of gs))) ≡ (b || list_any (λ g. bytes_eq (key_text g) text) gs)
+    go : (b : Bool) → is_some (at_key views_leaves text (map key_of gs)) ≡ list_any (λ g. bytes_eq (key_text g) text) gs
+        → is_some (cond b (Some (key_of g)) (at_key views_leaves text (map key_of gs))) ≡ (b || list_any (λ g. bytes_eq (key_text g) text) gs)
     go true h = refl
     go false h = h
 
 -- there is a key with this text
-pub key_among : (a : Arguments) (text : List ℕ) → list_any (λ g. bytes_eq (key_text g) text) a.keyed.items ≡ is_some (at_key sees_leaves text (by_key (arguments_of a)))
+pub key_among : (a : Arguments) (text : List ℕ) → list_any (λ g. bytes_eq (key_text g) text) a.keyed.items ≡ is_some (at_key views_leaves text (by_key (arguments_of a)))
 key_among a text = sym (rw (keys_are a) (found_any text a.keyed.items))
 
 none_keyed : (gs : List Given) → some_in (map key_of gs) ≡ false → map keyed_of gs ≡ []
@@ -136,7 +136,7 @@ any_text (g ∷ gs) t = ap (λ (b : Bool). bytes_eq (key_text g) t || b) (any_te
 
 -- a key that is not among them may be added
 pub still_distinct : (a : Arguments) (g : Given) (later : List Given) → later ≡ a.keyed.items ++ g ∷ []
-    → is_some (at_key sees_leaves (key_text g) (by_key (arguments_of a))) ≡ false → IsTrue (are_keys_distinct later)
+    → is_some (at_key views_leaves (key_text g) (by_key (arguments_of a))) ≡ false → IsTrue (are_keys_distinct later)
 unfolding are_keys_distinct
 still_distinct a g later e none =
     let apart = any_text a.keyed.items (key_text g) ∙ key_among a (key_text g) ∙ none in

@@ -16,7 +16,7 @@ use Rattle.justfile_parse_attribute.specs.TextSets.{HaveSame, texts_in}
 use Rattle.justfile_parse_attribute.specs.declared.arguments.Arguments.{Arguments}
 use Rattle.justfile_parse_attribute.proofs.ArgumentLists.{any_text, key_among}
 use Rattle.justfile_parse_attribute.proofs.TextSetLemmas.{same_more, same_then}
-use Rattle.justfile_tree.specs.LeafSight.{sees_leaves}
+use Rattle.justfile_expression.specs.LeafViews.{views_leaves}
 
 abbrev Texts : Type 0
 Texts = BTreeSet (Bor (List ℕ))
@@ -30,7 +30,7 @@ any_turned text [] = refl
 any_turned text (x ∷ texts) = ap (λ (b : Bool). b || list_any (bytes_eq text) texts) (turned text x) ∙ ap (λ (b : Bool). bytes_eq x text || b) (any_turned text texts)
 
 -- there is a key whose text is in the set
-pub text_among : (a : Arguments) (text : List ℕ) → list_any (bytes_eq text) (texts_in a.texts) ≡ is_some (at_key sees_leaves text (by_key (arguments_of a)))
+pub text_among : (a : Arguments) (text : List ℕ) → list_any (bytes_eq text) (texts_in a.texts) ≡ is_some (at_key views_leaves text (by_key (arguments_of a)))
 unfolding AreTexts
 text_among a text = sym (a.named text) ∙ any_turned text (map key_text a.keyed.items) ∙ any_text a.keyed.items text ∙ key_among a text
 

@@ -1,23 +1,23 @@
 -- Reading lists of attributes and of arguments, as loops do.
 use Rattle.std.proofs.Common.{◌≡◌, ◌∙◌, Bool, true, false, cond, List, [], ◌∷◌, ◌++◌, Option, Some, None, Ok, Err, refl, sym, ap}
-use Rattle.justfile_base.specs.declared.token.Token.{Token}
-use Rattle.justfile_word.specs.declared.token_kind.TokenKind.{TokenKind}
-use Rattle.justfile_word.specs.declared.token_kind.TokenKind.TheVariants as kinds
+use Rattle.justfile_token.specs.declared.token.Token.{Token}
+use Rattle.justfile_vocabulary.specs.declared.token_kind.TokenKind.{TokenKind}
+use Rattle.justfile_vocabulary.specs.declared.token_kind.TokenKind.TheVariants as kinds
 use Rattle.justfile_model.specs.AttributeReader as attributes
-use Rattle.justfile_model.specs.Reading.{◌>>=◌, choose}
+use Rattle.justfile_model.specs.ReaderState.{◌>>=◌, choose}
 use Rattle.justfile_model.specs.Tree.{Argument, Entry, commented_entry}
 use Rattle.justfile_model.proofs.AttributeReading as laws
 use Rattle.justfile_parse_attribute.specs.AttributeTable as r
-use Rattle.justfile_parse_attribute.specs.AttributeTable.{Arguments, meaning_in, meaning_kept, sight_of, then_last}
-use Rattle.justfile_parse_attribute.specs.Halting.{HaltsAt}
+use Rattle.justfile_parse_attribute.specs.AttributeTable.{Arguments, meaning_in, meaning_kept, view_of, then_last}
+use Rattle.justfile_parse_attribute.specs.ParseErrors.{IsParseError}
 use Rattle.justfile_parse_attribute.specs.AttributeTable.{Entries}
 use Rattle.justfile_parse_expression.specs.TableReader.{Read, State, accept, expect, leaves}
-use Rattle.justfile_parse_attribute.specs.declared.halt.Halt.{Halt}
-use Rattle.justfile_parse_attribute.specs.declared.halt.Halt.TheVariants.{Stopped, Broken}
+use Rattle.justfile_parse_attribute.specs.declared.parse_error.ParseError.{ParseError}
+use Rattle.justfile_parse_attribute.specs.declared.parse_error.ParseError.TheVariants.{Unreadable, BrokenRule}
 use Rattle.justfile_parse_expression.specs.declared.significant.TableEntry.{TableEntry}
-use Rattle.justfile_parse_expression.specs.declared.stop.Stop.TheVariants as stops
+use Rattle.justfile_parse_expression.specs.declared.expression_error.ExpressionError.TheVariants as causes
 use Rattle.justfile_parse_attribute.proofs.AttributeSteps.{broken_first}
-use Rattle.justfile_tree.specs.LeafTree.{Leaf}
+use Rattle.justfile_expression.specs.LeafTree.{Leaf}
 
 abbrev Taken : Type 0
 Taken = Option (TableEntry × State)
@@ -29,12 +29,12 @@ module _ {X : Type 0} where
   by_last whole x = cond x.0.1 (Ok (x.0.0, x.1)) (whole (x.0.0, x.1))
 
   -- where a step stops, so does all
-  stops_first : (found : Read (List X × Bool)) (next : (List X × Bool) × State → Read (List X)) (halt : Halt) (s : State) → HaltsAt halt s ⊥ found → HaltsAt halt s ⊥ (found >>= next)
-  stops_first found next (Broken error) s h = broken_first found next error.value h
-  stops_first found next (Stopped (stops.Refused refusal)) s h = ap (λ (o : Read (List X × Bool)). o >>= next) h
-  stops_first found next (Stopped (stops.Literal refused)) s h = ap (λ (o : Read (List X × Bool)). o >>= next) h
-  stops_first found next (Stopped stops.Memory) s h = tt
-  stops_first found next (Stopped stops.Numbers) s h = absurd h
+  stops_first : (found : Read (List X × Bool)) (next : (List X × Bool) × State → Read (List X)) (failure : ParseError) (s : State) → IsParseError failure s ⊥ found → IsParseError failure s ⊥ (found >>= next)
+  stops_first found next (BrokenRule error) s h = broken_first found next error.value h
+  stops_first found next (Unreadable (causes.Refused refusal)) s h = ap (λ (o : Read (List X × Bool)). o >>= next) h
+  stops_first found next (Unreadable (causes.Literal refused)) s h = ap (λ (o : Read (List X × Bool)). o >>= next) h
+  stops_first found next (Unreadable causes.Memory) s h = tt
+  stops_first found next (Unreadable causes.Numbers) s h = absurd h
 
   module _ (whole : List X × State → Read (List X)) (step : List X → State → Read (List X × Bool)) (law : (x : List X × State) → whole x ≡ (step x.0 x.1 >>= by_last whole)) where
     module _ (before : List X) (s : State) (all : Read (List X)) (so_far : whole (before, s) ≡ all) where
@@ -47,8 +47,8 @@ module _ {X : Type 0} where
       loop_ends : (later : List X) (rest : State) → step before s ≡ Ok ((later, true), rest) → all ≡ Ok (later, rest)
       loop_ends later rest h = here ∙ ap (λ (o : Read (List X × Bool)). o >>= by_last whole) h
 
-      loop_stops : (halt : Halt) (rest : State) → HaltsAt halt rest ⊥ (step before s) → HaltsAt halt rest ⊥ all
-      loop_stops halt rest h = rw here (stops_first (step before s) (by_last whole) halt rest h)
+      loop_stops : (error : ParseError) (rest : State) → IsParseError error rest ⊥ (step before s) → IsParseError error rest ⊥ all
+      loop_stops error rest h = rw here (stops_first (step before s) (by_last whole) error rest h)
 
 -- what stands after an element, as the rules have it
 separated : {X : Type 0} (closing : TokenKind) (all : List X) (s : State) (whole : List X × State → Read (List X))
@@ -72,7 +72,7 @@ module _ (name : TableEntry) (keys : Bool) where
 
   list_law : (x : Arguments × State) → from x ≡ (r.list_step name keys x.0 x.1 >>= by_last from)
   unfolding r.list_step r.one_argument attributes.arguments_end
-  list_law x = laws.arguments_from_is leaves sight_of meaning_kept meaning_in name keys x ∙ go (accept kinds.ParenR x.1) (r.argument name keys x.0 x.1)
+  list_law x = laws.arguments_from_is leaves view_of meaning_kept meaning_in name keys x ∙ go (accept kinds.ParenR x.1) (r.argument name keys x.0 x.1)
     where
       go : (o : Taken) (found : Read (Argument Leaf Token))
           → choose {X = Read Arguments} o
@@ -90,14 +90,14 @@ module _ (name : TableEntry) (keys : Bool) where
     pub list_ends : (later : Arguments) (rest : State) → r.list_step name keys before s ≡ Ok ((later, true), rest) → all ≡ Ok (later, rest)
     list_ends = loop_ends from (r.list_step name keys) list_law before s all so_far
 
-    pub list_stops : (halt : Halt) (rest : State) → HaltsAt halt rest ⊥ (r.list_step name keys before s) → HaltsAt halt rest ⊥ all
+    pub list_stops : (error : ParseError) (rest : State) → IsParseError error rest ⊥ (r.list_step name keys before s) → IsParseError error rest ⊥ all
     list_stops = loop_stops from (r.list_step name keys) list_law before s all so_far
 
 -- ---- the attributes of a bracket
 
 bracket_law : (x : Entries × State) → r.bracketed x ≡ (r.bracket_step x.0 x.1 >>= by_last r.bracketed)
 unfolding r.bracket_step r.one_attribute attributes.bracket_end
-bracket_law x = laws.bracketed_is leaves sight_of meaning_kept meaning_in x ∙ go (r.attribute x.0 x.1)
+bracket_law x = laws.bracketed_is leaves view_of meaning_kept meaning_in x ∙ go (r.attribute x.0 x.1)
   where
     go : (found : Read (Entry Leaf Token))
         → (found >>= λ w. choose (accept kinds.Comma w.1) (expect kinds.BracketR w.1 >>= λ closer. Ok (x.0 ++ w.0 ∷ [], closer.1)) (λ comma. r.bracketed (x.0 ++ w.0 ∷ [], comma.1)))
@@ -112,14 +112,14 @@ module _ (before : Entries) (s : State) (all : Read Entries) (so_far : r.bracket
   pub bracket_ends : (later : Entries) (rest : State) → r.bracket_step before s ≡ Ok ((later, true), rest) → all ≡ Ok (later, rest)
   bracket_ends = loop_ends r.bracketed r.bracket_step bracket_law before s all so_far
 
-  pub bracket_stops : (halt : Halt) (rest : State) → HaltsAt halt rest ⊥ (r.bracket_step before s) → HaltsAt halt rest ⊥ all
+  pub bracket_stops : (error : ParseError) (rest : State) → IsParseError error rest ⊥ (r.bracket_step before s) → IsParseError error rest ⊥ all
   bracket_stops = loop_stops r.bracketed r.bracket_step bracket_law before s all so_far
 
 -- ---- lines of attributes
 
 lines_law : (x : Entries × State) → r.attribute_lines_from x ≡ (r.line_step x.0 x.1 >>= by_last r.attribute_lines_from)
 unfolding r.line_step r.attribute_line
-lines_law x = laws.attribute_lines_from_is leaves sight_of meaning_kept meaning_in commented_entry x ∙ go (accept kinds.BracketL x.1)
+lines_law x = laws.attribute_lines_from_is leaves view_of meaning_kept meaning_in commented_entry x ∙ go (accept kinds.BracketL x.1)
   where
     flagged : Entries × State → Read (Entries × Bool)
     flagged y = Ok ((y.0, false), y.1)
@@ -152,7 +152,7 @@ module _ (before : Entries) (s : State) (all : Read Entries) (so_far : r.attribu
   pub lines_end : (later : Entries) (rest : State) → r.line_step before s ≡ Ok ((later, true), rest) → all ≡ Ok (later, rest)
   lines_end = loop_ends r.attribute_lines_from r.line_step lines_law before s all so_far
 
-  pub lines_stop : (halt : Halt) (rest : State) → HaltsAt halt rest ⊥ (r.line_step before s) → HaltsAt halt rest ⊥ all
+  pub lines_stop : (error : ParseError) (rest : State) → IsParseError error rest ⊥ (r.line_step before s) → IsParseError error rest ⊥ all
   lines_stop = loop_stops r.attribute_lines_from r.line_step lines_law before s all so_far
 
 pub lines_are : (s : State) → r.attribute_lines s ≡ r.attribute_lines_from ([], s)

@@ -3,43 +3,43 @@ use Rattle.std.proofs.Common.{◌≡◌, ◌∙◌, ℕ, ◌<◌, Bool, true, fa
 use Rattle.std.proofs.lemmas.List.{map-append}
 use Rattle.justfile_attribute.specs.declared.attribute.Attribute.{Attribute}
 use Rattle.justfile_attribute_rules.specs.Made.{IsRefusedBy}
-use Rattle.justfile_word.specs.AttributeKind.{kind_named, takes_keys}
-use Rattle.justfile_word.specs.declared.attribute_kind.AttributeKind.{AttributeKind}
-use Rattle.justfile_base.specs.declared.compile_error.CompileError.{CompileError}
-use Rattle.justfile_base.specs.declared.name.Name.{Name}
-use Rattle.justfile_base.specs.declared.fault.Fault.{Fault}
-use Rattle.justfile_base.specs.declared.fault.Fault.TheVariants as faults
-use Rattle.justfile_base.specs.declared.token.Token.{Token}
-use Rattle.justfile_word.specs.declared.token_kind.TokenKind.TheVariants as kinds
+use Rattle.justfile_vocabulary.specs.AttributeKind.{kind_named, takes_keys}
+use Rattle.justfile_vocabulary.specs.declared.attribute_kind.AttributeKind.{AttributeKind}
+use Rattle.justfile_token.specs.declared.compile_error.CompileError.{CompileError}
+use Rattle.justfile_token.specs.declared.name.Name.{Name}
+use Rattle.justfile_token.specs.declared.fault.Fault.{Fault}
+use Rattle.justfile_token.specs.declared.fault.Fault.TheVariants as faults
+use Rattle.justfile_token.specs.declared.token.Token.{Token}
+use Rattle.justfile_vocabulary.specs.declared.token_kind.TokenKind.TheVariants as kinds
 use Rattle.justfile_model.specs.AttributeReader as attributes
 use Rattle.justfile_model.specs.Expressions.{front}
 use Rattle.justfile_model.specs.Meaning.{by_key, by_position}
 use Rattle.justfile_model.specs.NewAttribute as new
 use Rattle.justfile_model.specs.NewAttribute.{Made, check_repeated, new_attribute, new_entry}
-use Rattle.justfile_model.specs.Reading as reading
-use Rattle.justfile_model.specs.Reading.{◌>>=◌, choose}
+use Rattle.justfile_model.specs.ReaderState as reading
+use Rattle.justfile_model.specs.ReaderState.{◌>>=◌, choose}
 use Rattle.justfile_model.specs.Rules.{Rule}
 use Rattle.justfile_model.specs.Tree as tree
 use Rattle.justfile_model.specs.Tree.{Argument, Entry, bare_entry}
 use Rattle.justfile_model.proofs.AttributeReading as laws
 use Rattle.justfile_parse_attribute.specs.AttributeTable as r
-use Rattle.justfile_parse_attribute.specs.AttributeTable.{Arguments, meaning_in, meaning_kept, sight_of, then_last}
+use Rattle.justfile_parse_attribute.specs.AttributeTable.{Arguments, meaning_in, meaning_kept, view_of, then_last}
 use Rattle.justfile_parse_attribute.specs.AddedAttributes.{AddsEntry, ChecksLast, IsAdded}
 use Rattle.justfile_parse_attribute.specs.Attributes.{entry_of_pair}
-use Rattle.justfile_parse_attribute.specs.Halting.{HaltsAt, HaltsFor, IsBrokenBy}
+use Rattle.justfile_parse_attribute.specs.ParseErrors.{IsParseError, IsErrorOfFault, IsBrokenBy}
 use Rattle.justfile_parse_expression.specs.MethodResults.{refusal_at}
 use Rattle.justfile_parse_attribute.specs.AttributeTable.{Entries}
 use Rattle.justfile_parse_expression.specs.TableReader.{Read, State, accept, expect, leaves}
-use Rattle.justfile_parse_expression.specs.View.{left, state_of}
-use Rattle.justfile_parse_attribute.specs.declared.halt.Halt.{Halt}
-use Rattle.justfile_parse_attribute.specs.declared.halt.Halt.TheVariants.{Stopped, Broken}
+use Rattle.justfile_parse_expression.specs.View.{tokens_left, state_of}
+use Rattle.justfile_parse_attribute.specs.declared.parse_error.ParseError.{ParseError}
+use Rattle.justfile_parse_attribute.specs.declared.parse_error.ParseError.TheVariants.{Unreadable, BrokenRule}
 use Rattle.justfile_parse_expression.specs.declared.parser.ExpressionParser.{ExpressionParser}
 use Rattle.justfile_parse_expression.specs.declared.significant.TableEntry.{TableEntry}
-use Rattle.justfile_parse_expression.specs.declared.stop.Refusal.TheVariants as refusals
-use Rattle.justfile_parse_expression.specs.declared.stop.Stop.TheVariants as stops
+use Rattle.justfile_parse_expression.specs.declared.expression_error.SyntaxError.TheVariants as refusals
+use Rattle.justfile_parse_expression.specs.declared.expression_error.ExpressionError.TheVariants as causes
 use Rattle.justfile_parse_expression.proofs.Rest.{left_is}
-use Rattle.justfile_tree.specs.LeafSight.{sees_leaves}
-use Rattle.justfile_tree.specs.LeafTree.{Leaf}
+use Rattle.justfile_expression.specs.LeafViews.{views_leaves}
+use Rattle.justfile_expression.specs.LeafTree.{Leaf}
 use Rattle.justfile_written.specs.Written.{uncommented}
 use Rattle.justfile_written.specs.declared.written.Written.{Written}
 
@@ -57,37 +57,37 @@ broken_first (Err (reading.ExpectedKeyword expected t)) next e h = h
 broken_first (Err (reading.NoNumber counters)) next e h = absurd h
 
 -- reading halts where its first part halts
-halts_first : {X Y : Type 0} (halt : Halt) (s : State) (found : Read X) (next : X × State → Read Y) → HaltsAt halt s ⊥ found → HaltsAt halt s ⊥ (found >>= next)
-halts_first (Broken error) s found next h = broken_first found next error.value h
-halts_first (Stopped (stops.Refused refusal)) s found next h = rw h refl
-halts_first (Stopped (stops.Literal refused)) s found next h = rw h refl
-halts_first (Stopped stops.Memory) s found next h = tt
-halts_first (Stopped stops.Numbers) s found next h = absurd h
+fails_first : {X Y : Type 0} (failure : ParseError) (s : State) (found : Read X) (next : X × State → Read Y) → IsParseError failure s ⊥ found → IsParseError failure s ⊥ (found >>= next)
+fails_first (BrokenRule error) s found next h = broken_first found next error.value h
+fails_first (Unreadable (causes.Refused refusal)) s found next h = rw h refl
+fails_first (Unreadable (causes.Literal refused)) s found next h = rw h refl
+fails_first (Unreadable causes.Memory) s found next h = tt
+fails_first (Unreadable causes.Numbers) s found next h = absurd h
 
 -- reading halts for the fault of a rule
-pub halts_for : (Y : Type 0) (rule : Rule Token) (token : Token) (fault : Fault) (halt : Halt) (s : State)
-    → HaltsFor halt fault → IsRefusedBy (new.refuse {X = Unit {0}} rule token) fault
-    → HaltsAt {Y = Y} halt s ⊥ (Err (reading.BreaksRule (record { rule = rule; token = token })))
-halts_for Y rule token (faults.Compile e) (Broken error) s h k = rw h k
-halts_for Y rule token faults.Memory (Broken error) s h k = absurd h
-halts_for Y rule token faults.Numbers (Broken error) s h k = absurd h
-halts_for Y rule token fault (Stopped stops.Memory) s h k = tt
-halts_for Y rule token (faults.Compile e) (Stopped stops.Numbers) s h k = absurd h
-halts_for Y rule token faults.Memory (Stopped stops.Numbers) s h k = absurd h
-halts_for Y rule token faults.Numbers (Stopped stops.Numbers) s h k = absurd k
-halts_for Y rule token (faults.Compile e) (Stopped (stops.Refused r)) s h k = absurd h
-halts_for Y rule token faults.Memory (Stopped (stops.Refused r)) s h k = absurd h
-halts_for Y rule token faults.Numbers (Stopped (stops.Refused r)) s h k = absurd h
-halts_for Y rule token (faults.Compile e) (Stopped (stops.Literal r)) s h k = absurd h
-halts_for Y rule token faults.Memory (Stopped (stops.Literal r)) s h k = absurd h
-halts_for Y rule token faults.Numbers (Stopped (stops.Literal r)) s h k = absurd h
+pub fails_for : (Y : Type 0) (rule : Rule Token) (token : Token) (fault : Fault) (failure : ParseError) (s : State)
+    → IsErrorOfFault failure fault → IsRefusedBy (new.refuse {X = Unit {0}} rule token) fault
+    → IsParseError {Y = Y} failure s ⊥ (Err (reading.BreaksRule (record { rule = rule; token = token })))
+fails_for Y rule token (faults.Compile e) (BrokenRule error) s h k = rw h k
+fails_for Y rule token faults.Memory (BrokenRule error) s h k = absurd h
+fails_for Y rule token faults.Numbers (BrokenRule error) s h k = absurd h
+fails_for Y rule token fault (Unreadable causes.Memory) s h k = tt
+fails_for Y rule token (faults.Compile e) (Unreadable causes.Numbers) s h k = absurd h
+fails_for Y rule token faults.Memory (Unreadable causes.Numbers) s h k = absurd h
+fails_for Y rule token faults.Numbers (Unreadable causes.Numbers) s h k = absurd k
+fails_for Y rule token (faults.Compile e) (Unreadable (causes.Refused r)) s h k = absurd h
+fails_for Y rule token faults.Memory (Unreadable (causes.Refused r)) s h k = absurd h
+fails_for Y rule token faults.Numbers (Unreadable (causes.Refused r)) s h k = absurd h
+fails_for Y rule token (faults.Compile e) (Unreadable (causes.Literal r)) s h k = absurd h
+fails_for Y rule token faults.Memory (Unreadable (causes.Literal r)) s h k = absurd h
+fails_for Y rule token faults.Numbers (Unreadable (causes.Literal r)) s h k = absurd h
 
 -- where nothing comes next no expression is read
-pub none_before : {X : Type 0} (answer : X → List ℕ → Result (List ℕ) (List ℕ)) (p q : ExpressionParser X) (s : State) → front (state_of answer p).left ≡ None → left q < left p
+pub none_before : {X : Type 0} (answer : X → List ℕ → Result (List ℕ) (List ℕ)) (p q : ExpressionParser X) (s : State) → front (state_of answer p).left ≡ None → tokens_left q < tokens_left p
     → ◌≡◌ {A = Read (Argument Leaf Token)} (Err (reading.Unexpected None)) (Err (refusal_at refusals.Unexpected s))
 none_before answer p q s h k = go (state_of answer p).left (left_is answer p) h
   where
-    go : (l : List TableEntry) → length l ≡ left p → front l ≡ None → ◌≡◌ {A = Read (Argument Leaf Token)} (Err (reading.Unexpected None)) (Err (refusal_at refusals.Unexpected s))
+    go : (l : List TableEntry) → length l ≡ tokens_left p → front l ≡ None → ◌≡◌ {A = Read (Argument Leaf Token)} (Err (reading.Unexpected None)) (Err (refusal_at refusals.Unexpected s))
     go [] e h = absurd (omega (arith, e, k))
     go (t ∷ ts) e h = cc
 
@@ -112,10 +112,10 @@ arguments_is name keys s = refl
 
 -- the kind of a name, or its refusal
 abbrev pub kind_or_refused : TableEntry → State → Option AttributeKind → Read AttributeKind
-kind_or_refused = laws.kind_or_refused leaves sight_of meaning_kept meaning_in
+kind_or_refused = laws.kind_or_refused leaves view_of meaning_kept meaning_in
 
 pub kind_at_is : (name : TableEntry) (s : State) → r.kind_at name s ≡ kind_or_refused name s (kind_named (leaves.see name).tok.lexeme)
-kind_at_is name s = laws.kind_at_is leaves sight_of meaning_kept meaning_in name s
+kind_at_is name s = laws.kind_at_is leaves view_of meaning_kept meaning_in name s
 
 map_same : (es : Entries) → map meaning_in es ≡ es
 map_same [] = refl
@@ -125,8 +125,8 @@ made_after : (before : Entries) (name : TableEntry) (kind : AttributeKind) (all 
     → (r.made before name kind all s >>= then_last before) ≡ r.one_made before name.token.now kind all s
 unfolding attributes.made r.one_made leaves
 made_after before name kind all s =
-    step (new_entry sees_leaves (map meaning_in before) name.token.now kind (by_position all) (by_key all)) (new_entry sees_leaves before name.token.now kind (by_position all) (by_key all))
-    (ap (λ (l : Entries). new_entry sees_leaves l name.token.now kind (by_position all) (by_key all)) (map_same before))
+    step (new_entry views_leaves (map meaning_in before) name.token.now kind (by_position all) (by_key all)) (new_entry views_leaves before name.token.now kind (by_position all) (by_key all))
+    (ap (λ (l : Entries). new_entry views_leaves l name.token.now kind (by_position all) (by_key all)) (map_same before))
   where
     step : (m k : Made Token (Entry Leaf Token)) → m ≡ k
         → ((attributes.read_made m s >>= λ e. Ok (e.0, e.1)) >>= then_last before) ≡ (attributes.read_made k s >>= λ e. Ok (before ++ e.0 ∷ [], e.1))
@@ -166,29 +166,29 @@ made_first (Ok x) next (faults.Compile e) h = absurd h
 made_first (Err broken) next (faults.Compile e) h = h
 
 -- reading halts where nothing is made
-refused_halts : {X Y : Type 0} (made : Made Token X) (next : X × State → Read Y) (fault : Fault) (halt : Halt) (s : State)
-    → HaltsFor halt fault → IsRefusedBy made fault → HaltsAt halt s ⊥ (attributes.read_made made s >>= next)
-refused_halts (Ok x) next (faults.Compile e) halt s h k = absurd k
-refused_halts (Err broken) next fault halt s h k = halts_for _ broken.rule broken.token fault halt s h k
-refused_halts made next faults.Memory (Stopped stops.Memory) s h k = tt
-refused_halts made next faults.Memory (Stopped stops.Numbers) s h k = absurd h
-refused_halts made next faults.Memory (Stopped (stops.Refused r)) s h k = absurd h
-refused_halts made next faults.Memory (Stopped (stops.Literal r)) s h k = absurd h
-refused_halts made next faults.Memory (Broken error) s h k = absurd h
-refused_halts made next faults.Numbers halt s h k = absurd k
+refused_fails : {X Y : Type 0} (made : Made Token X) (next : X × State → Read Y) (fault : Fault) (failure : ParseError) (s : State)
+    → IsErrorOfFault failure fault → IsRefusedBy made fault → IsParseError failure s ⊥ (attributes.read_made made s >>= next)
+refused_fails (Ok x) next (faults.Compile e) failure s h k = absurd k
+refused_fails (Err broken) next fault failure s h k = fails_for _ broken.rule broken.token fault failure s h k
+refused_fails made next faults.Memory (Unreadable causes.Memory) s h k = tt
+refused_fails made next faults.Memory (Unreadable causes.Numbers) s h k = absurd h
+refused_fails made next faults.Memory (Unreadable (causes.Refused r)) s h k = absurd h
+refused_fails made next faults.Memory (Unreadable (causes.Literal r)) s h k = absurd h
+refused_fails made next faults.Memory (BrokenRule error) s h k = absurd h
+refused_fails made next faults.Numbers failure s h k = absurd k
 
 module _ (pairs : List (Attribute × Written)) (name : Name) (kind : AttributeKind) (all : Arguments) (s : State) where
   abbrev before : Entries
   before = map entry_of_pair pairs
 
   abbrev attribute_made : Made Token (tree.Attribute Leaf Token)
-  attribute_made = new_attribute sees_leaves name.token kind (by_position all) (by_key all)
+  attribute_made = new_attribute views_leaves name.token kind (by_position all) (by_key all)
 
   abbrev checked : tree.Attribute Leaf Token → Made Token (Entry Leaf Token)
-  checked a = new.◌>>=◌ (check_repeated sees_leaves before (bare_entry name.token a)) (λ distinct. Ok (bare_entry name.token a))
+  checked a = new.◌>>=◌ (check_repeated views_leaves before (bare_entry name.token a)) (λ distinct. Ok (bare_entry name.token a))
 
   abbrev entry_made : Made Token (Entry Leaf Token)
-  entry_made = new_entry sees_leaves before name.token kind (by_position all) (by_key all)
+  entry_made = new_entry views_leaves before name.token kind (by_position all) (by_key all)
 
   -- no entry is made where no attribute is
   pub entry_refused : (fault : Fault) → IsRefusedBy attribute_made fault → IsRefusedBy entry_made fault
@@ -200,16 +200,16 @@ module _ (pairs : List (Attribute × Written)) (name : Name) (kind : AttributeKi
   unfolding ChecksLast
   entry_checked (Err fault) later h checks =
       let e = uncommented (h.attribute, name) in
-      rw h.is_made (made_first (check_repeated sees_leaves before (entry_of_pair e)) _ fault (checks pairs e h.added))
+      rw h.is_made (made_first (check_repeated views_leaves before (entry_of_pair e)) _ fault (checks pairs e h.added))
   entry_checked (Ok u) later h checks =
       let e = uncommented (h.attribute, name) in
       record { attribute = h.attribute; is_made = rw (h.is_made, checks pairs e h.added) refl; added = h.added }
 
   -- reading halts where no entry is added, and else goes on
-  pub entry_halts : (fault : Fault) (halt : Halt) (later : List (Attribute × Written)) → AddsEntry (Err fault) entry_made name pairs later → HaltsFor halt fault
-      → HaltsAt halt s ⊥ (r.one_made before name.token kind all s)
+  pub entry_fails : (fault : Fault) (error : ParseError) (later : List (Attribute × Written)) → AddsEntry (Err fault) entry_made name pairs later → IsErrorOfFault error fault
+      → IsParseError error s ⊥ (r.one_made before name.token kind all s)
   unfolding r.one_made
-  entry_halts fault halt later h halts = refused_halts entry_made _ fault halt s halts h
+  entry_fails fault error later h fails = refused_fails entry_made _ fault error s fails h
 
   pub entry_last : (later : List (Attribute × Written)) → AddsEntry (Ok tt) entry_made name pairs later → r.one_made before name.token kind all s ≡ Ok (map entry_of_pair later, s)
   unfolding r.one_made
@@ -221,12 +221,12 @@ module _ (pairs : List (Attribute × Written)) (name : Name) (kind : AttributeKi
       so_far ∙ ap Q (sym (map-append entry_of_pair pairs (uncommented (a, name) ∷ []))) ∙ sym (ap P h.added)
 
 -- an attribute is not read where its kind is not, or its arguments are not
-pub kind_halts : (before : Entries) (s : State) (name : TableEntry) (named : State) (halt : Halt) → expect kinds.Identifier s ≡ Ok (name, named)
-    → HaltsAt halt named ⊥ (r.kind_at name named) → HaltsAt halt named ⊥ (r.one_attribute before s)
-kind_halts before s name named halt found h = rw (one_attribute_is before s, found) (halts_first halt named (r.kind_at name named) _ h)
+pub kind_fails : (before : Entries) (s : State) (name : TableEntry) (named : State) (error : ParseError) → expect kinds.Identifier s ≡ Ok (name, named)
+    → IsParseError error named ⊥ (r.kind_at name named) → IsParseError error named ⊥ (r.one_attribute before s)
+kind_fails before s name named error found h = rw (one_attribute_is before s, found) (fails_first error named (r.kind_at name named) _ h)
 
-pub arguments_halt : (before : Entries) (s : State) (name : TableEntry) (named : State) (kind : AttributeKind) (keys : Bool) (rest : State) (halt : Halt)
+pub arguments_fail : (before : Entries) (s : State) (name : TableEntry) (named : State) (kind : AttributeKind) (keys : Bool) (rest : State) (error : ParseError)
     → expect kinds.Identifier s ≡ Ok (name, named) → r.kind_at name named ≡ Ok (kind, named) → keys ≡ takes_keys kind
-    → HaltsAt halt rest ⊥ (r.arguments name keys named) → HaltsAt halt rest ⊥ (r.one_attribute before s)
-arguments_halt before s name named kind keys rest halt found kinded same h =
-    rw (one_attribute_is before s, found, kinded, sym same) (halts_first halt rest (r.arguments name keys named) _ h)
+    → IsParseError error rest ⊥ (r.arguments name keys named) → IsParseError error rest ⊥ (r.one_attribute before s)
+arguments_fail before s name named kind keys rest error found kinded same h =
+    rw (one_attribute_is before s, found, kinded, sym same) (fails_first error rest (r.arguments name keys named) _ h)

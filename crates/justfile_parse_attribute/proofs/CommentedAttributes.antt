@@ -1,12 +1,12 @@
 -- The comment after a line of attributes, given to the last of them.
 use Rattle.std.proofs.Common.{◌≡◌, ◌∙◌, All, List, [], ◌∷◌, map, Option, Some, None, refl, sym, ap, subst}
 use Rattle.std.specs.Option.{option_copied, option_map}
-use Rattle.justfile_attribute.specs.New.{IsWholeAttribute}
+use Rattle.justfile_attribute.specs.New.{HasDerivedAttributeFields}
 use Rattle.justfile_attribute.specs.declared.attribute.Attribute.{Attribute}
 use Rattle.justfile_model.specs.Tree.{at_last, commented, commented_entry}
 use Rattle.justfile_parse_attribute.specs.AttributeTable as reader
 use Rattle.justfile_parse_attribute.specs.Attributes.{entry_of_pair}
-use Rattle.justfile_parse_attribute.specs.WholeAttributes.{AreWholeAttributes, KeepsWholePairs}
+use Rattle.justfile_parse_attribute.specs.DerivedAttributeFields.{HaveDerivedAttributeFields, KeepsDerivedPairFields}
 use Rattle.justfile_parse_expression.specs.declared.significant.TableEntry.{TableEntry}
 use Rattle.justfile_written.specs.Written.{Comment, last_with_comment, line_commented}
 use Rattle.justfile_written.specs.declared.written.Written.{Written}
@@ -44,7 +44,7 @@ line_attributes None pairs = refl
 line_attributes (Some comment) pairs = last_attribute comment pairs
 
 -- the attributes stay as they are
-pub whole_commented : (comment : Option Comment) (old new : List Pair) → new ≡ line_commented comment old → KeepsWholePairs old new
-unfolding KeepsWholePairs AreWholeAttributes
+pub whole_commented : (comment : Option Comment) (old new : List Pair) → new ≡ line_commented comment old → KeepsDerivedPairFields old new
+unfolding KeepsDerivedPairFields HaveDerivedAttributeFields
 whole_commented comment old new h whole =
-    subst (All IsWholeAttribute) (sym (ap (map attribute_of) h ∙ line_attributes comment old)) whole
+    subst (All HasDerivedAttributeFields) (sym (ap (map attribute_of) h ∙ line_attributes comment old)) whole

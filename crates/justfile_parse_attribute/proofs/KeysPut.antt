@@ -15,8 +15,8 @@ use denote.Ref.{Bor}
 use Rattle.justfile_attribute_rules.specs.Keys.{AreKeyed, IsPut, KeyMap, key_argument, key_arguments, key_text, text_order}
 use Rattle.justfile_attribute_rules.specs.Made.{placed_leaf, placed_leaves}
 use Rattle.justfile_attribute_rules.proofs.PutKeys.{IsKeyed, Stored, none_keyed, stays_keyed, tied}
-use Rattle.justfile_word.specs.declared.attribute_kind.AttributeKind.{AttributeKind}
-use Rattle.justfile_base.specs.declared.token.Token.{Token}
+use Rattle.justfile_vocabulary.specs.declared.attribute_kind.AttributeKind.{AttributeKind}
+use Rattle.justfile_token.specs.declared.token.Token.{Token}
 use Rattle.justfile_model.specs.Meaning.{KeyArgument, Placed, by_key, by_position}
 use Rattle.justfile_model.specs.NewAttribute.{new_attribute}
 use Rattle.justfile_model.proofs.NewAttributeSteps.{contains_first, nothing_in}
@@ -25,9 +25,9 @@ use Rattle.justfile_parse_attribute.specs.ArgumentKeys.{Given, HasKeys, are_dist
 use Rattle.justfile_parse_attribute.specs.Attributes.{arguments_of, keyed_of, positional_of}
 use Rattle.justfile_parse_attribute.specs.declared.arguments.Arguments.{Arguments}
 use Rattle.justfile_parse_attribute.proofs.ArgumentLists.{both, keys_are}
-use Rattle.justfile_tree.specs.LeafSight.{sees_leaves}
-use Rattle.justfile_tree.specs.LeafTree.{Leaf}
-use Rattle.justfile_tree.specs.declared.expression.Expression.{Expression}
+use Rattle.justfile_expression.specs.LeafViews.{views_leaves}
+use Rattle.justfile_expression.specs.LeafTree.{Leaf}
+use Rattle.justfile_expression.specs.declared.expression.Expression.{Expression}
 
 -- ---- elements
 
@@ -219,13 +219,13 @@ unfolding arguments_of
 positions_are a = positions_after a.positional.items a.keyed.items
 
 abbrev text_of_key : KeyArgument Leaf Token → List ℕ
-text_of_key k = sees_leaves.bytes k.key
+text_of_key k = views_leaves.bytes k.key
 
 same_texts : (gs : List Given) → map text_of_key (map key_argument gs) ≡ map key_text gs
 same_texts [] = refl
 same_texts (g ∷ gs) = ap (λ (l : List (List ℕ)). key_text g ∷ l) (same_texts gs)
 
-keys_same : (gs : List Given) (m : KeyMap) → IsTrue (are_keys_distinct gs) → HasKeys gs m → SameKeys sees_leaves (map key_argument gs) (key_arguments m)
+keys_same : (gs : List Given) (m : KeyMap) → IsTrue (are_keys_distinct gs) → HasKeys gs m → SameKeys views_leaves (map key_argument gs) (key_arguments m)
 unfolding are_keys_distinct
 keys_same gs m distinct h = record {
   one_each = one_each text_of_key (map key_argument gs) (subst (λ texts. IsTrue (are_distinct texts)) (sym (same_texts gs)) distinct);
@@ -235,7 +235,7 @@ keys_same gs m distinct h = record {
 
 -- the attribute is that of the arguments as they were read
 pub made_same : (at : Token) (kind : AttributeKind) (a : Arguments) (m : KeyMap) → HasKeys a.keyed.items m
-    → new_attribute sees_leaves at kind (by_position (arguments_of a)) (by_key (arguments_of a)) ≡ new_attribute sees_leaves at kind (placed_leaves a.positional.items) (key_arguments m)
+    → new_attribute views_leaves at kind (by_position (arguments_of a)) (by_key (arguments_of a)) ≡ new_attribute views_leaves at kind (placed_leaves a.positional.items) (key_arguments m)
 made_same at kind a m h =
-    (λ i. new_attribute sees_leaves at kind (positions_are a i) (keys_are a i))
-    ∙ attribute_same sees_leaves (map key_argument a.keyed.items) (key_arguments m) (keys_same a.keyed.items m a.distinct h) at kind (placed_leaves a.positional.items)
+    (λ i. new_attribute views_leaves at kind (positions_are a i) (keys_are a i))
+    ∙ attribute_same views_leaves (map key_argument a.keyed.items) (key_arguments m) (keys_same a.keyed.items m a.distinct h) at kind (placed_leaves a.positional.items)

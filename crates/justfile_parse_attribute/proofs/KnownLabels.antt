@@ -17,11 +17,11 @@ use Rattle.std.proofs.Math.Seq.{take-append_seam}
 use Rattle.justfile_attribute.specs.Attribute.{leaf_attribute_of}
 use Rattle.justfile_attribute.specs.declared.attribute.Attribute.{Attribute}
 use Rattle.justfile_attribute_rules.specs.Made.{Makes, quoted_leaf}
-use Rattle.justfile_base.specs.declared.fault.Fault.{Fault}
-use Rattle.justfile_base.specs.declared.fault.Fault.TheVariants as faults
-use Rattle.justfile_base.specs.declared.name.Name.{Name}
-use Rattle.justfile_base.specs.declared.string_literal.StringLiteral.{StringLiteral}
-use Rattle.justfile_base.specs.declared.token.Token.{Token}
+use Rattle.justfile_token.specs.declared.fault.Fault.{Fault}
+use Rattle.justfile_token.specs.declared.fault.Fault.TheVariants as faults
+use Rattle.justfile_token.specs.declared.name.Name.{Name}
+use Rattle.justfile_token.specs.declared.string_literal.StringLiteral.{StringLiteral}
+use Rattle.justfile_token.specs.declared.token.Token.{Token}
 use Rattle.justfile_model.specs.AttributeKinds.{is_repeatable, same_attribute}
 use Rattle.justfile_model.specs.AttributeRules.{duplicate_rule, excludes, label_of, same_label, same_text}
 use Rattle.justfile_model.specs.ContentKeys.{kind_of_attribute}
@@ -36,11 +36,11 @@ use Rattle.justfile_parse_attribute.specs.Attributes.{entry_of_pair}
 use Rattle.justfile_parse_attribute.specs.Labels.{AreKnown, AreKnownBefore, AreSame, ChecksLabel, ChecksLine, IsLabelNoted, IsNoted, Seen, arg_label, first_line, group_label, has_text, label_rule}
 use Rattle.justfile_parse_attribute.specs.declared.labels.Labels.{Labels}
 use Rattle.justfile_parse_attribute.proofs.RepeatedAttributes.{arg_rule, group_rule, label_text, last_apart}
-use Rattle.justfile_tree.specs.LeafSight.{sees_leaves}
-use Rattle.justfile_tree.specs.LeafTree.{Leaf}
-use Rattle.justfile_word.specs.declared.attribute_kind.AttributeKind.{AttributeKind}
-use Rattle.justfile_word.specs.declared.attribute_kind.AttributeKind.TheVariants as kinds
-use Rattle.justfile_word.specs.contracts.attribute_kind.AttributeKind as kind_type
+use Rattle.justfile_expression.specs.LeafViews.{views_leaves}
+use Rattle.justfile_expression.specs.LeafTree.{Leaf}
+use Rattle.justfile_vocabulary.specs.declared.attribute_kind.AttributeKind.{AttributeKind}
+use Rattle.justfile_vocabulary.specs.declared.attribute_kind.AttributeKind.TheVariants as kinds
+use Rattle.justfile_vocabulary.specs.contracts.attribute_kind.AttributeKind as kind_type
 use Rattle.justfile_written.specs.Written.{Comment, last_with_comment, line_commented, uncommented}
 use Rattle.justfile_written.specs.declared.written.Written.{Written}
 
@@ -68,91 +68,91 @@ repeatable_as : (k : AttributeKind) (d : Seen) → is_repeatable k ≡ true → 
 repeatable_as k d h e = ap is_repeatable (kind_is (kind_of_attribute d) k e) ∙ h
 
 -- what stands before an `arg`
-arg_shares : (q : Quoted Leaf) (d : Seen) → arg_label d ≡ None → same_attribute (kind_of_attribute d) kinds.Arg ≡ true → same_label sees_leaves (label_of sees_leaves d) (Some q) ≡ false
+arg_shares : (q : Quoted Leaf) (d : Seen) → arg_label d ≡ None → same_attribute (kind_of_attribute d) kinds.Arg ≡ true → same_label views_leaves (label_of views_leaves d) (Some q) ≡ false
 unfolding same_attribute
 arg_shares q (tree.Arg rules) none e = cc
 arg_shares q (tree.Texts kinds.Group texts) none e = cc
 arg_shares q d none e = refl
 
-arg_apart : (rules : ArgumentRules Leaf Token) (d : Seen) → arg_label d ≡ None → excludes sees_leaves d (tree.Arg rules) ≡ false
+arg_apart : (rules : ArgumentRules Leaf Token) (d : Seen) → arg_label d ≡ None → excludes views_leaves d (tree.Arg rules) ≡ false
 arg_apart rules d none =
     apart (same_attribute (kind_of_attribute d) kinds.Arg) _ _ (repeatable_as kinds.Arg d refl) (arg_shares rules.name d none)
 
-arg_excludes : (rules : ArgumentRules Leaf Token) (text : List ℕ) → quoted_text sees_leaves rules.name ≡ Some text → (d : Seen)
-    → excludes sees_leaves d (tree.Arg rules) ≡ has_text text (arg_label d)
+arg_excludes : (rules : ArgumentRules Leaf Token) (text : List ℕ) → quoted_text views_leaves rules.name ≡ Some text → (d : Seen)
+    → excludes views_leaves d (tree.Arg rules) ≡ has_text text (arg_label d)
 unfolding same_attribute
-arg_excludes rules text h (tree.Arg r) = ap (same_text sees_leaves (quoted_text sees_leaves r.name)) h
+arg_excludes rules text h (tree.Arg r) = ap (same_text views_leaves (quoted_text views_leaves r.name)) h
 arg_excludes rules text h d = arg_apart rules d refl
 
 -- what stands before a `group`
-group_shares : (q : Quoted Leaf) (d : Seen) → group_label d ≡ None → same_attribute (kind_of_attribute d) kinds.Group ≡ true → same_label sees_leaves (label_of sees_leaves d) (Some q) ≡ false
+group_shares : (q : Quoted Leaf) (d : Seen) → group_label d ≡ None → same_attribute (kind_of_attribute d) kinds.Group ≡ true → same_label views_leaves (label_of views_leaves d) (Some q) ≡ false
 unfolding same_attribute
 group_shares q (tree.Arg rules) none e = cc
 group_shares q (tree.Texts kinds.Group []) none e = refl
 group_shares q (tree.Texts kinds.Group (p ∷ ps)) none e = cc
 group_shares q d none e = refl
 
-group_apart : (q : Quoted Leaf) (qs : List (Quoted Leaf)) (d : Seen) → group_label d ≡ None → excludes sees_leaves d (tree.Texts kinds.Group (q ∷ qs)) ≡ false
+group_apart : (q : Quoted Leaf) (qs : List (Quoted Leaf)) (d : Seen) → group_label d ≡ None → excludes views_leaves d (tree.Texts kinds.Group (q ∷ qs)) ≡ false
 group_apart q qs d none =
     apart (same_attribute (kind_of_attribute d) kinds.Group) _ _ (repeatable_as kinds.Group d refl) (group_shares q d none)
 
-group_excludes : (q : Quoted Leaf) (qs : List (Quoted Leaf)) (text : List ℕ) → quoted_text sees_leaves q ≡ Some text → (d : Seen)
-    → excludes sees_leaves d (tree.Texts kinds.Group (q ∷ qs)) ≡ has_text text (group_label d)
+group_excludes : (q : Quoted Leaf) (qs : List (Quoted Leaf)) (text : List ℕ) → quoted_text views_leaves q ≡ Some text → (d : Seen)
+    → excludes views_leaves d (tree.Texts kinds.Group (q ∷ qs)) ≡ has_text text (group_label d)
 unfolding same_attribute
-group_excludes q qs text h (tree.Texts kinds.Group (p ∷ ps)) = ap (same_text sees_leaves (quoted_text sees_leaves p)) h
+group_excludes q qs text h (tree.Texts kinds.Group (p ∷ ps)) = ap (same_text views_leaves (quoted_text views_leaves p)) h
 group_excludes q qs text h d = group_apart q qs d refl
 
 -- an attribute without a label excludes none, if its kind may stand again
-bare_excludes : (a : Seen) → label_of sees_leaves a ≡ None → is_repeatable (kind_of_attribute a) ≡ true → (d : Seen) → excludes sees_leaves d a ≡ false
+bare_excludes : (a : Seen) → label_of views_leaves a ≡ None → is_repeatable (kind_of_attribute a) ≡ true → (d : Seen) → excludes views_leaves d a ≡ false
 bare_excludes a none h d =
-    apart (same_attribute (kind_of_attribute d) (kind_of_attribute a)) _ _ (repeatable_as (kind_of_attribute a) d h) (λ e. rw none (unshared (label_of sees_leaves d)))
+    apart (same_attribute (kind_of_attribute d) (kind_of_attribute a)) _ _ (repeatable_as (kind_of_attribute a) d h) (λ e. rw none (unshared (label_of views_leaves d)))
   where
-    unshared : (label : Option (Quoted Leaf)) → same_label sees_leaves label None ≡ false
+    unshared : (label : Option (Quoted Leaf)) → same_label views_leaves label None ≡ false
     unshared None = refl
     unshared (Some q) = refl
 
 -- one that may stand once excludes those of its kind
-pub excludes_kind : (d a : Seen) → is_repeatable (kind_of_attribute a) ≡ false → excludes sees_leaves d a ≡ same_attribute (kind_of_attribute d) (kind_of_attribute a)
+pub excludes_kind : (d a : Seen) → is_repeatable (kind_of_attribute a) ≡ false → excludes views_leaves d a ≡ same_attribute (kind_of_attribute d) (kind_of_attribute a)
 excludes_kind d a once = go (same_attribute (kind_of_attribute d) (kind_of_attribute a)) refl
   where
-    go : (b : Bool) → same_attribute (kind_of_attribute d) (kind_of_attribute a) ≡ b → b && (not (is_repeatable (kind_of_attribute d)) || same_label sees_leaves (label_of sees_leaves d) (label_of sees_leaves a)) ≡ b
+    go : (b : Bool) → same_attribute (kind_of_attribute d) (kind_of_attribute a) ≡ b → b && (not (is_repeatable (kind_of_attribute d)) || same_label views_leaves (label_of views_leaves d) (label_of views_leaves a)) ≡ b
     go false e = refl
     go true e = rw (ap is_repeatable (kind_is (kind_of_attribute d) (kind_of_attribute a) e) ∙ once) refl
 
 -- ---- checks
 
 -- nothing before it excludes it
-none_excludes : (e : Entry Leaf Token) → ((d : Seen) → excludes sees_leaves d e.attribute ≡ false) → (es : Entries) → check_repeated sees_leaves es e ≡ Ok tt
+none_excludes : (e : Entry Leaf Token) → ((d : Seen) → excludes views_leaves d e.attribute ≡ false) → (es : Entries) → check_repeated views_leaves es e ≡ Ok tt
 none_excludes e h [] = refl
 none_excludes e h (d ∷ es) = rw (h d.attribute) (none_excludes e h es)
 
-pub repeatable_checked : (a : Attribute) (written : Written) (pairs : List (Attribute × Written)) → label_of sees_leaves (leaf_attribute_of a) ≡ None
-    → is_repeatable (kind_of_attribute (leaf_attribute_of a)) ≡ true → check_repeated sees_leaves (map entry_of_pair pairs) (entry_of_pair (a, written)) ≡ Ok tt
+pub repeatable_checked : (a : Attribute) (written : Written) (pairs : List (Attribute × Written)) → label_of views_leaves (leaf_attribute_of a) ≡ None
+    → is_repeatable (kind_of_attribute (leaf_attribute_of a)) ≡ true → check_repeated views_leaves (map entry_of_pair pairs) (entry_of_pair (a, written)) ≡ Ok tt
 repeatable_checked a written pairs none h = none_excludes (entry_of_pair (a, written)) (bare_excludes (leaf_attribute_of a) none h) (map entry_of_pair pairs)
 
 -- the first one whose label has this text decides
 line_checked : (label : Label) (text : List ℕ) (rule : Token → Rule Token) (e : Entry Leaf Token) (result : Result (Unit {0}) Fault)
-    → ((d : Seen) → excludes sees_leaves d e.attribute ≡ has_text text (label d)) → ((first : Token) → duplicate_rule sees_leaves e.name e.attribute first ≡ rule first)
-    → (es : Entries) → ChecksLine (first_line label text es) rule e.name result → Makes (λ (u : Unit {0}). tt) result (check_repeated sees_leaves es e)
+    → ((d : Seen) → excludes views_leaves d e.attribute ≡ has_text text (label d)) → ((first : Token) → duplicate_rule views_leaves e.name e.attribute first ≡ rule first)
+    → (es : Entries) → ChecksLine (first_line label text es) rule e.name result → Makes (λ (u : Unit {0}). tt) result (check_repeated views_leaves es e)
 line_checked label text rule e result same ruled [] h = h
 line_checked label text rule e result same ruled (d ∷ es) h =
     rw (same d.attribute) (go (has_text text (label d.attribute)) (λ k. line_checked label text rule e result same ruled es k) h)
   where
-    go : (b : Bool) → (ChecksLine (first_line label text es) rule e.name result → Makes (λ (u : Unit {0}). tt) result (check_repeated sees_leaves es e))
+    go : (b : Bool) → (ChecksLine (first_line label text es) rule e.name result → Makes (λ (u : Unit {0}). tt) result (check_repeated views_leaves es e))
         → ChecksLine (option_map (λ (x : Entry Leaf Token). x.name.line) (cond b (Some d) (find (λ (x : Entry Leaf Token). has_text text (label x.attribute)) es))) rule e.name result
-        → Makes (λ (u : Unit {0}). tt) result (cond b (new.refuse (duplicate_rule sees_leaves e.name e.attribute d.name) e.name) (check_repeated sees_leaves es e))
+        → Makes (λ (u : Unit {0}). tt) result (cond b (new.refuse (duplicate_rule views_leaves e.name e.attribute d.name) e.name) (check_repeated views_leaves es e))
     go true later k = rw (ruled d.name) (k d.name refl)
     go false later k = later k
 
 -- what an `arg` or a `group` is, by its label
-arg_only : (a : Seen) (q : Quoted Leaf) → true ≡ same_attribute (kind_of_attribute a) kinds.Arg → label_of sees_leaves a ≡ Some q
+arg_only : (a : Seen) (q : Quoted Leaf) → true ≡ same_attribute (kind_of_attribute a) kinds.Arg → label_of views_leaves a ≡ Some q
     → (rules : ArgumentRules Leaf Token) × (a ≡ tree.Arg rules) × (rules.name ≡ q)
 unfolding same_attribute
 arg_only (tree.Arg rules) q same e = (rules, refl, cc)
 arg_only (tree.Texts kinds.Group texts) q same e = cc
 arg_only a q same e = cc
 
-group_only : (a : Seen) (q : Quoted Leaf) → false ≡ same_attribute (kind_of_attribute a) kinds.Arg → label_of sees_leaves a ≡ Some q
+group_only : (a : Seen) (q : Quoted Leaf) → false ≡ same_attribute (kind_of_attribute a) kinds.Arg → label_of views_leaves a ≡ Some q
     → (qs : List (Quoted Leaf)) × (a ≡ tree.Texts kinds.Group (q ∷ qs))
 unfolding same_attribute
 group_only (tree.Arg rules) q same e = cc
@@ -216,19 +216,19 @@ free label text rule at es u = go (find (passes label text) es)
     go None h = refl
     go (Some d) h = let refused : ◌≡◌ {A = Made Token (Unit {0})} (new.refuse (rule d.name) at) (Ok u) = h d.name refl in cc
 
-arg_none : (a : Seen) → label_of sees_leaves a ≡ None → arg_label a ≡ None
+arg_none : (a : Seen) → label_of views_leaves a ≡ None → arg_label a ≡ None
 arg_none (tree.Arg rules) e = cc
 arg_none a e = refl
 
-group_none : (a : Seen) → label_of sees_leaves a ≡ None → group_label a ≡ None
+group_none : (a : Seen) → label_of views_leaves a ≡ None → group_label a ≡ None
 group_none (tree.Texts kinds.Group texts) e = e
 group_none a e = refl
 
-has_label : (q : Quoted Leaf) (l : StringLiteral) → q ≡ quoted_leaf l → quoted_text sees_leaves q ≡ Some (string_bytes l.cooked)
-has_label q l e = ap (quoted_text sees_leaves) e ∙ label_text l
+has_label : (q : Quoted Leaf) (l : StringLiteral) → q ≡ quoted_leaf l → quoted_text views_leaves q ≡ Some (string_bytes l.cooked)
+has_label q l e = ap (quoted_text views_leaves) e ∙ label_text l
 
-labelled_by : (label : Option (Quoted Leaf)) (q : Quoted Leaf) (text : List ℕ) → label ≡ Some q → quoted_text sees_leaves q ≡ Some text → (t : List ℕ) → has_text t label ≡ bytes_eq text t
-labelled_by label q text e h t = ap (has_text t) e ∙ ap (λ s. same_text sees_leaves s (Some t)) h
+labelled_by : (label : Option (Quoted Leaf)) (q : Quoted Leaf) (text : List ℕ) → label ≡ Some q → quoted_text views_leaves q ≡ Some text → (t : List ℕ) → has_text t label ≡ bytes_eq text t
+labelled_by label q text e h t = ap (has_text t) e ∙ ap (λ s. same_text views_leaves s (Some t)) h
 
 module _ (a : Attribute) (written : Written) (pairs : List Pair) where
   abbrev seen : Seen
@@ -241,7 +241,7 @@ module _ (a : Attribute) (written : Written) (pairs : List Pair) where
   before = map entry_of_pair pairs
 
   -- an attribute without a label
-  pub bare_known : (result : Result (Unit {0}) Fault) (labels : Labels) → label_of sees_leaves seen ≡ None → AreKnown labels before → OnOk result (AreKnown labels (before ++ next ∷ []))
+  pub bare_known : (result : Result (Unit {0}) Fault) (labels : Labels) → label_of views_leaves seen ≡ None → AreKnown labels before → OnOk result (AreKnown labels (before ++ next ∷ []))
   unfolding AreKnown
   bare_known (Err fault) labels none known = tt
   bare_known (Ok u) labels none known = λ text. (
@@ -249,7 +249,7 @@ module _ (a : Attribute) (written : Written) (pairs : List Pair) where
     line_kept group_label labels.groups labels.groups before next (group_none seen none) text (known text).1 refl,
   )
 
-  module _ (l : StringLiteral) (labelled : label_of sees_leaves seen ≡ Some (quoted_leaf l)) where
+  module _ (l : StringLiteral) (labelled : label_of views_leaves seen ≡ Some (quoted_leaf l)) where
     abbrev bytes : List ℕ
     bytes = string_bytes l.cooked
 
@@ -257,7 +257,7 @@ module _ (a : Attribute) (written : Written) (pairs : List Pair) where
     place = written.name.token
 
     arg_checked : (labels : Labels) (result : Result (Unit {0}) Fault) → true ≡ same_attribute (kind_of_attribute seen) kinds.Arg → AreKnown labels before
-        → ChecksLabel true l place labels result → Makes (λ (u : Unit {0}). tt) result (check_repeated sees_leaves before next)
+        → ChecksLabel true l place labels result → Makes (λ (u : Unit {0}). tt) result (check_repeated views_leaves before next)
     unfolding AreKnown
     arg_checked labels result same known h =
         let only = arg_only seen (quoted_leaf l) same labelled in
@@ -279,7 +279,7 @@ module _ (a : Attribute) (written : Written) (pairs : List Pair) where
         )
 
     group_checked : (labels : Labels) (result : Result (Unit {0}) Fault) → false ≡ same_attribute (kind_of_attribute seen) kinds.Arg → AreKnown labels before
-        → ChecksLabel false l place labels result → Makes (λ (u : Unit {0}). tt) result (check_repeated sees_leaves before next)
+        → ChecksLabel false l place labels result → Makes (λ (u : Unit {0}). tt) result (check_repeated views_leaves before next)
     unfolding AreKnown
     group_checked labels result same known h =
         let only = group_only seen (quoted_leaf l) same labelled in
@@ -302,7 +302,7 @@ module _ (a : Attribute) (written : Written) (pairs : List Pair) where
 
     -- an attribute with a label is checked by it
     pub label_checked : (is_arg : Bool) (labels : Labels) (result : Result (Unit {0}) Fault) → is_arg ≡ same_attribute (kind_of_attribute seen) kinds.Arg → AreKnown labels before
-        → ChecksLabel is_arg l place labels result → Makes (λ (u : Unit {0}). tt) result (check_repeated sees_leaves before next)
+        → ChecksLabel is_arg l place labels result → Makes (λ (u : Unit {0}). tt) result (check_repeated views_leaves before next)
     label_checked true labels result same known h = arg_checked labels result same known h
     label_checked false labels result same known h = group_checked labels result same known h
 

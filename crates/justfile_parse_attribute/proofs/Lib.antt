@@ -6,5 +6,5 @@ mod CommentedAttributes
 pub mod KeysPut
 pub mod KnownLabels
 pub mod RepeatedAttributes
-pub mod StillWhole
+pub mod DerivedFieldsKept
 pub mod TextSetLemmas

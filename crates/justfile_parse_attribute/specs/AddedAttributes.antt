@@ -3,15 +3,15 @@ use Rattle.std.specs.Prelude.{◌≡◌, List, [], ◌∷◌, ◌++◌, map, Res
 use Rattle.justfile_attribute.specs.Attribute.{leaf_attribute_of}
 use Rattle.justfile_attribute.specs.declared.attribute.Attribute.{Attribute}
 use Rattle.justfile_attribute_rules.specs.Made.{IsRefusedBy, Makes}
-use Rattle.justfile_base.specs.declared.fault.Fault.{Fault}
-use Rattle.justfile_base.specs.declared.name.Name.{Name}
-use Rattle.justfile_base.specs.declared.token.Token.{Token}
+use Rattle.justfile_token.specs.declared.fault.Fault.{Fault}
+use Rattle.justfile_token.specs.declared.name.Name.{Name}
+use Rattle.justfile_token.specs.declared.token.Token.{Token}
 use Rattle.justfile_model.specs.NewAttribute.{Made, check_repeated}
 use Rattle.justfile_model.specs.Tree as tree
 use Rattle.justfile_model.specs.Tree.{Entry, bare_entry}
 use Rattle.justfile_parse_attribute.specs.Attributes.{entry_of_pair}
-use Rattle.justfile_tree.specs.LeafSight.{sees_leaves}
-use Rattle.justfile_tree.specs.LeafTree.{Leaf}
+use Rattle.justfile_expression.specs.LeafViews.{views_leaves}
+use Rattle.justfile_expression.specs.LeafTree.{Leaf}
 use Rattle.justfile_written.specs.Written.{uncommented}
 use Rattle.justfile_written.specs.declared.written.Written.{Written}
 
@@ -29,7 +29,7 @@ Adds (Err fault) made name old new = IsRefusedBy made fault
 -- the last one may stand after those before it, or is refused by the same rule
 unfoldable pub ChecksLast : Result (Unit {0}) Fault → List (Attribute × Written) → Type 0
 ChecksLast result pairs = (before : List (Attribute × Written)) (last : Attribute × Written) → pairs ≡ before ++ last ∷ []
-    → Makes (λ (u : Unit {0}). u) result (check_repeated sees_leaves (map entry_of_pair before) (entry_of_pair last))
+    → Makes (λ (u : Unit {0}). u) result (check_repeated views_leaves (map entry_of_pair before) (entry_of_pair last))
 
 -- the entry that is made is that of the attribute that comes last, with its name and without a comment
 pub record IsEntryAdded (made : Made Token (Entry Leaf Token)) (name : Name) (old new : List (Attribute × Written)) : Type 0 where

@@ -1,24 +1,24 @@
 -- Reading the attributes of a table, with all that the parser's trees hold.
 use Rattle.std.specs.Prelude.{ℕ, Bool, true, false, List, [], ◌∷◌, ◌++◌, Option, Ok}
-use Rattle.justfile_word.specs.declared.attribute_kind.AttributeKind.{AttributeKind}
-use Rattle.justfile_base.specs.declared.token.Token.{Token}
-use Rattle.justfile_word.specs.declared.token_kind.TokenKind.{TokenKind}
-use Rattle.justfile_word.specs.declared.token_kind.TokenKind.TheVariants as kinds
+use Rattle.justfile_vocabulary.specs.declared.attribute_kind.AttributeKind.{AttributeKind}
+use Rattle.justfile_token.specs.declared.token.Token.{Token}
+use Rattle.justfile_vocabulary.specs.declared.token_kind.TokenKind.{TokenKind}
+use Rattle.justfile_vocabulary.specs.declared.token_kind.TokenKind.TheVariants as kinds
 use Rattle.justfile_model.specs.AttributeReader as attributes
 use Rattle.justfile_model.specs.Meaning.{by_key, by_position}
 use Rattle.justfile_model.specs.NewAttribute.{new_entry}
-use Rattle.justfile_model.specs.Reading as reading
-use Rattle.justfile_model.specs.Reading.{◌>>=◌, choose}
-use Rattle.justfile_model.specs.Sight.{Sight}
+use Rattle.justfile_model.specs.ReaderState as reading
+use Rattle.justfile_model.specs.ReaderState.{◌>>=◌, choose}
+use Rattle.justfile_model.specs.LeafView.{LeafView}
 use Rattle.justfile_model.specs.Tree.{Argument, Entry, Expr, WrittenAttribute, commented_entry}
 use Rattle.justfile_parse_expression.specs.TableReader.{Read, Run, State, accept, expect, leaves}
-use Rattle.justfile_tree.specs.LeafSight.{sees_leaves}
-use Rattle.justfile_tree.specs.LeafTree.{Leaf}
+use Rattle.justfile_expression.specs.LeafViews.{views_leaves}
+use Rattle.justfile_expression.specs.LeafTree.{Leaf}
 use Rattle.justfile_parse_expression.specs.declared.significant.TableEntry.{TableEntry}
 
 -- what is seen of leaves is the same in each run
-abbrev pub sight_of : Run → Sight Leaf Token
-sight_of run = sees_leaves
+abbrev pub view_of : Run → LeafView Leaf Token
+view_of run = views_leaves
 
 -- of an attribute its meaning is kept
 abbrev pub meaning_kept : WrittenAttribute Leaf Token → Entry Leaf Token → Entry Leaf Token
@@ -34,33 +34,33 @@ abbrev pub Arguments : Type 0
 Arguments = List (Argument Leaf Token)
 
 abbrev pub argument_of_key : Leaf → Option (Expr Leaf Token) → Argument Leaf Token
-argument_of_key = attributes.argument_of_key leaves sight_of meaning_kept meaning_in
+argument_of_key = attributes.argument_of_key leaves view_of meaning_kept meaning_in
 
 -- there is a key among the arguments
 abbrev pub some_key : Arguments → Bool
-some_key before = attributes.some_key leaves sight_of meaning_kept meaning_in (by_key before)
+some_key before = attributes.some_key leaves view_of meaning_kept meaning_in (by_key before)
 
 -- an expression, with its first token
 abbrev pub placed : State → Read (Argument Leaf Token)
-placed = attributes.placed leaves sight_of meaning_kept meaning_in
+placed = attributes.placed leaves view_of meaning_kept meaning_in
 
 abbrev pub positional : (before : Arguments) → State → Read (Argument Leaf Token)
-positional = attributes.positional leaves sight_of meaning_kept meaning_in
+positional = attributes.positional leaves view_of meaning_kept meaning_in
 
 abbrev pub key_value : State → Read (Option (Expr Leaf Token))
-key_value = attributes.key_value leaves sight_of meaning_kept meaning_in
+key_value = attributes.key_value leaves view_of meaning_kept meaning_in
 
 abbrev pub is_repeated : Run → (before : Arguments) → TableEntry → Bool
-is_repeated = attributes.is_repeated leaves sight_of meaning_kept meaning_in
+is_repeated = attributes.is_repeated leaves view_of meaning_kept meaning_in
 
 abbrev pub keyed : (name : TableEntry) (before : Arguments) → State → Read (Argument Leaf Token)
-keyed = attributes.keyed leaves sight_of meaning_kept meaning_in
+keyed = attributes.keyed leaves view_of meaning_kept meaning_in
 
 abbrev pub begins_key : State → Bool
-begins_key = attributes.begins_key leaves sight_of meaning_kept meaning_in
+begins_key = attributes.begins_key leaves view_of meaning_kept meaning_in
 
 abbrev pub argument : (name : TableEntry) (keys : Bool) (before : Arguments) → State → Read (Argument Leaf Token)
-argument = attributes.argument leaves sight_of meaning_kept meaning_in
+argument = attributes.argument leaves view_of meaning_kept meaning_in
 
 -- one after those that were read
 abbrev pub then_last : {X : Type 0} → List X → X × State → Read (List X)
@@ -102,24 +102,24 @@ list_step name keys before s =
     (λ closer. Ok ((before, true), closer.1))
 
 abbrev pub arguments_from : (name : TableEntry) (keys : Bool) → Arguments × State → Read Arguments
-arguments_from = attributes.arguments_from leaves sight_of meaning_kept meaning_in
+arguments_from = attributes.arguments_from leaves view_of meaning_kept meaning_in
 
 abbrev pub arguments : (name : TableEntry) (keys : Bool) → State → Read Arguments
-arguments = attributes.arguments leaves sight_of meaning_kept meaning_in
+arguments = attributes.arguments leaves view_of meaning_kept meaning_in
 
 abbrev pub kind_at : TableEntry → State → Read AttributeKind
-kind_at = attributes.kind_at leaves sight_of meaning_kept meaning_in
+kind_at = attributes.kind_at leaves view_of meaning_kept meaning_in
 
 abbrev pub made : (before : Entries) → TableEntry → AttributeKind → Arguments → State → Read (Entry Leaf Token)
-made = attributes.made leaves sight_of meaning_kept meaning_in
+made = attributes.made leaves view_of meaning_kept meaning_in
 
 abbrev pub attribute : (before : Entries) → State → Read (Entry Leaf Token)
-attribute = attributes.attribute leaves sight_of meaning_kept meaning_in
+attribute = attributes.attribute leaves view_of meaning_kept meaning_in
 
 -- what is made of these arguments after others, and all of them, at the token of its name
 unfoldable pub one_made : (before : Entries) (name : Token) → AttributeKind → Arguments → State → Read Entries
 one_made before name kind arguments s = do
-  e ← attributes.read_made (new_entry sees_leaves before name kind (by_position arguments) (by_key arguments)) s
+  e ← attributes.read_made (new_entry views_leaves before name kind (by_position arguments) (by_key arguments)) s
   Ok (before ++ e.0 ∷ [], e.1)
 
 -- an attribute after others, and all of them
@@ -134,7 +134,7 @@ bracket_step before s = do
   Ok ((all.0, is_last.0), is_last.1)
 
 abbrev pub bracketed : Entries × State → Read Entries
-bracketed = attributes.bracketed leaves sight_of meaning_kept meaning_in
+bracketed = attributes.bracketed leaves view_of meaning_kept meaning_in
 
 -- the text of a comment without the white space at its end
 abbrev pub comment_in : TableEntry → List ℕ
@@ -142,15 +142,15 @@ comment_in = reading.comment_in leaves
 
 -- the end of a line, after this comment or none
 abbrev pub line_end_after : (comment : Option TableEntry) → State → Read (Option TableEntry)
-line_end_after = attributes.line_end_after leaves sight_of meaning_kept meaning_in
+line_end_after = attributes.line_end_after leaves view_of meaning_kept meaning_in
 
 -- the end of a line of attributes, and the comment before it, if there is one
 abbrev pub attributes_end : State → Read (Option TableEntry)
-attributes_end = attributes.attributes_end leaves sight_of meaning_kept meaning_in
+attributes_end = attributes.attributes_end leaves view_of meaning_kept meaning_in
 
 -- the entries where the line of the last one ends after this comment or none
 abbrev pub commented_by : (comment : Option TableEntry) → Entries → Entries
-commented_by = attributes.commented_by leaves sight_of meaning_kept meaning_in commented_entry
+commented_by = attributes.commented_by leaves view_of meaning_kept meaning_in commented_entry
 
 -- a line of attributes after its opening bracket, after others
 unfoldable pub attribute_line : (before : Entries) → State → Read Entries
@@ -167,8 +167,8 @@ line_step before s =
       Ok ((ws.0, false), ws.1))
 
 abbrev pub attribute_lines_from : Entries × State → Read Entries
-attribute_lines_from = attributes.attribute_lines_from leaves sight_of meaning_kept meaning_in commented_entry
+attribute_lines_from = attributes.attribute_lines_from leaves view_of meaning_kept meaning_in commented_entry
 
 -- the lines of attributes before a construct
 abbrev pub attribute_lines : State → Read Entries
-attribute_lines = attributes.attribute_lines leaves sight_of meaning_kept meaning_in commented_entry
+attribute_lines = attributes.attribute_lines leaves view_of meaning_kept meaning_in commented_entry

@@ -6,9 +6,9 @@ use Rattle.std.specs.Option.{option_map}
 use Rattle.std.specs.Str.{bytes_eq}
 use Rattle.justfile_attribute.specs.declared.attribute.Attribute.{Attribute}
 use Rattle.justfile_attribute_rules.specs.Made.{Makes}
-use Rattle.justfile_base.specs.declared.fault.Fault.{Fault}
-use Rattle.justfile_base.specs.declared.string_literal.StringLiteral.{StringLiteral}
-use Rattle.justfile_base.specs.declared.token.Token.{Token}
+use Rattle.justfile_token.specs.declared.fault.Fault.{Fault}
+use Rattle.justfile_token.specs.declared.string_literal.StringLiteral.{StringLiteral}
+use Rattle.justfile_token.specs.declared.token.Token.{Token}
 use Rattle.justfile_model.specs.AttributeRules.{same_text}
 use Rattle.justfile_model.specs.ContentLeaf.{literal_value}
 use Rattle.justfile_model.specs.Meaning.{first_of, quoted_text}
@@ -18,10 +18,10 @@ use Rattle.justfile_model.specs.Tree as tree
 use Rattle.justfile_model.specs.Tree.{Entry, Quoted}
 use Rattle.justfile_parse_attribute.specs.Attributes.{entry_of_pair}
 use Rattle.justfile_parse_attribute.specs.declared.labels.Labels.{Labels}
-use Rattle.justfile_tree.specs.Content.{literal_content}
-use Rattle.justfile_tree.specs.LeafSight.{sees_leaves}
-use Rattle.justfile_tree.specs.LeafTree.{Leaf}
-use Rattle.justfile_word.specs.declared.attribute_kind.AttributeKind.TheVariants as kinds
+use Rattle.justfile_expression.specs.Content.{literal_content}
+use Rattle.justfile_expression.specs.LeafViews.{views_leaves}
+use Rattle.justfile_expression.specs.LeafTree.{Leaf}
+use Rattle.justfile_vocabulary.specs.declared.attribute_kind.AttributeKind.TheVariants as kinds
 use Rattle.justfile_written.specs.declared.written.Written.{Written}
 
 abbrev pub Seen : Type 0
@@ -39,7 +39,7 @@ group_label _ = None
 -- a label has this text
 abbrev pub has_text : (text : List ℕ) → Option (Quoted Leaf) → Bool
 has_text text None = false
-has_text text (Some q) = same_text sees_leaves (quoted_text sees_leaves q) (Some text)
+has_text text (Some q) = same_text views_leaves (quoted_text views_leaves q) (Some text)
 
 -- the line of the first entry whose label has this text
 abbrev pub first_line : (Seen → Option (Quoted Leaf)) → (text : List ℕ) → List (Entry Leaf Token) → Option ℕ

@@ -2,8 +2,8 @@ pub mod AddedAttributes
 pub mod ArgumentKeys
 pub mod AttributeTable
 pub mod Attributes
-pub mod Halting
+pub mod ParseErrors
 pub mod KeyedBounds
 pub mod Labels
 pub mod TextSets
-pub mod WholeAttributes
+pub mod DerivedAttributeFields

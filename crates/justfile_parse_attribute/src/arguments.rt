@@ -1,13 +1,13 @@
 //! The arguments of an attribute while they are read.
 ghost use Rattle.std.specs.Prelude.{◌≡◌, ◌∷◌, ◌++◌, [], IsTrue, OnErr, OnOk, length, take};
-ghost use Rattle.justfile_base.specs.Token.{lexeme_of};
+ghost use Rattle.justfile_token.specs.Token.{lexeme_of};
 ghost use Rattle.justfile_parse_attribute.specs.ArgumentKeys.{AreTexts, are_keys_distinct, prop_texts};
 ghost use Rattle.justfile_parse_attribute.specs.TextSets.{HaveSame, texts_in};
 
 use crate::text_sets::{add_text, is_among};
-use justfile_base::{Name, Token};
-use justfile_parse_expression::Stop;
-use justfile_tree::Expression;
+use justfile_expression::Expression;
+use justfile_parse_expression::ExpressionError;
+use justfile_token::{Name, Token};
 use std::alloc::{AllocError, Global};
 use std::collections::BTreeSet;
 
@@ -27,14 +27,14 @@ pub(crate) struct Arguments<'src> {
 impl<'src> Arguments<'src> {
     ghost use Rattle.std.specs.Prelude.{◌≡◌, [], ◌∷◌, ◌++◌, None, false};
     ghost use Rattle.std.specs.Option.{is_some, option_map};
-    ghost use Rattle.justfile_base.specs.Token.{lexeme_of};
+    ghost use Rattle.justfile_token.specs.Token.{lexeme_of};
     ghost use Rattle.justfile_model.specs.Meaning.{at_key, by_key};
     ghost use Rattle.justfile_model.specs.Tree as tree;
     ghost use Rattle.justfile_parse_attribute.specs.Attributes.{arguments_of};
     ghost use Rattle.justfile_parse_expression.specs.MethodResults.{UnlessMemory};
     ghost use Rattle.justfile_parse_attribute.specs.AttributeTable as reader;
-    ghost use Rattle.justfile_tree.specs.LeafSight.{sees_leaves};
-    ghost use Rattle.justfile_tree.specs.LeafTree.{Named, leaf_tree_of};
+    ghost use Rattle.justfile_expression.specs.LeafViews.{views_leaves};
+    ghost use Rattle.justfile_expression.specs.LeafTree.{Named, leaf_tree_of};
 
     /// No arguments.
     #[tactic(auto, using(crate::proofs::ArgumentTexts::no_texts), unfolding(crate::specs::Attributes::arguments_of, crate::specs::ArgumentKeys::are_keys_distinct))]
@@ -59,7 +59,7 @@ impl<'src> Arguments<'src> {
     /// Whether there is a key with this text.
     #[tactic(auto, using(crate::proofs::ArgumentTexts::text_among))]
     pub(crate) fn has_text(&self, key: &str) -> bool
-        ensures { result ≡ is_some (at_key sees_leaves key.now (by_key (arguments_of self.now))) }
+        ensures { result ≡ is_some (at_key views_leaves key.now (by_key (arguments_of self.now))) }
     {
         is_among(&self.texts, key)
     }
@@ -70,7 +70,7 @@ impl<'src> Arguments<'src> {
         &mut self,
         first: Token<'src>,
         value: Box<Expression<'src>>,
-    ) -> Result<(), Stop<'src>>
+    ) -> Result<(), ExpressionError<'src>>
         requires { reader.some_key (arguments_of self.old) ≡ false }
         ensures { UnlessMemory result
             (λ done. arguments_of self.new ≡ arguments_of self.old ++ tree.Positional first.entry (leaf_tree_of value.entry.value) ∷ []) }
@@ -85,8 +85,8 @@ impl<'src> Arguments<'src> {
         &mut self,
         key: Name<'src>,
         value: Option<Box<Expression<'src>>>,
-    ) -> Result<(), Stop<'src>>
-        requires { is_some (at_key sees_leaves (lexeme_of key.token) (by_key (arguments_of self.old))) ≡ false }
+    ) -> Result<(), ExpressionError<'src>>
+        requires { is_some (at_key views_leaves (lexeme_of key.token) (by_key (arguments_of self.old))) ≡ false }
         ensures { UnlessMemory result (λ done. arguments_of self.new ≡ arguments_of self.old
             ++ reader.argument_of_key (Named key.entry.token None) (option_map (λ e. leaf_tree_of e.value) value.entry) ∷ []) }
     {
@@ -95,7 +95,7 @@ impl<'src> Arguments<'src> {
             Ok(()) => Ok(()),
             Err(_failed) => {
                 self.keyed.truncate(count);
-                Err(Stop::Memory)
+                Err(ExpressionError::Memory)
             }
         }
     }

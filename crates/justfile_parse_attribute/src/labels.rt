@@ -6,10 +6,10 @@ ghost use Rattle.justfile_attribute.specs.Attribute.{leaf_attribute_of};
 ghost use Rattle.justfile_attribute_rules.specs.Made.{quoted_leaf};
 ghost use Rattle.justfile_model.specs.AttributeRules.{label_of};
 ghost use Rattle.justfile_parse_attribute.specs.Labels.{IsNoted};
-ghost use Rattle.justfile_tree.specs.LeafSight.{sees_leaves};
+ghost use Rattle.justfile_expression.specs.LeafViews.{views_leaves};
 
 use justfile_attribute::Attribute;
-use justfile_base::StringLiteral;
+use justfile_token::StringLiteral;
 use std::alloc::{AllocError, Global};
 use std::collections::BTreeMap;
 
@@ -96,10 +96,10 @@ fn note_line(alloc: Global, lines: &mut LineMap, text: &str, line: usize) -> Res
 
 /// The literal whose text no other attribute of its kind has, of `arg` and of `group`.
 #[tactic(auto, using(crate::proofs::RepeatedAttributes::single_label, crate::proofs::RepeatedAttributes::script_label))]
-pub(crate) fn label<'run, 'src>(
+pub(crate) fn repeat_key<'run, 'src>(
     attribute: &'run Attribute<'src>,
 ) -> Option<&'run StringLiteral<'src>>
-    ensures { option_map (λ l. quoted_leaf l.now) result ≡ label_of sees_leaves (leaf_attribute_of attribute.now) }
+    ensures { option_map (λ l. quoted_leaf l.now) result ≡ label_of views_leaves (leaf_attribute_of attribute.now) }
 {
     match attribute {
         Attribute::Arg { name, .. } => Some(name),

@@ -1,24 +1,24 @@
 //! Attributes from their arguments.
 ghost use Rattle.std.specs.Prelude.{◌≡◌, ◌∷◌, ◌++◌, [], IfErr, IfOk, IsTrue, OnErr, OnOk};
 ghost use Rattle.justfile_attribute.specs.Attribute.{leaf_attribute_of};
-ghost use Rattle.justfile_attribute.specs.New.{IsWholeAttribute};
+ghost use Rattle.justfile_attribute.specs.New.{HasDerivedAttributeFields};
 ghost use Rattle.justfile_attribute_rules.specs.KeywordArguments.{keys_of};
 ghost use Rattle.justfile_attribute_rules.specs.Made.{Makes};
 ghost use Rattle.justfile_model.specs.Meaning.{by_key, by_position};
 ghost use Rattle.justfile_model.specs.NewAttribute as new;
 ghost use Rattle.justfile_parse_attribute.specs.ArgumentKeys.{HasKeys, are_keys_distinct};
-ghost use Rattle.justfile_base.specs.declared.fault.Fault.TheVariants.{Memory};
+ghost use Rattle.justfile_token.specs.declared.fault.Fault.TheVariants.{Memory};
 ghost use Rattle.justfile_parse_attribute.specs.AddedAttributes.{Adds};
 ghost use Rattle.justfile_parse_attribute.specs.Attributes.{arguments_of};
-ghost use Rattle.justfile_parse_attribute.specs.WholeAttributes.{KeepsWholePairs};
-ghost use Rattle.justfile_tree.specs.LeafSight.{sees_leaves};
+ghost use Rattle.justfile_parse_attribute.specs.DerivedAttributeFields.{KeepsDerivedPairFields};
+ghost use Rattle.justfile_expression.specs.LeafViews.{views_leaves};
 ghost use Rattle.justfile_written.specs.Written.{uncommented};
 
 use crate::arguments::Arguments;
 use justfile_attribute::Attribute;
 use justfile_attribute_rules::KeywordArguments;
-use justfile_base::{AttributeKind, CompileResult, Name};
-use justfile_tree::Expression;
+use justfile_expression::Expression;
+use justfile_token::{AttributeKind, CompileResult, Name};
 use justfile_written::Written;
 use std::alloc::{AllocError, Global};
 
@@ -35,9 +35,9 @@ pub(crate) fn push_made<'src>(
     kind: AttributeKind,
     arguments: Arguments<'src>,
 ) -> CompileResult<'src>
-    ensures added { Adds result (new.new_attribute sees_leaves name.entry.token kind (by_position (arguments_of arguments.entry)) (by_key (arguments_of arguments.entry)))
+    ensures added { Adds result (new.new_attribute views_leaves name.entry.token kind (by_position (arguments_of arguments.entry)) (by_key (arguments_of arguments.entry)))
         name.entry attributes.old.items attributes.new.items }
-    ensures whole { OnOk result (KeepsWholePairs attributes.old.items attributes.new.items) }
+    ensures whole { OnOk result (KeepsDerivedPairFields attributes.old.items attributes.new.items) }
     ensures kept { OnErr result (attributes.new.items ≡ attributes.old.items) }
 {
     match new_attribute(alloc, name, kind, arguments) {
@@ -77,9 +77,9 @@ fn new_attribute<'src>(
     kind: AttributeKind,
     arguments: Arguments<'src>,
 ) -> CompileResult<'src, Attribute<'src>>
-    ensures made { Makes leaf_attribute_of result (new.new_attribute sees_leaves name.entry.token kind
+    ensures made { Makes leaf_attribute_of result (new.new_attribute views_leaves name.entry.token kind
         (by_position (arguments_of arguments.entry)) (by_key (arguments_of arguments.entry))) }
-    ensures whole { IfOk result IsWholeAttribute }
+    ensures whole { IfOk result HasDerivedAttributeFields }
 {
     let Arguments {
         positional,

@@ -5,8 +5,8 @@ ghost use Rattle.justfile_model.specs.NewAttribute.{new_entry};
 ghost use Rattle.justfile_parse_attribute.specs.AddedAttributes.{AddsEntry};
 ghost use Rattle.justfile_parse_attribute.specs.Attributes.{arguments_of, entry_of_pair};
 ghost use Rattle.justfile_parse_attribute.specs.Labels.{AreKnown, AreSame, prop_known};
-ghost use Rattle.justfile_parse_attribute.specs.WholeAttributes.{KeepsWholePairs};
-ghost use Rattle.justfile_tree.specs.LeafSight.{sees_leaves};
+ghost use Rattle.justfile_parse_attribute.specs.DerivedAttributeFields.{KeepsDerivedPairFields};
+ghost use Rattle.justfile_expression.specs.LeafViews.{views_leaves};
 ghost use Rattle.justfile_written.specs.Written.{line_commented};
 
 use crate::arguments::Arguments;
@@ -14,7 +14,7 @@ use crate::labels::Labels;
 use crate::new_attribute::push_made;
 use crate::repeated::check_last;
 use justfile_attribute::Attribute;
-use justfile_base::{AttributeKind, CompileResult, Name};
+use justfile_token::{AttributeKind, CompileResult, Name};
 use justfile_written::{Written, comment_last};
 use std::alloc::Global;
 
@@ -33,8 +33,8 @@ impl<'src> ReadAttributes<'src> {
     ghost use Rattle.justfile_model.specs.NewAttribute.{new_entry};
     ghost use Rattle.justfile_parse_attribute.specs.AddedAttributes.{AddsEntry};
     ghost use Rattle.justfile_parse_attribute.specs.Attributes.{arguments_of, entry_of_pair};
-    ghost use Rattle.justfile_parse_attribute.specs.WholeAttributes.{KeepsWholePairs};
-    ghost use Rattle.justfile_tree.specs.LeafSight.{sees_leaves};
+    ghost use Rattle.justfile_parse_attribute.specs.DerivedAttributeFields.{KeepsDerivedPairFields};
+    ghost use Rattle.justfile_expression.specs.LeafViews.{views_leaves};
     ghost use Rattle.justfile_written.specs.Written.{line_commented};
 
     /// No attributes.
@@ -61,9 +61,9 @@ impl<'src> ReadAttributes<'src> {
         kind: AttributeKind,
         arguments: Arguments<'src>,
     ) -> CompileResult<'src>
-        ensures added { AddsEntry result (new_entry sees_leaves (map entry_of_pair self.old.pairs.items) name.entry.token kind
+        ensures added { AddsEntry result (new_entry views_leaves (map entry_of_pair self.old.pairs.items) name.entry.token kind
             (by_position (arguments_of arguments.entry)) (by_key (arguments_of arguments.entry))) name.entry self.old.pairs.items self.new.pairs.items }
-        ensures whole { OnOk result (KeepsWholePairs self.old.pairs.items self.new.pairs.items) }
+        ensures whole { OnOk result (KeepsDerivedPairFields self.old.pairs.items self.new.pairs.items) }
     {
         let count = self.pairs.len();
         match push_checked(
@@ -114,9 +114,9 @@ fn push_checked<'src>(
     arguments: Arguments<'src>,
 ) -> CompileResult<'src>
     requires { AreKnown labels.old (map entry_of_pair pairs.old.items) }
-    ensures added { AddsEntry result (new_entry sees_leaves (map entry_of_pair pairs.old.items) name.entry.token kind
+    ensures added { AddsEntry result (new_entry views_leaves (map entry_of_pair pairs.old.items) name.entry.token kind
         (by_position (arguments_of arguments.entry)) (by_key (arguments_of arguments.entry))) name.entry pairs.old.items pairs.new.items }
-    ensures whole { OnOk result (KeepsWholePairs pairs.old.items pairs.new.items) }
+    ensures whole { OnOk result (KeepsDerivedPairFields pairs.old.items pairs.new.items) }
     ensures known { OnOk result (AreKnown labels.new (map entry_of_pair pairs.new.items)) }
     ensures kept { OnErr result (AreSame labels.old labels.new) }
     ensures begins { take (length pairs.old.items) pairs.new.items ≡ pairs.old.items }

@@ -2,7 +2,7 @@
 ghost use Rattle.std.specs.Prelude.{◌≡◌, ◌∷◌, ◌++◌, [], false, None, OnErr, OnOk, map, string_bytes};
 ghost use Rattle.justfile_attribute.specs.Attribute.{leaf_attribute_of};
 ghost use Rattle.justfile_attribute_rules.specs.Made.{IsRefusedBy, Makes};
-ghost use Rattle.justfile_base.specs.declared.token.Token.{Token};
+ghost use Rattle.justfile_token.specs.declared.token.Token.{Token};
 ghost use Rattle.justfile_model.specs.AttributeKinds.{is_repeatable, same_attribute};
 ghost use Rattle.justfile_model.specs.AttributeRules.{excludes, label_of};
 ghost use Rattle.justfile_model.specs.ContentKeys.{kind_of_attribute};
@@ -13,13 +13,13 @@ ghost use Rattle.justfile_model.specs.Rules.{DuplicateArgAttribute, DuplicateAtt
 ghost use Rattle.justfile_parse_attribute.specs.AddedAttributes.{ChecksLast};
 ghost use Rattle.justfile_parse_attribute.specs.Attributes.{entry_of_pair};
 ghost use Rattle.justfile_parse_attribute.specs.Labels.{AreKnown, AreKnownBefore, AreSame, ChecksLabel, IsLabelNoted, label_rule};
-ghost use Rattle.justfile_tree.specs.Content.{literal_content};
-ghost use Rattle.justfile_tree.specs.LeafSight.{sees_leaves};
-ghost use Rattle.justfile_word.specs.declared.attribute_kind.AttributeKind.TheVariants.{Arg};
+ghost use Rattle.justfile_expression.specs.Content.{literal_content};
+ghost use Rattle.justfile_expression.specs.LeafViews.{views_leaves};
+ghost use Rattle.justfile_vocabulary.specs.declared.attribute_kind.AttributeKind.TheVariants.{Arg};
 
-use crate::labels::{Labels, label};
+use crate::labels::{Labels, repeat_key};
 use justfile_attribute::Attribute;
-use justfile_base::{AttributeKind, CompileErrorKind, CompileResult, Fault, Name, StringLiteral};
+use justfile_token::{AttributeKind, CompileErrorKind, CompileResult, Fault, Name, StringLiteral};
 use justfile_written::Written;
 use std::alloc::Global;
 
@@ -61,11 +61,11 @@ fn check_next<'src>(
     written: Written<'src>,
 ) -> CompileResult<'src>
     requires { AreKnown labels.old (map entry_of_pair before.now) }
-    ensures checks { Makes (λ _. tt) result (check_repeated sees_leaves (map entry_of_pair before.now) (entry_of_pair (attribute.now, written.entry))) }
+    ensures checks { Makes (λ _. tt) result (check_repeated views_leaves (map entry_of_pair before.now) (entry_of_pair (attribute.now, written.entry))) }
     ensures known { OnOk result (AreKnown labels.new (map entry_of_pair before.now ++ entry_of_pair (attribute.now, written.entry) ∷ [])) }
     ensures kept { OnErr result (AreSame labels.old labels.new) }
 {
-    match label(attribute) {
+    match repeat_key(attribute) {
         None => check_kind(before, attribute, written),
         Some(literal) => {
             let is_arg = is_argument(attribute);
@@ -116,12 +116,12 @@ fn find_label<'src>(
 {
     match labels.find(is_arg, literal.cooked.as_str()) {
         None => Ok(()),
-        Some(line) => Err(repeated_label(alloc, is_arg, literal, name, line)),
+        Some(line) => Err(repeated_label_error(alloc, is_arg, literal, name, line)),
     }
 }
 
 /// The refusal of another `arg` or else `group` with the label of one on this line.
-fn repeated_label<'src>(
+fn repeated_label_error<'src>(
     alloc: Global,
     is_arg: bool,
     literal: &StringLiteral<'src>,
@@ -131,14 +131,14 @@ fn repeated_label<'src>(
     ensures { (first : Token) → first.line ≡ line → IsRefusedBy (new.refuse {X = Unit {0}} (label_rule is_arg literal.now first) name.entry.token) result }
 {
     if is_arg {
-        repeated_argument(alloc, literal, name, line)
+        repeated_argument_error(alloc, literal, name, line)
     } else {
-        repeated_group(alloc, literal, name, line)
+        repeated_group_error(alloc, literal, name, line)
     }
 }
 
 /// The refusal of another `arg` of the argument of one on this line.
-fn repeated_argument<'src>(
+fn repeated_argument_error<'src>(
     alloc: Global,
     argument: &StringLiteral<'src>,
     name: Name<'src>,
@@ -158,7 +158,7 @@ fn repeated_argument<'src>(
 
 /// The refusal of another `group` of the name of one on this line.
 #[tactic(auto, using(crate::proofs::RepeatedAttributes::copied_value))]
-fn repeated_group<'src>(
+fn repeated_group_error<'src>(
     alloc: Global,
     literal: &StringLiteral<'src>,
     name: Name<'src>,
@@ -195,8 +195,8 @@ fn check_kind<'src>(
     attribute: &Attribute<'src>,
     written: Written<'src>,
 ) -> CompileResult<'src>
-    requires { label_of sees_leaves (leaf_attribute_of attribute.now) ≡ None }
-    ensures { Makes (λ _. tt) result (check_repeated sees_leaves (map entry_of_pair before.now) (entry_of_pair (attribute.now, written.entry))) }
+    requires { label_of views_leaves (leaf_attribute_of attribute.now) ≡ None }
+    ensures { Makes (λ _. tt) result (check_repeated views_leaves (map entry_of_pair before.now) (entry_of_pair (attribute.now, written.entry))) }
 {
     if attribute.repeatable() {
         return Ok(());
@@ -215,13 +215,13 @@ fn check_once<'src>(
     attribute: &Attribute<'src>,
     written: Written<'src>,
 ) -> CompileResult<'src>
-    requires label { label_of sees_leaves (leaf_attribute_of attribute.now) ≡ None }
+    requires repeat_key { label_of views_leaves (leaf_attribute_of attribute.now) ≡ None }
     requires once { is_repeatable (kind_of_attribute (leaf_attribute_of attribute.now)) ≡ false }
-    ensures { Makes (λ _. tt) result (check_repeated sees_leaves (map entry_of_pair before.now) (entry_of_pair (attribute.now, written.entry))) }
+    ensures { Makes (λ _. tt) result (check_repeated views_leaves (map entry_of_pair before.now) (entry_of_pair (attribute.now, written.entry))) }
 {
     for earlier in before {
         if is_same_kind(&earlier.0, attribute) {
-            return Err(repeated_kind(written.name, earlier.1.name));
+            return Err(repeated_kind_error(written.name, earlier.1.name));
         }
     }
     Ok(())
@@ -231,13 +231,13 @@ fn check_once<'src>(
 #[tactic(auto, using(justfile_attribute::proofs::Ordered::kind_seen, crate::proofs::KnownLabels::excludes_kind), unfolding(justfile_model::specs::AttributeKinds::same_attribute))]
 fn is_same_kind(first: &Attribute<'_>, second: &Attribute<'_>) -> bool
     requires { is_repeatable (kind_of_attribute (leaf_attribute_of second.now)) ≡ false }
-    ensures { result ≡ excludes sees_leaves (leaf_attribute_of first.now) (leaf_attribute_of second.now) }
+    ensures { result ≡ excludes views_leaves (leaf_attribute_of first.now) (leaf_attribute_of second.now) }
 {
     first.kind() == second.kind()
 }
 
 /// The refusal of another attribute of a kind that may stand once.
-fn repeated_kind<'src>(name: Name<'src>, first: Name<'src>) -> Fault<'src>
+fn repeated_kind_error<'src>(name: Name<'src>, first: Name<'src>) -> Fault<'src>
     ensures { IsRefusedBy (new.refuse {X = Unit {0}} (DuplicateAttribute name.entry.token first.entry.token) name.entry.token) result }
 {
     Fault::Compile(name.error(CompileErrorKind::DuplicateAttribute {

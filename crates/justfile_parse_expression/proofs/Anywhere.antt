@@ -1,9 +1,9 @@
 -- What is read from any place of a table on, side by side with what the definitions read of its tokens.
 use Rattle.std.proofs.Common.{◌≡◌, false, List, [], ◌∷◌, map, Ok, Err, refl, sym, ap, ◌∙◌, subst, arith}
-use Rattle.justfile_base.specs.declared.token.Token.{Token}
+use Rattle.justfile_token.specs.declared.token.Token.{Token}
 use Rattle.justfile_model.specs.ExpressionReader as expressions
 use Rattle.justfile_model.specs.Expressions as grammar
-use Rattle.justfile_model.specs.Expressions.{Free}
+use Rattle.justfile_model.specs.Expressions.{AnyDepth}
 use Rattle.justfile_model.specs.Features.{Noted}
 use Rattle.justfile_model.specs.SignificantTokens.{SignificantToken}
 use Rattle.justfile_model.specs.Tok.{Tok, tok_of}
@@ -11,15 +11,15 @@ use Rattle.justfile_model.specs.Tree.{Expr, itself}
 use Rattle.justfile_model.specs.TreeReader as model
 use Rattle.justfile_model.specs.TreeReader.{token_leaves}
 use Rattle.justfile_model.specs.declared.level.Level.TheVariants as levels
-use Rattle.justfile_word.specs.declared.list_feature.ListFeature.{ListFeature}
+use Rattle.justfile_vocabulary.specs.declared.list_feature.ListFeature.{ListFeature}
 use Rattle.justfile_model.proofs.Depth.{expression_freed}
 use Rattle.justfile_model.proofs.ExpressionSound.{expression_derives}
 use Rattle.justfile_model.proofs.NaturalExpressions.{expression_natural}
 use Rattle.justfile_model.proofs.Related as a
 use Rattle.justfile_model.proofs.Related.{Each, Never, Related, States}
-use Rattle.justfile_parse_expression.specs.TableReader.{At, ReadExpr, Refusal, Run, State, leaves, read}
+use Rattle.justfile_parse_expression.specs.TableReader.{At, ReadExpr, ReadError, Run, State, leaves, read}
 use Rattle.justfile_parse_expression.specs.Significant.{significant_of}
-use Rattle.justfile_tree.specs.LeafTree.{Leaf}
+use Rattle.justfile_expression.specs.LeafTree.{Leaf}
 use Rattle.justfile_parse_expression.specs.declared.significant.TableEntry.{TableEntry}
 use Rattle.justfile_parse_expression.proofs.Seen.{IsEntry, Meanings, Relates, respects, seen}
 
@@ -64,21 +64,21 @@ Meant entries written = Unit {0}
 
 -- an expression that is read derives, also without the limit
 pub derives : (s : State) (e : Expr Leaf Token) (rest : State) → read (At levels.Expression false s) ≡ Ok (e, rest)
-    → (tree : Expr Tok Tok) × (features : List (Noted Tok)) × grammar.Expression itself itself Free false s.depth tree features (map significant_of s.left) (map significant_of rest.left)
+    → (tree : Expr Tok Tok) × (features : List (Noted Tok)) × grammar.Expression itself itself AnyDepth false s.depth tree features (map significant_of s.left) (map significant_of rest.left)
 derives s e rest found = by_law (read (At levels.Expression false s)) (expressions.read token_leaves (expressions.At levels.Expression false (state_seen s))) refl (expression_natural (rel Meant s.run) leaves token_leaves (agree Meant s.run) false (state_alike Meant s)) found
   where
     inside : (x y : Expr Leaf Token × State) → ◌≡◌ {A = ReadExpr} (Ok x) (Ok y) → x ≡ y
     inside x y h = cc
 
-    no_read : (f : Refusal) (y : Expr Leaf Token × State) → ◌≡◌ {A = ReadExpr} (Err f) (Ok y) → ⊥
+    no_read : (f : ReadError) (y : Expr Leaf Token × State) → ◌≡◌ {A = ReadExpr} (Err f) (Ok y) → ⊥
     no_read f y h = cc
 
     by_law : (o : ReadExpr) (o' : model.Read (Expr Tok Tok)) → expressions.read token_leaves (expressions.At levels.Expression false (state_seen s)) ≡ o' → Related (rel Meant s.run) (a.Alike (rel Meant s.run)) (Never (rel Meant s.run)) o o' → o ≡ Ok (e, rest)
-        → (tree : Expr Tok Tok) × (features : List (Noted Tok)) × grammar.Expression itself itself Free false s.depth tree features (map significant_of s.left) (map significant_of rest.left)
+        → (tree : Expr Tok Tok) × (features : List (Noted Tok)) × grammar.Expression itself itself AnyDepth false s.depth tree features (map significant_of s.left) (map significant_of rest.left)
     by_law o o' is (a.both {x = x} {y = y} q k) same =
         let d = expression_derives s.run.conditions false s.depth (state_seen s) y is (refl, refl) in
         let left : y.1.left ≡ map significant_of rest.left = entries_are s.run k.left ∙ ap (λ (z : Expr Leaf Token × State). map significant_of z.1.left) (inside x (e, rest) same) in
-        (y.0, d.features, subst (λ (ts : List SignificantToken). grammar.Expression itself itself Free false s.depth y.0 d.features (map significant_of s.left) ts) left (expression_freed s.run.conditions.limit itself itself d.derives))
+        (y.0, d.features, subst (λ (ts : List SignificantToken). grammar.Expression itself itself AnyDepth false s.depth y.0 d.features (map significant_of s.left) ts) left (expression_freed s.run.conditions.limit itself itself d.derives))
     by_law o o' is (a.neither {e = f} h) same = absurd (no_read f (e, rest) same)
     by_law o o' is (a.short h) same = absurd h
     by_law o o' is (a.deep loose) same = absurd (omega (arith, loose))

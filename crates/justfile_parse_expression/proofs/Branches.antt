@@ -2,17 +2,17 @@
 use Rattle.std.proofs.Common.{◌≡◌, List, [], ◌∷◌, ◌++◌, Option, Some, None, Ok, Err, codes, refl, sym, ap, ◌∙◌}
 use Rattle.justfile_model.specs.ExpressionReader as expressions
 use Rattle.justfile_model.specs.ExpressionReader.{closed}
-use Rattle.justfile_model.specs.Reading.{◌>>=◌, choose}
+use Rattle.justfile_model.specs.ReaderState.{◌>>=◌, choose}
 use Rattle.justfile_model.specs.Tree as t
 use Rattle.justfile_model.specs.declared.level.Level.TheVariants.{Conjunct}
 use Rattle.justfile_parse_expression.specs.Chains.{BranchTree, ElseIf, End, Tree, branch, branches, last_branch, link_of, row_closed, row_tree}
 use Rattle.justfile_parse_expression.specs.TableReader as r
-use Rattle.justfile_parse_expression.specs.TableReader.{Read, ReadExpr, Refusal, State, accept_word, braced, condition, leaves, read}
-use Rattle.justfile_parse_expression.specs.MethodResults.{StopsAt, literal_refusal, refusal_at}
+use Rattle.justfile_parse_expression.specs.TableReader.{Read, ReadExpr, ReadError, State, accept_construct_keyword, braced, condition, leaves, read}
+use Rattle.justfile_parse_expression.specs.MethodResults.{IsExpressionError, literal_refusal, refusal_at}
 use Rattle.justfile_parse_expression.specs.declared.expression.Link.{Link}
 use Rattle.justfile_parse_expression.specs.declared.significant.TableEntry.{TableEntry}
-use Rattle.justfile_parse_expression.specs.declared.stop.Stop.{Stop}
-use Rattle.justfile_parse_expression.specs.declared.stop.Stop.TheVariants.{Refused, Literal, Memory, Numbers}
+use Rattle.justfile_parse_expression.specs.declared.expression_error.ExpressionError.{ExpressionError}
+use Rattle.justfile_parse_expression.specs.declared.expression_error.ExpressionError.TheVariants.{Refused, Literal, Memory, Numbers}
 use Rattle.justfile_parse_expression.proofs.Chains.{regroup, with_row}
 use Rattle.justfile_parse_expression.proofs.Rules as rules
 use Rattle.justfile_parse_expression.proofs.Rules.{bind_alike, bound, then_made}
@@ -48,8 +48,8 @@ conditional_is w s =
     rules.conditional_is w s
     ∙ bind_alike (condition s) _ _ (λ c.
     bind_alike (braced c.1) _ _ (λ b.
-    choose_after (accept_word (codes "else") b.1) _ _ _ _ refl (λ e.
-    else_after c.0 b.0 (accept_word (codes "if") e.1) (last_branch e.1)))
+    choose_after (accept_construct_keyword (codes "else") b.1) _ _ _ _ refl (λ e.
+    else_after c.0 b.0 (accept_construct_keyword (codes "if") e.1) (last_branch e.1)))
     ∙ bound (braced c.1) _ after)
     ∙ bound (condition s) _ after
 
@@ -68,12 +68,12 @@ module _ (w : TableEntry) (s : State) (ls : List Link) (l : Link) where
   unfolding branches
   ends e rest h = rw (conditional_is w s, h) refl
 
-  fails : (f : Refusal) → branch w s ≡ Err f → with_row Conjunct ls (branches (link_of l) w s) ≡ Err f
+  fails : (f : ReadError) → branch w s ≡ Err f → with_row Conjunct ls (branches (link_of l) w s) ≡ Err f
   unfolding branches
   fails f h = rw (conditional_is w s, h) refl
 
   -- where a branch stops, the conditional does
-  pub stops : (stop : Stop) (left : State) (found : ReadExpr) → with_row Conjunct ls (branches (link_of l) w s) ≡ found → StopsAt stop left ⊥ (branch w s) → StopsAt stop left ⊥ found
+  pub stops : (stop : ExpressionError) (left : State) (found : ReadExpr) → with_row Conjunct ls (branches (link_of l) w s) ≡ found → IsExpressionError stop left ⊥ (branch w s) → IsExpressionError stop left ⊥ found
   stops (Refused refusal) left found is h = sym is ∙ fails (refusal_at refusal left) h
   stops (Literal refused) left found is h = sym is ∙ fails (literal_refusal refused.value.error) h
   stops Memory left found is h = tt

@@ -1,22 +1,22 @@
 -- Reading a row, as a loop does.
 use Rattle.std.proofs.Common.{◌≡◌, false, List, [], ◌∷◌, ◌++◌, Option, Some, None, Ok, Err, refl, sym, ap, ◌∙◌, codes}
-use Rattle.justfile_word.specs.declared.token_kind.TokenKind.TheVariants as kinds
+use Rattle.justfile_vocabulary.specs.declared.token_kind.TokenKind.TheVariants as kinds
 use Rattle.justfile_model.specs.ExpressionReader as expressions
 use Rattle.justfile_model.specs.ExpressionReader.{closed, opened}
 use Rattle.justfile_model.specs.Operators.{right}
 use Rattle.justfile_model.specs.Tree as t
-use Rattle.justfile_model.specs.Reading.{◌>>=◌, choose}
+use Rattle.justfile_model.specs.ReaderState.{◌>>=◌, choose}
 use Rattle.justfile_model.specs.declared.level.Level.{Level}
 use Rattle.justfile_model.specs.declared.level.Level.TheVariants.{Expression, Disjunct, Compared, Conjunct, Value}
 use Rattle.justfile_model.specs.declared.operator.Operator.{Operator}
 use Rattle.justfile_parse_expression.specs.Chains.{StepTree, Last, Next, Tree, link, link_by, link_of, operand_step, row, row_closed, row_tree, step}
 use Rattle.justfile_parse_expression.specs.TableReader as r
-use Rattle.justfile_parse_expression.specs.TableReader.{At, Read, ReadExpr, Refusal, State, accept, accept_operator, accept_word, enter, is_within, leaves, operation, read, value}
-use Rattle.justfile_parse_expression.specs.MethodResults.{StopsAt, literal_refusal, refusal_at}
+use Rattle.justfile_parse_expression.specs.TableReader.{At, Read, ReadExpr, ReadError, State, accept, accept_operator, accept_construct_keyword, enter, is_within, leaves, operation, read, value}
+use Rattle.justfile_parse_expression.specs.MethodResults.{IsExpressionError, literal_refusal, refusal_at}
 use Rattle.justfile_parse_expression.specs.declared.expression.Link.{Link}
 use Rattle.justfile_parse_expression.specs.declared.significant.TableEntry.{TableEntry}
-use Rattle.justfile_parse_expression.specs.declared.stop.Stop.{Stop}
-use Rattle.justfile_parse_expression.specs.declared.stop.Stop.TheVariants.{Refused, Literal, Memory, Numbers}
+use Rattle.justfile_parse_expression.specs.declared.expression_error.ExpressionError.{ExpressionError}
+use Rattle.justfile_parse_expression.specs.declared.expression_error.ExpressionError.TheVariants.{Refused, Literal, Memory, Numbers}
 use Rattle.justfile_model.proofs.ExpressionReading as laws
 use Rattle.justfile_parse_expression.proofs.Operators.{conjunct_is, opened_by}
 use Rattle.justfile_parse_expression.proofs.Rules.{bind_alike, bound}
@@ -77,7 +77,7 @@ if_after (Some w) x y h = last_after Conjunct (read (r.Conditional w.0 w.1)) (λ
 
 conjunct_after : (s : State) → read (At Conjunct false s) ≡ (operand_step s >>= after Conjunct)
 unfolding operand_step
-conjunct_after s = conjunct_is false s ∙ if_after (accept_word (codes "if") s) _ _ (slash_after (accept kinds.Slash s) _ _ (operand_after Conjunct (value s)))
+conjunct_after s = conjunct_is false s ∙ if_after (accept_construct_keyword (codes "if") s) _ _ (slash_after (accept kinds.Slash s) _ _ (operand_after Conjunct (value s)))
 
 disjunct_after : (s : State) → read (At Disjunct false s) ≡ (step Disjunct s >>= after Disjunct)
 unfolding expressions.binary_rule operation enter step
@@ -115,12 +115,12 @@ module _ (k : Level) (s : State) (ls : List Link) (l : Link) where
   unfolding row
   ends e rest h = rw (right_is k s, h) refl
 
-  fails : (f : Refusal) → step k s ≡ Err f → with_row k ls (row k (link_of l) s) ≡ Err f
+  fails : (f : ReadError) → step k s ≡ Err f → with_row k ls (row k (link_of l) s) ≡ Err f
   unfolding row
   fails f h = rw (right_is k s, h) refl
 
   -- where a step stops, the row does
-  pub stops : (stop : Stop) (left : State) (found : ReadExpr) → with_row k ls (row k (link_of l) s) ≡ found → StopsAt stop left ⊥ (step k s) → StopsAt stop left ⊥ found
+  pub stops : (stop : ExpressionError) (left : State) (found : ReadExpr) → with_row k ls (row k (link_of l) s) ≡ found → IsExpressionError stop left ⊥ (step k s) → IsExpressionError stop left ⊥ found
   stops (Refused refusal) left found is h = sym is ∙ fails (refusal_at refusal left) h
   stops (Literal refused) left found is h = sym is ∙ fails (literal_refusal refused.value.error) h
   stops Memory left found is h = tt

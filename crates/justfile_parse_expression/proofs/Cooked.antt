@@ -1,36 +1,36 @@
 -- Literals with their texts, and the refusals of those that have none.
 use Rattle.std.proofs.Common.{◌≡◌, Bool, true, false, IsTrue, ℕ, List, Option, Some, None, is_some, unwrap_or, Result, Ok, Err, refl, sym, ap, ◌∙◌, subst}
-use Rattle.justfile_base.specs.StringKind.{kind_of}
-use Rattle.justfile_base.specs.Token.{lexeme_of}
-use Rattle.justfile_word.specs.declared.format_string_part.FormatStringPart.{FormatStringPart}
-use Rattle.justfile_word.specs.declared.format_string_part.FormatStringPart.TheVariants as parts
-use Rattle.justfile_base.specs.declared.string_kind.StringKind.{StringKind}
-use Rattle.justfile_base.specs.declared.compile_error.CompileError.{CompileError}
-use Rattle.justfile_base.specs.declared.compile_error_kind.CompileErrorKind.{CompileErrorKind}
-use Rattle.justfile_base.specs.declared.fault.Fault.{Fault}
-use Rattle.justfile_base.specs.declared.fault.Fault.TheVariants as faults
-use Rattle.justfile_base.specs.declared.string_literal.StringLiteral.{StringLiteral}
-use Rattle.justfile_base.specs.declared.token.Token.{Token}
-use Rattle.justfile_word.specs.declared.token_kind.TokenKind.{TokenKind}
-use Rattle.justfile_word.specs.declared.token_kind.TokenKind.TheVariants as kinds
+use Rattle.justfile_token.specs.StringKind.{kind_of}
+use Rattle.justfile_token.specs.Token.{lexeme_of}
+use Rattle.justfile_vocabulary.specs.declared.format_string_part.FormatStringPart.{FormatStringPart}
+use Rattle.justfile_vocabulary.specs.declared.format_string_part.FormatStringPart.TheVariants as parts
+use Rattle.justfile_token.specs.declared.string_kind.StringKind.{StringKind}
+use Rattle.justfile_token.specs.declared.compile_error.CompileError.{CompileError}
+use Rattle.justfile_token.specs.declared.compile_error_kind.CompileErrorKind.{CompileErrorKind}
+use Rattle.justfile_token.specs.declared.fault.Fault.{Fault}
+use Rattle.justfile_token.specs.declared.fault.Fault.TheVariants as faults
+use Rattle.justfile_token.specs.declared.string_literal.StringLiteral.{StringLiteral}
+use Rattle.justfile_token.specs.declared.token.Token.{Token}
+use Rattle.justfile_vocabulary.specs.declared.token_kind.TokenKind.{TokenKind}
+use Rattle.justfile_vocabulary.specs.declared.token_kind.TokenKind.TheVariants as kinds
 use Rattle.justfile_literal.specs.Literal.{IsKindOf, IsPartOf, IsStringOf, IsTextFault, answers_by, is_part, is_quoted, literal_fault_of}
 use Rattle.justfile_model.specs.ExpressionReader as expressions
 use Rattle.justfile_model.specs.ExpressionReader.{by_text}
-use Rattle.justfile_model.specs.Reading.{NotCooked}
+use Rattle.justfile_model.specs.ReaderState.{NotCooked}
 use Rattle.justfile_parse_expression.specs.TableReader as reader
-use Rattle.justfile_parse_expression.specs.TableReader.{Refusal, State, leaves, part_by, string_leaf}
+use Rattle.justfile_parse_expression.specs.TableReader.{ReadError, State, leaves, part_by, string_leaf}
 use Rattle.justfile_model.specs.Literals as literal
 use Rattle.justfile_model.specs.Literals.{Expansions, LiteralFault, Unasked, cooked_text, format_text, string_of}
 use Rattle.justfile_model.specs.Tree as tree
 use Rattle.justfile_parse_expression.specs.Fault.{IsLiteralFault, is_literal_kind, literal_fault}
 use Rattle.justfile_parse_expression.specs.Literal.{is_delimited, is_sound}
-use Rattle.justfile_parse_expression.specs.MethodResults.{StopsAt, TextStops, literal_refusal}
+use Rattle.justfile_parse_expression.specs.MethodResults.{IsExpressionError, IsErrorOfLiteral, literal_refusal}
 use Rattle.justfile_parse_expression.specs.declared.significant.TableEntry.{TableEntry}
-use Rattle.justfile_tree.specs.LeafTree.{Command, Literal, literal_of}
+use Rattle.justfile_expression.specs.LeafTree.{Command, Literal, literal_of}
 use Rattle.justfile_parse_expression.specs.View.{state_at, state_of}
 use Rattle.justfile_parse_expression.specs.declared.parser.ExpressionParser.{ExpressionParser}
-use Rattle.justfile_parse_expression.specs.declared.stop.Stop.{Stop}
-use Rattle.justfile_parse_expression.specs.declared.stop.Stop.TheVariants as stops
+use Rattle.justfile_parse_expression.specs.declared.expression_error.ExpressionError.{ExpressionError}
+use Rattle.justfile_parse_expression.specs.declared.expression_error.ExpressionError.TheVariants as causes
 
 pub quoted_string : (entry : TableEntry) → entry.token.now.kind ≡ kinds.StringToken → IsTrue (is_sound entry) → IsTrue (is_quoted (lexeme_of entry.token.now))
 quoted_string entry e h = subst (λ (k : TokenKind). IsTrue (is_delimited k (lexeme_of entry.token.now))) e h
@@ -64,21 +64,21 @@ is_literal text token faults.Numbers h = absurd h
 pub command_is_literal : (expander : Expansions) (token : Token) (fault : Fault) → ((expander : Expansions) → IsTextFault (cooked_text expander (literal.Command (lexeme_of token))) token fault) → IsLiteralFault fault
 command_is_literal expander token fault h = is_literal (cooked_text expander (literal.Command (lexeme_of token))) token fault (h expander)
 
-text_refused : {A : Type 0} (make : List ℕ → A) (s : State) (text : Result (List ℕ) LiteralFault) (entry : TableEntry) (fault : Fault) (stop : Stop) → IsTextFault text entry.token.now fault → TextStops stop fault
-    → StopsAt stop s ⊥ (by_text leaves make (entry, s) text)
+text_refused : {A : Type 0} (make : List ℕ → A) (s : State) (text : Result (List ℕ) LiteralFault) (entry : TableEntry) (fault : Fault) (stop : ExpressionError) → IsTextFault text entry.token.now fault → IsErrorOfLiteral stop fault
+    → IsExpressionError stop s ⊥ (by_text leaves make (entry, s) text)
 unfolding literal_refusal leaves
-text_refused make s text entry (faults.Compile error) (stops.Literal x) h is =
-    let refusal : CompileError → Refusal = λ e. NotCooked (literal_fault e.kind) e.token in
+text_refused make s text entry (faults.Compile error) (causes.Literal x) h is =
+    let refusal : CompileError → ReadError = λ e. NotCooked (literal_fault e.kind) e.token in
     let there : NotCooked h.fault entry.token.now ≡ refusal error
     = ap (λ (f : LiteralFault). NotCooked f entry.token.now) (sym (fault_is h.fault error.kind h.kind_is)) ∙ ap (λ (t : Token). NotCooked (literal_fault error.kind) t) (sym h.token_is) in
-    rw h.text_is (ap (λ (r : Refusal). Err r) (there ∙ ap refusal (sym is)))
-text_refused make s text entry (faults.Compile error) (stops.Refused r) h is = absurd is
-text_refused make s text entry (faults.Compile error) stops.Memory h is = tt
-text_refused make s text entry (faults.Compile error) stops.Numbers h is = absurd is
-text_refused make s text entry faults.Memory (stops.Literal x) h is = absurd is
-text_refused make s text entry faults.Memory (stops.Refused r) h is = absurd is
-text_refused make s text entry faults.Memory stops.Memory h is = tt
-text_refused make s text entry faults.Memory stops.Numbers h is = absurd is
+    rw h.text_is (ap (λ (r : ReadError). Err r) (there ∙ ap refusal (sym is)))
+text_refused make s text entry (faults.Compile error) (causes.Refused r) h is = absurd is
+text_refused make s text entry (faults.Compile error) causes.Memory h is = tt
+text_refused make s text entry (faults.Compile error) causes.Numbers h is = absurd is
+text_refused make s text entry faults.Memory (causes.Literal x) h is = absurd is
+text_refused make s text entry faults.Memory (causes.Refused r) h is = absurd is
+text_refused make s text entry faults.Memory causes.Memory h is = tt
+text_refused make s text entry faults.Memory causes.Numbers h is = absurd is
 text_refused make s text entry faults.Numbers stop h is = absurd h
 
 -- ---- parts of format strings are framed
@@ -107,7 +107,7 @@ module _ {X : Type 0} (answer : X → List ℕ → Result (List ℕ) (List ℕ))
         by_expand true is = rw (is.cooked, is.expand_is, is.kind, is.part, is.token_is) refl
         by_expand false is = rw (is.cooked, is.expand_is, is.kind, is.part, is.token_is) refl
 
-    pub string_refused : (fault : Fault) (stop : Stop) → IsTextFault (cooked_text by (string_of expand (lexeme_of entry.token.now))) entry.token.now fault → TextStops stop fault → StopsAt stop (state_of answer p) ⊥ (string_leaf expand (entry, state_of answer p))
+    pub string_refused : (fault : Fault) (stop : ExpressionError) → IsTextFault (cooked_text by (string_of expand (lexeme_of entry.token.now))) entry.token.now fault → IsErrorOfLiteral stop fault → IsExpressionError stop (state_of answer p) ⊥ (string_leaf expand (entry, state_of answer p))
     unfolding string_leaf expressions.cooked leaves state_of state_at
     string_refused fault stop h is = text_refused _ (state_of answer p) (cooked_text by (string_of expand (lexeme_of entry.token.now))) entry fault stop h is
 
@@ -115,8 +115,8 @@ module _ {X : Type 0} (answer : X → List ℕ → Result (List ℕ) (List ℕ))
   unfolding expressions.backtick expressions.cooked leaves state_of state_at
   command_given text is = rw (is by) refl
 
-  pub command_refused : (fault : Fault) (stop : Stop) → ((expander : Expansions) → IsTextFault (cooked_text expander (literal.Command (lexeme_of entry.token.now))) entry.token.now fault) → TextStops stop fault
-      → StopsAt stop (state_of answer p) ⊥ (reader.backtick (entry, state_of answer p))
+  pub command_refused : (fault : Fault) (stop : ExpressionError) → ((expander : Expansions) → IsTextFault (cooked_text expander (literal.Command (lexeme_of entry.token.now))) entry.token.now fault) → IsErrorOfLiteral stop fault
+      → IsExpressionError stop (state_of answer p) ⊥ (reader.backtick (entry, state_of answer p))
   unfolding expressions.backtick expressions.cooked leaves state_of state_at
   command_refused fault stop h is = text_refused _ (state_of answer p) (cooked_text by (literal.Command (lexeme_of entry.token.now))) entry fault stop (h by) is
 
@@ -125,6 +125,6 @@ module _ {X : Type 0} (answer : X → List ℕ → Result (List ℕ) (List ℕ))
     unfolding part_by leaves
     part_given l is = rw (is.cooked, is.expand_is, is.kind_is, is.part_is, is.token_is) refl
 
-    pub part_refused : (fault : Fault) (stop : Stop) → IsTextFault (format_text kind part (lexeme_of entry.token.now)) entry.token.now fault → TextStops stop fault → StopsAt stop (state_of answer p) ⊥ (part_by kind part (entry, state_of answer p))
+    pub part_refused : (fault : Fault) (stop : ExpressionError) → IsTextFault (format_text kind part (lexeme_of entry.token.now)) entry.token.now fault → IsErrorOfLiteral stop fault → IsExpressionError stop (state_of answer p) ⊥ (part_by kind part (entry, state_of answer p))
     unfolding part_by
     part_refused fault stop h is = text_refused _ (state_of answer p) (format_text kind part (lexeme_of entry.token.now)) entry fault stop h is

@@ -1,18 +1,18 @@
 -- Reading a sequence, as a loop does.
 use Rattle.std.proofs.Common.{◌≡◌, Bool, true, false, List, [], ◌∷◌, ◌++◌, Some, None, Ok, Err, refl, sym, ap, ◌∙◌}
-use Rattle.justfile_base.specs.declared.token.Token.{Token}
-use Rattle.justfile_word.specs.declared.token_kind.TokenKind.{TokenKind}
+use Rattle.justfile_token.specs.declared.token.Token.{Token}
+use Rattle.justfile_vocabulary.specs.declared.token_kind.TokenKind.{TokenKind}
 use Rattle.justfile_model.specs.Tree.{Expr, Exprs, none, more}
-use Rattle.justfile_tree.specs.declared.expression.Expression.{Expression}
+use Rattle.justfile_expression.specs.declared.expression.Expression.{Expression}
 use Rattle.justfile_model.specs.ExpressionReader as expressions
-use Rattle.justfile_model.specs.Reading.{◌>>=◌, choose}
+use Rattle.justfile_model.specs.ReaderState.{◌>>=◌, choose}
 use Rattle.justfile_parse_expression.specs.TableReader as r
-use Rattle.justfile_parse_expression.specs.TableReader.{Read, Refusal, State, accept, element, leaves, read}
-use Rattle.justfile_parse_expression.specs.MethodResults.{StopsAt, literal_refusal, refusal_at}
-use Rattle.justfile_tree.specs.LeafTree.{Leaf, leaf_tree_of, trees_of}
+use Rattle.justfile_parse_expression.specs.TableReader.{Read, ReadError, State, accept, element, leaves, read}
+use Rattle.justfile_parse_expression.specs.MethodResults.{IsExpressionError, literal_refusal, refusal_at}
+use Rattle.justfile_expression.specs.LeafTree.{Leaf, leaf_tree_of, trees_of}
 use Rattle.justfile_parse_expression.specs.declared.significant.TableEntry.{TableEntry}
-use Rattle.justfile_parse_expression.specs.declared.stop.Stop.{Stop}
-use Rattle.justfile_parse_expression.specs.declared.stop.Stop.TheVariants.{Refused, Literal, Memory, Numbers}
+use Rattle.justfile_parse_expression.specs.declared.expression_error.ExpressionError.{ExpressionError}
+use Rattle.justfile_parse_expression.specs.declared.expression_error.ExpressionError.TheVariants.{Refused, Literal, Memory, Numbers}
 use Rattle.justfile_model.proofs.ExpressionReading.{sequence_is}
 use Rattle.justfile_parse_expression.proofs.Rules.{then_made}
 
@@ -66,11 +66,11 @@ module _ (c : TokenKind) where
     pub closes_last : (e : Expression) (rest : State) → accept c s ≡ None → element c s ≡ Ok ((leaf_tree_of e, true), rest) → with_front es (read (r.Sequence c s)) ≡ Ok (trees_of (es ++ e ∷ []), rest)
     closes_last e rest h1 h2 = rw (sequence_by s, h1, h2) (ap (λ (t : Exprs Leaf Token). Ok (t, rest)) (joined_last es e))
 
-    pub fails : (f : Refusal) → accept c s ≡ None → element c s ≡ Err f → with_front es (read (r.Sequence c s)) ≡ Err f
+    pub fails : (f : ReadError) → accept c s ≡ None → element c s ≡ Err f → with_front es (read (r.Sequence c s)) ≡ Err f
     fails f h1 h2 = rw (sequence_by s, h1, h2) refl
 
     -- where an element stops, the sequence does
-    pub stops : (stop : Stop) (left : State) (found : Read (Exprs Leaf Token)) → accept c s ≡ None → with_front es (read (r.Sequence c s)) ≡ found → StopsAt stop left ⊥ (element c s) → StopsAt stop left ⊥ found
+    pub stops : (stop : ExpressionError) (left : State) (found : Read (Exprs Leaf Token)) → accept c s ≡ None → with_front es (read (r.Sequence c s)) ≡ found → IsExpressionError stop left ⊥ (element c s) → IsExpressionError stop left ⊥ found
     stops (Refused refusal) left found closed is h = sym is ∙ fails (refusal_at refusal left) closed h
     stops (Literal refused) left found closed is h = sym is ∙ fails (literal_refusal refused.value.error) closed h
     stops Memory left found closed is h = tt

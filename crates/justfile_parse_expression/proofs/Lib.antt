@@ -3,12 +3,12 @@ pub mod Branches
 pub mod Chains
 pub mod Cooked
 pub mod Elements
-pub mod Formats
+pub mod FormatStrings
 pub mod Negations
 pub mod NextKinds
 pub mod Operators
 pub mod Parts
-pub mod QuickTests
+pub mod Lengths
 pub mod Rest
 pub mod Rows
 pub mod Rules

@@ -1,22 +1,22 @@
 -- The operators of an expression, as the parser goes over them.
 use Rattle.std.proofs.Common.{◌≡◌, Bool, true, false, List, [], ◌∷◌, Option, None, Ok, Err, IsTrue, if◌then◌else◌, codes, refl, ap, ◌∙◌}
-use Rattle.justfile_base.specs.declared.token.Token.{Token}
-use Rattle.justfile_word.specs.declared.token_kind.TokenKind.TheVariants as kinds
+use Rattle.justfile_token.specs.declared.token.Token.{Token}
+use Rattle.justfile_vocabulary.specs.declared.token_kind.TokenKind.TheVariants as kinds
 use Rattle.justfile_model.specs.ExpressionReader as expressions
 use Rattle.justfile_model.specs.ExpressionReader.{Met, closed, met_at, opened, operator_by}
 use Rattle.justfile_model.specs.Operators.{is_binary}
-use Rattle.justfile_model.specs.Reading.{◌>>=◌, choose, with}
+use Rattle.justfile_model.specs.ReaderState.{◌>>=◌, choose, with}
 use Rattle.justfile_model.specs.Features.{noted}
 use Rattle.justfile_model.specs.Tree as t
 use Rattle.justfile_model.specs.Tree.{Expr}
 use Rattle.justfile_model.specs.declared.level.Level.{Level}
 use Rattle.justfile_model.specs.declared.level.Level.TheVariants.{Expression, Disjunct, Compared, Conjunct, Value}
-use Rattle.justfile_word.specs.declared.list_feature.ListFeature.TheVariants as features
+use Rattle.justfile_vocabulary.specs.declared.list_feature.ListFeature.TheVariants as features
 use Rattle.justfile_model.specs.declared.operator.Operator.{Operator}
 use Rattle.justfile_parse_expression.specs.Chains.{row}
 use Rattle.justfile_parse_expression.specs.TableReader as r
-use Rattle.justfile_parse_expression.specs.TableReader.{At, Read, ReadExpr, Refusal, State, accept, accept_word, enter, front_operator, is_within, leaves, literal, operation, operations, read, value}
-use Rattle.justfile_tree.specs.LeafTree.{Leaf}
+use Rattle.justfile_parse_expression.specs.TableReader.{At, Read, ReadExpr, ReadError, State, accept, accept_construct_keyword, enter, front_operator, is_within, leaves, literal, operation, operations, read, value}
+use Rattle.justfile_expression.specs.LeafTree.{Leaf}
 use Rattle.justfile_parse_expression.specs.declared.significant.TableEntry.{TableEntry}
 use Rattle.justfile_model.proofs.ExpressionReading as laws
 use Rattle.justfile_parse_expression.proofs.Rules.{bind_alike, choose_alike, then_made}
@@ -31,10 +31,10 @@ regroup (Err e) f g = refl
 -- ---- an expression of a level
 
 -- whether one more expression may be opened; where too many are open, the refusal
-abbrev allowed : (within : Bool) → State → Refusal → Read (Unit {0})
+abbrev allowed : (within : Bool) → State → ReadError → Read (Unit {0})
 allowed within s e = if within then Ok (tt, s) else Err e
 
-pub opened_by : (within : Bool) (s : State) (e : Refusal) (f : State → ReadExpr) → (if within then f s else Err e) ≡ (allowed within s e >>= λ o. f o.1)
+pub opened_by : (within : Bool) (s : State) (e : ReadError) (f : State → ReadExpr) → (if within then f s else Err e) ≡ (allowed within s e >>= λ o. f o.1)
 opened_by true s e f = refl
 opened_by false s e f = refl
 
@@ -74,7 +74,7 @@ level_is Value c s h = absurd (no_operators h)
     no_operators h = cc
 
 pub conjunct_is : (c : Bool) (s : State) → read (At Conjunct c s)
-    ≡ choose {X = ReadExpr} (accept_word (codes "if") s)
+    ≡ choose {X = ReadExpr} (accept_construct_keyword (codes "if") s)
     (choose {X = ReadExpr} (accept kinds.Slash s)
     (value s >>= operation Conjunct c)
     (λ op. row Conjunct (t.Root op.0.token.now) op.1))
@@ -82,7 +82,7 @@ pub conjunct_is : (c : Bool) (s : State) → read (At Conjunct c s)
 unfolding expressions.conjunct_rule expressions.binary_rule operation leaves row
 conjunct_is c s =
     laws.level_is leaves Conjunct c s
-    ∙ choose_alike (accept_word (codes "if") s) _ _ _ _
+    ∙ choose_alike (accept_construct_keyword (codes "if") s) _ _ _ _
     (choose_alike (accept kinds.Slash s) _ _ _ _ (ap (λ (f : ReadExpr). f >>= operation Conjunct c) (laws.level_is leaves Value c s)) (λ op. refl))
     (λ w. refl)
 

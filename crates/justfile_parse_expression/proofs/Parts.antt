@@ -1,18 +1,18 @@
 -- Reading the parts of a format string, as a loop does.
 use Rattle.std.proofs.Common.{◌≡◌, ℕ, Bool, true, false, List, [], ◌∷◌, ◌++◌, Ok, Err, refl, sym, ap, ◌∙◌}
-use Rattle.justfile_base.specs.declared.string_literal.StringLiteral.{StringLiteral}
-use Rattle.justfile_base.specs.declared.token.Token.{Token}
+use Rattle.justfile_token.specs.declared.string_literal.StringLiteral.{StringLiteral}
+use Rattle.justfile_token.specs.declared.token.Token.{Token}
 use Rattle.justfile_model.specs.Tree as tree
 use Rattle.justfile_model.specs.Tree.{Expr, Parts}
-use Rattle.justfile_tree.specs.declared.expression.Expression.{Expression}
+use Rattle.justfile_expression.specs.declared.expression.Expression.{Expression}
 use Rattle.justfile_model.specs.ExpressionReader as expressions
-use Rattle.justfile_model.specs.Reading.{◌>>=◌}
-use Rattle.justfile_parse_expression.specs.TableReader.{At, Read, ReadExpr, Refusal, State, format_parts, leaves, pair, part, read}
-use Rattle.justfile_parse_expression.specs.MethodResults.{StopsAt, literal_refusal, refusal_at}
-use Rattle.justfile_tree.specs.LeafTree.{Leaf, Literal, format_string_tree, literal_of, parts_tree, leaf_tree_of}
+use Rattle.justfile_model.specs.ReaderState.{◌>>=◌}
+use Rattle.justfile_parse_expression.specs.TableReader.{At, Read, ReadExpr, ReadError, State, format_parts, leaves, pair, part, read}
+use Rattle.justfile_parse_expression.specs.MethodResults.{IsExpressionError, literal_refusal, refusal_at}
+use Rattle.justfile_expression.specs.LeafTree.{Leaf, Literal, format_string_tree, literal_of, parts_tree, leaf_tree_of}
 use Rattle.justfile_model.specs.declared.level.Level.TheVariants as levels
-use Rattle.justfile_parse_expression.specs.declared.stop.Stop.{Stop}
-use Rattle.justfile_parse_expression.specs.declared.stop.Stop.TheVariants as stops
+use Rattle.justfile_parse_expression.specs.declared.expression_error.ExpressionError.{ExpressionError}
+use Rattle.justfile_parse_expression.specs.declared.expression_error.ExpressionError.TheVariants as causes
 use Rattle.justfile_model.proofs.ExpressionReading.{parts_is}
 use Rattle.justfile_parse_expression.proofs.Rules.{then_made}
 
@@ -130,12 +130,12 @@ module _ (start : List ℕ) where
     pub ends : (e : Expression) (l : StringLiteral) (rest : State) → pair start s ≡ Ok ((leaf_tree_of e, leaf_of l, true), rest) → with_front ps (pairs start s) ≡ Ok (format_string_tree (ps ++ (e, l) ∷ []), rest)
     ends e l rest h = rw (pair_by s, h) (ap (λ (t : Leaf → Expr Leaf Token). Ok (t, rest)) (joined_last ps e l))
 
-    pub fails : (f : Refusal) → pair start s ≡ Err f → with_front ps (pairs start s) ≡ Err f
+    pub fails : (f : ReadError) → pair start s ≡ Err f → with_front ps (pairs start s) ≡ Err f
     fails f h = rw (pair_by s, h) refl
 
     -- where a pair stops, the format string does
-    pub stops_at : (stop : Stop) (left : State) (found : Read (Leaf → Expr Leaf Token)) → with_front ps (pairs start s) ≡ found → StopsAt stop left ⊥ (pair start s) → StopsAt stop left ⊥ found
-    stops_at (stops.Refused refusal) left found is h = sym is ∙ fails (refusal_at refusal left) h
-    stops_at (stops.Literal refused) left found is h = sym is ∙ fails (literal_refusal refused.value.error) h
-    stops_at stops.Memory left found is h = tt
-    stops_at stops.Numbers left found is h = absurd h
+    pub stops_at : (stop : ExpressionError) (left : State) (found : Read (Leaf → Expr Leaf Token)) → with_front ps (pairs start s) ≡ found → IsExpressionError stop left ⊥ (pair start s) → IsExpressionError stop left ⊥ found
+    stops_at (causes.Refused refusal) left found is h = sym is ∙ fails (refusal_at refusal left) h
+    stops_at (causes.Literal refused) left found is h = sym is ∙ fails (literal_refusal refused.value.error) h
+    stops_at causes.Memory left found is h = tt
+    stops_at causes.Numbers left found is h = absurd h

@@ -4,16 +4,16 @@ use Rattle.std.proofs.Math.Seq.{drop-cons}
 use Rattle.std.proofs.lemmas.List.{append-nil, drop_all, length-drop}
 use Rattle.std.specs.List.{list_all}
 use Rattle.std.proofs.lemmas.List.Folds.{list_all_at}
-use Rattle.justfile_base.specs.declared.token.Token.{Token}
-use Rattle.justfile_word.specs.declared.token_kind.TokenKind.{TokenKind}
-use Rattle.justfile_word.specs.declared.list_feature.ListFeature.{ListFeature}
+use Rattle.justfile_token.specs.declared.token.Token.{Token}
+use Rattle.justfile_vocabulary.specs.declared.token_kind.TokenKind.{TokenKind}
+use Rattle.justfile_vocabulary.specs.declared.list_feature.ListFeature.{ListFeature}
 use Rattle.justfile_parse_expression.specs.Literal.{is_sound}
 use Rattle.justfile_parse_expression.specs.declared.significant.TableEntry.{TableEntry}
-use Rattle.justfile_model.specs.Reading.{with_next, marked_by, marks, with}
-use Rattle.justfile_model.specs.Reading as reading
+use Rattle.justfile_model.specs.ReaderState.{with_next, marked_by, marks, with}
+use Rattle.justfile_model.specs.ReaderState as reading
 use Rattle.justfile_parse_expression.specs.TableReader.{Run, State, accept_marked, begin, leaves}
 use Rattle.justfile_parse_expression.specs.Significant.{significant_of}
-use Rattle.justfile_parse_expression.specs.View.{left, run_of, state_at, state_from, state_of}
+use Rattle.justfile_parse_expression.specs.View.{tokens_left, run_of, state_at, state_from, state_of}
 use Rattle.std.proofs.Common.{is_some}
 use Rattle.justfile_parse_expression.specs.declared.parser.ExpressionParser.{ExpressionParser}
 
@@ -83,8 +83,8 @@ pub import_offsets_are : {X : Type 0} (answer : X → List ℕ → Result (List 
 unfolding state_of state_at
 import_offsets_are answer p = refl
 
-pub left_is : {X : Type 0} (answer : X → List ℕ → Result (List ℕ) (List ℕ)) (p : ExpressionParser X) → length (state_of answer p).left ≡ left p
-unfolding state_of state_at left
+pub left_is : {X : Type 0} (answer : X → List ℕ → Result (List ℕ) (List ℕ)) (p : ExpressionParser X) → length (state_of answer p).left ≡ tokens_left p
+unfolding state_of state_at tokens_left
 left_is answer p = length-drop p.next p.tokens.now
 
 -- ---- where reading begins

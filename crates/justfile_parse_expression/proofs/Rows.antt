@@ -2,14 +2,14 @@
 use Rattle.std.proofs.Common.{◌≡◌, ◌∙◌, List, refl, ap, Vec, None}
 use mathlib.Core.Former.{Count}
 use Rattle.std.specs.declared.alloc.Global.{Global}
-use Rattle.justfile_base.specs.declared.name.Name.{Name}
-use Rattle.justfile_base.specs.declared.string_literal.StringLiteral.{StringLiteral}
-use Rattle.justfile_base.specs.declared.token.Token.{Token}
+use Rattle.justfile_token.specs.declared.name.Name.{Name}
+use Rattle.justfile_token.specs.declared.string_literal.StringLiteral.{StringLiteral}
+use Rattle.justfile_token.specs.declared.token.Token.{Token}
 use Rattle.justfile_model.specs.Tree as tree
-use Rattle.justfile_tree.specs.LeafTree.{Leaf, Literal, Named, format_row_tree, format_string_tree, literal_of, parts_tree, parts_row_tree, leaf_tree_of, trees_of, trees_of_row}
-use Rattle.justfile_tree.specs.declared.expression.Expression.{Expression, Row_of-Expression as ExpressionRow, end_of-Expression as row_end, more_of-Expression as row_more, items-the_row-Expression, items_hidden-the_row-Expression-0, Row_of-Expression-FormatString-1-2 as FormatRow, end_of-Expression-FormatString-1-2 as format_row_end, more_of-Expression-FormatString-1-2 as format_row_more, items-the_row-Expression-FormatString-1-2, items_hidden-the_row-Expression-FormatString-1-2-1}
-use Rattle.justfile_tree.specs.declared.expression.Expression.TheVariants as e
-use Rattle.justfile_tree.specs.declared.expression.Expression.TheVariants.{Call', List', FormatString'}
+use Rattle.justfile_expression.specs.LeafTree.{Leaf, Literal, Named, format_row_tree, format_string_tree, literal_of, parts_tree, parts_row_tree, leaf_tree_of, trees_of, trees_of_row}
+use Rattle.justfile_expression.specs.declared.expression.Expression.{Expression, Row_of-Expression as ExpressionRow, end_of-Expression as row_end, more_of-Expression as row_more, items-the_row-Expression, items_hidden-the_row-Expression-0, Row_of-Expression-FormatString-1-2 as FormatRow, end_of-Expression-FormatString-1-2 as format_row_end, more_of-Expression-FormatString-1-2 as format_row_more, items-the_row-Expression-FormatString-1-2, items_hidden-the_row-Expression-FormatString-1-2-1}
+use Rattle.justfile_expression.specs.declared.expression.Expression.TheVariants as e
+use Rattle.justfile_expression.specs.declared.expression.Expression.TheVariants.{Call', List', FormatString'}
 
 row_is : (n : Count) (row : ExpressionRow n) → trees_of_row row ≡ trees_of (items-the_row-Expression n row)
 row_is n row_end = refl

@@ -1,21 +1,21 @@
 -- The reader's rules in the steps that the parser takes.
 use Rattle.std.proofs.Common.{◌≡◌, ℕ, Bool, true, false, List, [], ◌∷◌, Option, Some, None, Result, Ok, Err, codes, refl}
-use Rattle.justfile_base.specs.StringKind.{kind_of}
-use Rattle.justfile_base.specs.Token.{lexeme_of}
-use Rattle.justfile_word.specs.declared.format_string_part.FormatStringPart.TheVariants as string_parts
-use Rattle.justfile_base.specs.declared.token.Token.{Token}
-use Rattle.justfile_word.specs.declared.token_kind.TokenKind.{TokenKind}
-use Rattle.justfile_word.specs.declared.token_kind.TokenKind.TheVariants as kinds
+use Rattle.justfile_token.specs.StringKind.{kind_of}
+use Rattle.justfile_token.specs.Token.{lexeme_of}
+use Rattle.justfile_vocabulary.specs.declared.format_string_part.FormatStringPart.TheVariants as string_parts
+use Rattle.justfile_token.specs.declared.token.Token.{Token}
+use Rattle.justfile_vocabulary.specs.declared.token_kind.TokenKind.{TokenKind}
+use Rattle.justfile_vocabulary.specs.declared.token_kind.TokenKind.TheVariants as kinds
 use Rattle.justfile_model.specs.Expressions.{front}
 use Rattle.justfile_model.specs.Literals.{LiteralFault, cooked_text, format_text, string_of}
 use Rattle.justfile_model.specs.Tree as t
 use Rattle.justfile_model.specs.Tree.{Expr, Parts}
 use Rattle.justfile_model.specs.ExpressionReader as expressions
 use Rattle.justfile_model.specs.ExpressionReader.{by_text}
-use Rattle.justfile_model.specs.Reading.{◌>>=◌, choose}
+use Rattle.justfile_model.specs.ReaderState.{◌>>=◌, choose}
 use Rattle.justfile_parse_expression.specs.TableReader as r
-use Rattle.justfile_parse_expression.specs.TableReader.{At, Read, ReadExpr, State, accept, accept_word, assert, braced, condition, enclosed, expect, format_parts, format_string, group, leaves, list, literal_string, name, note_first, part, part_by, read, string_leaf, whole_format_string}
-use Rattle.justfile_tree.specs.LeafTree.{Leaf}
+use Rattle.justfile_parse_expression.specs.TableReader.{At, Read, ReadExpr, State, accept, accept_construct_keyword, assert, braced, condition, enclosed, expect, format_parts, format_string, group, leaves, list, literal_string, name, note_first, part, part_by, read, string_leaf, whole_format_string}
+use Rattle.justfile_expression.specs.LeafTree.{Leaf}
 use Rattle.justfile_model.specs.declared.level.Level.TheVariants.{Expression}
 use Rattle.justfile_parse_expression.specs.declared.significant.TableEntry.{TableEntry}
 use Rattle.justfile_model.proofs.ExpressionReading as laws
@@ -69,7 +69,7 @@ unfolding expressions.group_rule enclosed
 group_is s = choose_alike (accept kinds.ParenL s) _ _ _ _ refl (λ o. closed_by kinds.ParenR t.Group (read (At Expression false o.1)))
 
 pub assert_is : (s : State) → assert s
-    ≡ choose {X = ReadExpr} (accept_word (codes "assert") s) (name s) (λ w.
+    ≡ choose {X = ReadExpr} (accept_construct_keyword (codes "assert") s) (name s) (λ w.
     expect kinds.ParenL w.1 >>= λ o.
     condition o.1 >>= λ c.
     choose {X = ReadExpr} (accept kinds.Comma c.1)
@@ -77,7 +77,7 @@ pub assert_is : (s : State) → assert s
     (λ comma. enclosed kinds.ParenR comma.1 >>= then_made (t.AssertMessage w.0.token.now c.0)))
 unfolding expressions.assert_rule enclosed leaves
 assert_is s =
-    choose_alike (accept_word (codes "assert") s) _ _ _ _ refl (λ w.
+    choose_alike (accept_construct_keyword (codes "assert") s) _ _ _ _ refl (λ w.
     bind_alike (expect kinds.ParenL w.1) _ _ (λ o. bind_alike (condition o.1) _ _ (λ c.
     choose_alike (accept kinds.Comma c.1) _ _ _ _ refl (λ comma. closed_by kinds.ParenR (t.AssertMessage w.0.token.now c.0) (read (At Expression false comma.1))))))
 

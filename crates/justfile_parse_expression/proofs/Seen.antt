@@ -1,9 +1,9 @@
 -- What is read of a table, side by side with what the definitions read of its tokens: each leaf is made of a token of the table.
 use Rattle.std.proofs.Common.{◌≡◌, ◌⊎◌, ℕ, ◌<◌, ◌≤◌, List, [], Some, None, Ok, refl, sym, ap, subst, ◌∙◌, inl, inr, arith}
 use Rattle.std.proofs.Math.Nat.{eq-or-lt_of_le}
-use Rattle.justfile_word.specs.Numerator.{number_of}
-use Rattle.justfile_base.specs.Token.{lexeme_of}
-use Rattle.justfile_base.specs.declared.token.Token.{Token}
+use Rattle.justfile_vocabulary.specs.Numerator.{number_of}
+use Rattle.justfile_token.specs.Token.{lexeme_of}
+use Rattle.justfile_token.specs.declared.token.Token.{Token}
 use Rattle.justfile_model.specs.Conditions.{Conditions, with_limit}
 use Rattle.justfile_model.specs.Literals as literals
 use Rattle.justfile_model.specs.Literals.{cooked_text, token_of}
@@ -14,7 +14,7 @@ use Rattle.justfile_model.specs.TreeReader.{token_leaves}
 use Rattle.justfile_model.proofs.Related.{AlikeConditions, Relations, Respects}
 use Rattle.justfile_parse_expression.specs.TableReader.{Run, assigned_leaf, headed_leaf, leaves, literal_leaf}
 use Rattle.justfile_parse_expression.specs.Significant.{significant_of}
-use Rattle.justfile_tree.specs.LeafTree.{Leaf, Named, Text}
+use Rattle.justfile_expression.specs.LeafTree.{Leaf, Named, Text}
 use Rattle.justfile_parse_expression.specs.declared.significant.TableEntry.{TableEntry}
 
 -- what attributes are beside those that are written
@@ -36,7 +36,7 @@ module _ (conditions : Conditions) (bound : ℕ) (IsToken : Token → Type 0) (f
     pub import_offsets_are : run.import_offsets ≡ import_offsets
 
   -- a token of the table, and the token that the definitions see
-  pub record IsSpot (token : Token) (tok : Tok) : Type 0 where
+  pub record IsPosition (token : Token) (tok : Tok) : Type 0 where
     pub among : IsToken token
     pub is : tok_of token ≡ tok
 
@@ -69,7 +69,7 @@ module _ (conditions : Conditions) (bound : ℕ) (IsToken : Token → Type 0) (f
     run = IsRun;
     looser = conditions.limit < bound;
     token = IsEntry;
-    spot = IsSpot;
+    position = IsPosition;
     name = IsLeaf (λ token. Named token None);
     literal = IsLiteralLeaf;
     text = IsLeaf Text;
@@ -112,7 +112,7 @@ module _ (conditions : Conditions) (bound : ℕ) (IsToken : Token → Type 0) (f
   respects AreMeant = record {
     conditions = λ run C h. limits_alike AreMeant run C h (eq-or-lt_of_le h.within);
     see = λ entry t h. h.is;
-    spot = λ entry t h. record { among = h.among; is = ap (λ (s : SignificantToken). s.tok) h.is };
+    position = λ entry t h. record { among = h.among; is = ap (λ (s : SignificantToken). s.tok) h.is };
     name = λ entry t h. named (λ token. Named token None) entry t h;
     literal = λ run C entry t r h l text lexeme cooked. record {
       token = entry.token.now;

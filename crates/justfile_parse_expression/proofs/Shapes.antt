@@ -1,12 +1,12 @@
 -- What an expression is by its tree.
 use Rattle.std.proofs.Common.{◌≡◌, false, Some, refl}
 use Rattle.justfile_model.specs.Expressions.{ends_open}
-use Rattle.justfile_base.specs.declared.token.Token.{Token}
+use Rattle.justfile_token.specs.declared.token.Token.{Token}
 use Rattle.justfile_model.specs.Tree.{Expr}
-use Rattle.justfile_word.specs.declared.list_feature.ListFeature.TheVariants as features
+use Rattle.justfile_vocabulary.specs.declared.list_feature.ListFeature.TheVariants as features
 use Rattle.justfile_model.specs.Features.{uncompared_feature}
-use Rattle.justfile_tree.specs.LeafTree.{Leaf, assert_tree, conditional_tree, join_tree, format_row_tree}
-use Rattle.justfile_tree.specs.declared.expression.Expression.{Held-Expression-Assert-1 as OptionalExpression, None', Some', Row_of-Expression-FormatString-1-2 as FormatRow, end_of-Expression-FormatString-1-2 as format_row_end, more_of-Expression-FormatString-1-2 as format_row_more}
+use Rattle.justfile_expression.specs.LeafTree.{Leaf, assert_tree, conditional_tree, join_tree, format_row_tree}
+use Rattle.justfile_expression.specs.declared.expression.Expression.{Held-Expression-Assert-1 as OptionalExpression, None', Some', Row_of-Expression-FormatString-1-2 as FormatRow, end_of-Expression-FormatString-1-2 as format_row_end, more_of-Expression-FormatString-1-2 as format_row_more}
 
 module _ (t : Token) (c : Expr Leaf Token) where
   pub assert_plain : (m : OptionalExpression) → uncompared_feature (assert_tree t c m) ≡ Some features.NonComparisonCondition

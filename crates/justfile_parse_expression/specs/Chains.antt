@@ -1,21 +1,21 @@
 -- Expressions that nest to the right, as a row of links: each holds what stands before its right side.
 use Rattle.std.specs.Prelude.{ℕ, zero, suc, Bool, false, List, [], ◌∷◌, Option, Some, None, Ok, codes}
-use Rattle.justfile_base.specs.declared.token.Token.{Token}
-use Rattle.justfile_word.specs.declared.list_feature.ListFeature.TheVariants as features
-use Rattle.justfile_word.specs.declared.token_kind.TokenKind.TheVariants as kinds
+use Rattle.justfile_token.specs.declared.token.Token.{Token}
+use Rattle.justfile_vocabulary.specs.declared.list_feature.ListFeature.TheVariants as features
+use Rattle.justfile_vocabulary.specs.declared.token_kind.TokenKind.TheVariants as kinds
 use Rattle.justfile_model.specs.ExpressionReader as expressions
 use Rattle.justfile_model.specs.ExpressionReader.{closed}
 use Rattle.justfile_model.specs.Expressions.{ends_open}
 use Rattle.justfile_model.specs.Features.{noted, noted_if}
 use Rattle.justfile_model.specs.Operators.{binary, feature_of, operand, right}
-use Rattle.justfile_model.specs.Reading.{◌>>=◌, choose, with}
+use Rattle.justfile_model.specs.ReaderState.{◌>>=◌, choose, with}
 use Rattle.justfile_model.specs.Tree as tree
 use Rattle.justfile_model.specs.Tree.{Expr}
 use Rattle.justfile_model.specs.declared.level.Level.{Level}
 use Rattle.justfile_model.specs.declared.level.Level.TheVariants.{Compared, Conjunct, Value}
 use Rattle.justfile_model.specs.declared.operator.Operator.{Operator}
 use Rattle.justfile_parse_expression.specs.TableReader as r
-use Rattle.justfile_parse_expression.specs.TableReader.{At, Read, ReadExpr, State, accept, accept_operator, accept_word, braced, condition, enter, leaves, literal, read, value}
+use Rattle.justfile_parse_expression.specs.TableReader.{At, Read, ReadExpr, State, accept, accept_operator, accept_construct_keyword, braced, condition, enter, leaves, literal, read, value}
 use Rattle.justfile_parse_expression.specs.declared.expression.Branch as arms
 use Rattle.justfile_parse_expression.specs.declared.expression.Branch.TheVariants as branch_variants
 use Rattle.justfile_parse_expression.specs.declared.expression.Link as links
@@ -23,7 +23,7 @@ use Rattle.justfile_parse_expression.specs.declared.expression.Link.TheVariants 
 use Rattle.justfile_parse_expression.specs.declared.expression.Step as steps
 use Rattle.justfile_parse_expression.specs.declared.expression.Step.TheVariants as step_variants
 use Rattle.justfile_parse_expression.specs.declared.significant.TableEntry.{TableEntry}
-use Rattle.justfile_tree.specs.LeafTree.{Leaf, leaf_tree_of}
+use Rattle.justfile_expression.specs.LeafTree.{Leaf, leaf_tree_of}
 
 abbrev pub Tree : Type 0
 Tree = Expr Leaf Token
@@ -62,7 +62,7 @@ link k l = link_by false l (accept_operator k l.1)
 -- an operand, and the operator after it, if there is one; or the operator that stands before an operand alone
 unfoldable pub operand_step : State → Read StepTree
 operand_step s =
-    choose {X = Read StepTree} (accept_word (codes "if") s)
+    choose {X = Read StepTree} (accept_construct_keyword (codes "if") s)
     (choose {X = Read StepTree} (accept kinds.Slash s)
     (value s >>= link Conjunct)
     (λ op. Ok (Next (tree.Root op.0.token.now), op.1)))
@@ -98,10 +98,10 @@ unfoldable pub branch : (word : TableEntry) → State → Read BranchTree
 branch word s =
     condition s >>= λ c.
     braced c.1 >>= λ b.
-    choose {X = Read BranchTree} (accept_word (codes "else") b.1)
+    choose {X = Read BranchTree} (accept_construct_keyword (codes "else") b.1)
     (Ok (End (tree.If c.0 b.0), with (noted features.IfWithoutElse word.token.now) b.1))
     (λ e.
-    choose {X = Read BranchTree} (accept_word (codes "if") e.1)
+    choose {X = Read BranchTree} (accept_construct_keyword (codes "if") e.1)
     (last_branch e.1 >>= λ o. Ok (End (tree.IfElse c.0 b.0 o.0), o.1))
     (λ i. Ok (ElseIf (tree.IfElse c.0 b.0) i.0, i.1)))
 

@@ -1,6 +1,6 @@
 -- What a file is read under.
 use Rattle.std.specs.Prelude.{ℕ, List, Result}
-use Rattle.justfile_word.specs.declared.version.Version.{Version}
+use Rattle.justfile_vocabulary.specs.declared.version.Version.{Version}
 use Rattle.justfile_literal.specs.Literal.{answers_by}
 use Rattle.justfile_model.specs.Conditions.{Conditions}
 use Rattle.justfile_model.specs.Versions.{version_numbers}

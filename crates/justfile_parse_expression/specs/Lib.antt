@@ -1,7 +1,7 @@
 pub mod Chains
 pub mod Conditions
 pub mod Fault
-pub mod Formats
+pub mod FormatStrings
 pub mod Literal
 pub mod MethodResults
 pub mod Significant

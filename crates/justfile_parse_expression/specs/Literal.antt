@@ -1,11 +1,11 @@
 -- What is known of the literals and the comments among the tokens.
 use Rattle.std.specs.Prelude.{◌≡◌, ℕ, Bool, true, IsTrue, List, codes, nat_eq}
 use Rattle.std.specs.List.{starts_with}
-use Rattle.justfile_base.specs.StringKind.{kind_of}
-use Rattle.justfile_base.specs.Token.{lexeme_of}
-use Rattle.justfile_word.specs.declared.format_string_part.FormatStringPart.TheVariants as parts
-use Rattle.justfile_word.specs.declared.token_kind.TokenKind.{TokenKind}
-use Rattle.justfile_word.specs.declared.token_kind.TokenKind.TheVariants as kinds
+use Rattle.justfile_token.specs.StringKind.{kind_of}
+use Rattle.justfile_token.specs.Token.{lexeme_of}
+use Rattle.justfile_vocabulary.specs.declared.format_string_part.FormatStringPart.TheVariants as parts
+use Rattle.justfile_vocabulary.specs.declared.token_kind.TokenKind.{TokenKind}
+use Rattle.justfile_vocabulary.specs.declared.token_kind.TokenKind.TheVariants as kinds
 use Rattle.justfile_literal.specs.Literal.{is_quoted, is_part}
 use Rattle.justfile_parse_expression.specs.declared.significant.TableEntry.{TableEntry}
 

@@ -1,39 +1,39 @@
 -- What a method of the parser returns is what the definitions read.
 use Rattle.std.specs.Prelude.{◌≡◌, [], Option, Some, None, Result, Ok, Err}
-use Rattle.justfile_base.specs.declared.compile_error.CompileError.{CompileError}
-use Rattle.justfile_base.specs.declared.fault.Fault.{Fault}
-use Rattle.justfile_base.specs.declared.fault.Fault.TheVariants as faults
+use Rattle.justfile_token.specs.declared.compile_error.CompileError.{CompileError}
+use Rattle.justfile_token.specs.declared.fault.Fault.{Fault}
+use Rattle.justfile_token.specs.declared.fault.Fault.TheVariants as faults
 use Rattle.justfile_parse_expression.specs.Fault.{literal_fault}
-use Rattle.justfile_model.specs.Reading as state
-use Rattle.justfile_model.specs.Reading.{refused}
+use Rattle.justfile_model.specs.ReaderState as state
+use Rattle.justfile_model.specs.ReaderState.{refused}
 use Rattle.justfile_parse_expression.specs.TableReader as table
 use Rattle.justfile_parse_expression.specs.TableReader.{Read, State}
 use Rattle.justfile_parse_expression.specs.declared.significant.TableEntry.{TableEntry}
-use Rattle.justfile_parse_expression.specs.declared.stop.Refusal.{Refusal}
-use Rattle.justfile_parse_expression.specs.declared.stop.Refusal.TheVariants.{Unexpected, TooDeep}
-use Rattle.justfile_parse_expression.specs.declared.stop.Stop.{Stop}
-use Rattle.justfile_parse_expression.specs.declared.stop.Stop.TheVariants as stops
+use Rattle.justfile_parse_expression.specs.declared.expression_error.SyntaxError.{SyntaxError}
+use Rattle.justfile_parse_expression.specs.declared.expression_error.SyntaxError.TheVariants.{Unexpected, TooDeep}
+use Rattle.justfile_parse_expression.specs.declared.expression_error.ExpressionError.{ExpressionError}
+use Rattle.justfile_parse_expression.specs.declared.expression_error.ExpressionError.TheVariants as causes
 
 -- the refusal of a literal that its error says
-unfoldable pub literal_refusal : CompileError → table.Refusal
+unfoldable pub literal_refusal : CompileError → table.ReadError
 literal_refusal error = state.NotCooked (literal_fault error.kind) error.token
 
 -- the refusal of the next entry
-abbrev pub refusal_at : Refusal → State → table.Refusal
+abbrev pub refusal_at : SyntaxError → State → table.ReadError
 refusal_at Unexpected s = refused state.Unexpected s
 refusal_at TooDeep s = refused state.TooDeep s
 
 -- Where reading stopped, the next entry is refused, or a literal is, or numbers ran out. Running out of memory says nothing.
-abbrev pub StopsAt : {Y : Type 0} → Stop → State → (IsShort : Type 0) → Result Y table.Refusal → Type 0
-StopsAt (stops.Refused refusal) s IsShort found = found ≡ Err (refusal_at refusal s)
-StopsAt (stops.Literal refused) s IsShort found = found ≡ Err (literal_refusal refused.value.error)
-StopsAt stops.Memory s IsShort found = Unit {0}
-StopsAt stops.Numbers s IsShort found = IsShort
+abbrev pub IsExpressionError : {Y : Type 0} → ExpressionError → State → (IsShort : Type 0) → Result Y table.ReadError → Type 0
+IsExpressionError (causes.Refused refusal) s IsShort found = found ≡ Err (refusal_at refusal s)
+IsExpressionError (causes.Literal refused) s IsShort found = found ≡ Err (literal_refusal refused.value.error)
+IsExpressionError causes.Memory s IsShort found = Unit {0}
+IsExpressionError causes.Numbers s IsShort found = IsShort
 
 -- What was returned, seen by `view`, and the state after it are what is read, or say why not.
-abbrev pub Reads : {X Y : Type 0} → (X → Y) → Result X Stop → State → Read Y → Type 0
+abbrev pub Reads : {X Y : Type 0} → (X → Y) → Result X ExpressionError → State → Read Y → Type 0
 Reads view (Ok x) s found = found ≡ Ok (view x, s)
-Reads view (Err stop) s found = StopsAt stop s ⊥ found
+Reads view (Err cause) s found = IsExpressionError cause s ⊥ found
 
 -- The next entry of a state, and what is left after it; or nothing is left.
 abbrev pub Peeks : Option TableEntry → (here next : State) → Type 0
@@ -46,14 +46,14 @@ Takes (Some x) s found = found ≡ Some (x, s)
 Takes None s found = found ≡ None
 
 -- It holds of what was returned, or memory ran out.
-abbrev pub UnlessMemory : {X : Type 0} → Result X Stop → (X → Type 0) → Type 0
+abbrev pub UnlessMemory : {X : Type 0} → Result X ExpressionError → (X → Type 0) → Type 0
 UnlessMemory (Ok x) Holds = Holds x
-UnlessMemory (Err stop) Holds = stop ≡ stops.Memory
+UnlessMemory (Err cause) Holds = cause ≡ causes.Memory
 
 -- the fault of a literal, as reading stops for it
-abbrev pub TextStops : Stop → Fault → Type 0
-TextStops (stops.Literal refused) (faults.Compile error) = refused.value.error ≡ error
-TextStops stops.Memory (faults.Compile error) = Unit {0}
-TextStops stops.Memory faults.Memory = Unit {0}
-TextStops stops.Numbers faults.Numbers = Unit {0}
-TextStops _ _ = ⊥
+abbrev pub IsErrorOfLiteral : ExpressionError → Fault → Type 0
+IsErrorOfLiteral (causes.Literal refused) (faults.Compile error) = refused.value.error ≡ error
+IsErrorOfLiteral causes.Memory (faults.Compile error) = Unit {0}
+IsErrorOfLiteral causes.Memory faults.Memory = Unit {0}
+IsErrorOfLiteral causes.Numbers faults.Numbers = Unit {0}
+IsErrorOfLiteral _ _ = ⊥

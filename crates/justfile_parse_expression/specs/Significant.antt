@@ -1,7 +1,7 @@
 -- The table of significant tokens.
 use Rattle.std.specs.Prelude.{not, List}
 use Rattle.std.specs.List.{filter}
-use Rattle.justfile_base.specs.declared.token.Token.{Token}
+use Rattle.justfile_token.specs.declared.token.Token.{Token}
 use Rattle.justfile_model.specs.Tok.{tok_of}
 use Rattle.justfile_model.specs.SignificantTokens.{SignificantToken, is_whitespace}
 use Rattle.justfile_parse_expression.specs.declared.significant.TableEntry.{TableEntry}

@@ -1,13 +1,13 @@
 -- Reading a table, with all that the parser's trees hold. That the definitions read the same trees of tokens is a law.
 use Rattle.std.specs.Prelude.{ℕ, ◌-◌, ◌^◌, Bool, true, false, List, [], ◌∷◌, Option, Some, None, Ok, Err, not, ◌==◌, if◌then◌else◌}
-use Rattle.justfile_word.specs.Numerator.{number_of}
-use Rattle.justfile_base.specs.StringKind.{kind_of}
-use Rattle.justfile_base.specs.Token.{lexeme_of}
-use Rattle.justfile_word.specs.declared.format_string_part.FormatStringPart.{FormatStringPart}
-use Rattle.justfile_word.specs.declared.format_string_part.FormatStringPart.TheVariants as string_parts
-use Rattle.justfile_base.specs.declared.string_kind.StringKind.{StringKind}
-use Rattle.justfile_base.specs.declared.token.Token.{Token}
-use Rattle.justfile_word.specs.declared.token_kind.TokenKind.{TokenKind}
+use Rattle.justfile_vocabulary.specs.Numerator.{number_of}
+use Rattle.justfile_token.specs.StringKind.{kind_of}
+use Rattle.justfile_token.specs.Token.{lexeme_of}
+use Rattle.justfile_vocabulary.specs.declared.format_string_part.FormatStringPart.{FormatStringPart}
+use Rattle.justfile_vocabulary.specs.declared.format_string_part.FormatStringPart.TheVariants as string_parts
+use Rattle.justfile_token.specs.declared.string_kind.StringKind.{StringKind}
+use Rattle.justfile_token.specs.declared.token.Token.{Token}
+use Rattle.justfile_vocabulary.specs.declared.token_kind.TokenKind.{TokenKind}
 use Rattle.justfile_model.specs.Literals as literals
 use Rattle.justfile_model.specs.Conditions.{Conditions}
 use Rattle.justfile_model.specs.Literals.{format_text}
@@ -15,10 +15,10 @@ use Rattle.justfile_model.specs.Tree as tree
 use Rattle.justfile_model.specs.Tree.{Expr}
 use Rattle.justfile_model.specs.Features.{uncompared}
 use Rattle.justfile_model.specs.ExpressionReader as expressions
-use Rattle.justfile_model.specs.Reading as reading
-use Rattle.justfile_model.specs.Reading.{◌>>=◌, Leaves, refused, with}
+use Rattle.justfile_model.specs.ReaderState as reading
+use Rattle.justfile_model.specs.ReaderState.{◌>>=◌, Leaves, refused, with}
 use Rattle.justfile_parse_expression.specs.Significant.{significant_of}
-use Rattle.justfile_tree.specs.LeafTree.{Leaf, Named, Literal, Command, Text, Assigned, Headed}
+use Rattle.justfile_expression.specs.LeafTree.{Leaf, Named, Literal, Command, Text, Assigned, Headed}
 use Rattle.justfile_model.specs.declared.level.Level.{Level}
 use Rattle.justfile_model.specs.declared.level.Level.TheVariants.{Expression, Disjunct, Compared}
 use Rattle.justfile_model.specs.Operators.{operator_of}
@@ -54,7 +54,7 @@ unfoldable pub leaves : Leaves Run TableEntry Leaf Token (Unit {0})
 leaves = record {
   conditions = λ run. run.conditions;
   see = significant_of;
-  spot = λ t. t.token.now;
+  position = λ t. t.token.now;
   name = λ t. Named t.token.now None;
   literal = λ t literal text. literal_leaf t.token.now literal text;
   text = λ t. Text t.token.now;
@@ -75,8 +75,8 @@ State = reading.State Run TableEntry Token
 abbrev pub begin : Run → State
 begin run = record { run = run; depth = 0; left = run.table; noted = [] }
 
-abbrev pub Refusal : Type 0
-Refusal = reading.Refusal TableEntry Token
+abbrev pub ReadError : Type 0
+ReadError = reading.ReadError TableEntry Token
 
 abbrev pub Read : Type 0 → Type 0
 Read X = reading.Read Run TableEntry Token X
@@ -102,8 +102,8 @@ read = expressions.read leaves
 abbrev pub accept : TokenKind → State → Option (TableEntry × State)
 accept = reading.accept leaves
 
-abbrev pub accept_word : List ℕ → State → Option (TableEntry × State)
-accept_word = reading.accept_word leaves
+abbrev pub accept_construct_keyword : List ℕ → State → Option (TableEntry × State)
+accept_construct_keyword = reading.accept_construct_keyword leaves
 
 abbrev pub accept_marked : List ℕ → TokenKind → State → Option (TableEntry × State)
 accept_marked = reading.accept_marked leaves

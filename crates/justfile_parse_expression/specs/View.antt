@@ -1,7 +1,7 @@
 -- What the definitions see of the parser: all that it holds.
 use Rattle.std.specs.Prelude.{◌≡◌, ℕ, ◌<◌, ◌-◌, List, Option, Some, None, drop, length, Result}
-use Rattle.justfile_base.specs.declared.token.Token.{Token}
-use Rattle.justfile_word.specs.declared.list_feature.ListFeature.{ListFeature}
+use Rattle.justfile_token.specs.declared.token.Token.{Token}
+use Rattle.justfile_vocabulary.specs.declared.list_feature.ListFeature.{ListFeature}
 use Rattle.justfile_parse_expression.specs.Conditions.{conditions_of}
 use Rattle.justfile_parse_expression.specs.TableReader.{Run, State}
 use Rattle.justfile_parse_expression.specs.declared.parser.ExpressionParser.{ExpressionParser}
@@ -21,10 +21,10 @@ module _ {X : Type 0} (answer : X → List ℕ → Result (List ℕ) (List ℕ))
   state_of p = state_from p p.next
 
 -- how many entries are left
-unfoldable pub left : {X : Type 0} → ExpressionParser X → ℕ
-left p = length p.tokens.now - p.next
+unfoldable pub tokens_left : {X : Type 0} → ExpressionParser X → ℕ
+tokens_left p = length p.tokens.now - p.next
 
 -- Where something was taken, fewer entries are left. Where nothing was, the parser is as before.
 abbrev pub Moves : {X Y : Type 0} → Option Y → (old new : ExpressionParser X) → Type 0
-Moves (Some y) old new = left new < left old
+Moves (Some y) old new = tokens_left new < tokens_left old
 Moves None old new = new ≡ old

@@ -1,11 +1,11 @@
 //! How expressions are read.
 ghost use Rattle.std.specs.Prelude.{◌≡◌, ◌<◌, ◌≤◌, IsTrue, false, Ok, OnOk, IfSome, IfNone, Some, None};
-ghost use Rattle.justfile_base.specs.StringKind.{kind_of};
-ghost use Rattle.justfile_base.specs.Token.{lexeme_of};
-ghost use Rattle.justfile_word.specs.declared.token_kind.TokenKind.TheVariants as kinds;
+ghost use Rattle.justfile_token.specs.StringKind.{kind_of};
+ghost use Rattle.justfile_token.specs.Token.{lexeme_of};
+ghost use Rattle.justfile_vocabulary.specs.declared.token_kind.TokenKind.TheVariants as kinds;
 ghost use Rattle.justfile_model.specs.Expressions.{ends_open};
 ghost use Rattle.justfile_model.specs.Tree as tree;
-ghost use Rattle.justfile_parse_expression.specs.Formats.{IsEndedAt, IsEndedFrom};
+ghost use Rattle.justfile_parse_expression.specs.FormatStrings.{IsEndedAt, IsEndedFrom};
 ghost use Rattle.justfile_parse_expression.specs.Literal.{IsOf};
 ghost use Rattle.justfile_model.specs.ExpressionReader.{closed};
 ghost use Rattle.justfile_model.specs.Operators.{is_binary};
@@ -13,18 +13,18 @@ ghost use Rattle.justfile_parse_expression.specs.Chains as chains;
 ghost use Rattle.justfile_parse_expression.specs.Chains.{branch_of, link_of, negated, row_closed, row_tree, step_of};
 ghost use Rattle.justfile_parse_expression.specs.TableReader as reader;
 ghost use Rattle.justfile_parse_expression.specs.MethodResults.{Reads, UnlessMemory};
-ghost use Rattle.justfile_tree.specs.LeafTree.{Literal, Named, format_string_tree, literal_of, leaf_tree_of, trees_of};
+ghost use Rattle.justfile_expression.specs.LeafTree.{Literal, Named, format_string_tree, literal_of, leaf_tree_of, trees_of};
 ghost use Rattle.justfile_model.specs.declared.level.Level.TheVariants as levels;
 
+use crate::expression_error::{ExpressionError, SyntaxError};
 use crate::feature::find_function_feature;
 use crate::literal::find_kind;
 use crate::operator::{find_feature, find_left_level, find_operator, is_at, make_operation};
 use crate::parser::{ExpressionParser, is_word};
 use crate::significant::TableEntry;
-use crate::stop::{Refusal, Stop};
-use justfile_base::{Expander, FormatStringPart, Keyword, Name, StringLiteral, Token, TokenKind};
+use justfile_expression::{Expression, ListFeature};
 use justfile_model::{Level, Operator};
-use justfile_tree::{Expression, ListFeature};
+use justfile_token::{Expander, FormatStringPart, Keyword, Name, StringLiteral, Token, TokenKind};
 
 /// The usual limit of depth: how many expressions may be open in one another.
 pub const RECURSION_LIMIT: usize = 256;
@@ -86,13 +86,13 @@ fn make_link<'src>(link: Link<'src>, rhs: Box<Expression<'src>>) -> Expression<'
 }
 
 impl<'run, 'src, X: Expander> ExpressionParser<'run, 'src, X> {
-    ghost use Rattle.justfile_parse_expression.specs.View.{Moves, left, state_of};
+    ghost use Rattle.justfile_parse_expression.specs.View.{Moves, tokens_left, state_of};
 
     /// An expression, in a box of its own.
-    pub fn parse_expression(&mut self) -> Result<Box<Expression<'src>>, Stop<'src>>
+    pub fn parse_expression(&mut self) -> Result<Box<Expression<'src>>, ExpressionError<'src>>
         ensures reads { Reads (λ e. leaf_tree_of e.value) result (state_of X.answer self.new)
             (reader.read (reader.At levels.Expression false (state_of X.answer self.old))) }
-        ensures progress { OnOk result (left self.new < left self.old) }
+        ensures progress { OnOk result (tokens_left self.new < tokens_left self.old) }
     {
         self.parse_level(Level::Expression, false)
     }
@@ -104,11 +104,11 @@ impl<'run, 'src, X: Expander> ExpressionParser<'run, 'src, X> {
         &mut self,
         level: Level,
         condition: bool,
-    ) -> Result<Box<Expression<'src>>, Stop<'src>>
+    ) -> Result<Box<Expression<'src>>, ExpressionError<'src>>
         requires { IsTrue (is_binary level) }
         ensures reads { Reads (λ e. leaf_tree_of e.value) result (state_of X.answer self.new)
             (reader.read (reader.At level condition (state_of X.answer self.old))) }
-        ensures progress { OnOk result (left self.new < left self.old) }
+        ensures progress { OnOk result (tokens_left self.new < tokens_left self.old) }
     {
         self.enter(level)?;
         let conjunct = self.parse_conjunct(condition)?;
@@ -118,10 +118,13 @@ impl<'run, 'src, X: Expander> ExpressionParser<'run, 'src, X> {
     /// An expression without comparisons, `&&` and `||`. `if` begins a conditional where `/` may stand.
     #[cycle(expression)]
     #[tactic(auto, using(crate::proofs::Operators::conjunct_is))]
-    fn parse_conjunct(&mut self, condition: bool) -> Result<Box<Expression<'src>>, Stop<'src>>
+    fn parse_conjunct(
+        &mut self,
+        condition: bool,
+    ) -> Result<Box<Expression<'src>>, ExpressionError<'src>>
         ensures reads { Reads (λ e. leaf_tree_of e.value) result (state_of X.answer self.new)
             (reader.read (reader.At levels.Conjunct condition (state_of X.answer self.old))) }
-        ensures progress { OnOk result (left self.new < left self.old) }
+        ensures progress { OnOk result (tokens_left self.new < tokens_left self.old) }
     {
         if let Some(word) = self.accept_keyword(Keyword::If) {
             return self.parse_conditional(word);
@@ -137,16 +140,16 @@ impl<'run, 'src, X: Expander> ExpressionParser<'run, 'src, X> {
     /// The right side of an operator of a level, and what its link makes of it. Operators of one level
     /// nest to the right, so the right side is a row of any length.
     #[cycle(expression)]
-    #[tactic(auto, using(crate::proofs::Chains::begins, crate::proofs::Chains::goes_on, crate::proofs::Chains::ends, crate::proofs::Chains::stops))]
+    #[tactic(auto, using(crate::proofs::Chains::begins, crate::proofs::Chains::goes_on, crate::proofs::Chains::ends, crate::proofs::Chains::errors))]
     #[inline(never)]
     fn parse_row(
         &mut self,
         first: Link<'src>,
         level: Level,
-    ) -> Result<Box<Expression<'src>>, Stop<'src>>
+    ) -> Result<Box<Expression<'src>>, ExpressionError<'src>>
         ensures reads { Reads (λ e. leaf_tree_of e.value) result (state_of X.answer self.new)
             (chains.row level (link_of first.entry) (state_of X.answer self.old)) }
-        ensures progress { OnOk result (left self.new ≤ left self.old) }
+        ensures progress { OnOk result (tokens_left self.new ≤ tokens_left self.old) }
     {
         let mut row = Vec::new(self.alloc);
         let mut link = first;
@@ -164,10 +167,10 @@ impl<'run, 'src, X: Expander> ExpressionParser<'run, 'src, X> {
     /// What comes next of a row, after an operator of the level. Comparisons form no rows.
     #[cycle(expression)]
     #[tactic(auto, unfolding(crate::specs::Chains::step))]
-    fn parse_step(&mut self, level: Level) -> Result<Step<'src>, Stop<'src>>
+    fn parse_step(&mut self, level: Level) -> Result<Step<'src>, ExpressionError<'src>>
         ensures reads { Reads step_of result (state_of X.answer self.new)
             (chains.step level (state_of X.answer self.old)) }
-        ensures progress { OnOk result (left self.new < left self.old) }
+        ensures progress { OnOk result (tokens_left self.new < tokens_left self.old) }
     {
         match level {
             Level::Conjunct => self.parse_operand(),
@@ -185,10 +188,10 @@ impl<'run, 'src, X: Expander> ExpressionParser<'run, 'src, X> {
     /// stand.
     #[cycle(expression)]
     #[tactic(auto, unfolding(crate::specs::Chains::operand_step))]
-    fn parse_operand(&mut self) -> Result<Step<'src>, Stop<'src>>
+    fn parse_operand(&mut self) -> Result<Step<'src>, ExpressionError<'src>>
         ensures reads { Reads step_of result (state_of X.answer self.new)
             (chains.operand_step (state_of X.answer self.old)) }
-        ensures progress { OnOk result (left self.new < left self.old) }
+        ensures progress { OnOk result (tokens_left self.new < tokens_left self.old) }
     {
         if let Some(word) = self.accept_keyword(Keyword::If) {
             return Ok(Step::Last(self.parse_conditional(word)?));
@@ -207,13 +210,13 @@ impl<'run, 'src, X: Expander> ExpressionParser<'run, 'src, X> {
         &mut self,
         lhs: Box<Expression<'src>>,
         level: Level,
-    ) -> Result<Step<'src>, Stop<'src>>
+    ) -> Result<Step<'src>, ExpressionError<'src>>
         ensures reads { Reads step_of result (state_of X.answer self.new)
             (chains.link level (leaf_tree_of lhs.entry.value, state_of X.answer self.old)) }
-        ensures progress { OnOk result (left self.new ≤ left self.old) }
+        ensures progress { OnOk result (tokens_left self.new ≤ tokens_left self.old) }
     {
         let Some((operator, entry)) = self.accept_operator(level) else {
-            self.wanted.add_operators(level);
+            self.expected_tokens.add_operators(level);
             return Ok(Step::Last(lhs));
         };
         let token = *entry.token;
@@ -234,13 +237,13 @@ impl<'run, 'src, X: Expander> ExpressionParser<'run, 'src, X> {
         link: Link<'src>,
         last: Box<Expression<'src>>,
         level: Level,
-    ) -> Result<Box<Expression<'src>>, Stop<'src>>
+    ) -> Result<Box<Expression<'src>>, ExpressionError<'src>>
         ensures reads { Reads (λ e. leaf_tree_of e.value) result (state_of X.answer self.new)
             (Ok (
               row_tree row.entry.items (link_of link.entry (leaf_tree_of last.entry.value)),
               row_closed level row.entry.items (closed level (closed level (state_of X.answer self.old))),
             )) }
-        ensures stays { OnOk result (left self.new ≡ left self.old) }
+        ensures stays { OnOk result (tokens_left self.new ≡ tokens_left self.old) }
     {
         self.leave(level);
         let mut whole = self.join_link(link, last, level)?;
@@ -257,11 +260,11 @@ impl<'run, 'src, X: Expander> ExpressionParser<'run, 'src, X> {
         link: Link<'src>,
         rhs: Box<Expression<'src>>,
         level: Level,
-    ) -> Result<Box<Expression<'src>>, Stop<'src>>
+    ) -> Result<Box<Expression<'src>>, ExpressionError<'src>>
         ensures tree { UnlessMemory result (λ e. leaf_tree_of e.value
             ≡ link_of link.entry (leaf_tree_of rhs.entry.value)) }
         ensures closed { state_of X.answer self.new ≡ closed level (state_of X.answer self.old) }
-        ensures stays { left self.new ≡ left self.old }
+        ensures stays { tokens_left self.new ≡ tokens_left self.old }
     {
         self.leave(level);
         self.box_expression(make_link(link, rhs))
@@ -276,13 +279,13 @@ impl<'run, 'src, X: Expander> ExpressionParser<'run, 'src, X> {
         lhs: Box<Expression<'src>>,
         level: Level,
         condition: bool,
-    ) -> Result<Box<Expression<'src>>, Stop<'src>>
+    ) -> Result<Box<Expression<'src>>, ExpressionError<'src>>
         ensures reads { Reads (λ e. leaf_tree_of e.value) result (state_of X.answer self.new)
             (reader.operations level condition (leaf_tree_of lhs.entry.value, state_of X.answer self.old)) }
-        ensures progress { OnOk result (left self.new ≤ left self.old) }
+        ensures progress { OnOk result (tokens_left self.new ≤ tokens_left self.old) }
     {
         let Some(_operator) = self.peek_operator() else {
-            self.wanted.add_operators_to(level);
+            self.expected_tokens.add_operators_to(level);
             self.leave(level);
             return Ok(lhs);
         };
@@ -305,14 +308,14 @@ impl<'run, 'src, X: Expander> ExpressionParser<'run, 'src, X> {
         lhs: Box<Expression<'src>>,
         level: Level,
         condition: bool,
-    ) -> Result<Box<Expression<'src>>, Stop<'src>>
+    ) -> Result<Box<Expression<'src>>, ExpressionError<'src>>
         requires { IsTrue (is_binary level) }
         ensures reads { Reads (λ e. leaf_tree_of e.value) result (state_of X.answer self.new)
             (reader.operation level condition (leaf_tree_of lhs.entry.value, state_of X.answer self.old)) }
-        ensures progress { OnOk result (left self.new ≤ left self.old) }
+        ensures progress { OnOk result (tokens_left self.new ≤ tokens_left self.old) }
     {
         let Some((operator, entry)) = self.accept_operator(level) else {
-            self.wanted.add_operators(level);
+            self.expected_tokens.add_operators(level);
             self.leave(level);
             return Ok(lhs);
         };
@@ -334,10 +337,10 @@ impl<'run, 'src, X: Expander> ExpressionParser<'run, 'src, X> {
     pub fn parse_enclosed(
         &mut self,
         closing: TokenKind,
-    ) -> Result<Box<Expression<'src>>, Stop<'src>>
+    ) -> Result<Box<Expression<'src>>, ExpressionError<'src>>
         ensures reads { Reads (λ e. leaf_tree_of e.value) result (state_of X.answer self.new)
             (reader.enclosed closing (state_of X.answer self.old)) }
-        ensures progress { OnOk result (left self.new < left self.old) }
+        ensures progress { OnOk result (tokens_left self.new < tokens_left self.old) }
     {
         let expression = self.parse_level(Level::Expression, false)?;
         self.expect(closing)?;
@@ -347,10 +350,10 @@ impl<'run, 'src, X: Expander> ExpressionParser<'run, 'src, X> {
     /// The condition of an `if` or `assert`.
     #[cycle(expression)]
     #[tactic(auto, using(crate::proofs::Rules::note_is), unfolding(justfile_model::specs::ExpressionReader::condition_rule))]
-    fn parse_condition(&mut self) -> Result<Box<Expression<'src>>, Stop<'src>>
+    fn parse_condition(&mut self) -> Result<Box<Expression<'src>>, ExpressionError<'src>>
         ensures reads { Reads (λ e. leaf_tree_of e.value) result (state_of X.answer self.new)
             (reader.condition (state_of X.answer self.old)) }
-        ensures progress { OnOk result (left self.new < left self.old) }
+        ensures progress { OnOk result (tokens_left self.new < tokens_left self.old) }
     {
         let first = self.peek_front();
         let condition = self.parse_level(Level::Expression, true)?;
@@ -361,9 +364,9 @@ impl<'run, 'src, X: Expander> ExpressionParser<'run, 'src, X> {
     /// An expression between braces.
     #[cycle(expression)]
     #[tactic(auto, using(crate::proofs::Rules::braced_is))]
-    fn parse_braced(&mut self) -> Result<Box<Expression<'src>>, Stop<'src>>
+    fn parse_braced(&mut self) -> Result<Box<Expression<'src>>, ExpressionError<'src>>
         ensures reads { Reads (λ e. leaf_tree_of e.value) result (state_of X.answer self.new) (reader.braced (state_of X.answer self.old)) }
-        ensures progress { OnOk result (left self.new < left self.old) }
+        ensures progress { OnOk result (tokens_left self.new < tokens_left self.old) }
     {
         self.expect(TokenKind::BraceL)?;
         self.parse_enclosed(TokenKind::BraceR)
@@ -376,10 +379,10 @@ impl<'run, 'src, X: Expander> ExpressionParser<'run, 'src, X> {
     fn parse_conditional(
         &mut self,
         word: TableEntry<'run, 'src>,
-    ) -> Result<Box<Expression<'src>>, Stop<'src>>
+    ) -> Result<Box<Expression<'src>>, ExpressionError<'src>>
         ensures reads { Reads (λ e. leaf_tree_of e.value) result (state_of X.answer self.new)
             (reader.read (reader.Conditional word.entry (state_of X.answer self.old))) }
-        ensures progress { OnOk result (left self.new < left self.old) }
+        ensures progress { OnOk result (tokens_left self.new < tokens_left self.old) }
     {
         match self.parse_branch(word)? {
             Branch::Last(last) => Ok(last),
@@ -390,16 +393,16 @@ impl<'run, 'src, X: Expander> ExpressionParser<'run, 'src, X> {
     /// What a branch makes of the conditional that is its other branch, after the `if` of that. There may
     /// be any number of such branches.
     #[cycle(expression)]
-    #[tactic(auto, using(crate::proofs::Chains::begins, crate::proofs::Branches::goes_on, crate::proofs::Branches::ends, crate::proofs::Branches::stops))]
+    #[tactic(auto, using(crate::proofs::Chains::begins, crate::proofs::Branches::goes_on, crate::proofs::Branches::ends, crate::proofs::Branches::errors))]
     #[inline(never)]
     fn parse_branches(
         &mut self,
         first: Link<'src>,
         word: TableEntry<'run, 'src>,
-    ) -> Result<Box<Expression<'src>>, Stop<'src>>
+    ) -> Result<Box<Expression<'src>>, ExpressionError<'src>>
         ensures reads { Reads (λ e. leaf_tree_of e.value) result (state_of X.answer self.new)
             (chains.branches (link_of first.entry) word.entry (state_of X.answer self.old)) }
-        ensures progress { OnOk result (left self.new < left self.old) }
+        ensures progress { OnOk result (tokens_left self.new < tokens_left self.old) }
     {
         let mut row = Vec::new(self.alloc);
         let mut link = first;
@@ -422,10 +425,10 @@ impl<'run, 'src, X: Expander> ExpressionParser<'run, 'src, X> {
     fn parse_branch(
         &mut self,
         word: TableEntry<'run, 'src>,
-    ) -> Result<Branch<'run, 'src>, Stop<'src>>
+    ) -> Result<Branch<'run, 'src>, ExpressionError<'src>>
         ensures reads { Reads branch_of result (state_of X.answer self.new)
             (chains.branch word.entry (state_of X.answer self.old)) }
-        ensures progress { OnOk result (left self.new < left self.old) }
+        ensures progress { OnOk result (tokens_left self.new < tokens_left self.old) }
     {
         let condition = self.parse_condition()?;
         let then = self.parse_braced()?;
@@ -445,7 +448,7 @@ impl<'run, 'src, X: Expander> ExpressionParser<'run, 'src, X> {
         &self,
         condition: Box<Expression<'src>>,
         then: Box<Expression<'src>>,
-    ) -> Result<Branch<'run, 'src>, Stop<'src>>
+    ) -> Result<Branch<'run, 'src>, ExpressionError<'src>>
         ensures { UnlessMemory result (λ branch. branch_of branch
             ≡ chains.End (tree.If (leaf_tree_of condition.entry.value) (leaf_tree_of then.entry.value))) }
     {
@@ -463,7 +466,7 @@ impl<'run, 'src, X: Expander> ExpressionParser<'run, 'src, X> {
         condition: Box<Expression<'src>>,
         then: Box<Expression<'src>>,
         otherwise: Box<Expression<'src>>,
-    ) -> Result<Branch<'run, 'src>, Stop<'src>>
+    ) -> Result<Branch<'run, 'src>, ExpressionError<'src>>
         ensures { UnlessMemory result (λ branch. branch_of branch
             ≡ chains.End (tree.IfElse (leaf_tree_of condition.entry.value) (leaf_tree_of then.entry.value)
             (leaf_tree_of otherwise.entry.value))) }
@@ -479,10 +482,10 @@ impl<'run, 'src, X: Expander> ExpressionParser<'run, 'src, X> {
     /// The other branch of a conditional, after `else`, where it stands in braces.
     #[cycle(expression)]
     #[tactic(auto, unfolding(crate::specs::Chains::last_branch))]
-    fn parse_last_branch(&mut self) -> Result<Box<Expression<'src>>, Stop<'src>>
+    fn parse_last_branch(&mut self) -> Result<Box<Expression<'src>>, ExpressionError<'src>>
         ensures reads { Reads (λ e. leaf_tree_of e.value) result (state_of X.answer self.new)
             (chains.last_branch (state_of X.answer self.old)) }
-        ensures progress { OnOk result (left self.new < left self.old) }
+        ensures progress { OnOk result (tokens_left self.new < tokens_left self.old) }
     {
         let otherwise = self.parse_braced()?;
         self.expect_closed(&otherwise)?;
@@ -494,11 +497,11 @@ impl<'run, 'src, X: Expander> ExpressionParser<'run, 'src, X> {
     #[cycle(expression)]
     #[tactic(auto, using(crate::proofs::Negations::bare_is))]
     #[inline(never)]
-    pub fn parse_value(&mut self) -> Result<Box<Expression<'src>>, Stop<'src>>
+    pub fn parse_value(&mut self) -> Result<Box<Expression<'src>>, ExpressionError<'src>>
         ensures reads { Reads (λ e. leaf_tree_of e.value) result (state_of X.answer self.new) (reader.value (state_of X.answer self.old)) }
-        ensures progress { OnOk result (left self.new < left self.old) }
+        ensures progress { OnOk result (tokens_left self.new < tokens_left self.old) }
     {
-        let Some(_bang) = self.detect_if(TokenKind::Bang) else {
+        let Some(_bang) = self.probe_if(TokenKind::Bang) else {
             return self.parse_bare();
         };
         self.parse_negation()
@@ -508,9 +511,9 @@ impl<'run, 'src, X: Expander> ExpressionParser<'run, 'src, X> {
     #[cycle(expression)]
     #[tactic(auto, unfolding(crate::specs::Chains::negation))]
     #[inline(never)]
-    fn parse_negation(&mut self) -> Result<Box<Expression<'src>>, Stop<'src>>
+    fn parse_negation(&mut self) -> Result<Box<Expression<'src>>, ExpressionError<'src>>
         ensures reads { Reads (λ e. leaf_tree_of e.value) result (state_of X.answer self.new) (reader.value (state_of X.answer self.old)) }
-        ensures progress { OnOk result (left self.new < left self.old) }
+        ensures progress { OnOk result (tokens_left self.new < tokens_left self.old) }
     {
         let count = self.accept_bangs()?;
         let operand = self.parse_bare()?;
@@ -519,14 +522,14 @@ impl<'run, 'src, X: Expander> ExpressionParser<'run, 'src, X> {
 
     /// Takes the `!` that come next, and says how many they are.
     #[tactic(auto, using(crate::proofs::Negations::begins, crate::proofs::Negations::goes_on, crate::proofs::Negations::ends))]
-    fn accept_bangs(&mut self) -> Result<usize, Stop<'src>>
+    fn accept_bangs(&mut self) -> Result<usize, ExpressionError<'src>>
         ensures reads { UnlessMemory result (λ count. reader.value (state_of X.answer self.old)
             ≡ chains.negation count (state_of X.answer self.new)) }
-        ensures progress { left self.new ≤ left self.old }
+        ensures progress { tokens_left self.new ≤ tokens_left self.old }
     {
         let most = self.count_left();
         let mut count = 0;
-        while let Some(bang) = self.take(TokenKind::Bang) {
+        while let Some(bang) = self.accept_unrecorded(TokenKind::Bang) {
             self.note(ListFeature::NegationOperator, *bang.token)?;
             prove!(count < most);
             count += 1;
@@ -539,7 +542,7 @@ impl<'run, 'src, X: Expander> ExpressionParser<'run, 'src, X> {
         &self,
         operand: Box<Expression<'src>>,
         count: usize,
-    ) -> Result<Box<Expression<'src>>, Stop<'src>>
+    ) -> Result<Box<Expression<'src>>, ExpressionError<'src>>
         ensures { UnlessMemory result (λ e. leaf_tree_of e.value
             ≡ negated count (leaf_tree_of operand.entry.value)) }
     {
@@ -554,10 +557,10 @@ impl<'run, 'src, X: Expander> ExpressionParser<'run, 'src, X> {
     #[cycle(expression)]
     #[tactic(auto, unfolding(crate::specs::Chains::bare))]
     #[inline(always)]
-    fn parse_bare(&mut self) -> Result<Box<Expression<'src>>, Stop<'src>>
+    fn parse_bare(&mut self) -> Result<Box<Expression<'src>>, ExpressionError<'src>>
         ensures reads { Reads (λ e. leaf_tree_of e.value) result (state_of X.answer self.new)
             (chains.bare (state_of X.answer self.old)) }
-        ensures progress { OnOk result (left self.new < left self.old) }
+        ensures progress { OnOk result (tokens_left self.new < tokens_left self.old) }
     {
         match self.parse_literal()? {
             Some(literal) => Ok(literal),
@@ -569,9 +572,9 @@ impl<'run, 'src, X: Expander> ExpressionParser<'run, 'src, X> {
     #[cycle(expression)]
     #[tactic(auto, unfolding(justfile_model::specs::ExpressionReader::format_rule))]
     #[inline(never)]
-    fn parse_format(&mut self) -> Result<Box<Expression<'src>>, Stop<'src>>
+    fn parse_format(&mut self) -> Result<Box<Expression<'src>>, ExpressionError<'src>>
         ensures reads { Reads (λ e. leaf_tree_of e.value) result (state_of X.answer self.new) (reader.format (state_of X.answer self.old)) }
-        ensures progress { OnOk result (left self.new < left self.old) }
+        ensures progress { OnOk result (tokens_left self.new < tokens_left self.old) }
     {
         match self.accept_marked(Keyword::F, TokenKind::FormatStringStart) {
             Some(start) => self.parse_format_string(start),
@@ -586,12 +589,12 @@ impl<'run, 'src, X: Expander> ExpressionParser<'run, 'src, X> {
     fn parse_format_string(
         &mut self,
         start: TableEntry<'run, 'src>,
-    ) -> Result<Box<Expression<'src>>, Stop<'src>>
+    ) -> Result<Box<Expression<'src>>, ExpressionError<'src>>
         requires start { IsOf kinds.FormatStringStart start }
         requires ended { IsEndedFrom (kind_of (lexeme_of start.token.now)) (state_of X.answer self.old) }
         ensures reads { Reads (λ e. leaf_tree_of e.value) result (state_of X.answer self.new)
             (reader.format_string (start.entry, state_of X.answer self.old)) }
-        ensures progress { OnOk result (left self.new < left self.old) }
+        ensures progress { OnOk result (tokens_left self.new < tokens_left self.old) }
     {
         let literal = self.cook_part(start, find_kind(start), FormatStringPart::Start)?;
         let expressions = self.parse_parts(start)?;
@@ -604,11 +607,11 @@ impl<'run, 'src, X: Expander> ExpressionParser<'run, 'src, X> {
     fn parse_parts(
         &mut self,
         start: TableEntry<'run, 'src>,
-    ) -> Result<Vec<(Expression<'src>, StringLiteral<'src>)>, Stop<'src>>
+    ) -> Result<Vec<(Expression<'src>, StringLiteral<'src>)>, ExpressionError<'src>>
         requires ended { IsEndedFrom (kind_of (lexeme_of start.token.now)) (state_of X.answer self.old) }
         ensures reads { Reads (λ parts. format_string_tree parts.items) result (state_of X.answer self.new)
             (reader.format_parts (lexeme_of start.entry.token.now) (state_of X.answer self.old)) }
-        ensures progress { OnOk result (left self.new < left self.old) }
+        ensures progress { OnOk result (tokens_left self.new < tokens_left self.old) }
     {
         let mut parts = Vec::new(self.alloc);
         'parts: loop {
@@ -626,11 +629,11 @@ impl<'run, 'src, X: Expander> ExpressionParser<'run, 'src, X> {
     fn parse_pair(
         &mut self,
         start: TableEntry<'run, 'src>,
-    ) -> Result<(Expression<'src>, StringLiteral<'src>, bool), Stop<'src>>
+    ) -> Result<(Expression<'src>, StringLiteral<'src>, bool), ExpressionError<'src>>
         requires ended { IsEndedFrom (kind_of (lexeme_of start.token.now)) (state_of X.answer self.old) }
         ensures reads { Reads (λ x. (leaf_tree_of x.0, Literal (literal_of x.1), x.2)) result (state_of X.answer self.new)
             (reader.pair (lexeme_of start.entry.token.now) (state_of X.answer self.old)) }
-        ensures progress { OnOk result (left self.new < left self.old) }
+        ensures progress { OnOk result (tokens_left self.new < tokens_left self.old) }
     {
         let expression = self.parse_level(Level::Expression, false)?;
         let (literal, is_last) = self.parse_part(start)?;
@@ -640,9 +643,9 @@ impl<'run, 'src, X: Expander> ExpressionParser<'run, 'src, X> {
     /// An assertion, or another value.
     #[cycle(expression)]
     #[tactic(auto, using(crate::proofs::Rules::assert_is))]
-    fn parse_assert(&mut self) -> Result<Box<Expression<'src>>, Stop<'src>>
+    fn parse_assert(&mut self) -> Result<Box<Expression<'src>>, ExpressionError<'src>>
         ensures reads { Reads (λ e. leaf_tree_of e.value) result (state_of X.answer self.new) (reader.assert (state_of X.answer self.old)) }
-        ensures progress { OnOk result (left self.new < left self.old) }
+        ensures progress { OnOk result (tokens_left self.new < tokens_left self.old) }
     {
         let Some(word) = self.accept_keyword(Keyword::Assert) else {
             return self.parse_name();
@@ -669,11 +672,11 @@ impl<'run, 'src, X: Expander> ExpressionParser<'run, 'src, X> {
     /// A call or a variable, or another value.
     #[cycle(expression)]
     #[tactic(auto, unfolding(justfile_model::specs::ExpressionReader::name_rule, crate::specs::TableReader::leaves))]
-    fn parse_name(&mut self) -> Result<Box<Expression<'src>>, Stop<'src>>
+    fn parse_name(&mut self) -> Result<Box<Expression<'src>>, ExpressionError<'src>>
         ensures reads { Reads (λ e. leaf_tree_of e.value) result (state_of X.answer self.new) (reader.name (state_of X.answer self.old)) }
-        ensures progress { OnOk result (left self.new < left self.old) }
+        ensures progress { OnOk result (tokens_left self.new < tokens_left self.old) }
     {
-        let Some(entry) = self.take(TokenKind::Identifier) else {
+        let Some(entry) = self.accept_unrecorded(TokenKind::Identifier) else {
             return self.parse_group();
         };
         let name = Name::from_identifier(*entry.token);
@@ -688,11 +691,11 @@ impl<'run, 'src, X: Expander> ExpressionParser<'run, 'src, X> {
     /// An expression in parentheses, or a list.
     #[cycle(expression)]
     #[tactic(auto, using(crate::proofs::Rules::group_is))]
-    fn parse_group(&mut self) -> Result<Box<Expression<'src>>, Stop<'src>>
+    fn parse_group(&mut self) -> Result<Box<Expression<'src>>, ExpressionError<'src>>
         ensures reads { Reads (λ e. leaf_tree_of e.value) result (state_of X.answer self.new) (reader.group (state_of X.answer self.old)) }
-        ensures progress { OnOk result (left self.new < left self.old) }
+        ensures progress { OnOk result (tokens_left self.new < tokens_left self.old) }
     {
-        let Some(_opening) = self.take(TokenKind::ParenL) else {
+        let Some(_opening) = self.accept_unrecorded(TokenKind::ParenL) else {
             return self.parse_list();
         };
         let contents = self.parse_enclosed(TokenKind::ParenR)?;
@@ -702,13 +705,13 @@ impl<'run, 'src, X: Expander> ExpressionParser<'run, 'src, X> {
     /// A list.
     #[cycle(expression)]
     #[tactic(auto, unfolding(justfile_model::specs::ExpressionReader::list_rule, crate::specs::TableReader::leaves))]
-    fn parse_list(&mut self) -> Result<Box<Expression<'src>>, Stop<'src>>
+    fn parse_list(&mut self) -> Result<Box<Expression<'src>>, ExpressionError<'src>>
         ensures reads { Reads (λ e. leaf_tree_of e.value) result (state_of X.answer self.new) (reader.list (state_of X.answer self.old)) }
-        ensures progress { OnOk result (left self.new < left self.old) }
+        ensures progress { OnOk result (tokens_left self.new < tokens_left self.old) }
     {
-        let Some(opener) = self.take(TokenKind::BracketL) else {
-            self.wanted.add_value();
-            return Err(Stop::Refused(Refusal::Unexpected));
+        let Some(opener) = self.accept_unrecorded(TokenKind::BracketL) else {
+            self.expected_tokens.add_value();
+            return Err(ExpressionError::Refused(SyntaxError::Unexpected));
         };
         self.note(ListFeature::ListLiteral, *opener.token)?;
         let elements = self.parse_sequence(TokenKind::BracketR)?;
@@ -722,10 +725,10 @@ impl<'run, 'src, X: Expander> ExpressionParser<'run, 'src, X> {
     pub fn parse_sequence(
         &mut self,
         closing: TokenKind,
-    ) -> Result<Vec<Expression<'src>>, Stop<'src>>
+    ) -> Result<Vec<Expression<'src>>, ExpressionError<'src>>
         ensures reads { Reads (λ es. trees_of es.items) result (state_of X.answer self.new)
             (reader.read (reader.Sequence closing (state_of X.answer self.old))) }
-        ensures progress { OnOk result (left self.new < left self.old) }
+        ensures progress { OnOk result (tokens_left self.new < tokens_left self.old) }
     {
         // most lists and calls hold no more
         let mut elements = Vec::with_capacity(self.alloc, 2)?;
@@ -748,10 +751,10 @@ impl<'run, 'src, X: Expander> ExpressionParser<'run, 'src, X> {
     pub fn parse_element(
         &mut self,
         closing: TokenKind,
-    ) -> Result<(Box<Expression<'src>>, bool), Stop<'src>>
+    ) -> Result<(Box<Expression<'src>>, bool), ExpressionError<'src>>
         ensures reads { Reads (λ x. (leaf_tree_of x.0.value, x.1)) result (state_of X.answer self.new)
             (reader.element closing (state_of X.answer self.old)) }
-        ensures progress { OnOk result (left self.new < left self.old) }
+        ensures progress { OnOk result (tokens_left self.new < tokens_left self.old) }
     {
         let element = self.parse_level(Level::Expression, false)?;
         if let Some(_comma) = self.accept(TokenKind::Comma) {
@@ -762,15 +765,15 @@ impl<'run, 'src, X: Expander> ExpressionParser<'run, 'src, X> {
     }
 
     /// The part of a format string after an expression, and whether it is the last.
-    #[tactic(auto, using(crate::proofs::Cooked::framed_continue, crate::proofs::Formats::last_ended, crate::proofs::Rules::part_is))]
+    #[tactic(auto, using(crate::proofs::Cooked::framed_continue, crate::proofs::FormatStrings::last_ended, crate::proofs::Rules::part_is))]
     fn parse_part(
         &mut self,
         start: TableEntry<'run, 'src>,
-    ) -> Result<(StringLiteral<'src>, bool), Stop<'src>>
+    ) -> Result<(StringLiteral<'src>, bool), ExpressionError<'src>>
         requires ended { IsEndedAt (kind_of (lexeme_of start.token.now)) (state_of X.answer self.old) }
         ensures reads { Reads (λ x. (Literal (literal_of x.0), x.1)) result (state_of X.answer self.new)
             (reader.part (lexeme_of start.entry.token.now) (state_of X.answer self.old)) }
-        ensures progress { OnOk result (left self.new < left self.old) }
+        ensures progress { OnOk result (tokens_left self.new < tokens_left self.old) }
     {
         if let Some(entry) = self.accept(TokenKind::FormatStringContinue) {
             let literal = self.cook_part(entry, find_kind(start), FormatStringPart::Continue)?;
@@ -782,14 +785,14 @@ impl<'run, 'src, X: Expander> ExpressionParser<'run, 'src, X> {
     }
 
     /// Opens an expression.
-    #[tactic(auto, unfolding(crate::specs::TableReader::enter, crate::specs::View::state_at, crate::specs::View::state_of, crate::specs::View::left))]
-    fn enter(&mut self, level: Level) -> Result<(), Stop<'src>>
+    #[tactic(auto, unfolding(crate::specs::TableReader::enter, crate::specs::View::state_at, crate::specs::View::state_of, crate::specs::View::tokens_left))]
+    fn enter(&mut self, level: Level) -> Result<(), ExpressionError<'src>>
         ensures reads { Reads (λ done. done) result (state_of X.answer self.new) (reader.enter level (state_of X.answer self.old)) }
-        ensures stays { left self.new ≡ left self.old }
+        ensures stays { tokens_left self.new ≡ tokens_left self.old }
     {
         if matches!(level, Level::Expression) {
             if self.depth == self.limit {
-                return Err(Stop::Refused(Refusal::TooDeep));
+                return Err(ExpressionError::Refused(SyntaxError::TooDeep));
             }
             self.depth += 1;
         }
@@ -797,10 +800,10 @@ impl<'run, 'src, X: Expander> ExpressionParser<'run, 'src, X> {
     }
 
     /// Closes an expression.
-    #[tactic(auto, unfolding(crate::specs::View::state_at, crate::specs::View::state_of, crate::specs::View::left))]
+    #[tactic(auto, unfolding(crate::specs::View::state_at, crate::specs::View::state_of, crate::specs::View::tokens_left))]
     fn leave(&mut self, level: Level)
         ensures closed { state_of X.answer self.new ≡ closed level (state_of X.answer self.old) }
-        ensures stays { left self.new ≡ left self.old }
+        ensures stays { tokens_left self.new ≡ tokens_left self.old }
     {
         if matches!(level, Level::Expression) {
             self.depth = self.depth.saturating_sub(1);
@@ -812,14 +815,14 @@ impl<'run, 'src, X: Expander> ExpressionParser<'run, 'src, X> {
     pub(crate) fn box_expression(
         &self,
         expression: Expression<'src>,
-    ) -> Result<Box<Expression<'src>>, Stop<'src>>
+    ) -> Result<Box<Expression<'src>>, ExpressionError<'src>>
         ensures { UnlessMemory result (λ e. e.value ≡ expression.entry) }
     {
         Ok(Box::new(self.alloc, expression)?)
     }
 
     /// Takes the next token if it is an operator of the level.
-    #[tactic(auto, unfolding(justfile_model::specs::ExpressionReader::accept_operator, crate::specs::TableReader::leaves, crate::specs::View::state_of, crate::specs::View::left))]
+    #[tactic(auto, unfolding(justfile_model::specs::ExpressionReader::accept_operator, crate::specs::TableReader::leaves, crate::specs::View::state_of, crate::specs::View::tokens_left))]
     #[inline(always)]
     fn accept_operator(&mut self, level: Level) -> Option<(Operator, TableEntry<'run, 'src>)>
         ensures some { IfSome result
@@ -831,7 +834,7 @@ impl<'run, 'src, X: Expander> ExpressionParser<'run, 'src, X> {
         let operator = find_operator(entry.token.kind)?;
         if is_at(level, operator) {
             self.next += 1;
-            self.wanted.clear();
+            self.expected_tokens.clear();
             Some((operator, entry))
         } else {
             None
@@ -846,8 +849,8 @@ impl<'run, 'src, X: Expander> ExpressionParser<'run, 'src, X> {
     }
 
     /// No `else` may stand after a branch that ends in a conditional without one.
-    #[tactic(auto, unfolding(justfile_model::specs::Reading::accept_word, justfile_model::specs::Reading::refused, crate::specs::TableReader::leaves))]
-    fn expect_closed(&self, branch: &Expression<'src>) -> Result<(), Stop<'src>>
+    #[tactic(auto, unfolding(justfile_model::specs::ReaderState::accept_construct_keyword, justfile_model::specs::ReaderState::refused, crate::specs::TableReader::leaves))]
+    fn expect_closed(&self, branch: &Expression<'src>) -> Result<(), ExpressionError<'src>>
         ensures reads { Reads (λ _. leaf_tree_of branch.now) result (state_of X.answer self.now)
             (reader.ended_by (ends_open (leaf_tree_of branch.now)) (leaf_tree_of branch.now) (state_of X.answer self.now)) }
     {
@@ -856,8 +859,8 @@ impl<'run, 'src, X: Expander> ExpressionParser<'run, 'src, X> {
         }
         match self.peek() {
             Some(entry) if is_word(entry, Keyword::Else.lexeme()) => {
-                self.wanted.add_operators_to(Level::Expression);
-                Err(Stop::Refused(Refusal::Unexpected))
+                self.expected_tokens.add_operators_to(Level::Expression);
+                Err(ExpressionError::Refused(SyntaxError::Unexpected))
             }
             _ => Ok(()),
         }

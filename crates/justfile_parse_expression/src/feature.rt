@@ -1,25 +1,29 @@
 ghost use Rattle.std.specs.Prelude.{◌≡◌};
 ghost use Rattle.justfile_model.specs.Features.{function_feature, noted, noted_if, uncompared_feature};
-ghost use Rattle.justfile_model.specs.Reading.{with};
+ghost use Rattle.justfile_model.specs.ReaderState.{with};
 ghost use Rattle.justfile_parse_expression.specs.TableReader.{note_first};
-ghost use Rattle.justfile_tree.specs.LeafTree.{leaf_tree_of};
+ghost use Rattle.justfile_expression.specs.LeafTree.{leaf_tree_of};
 ghost use Rattle.justfile_parse_expression.specs.MethodResults.{UnlessMemory};
 
+use crate::expression_error::ExpressionError;
 use crate::parser::ExpressionParser;
 use crate::significant::TableEntry;
-use crate::stop::Stop;
-use justfile_base::{Expander, Token};
-use justfile_tree::{Expression, ListFeature};
+use justfile_expression::{Expression, ListFeature};
+use justfile_token::{Expander, Token};
 
 impl<'src, X: Expander> ExpressionParser<'_, 'src, X> {
-    ghost use Rattle.justfile_parse_expression.specs.View.{left, state_of};
+    ghost use Rattle.justfile_parse_expression.specs.View.{tokens_left, state_of};
 
     /// Notes a feature that needs the setting for lists.
-    #[tactic(auto, unfolding(crate::specs::View::state_at, crate::specs::View::state_of, crate::specs::View::left))]
-    pub fn note(&mut self, feature: ListFeature, token: Token<'src>) -> Result<(), Stop<'src>>
+    #[tactic(auto, unfolding(crate::specs::View::state_at, crate::specs::View::state_of, crate::specs::View::tokens_left))]
+    pub fn note(
+        &mut self,
+        feature: ListFeature,
+        token: Token<'src>,
+    ) -> Result<(), ExpressionError<'src>>
         ensures notes { UnlessMemory result
             (λ done. state_of X.answer self.new ≡ with (noted feature token.entry) (state_of X.answer self.old)) }
-        ensures stays { left self.new ≡ left self.old }
+        ensures stays { tokens_left self.new ≡ tokens_left self.old }
     {
         self.list_features.push((feature, token))?;
         Ok(())
@@ -31,10 +35,10 @@ impl<'src, X: Expander> ExpressionParser<'_, 'src, X> {
         &mut self,
         feature: Option<ListFeature>,
         token: Token<'src>,
-    ) -> Result<(), Stop<'src>>
+    ) -> Result<(), ExpressionError<'src>>
         ensures notes { UnlessMemory result
             (λ done. state_of X.answer self.new ≡ with (noted_if feature token.entry) (state_of X.answer self.old)) }
-        ensures stays { left self.new ≡ left self.old }
+        ensures stays { tokens_left self.new ≡ tokens_left self.old }
     {
         match feature {
             Some(feature) => self.note(feature, token),
@@ -47,10 +51,10 @@ impl<'src, X: Expander> ExpressionParser<'_, 'src, X> {
         &mut self,
         condition: &Expression<'src>,
         first: Option<TableEntry<'_, 'src>>,
-    ) -> Result<(), Stop<'src>>
+    ) -> Result<(), ExpressionError<'src>>
         ensures notes { UnlessMemory result
             (λ done. state_of X.answer self.new ≡ note_first (leaf_tree_of condition.now) first.entry (state_of X.answer self.old)) }
-        ensures stays { left self.new ≡ left self.old }
+        ensures stays { tokens_left self.new ≡ tokens_left self.old }
     {
         match first {
             Some(first) => self.note_if(find_condition_feature(condition), *first.token),

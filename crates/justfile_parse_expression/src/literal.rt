@@ -1,23 +1,23 @@
 ghost use Rattle.std.specs.Prelude.{◌≡◌, IsTrue, IfOk, option_map};
-ghost use Rattle.justfile_base.specs.StringKind.{kind_of};
-ghost use Rattle.justfile_base.specs.Token.{lexeme_of};
-ghost use Rattle.justfile_word.specs.declared.token_kind.TokenKind.TheVariants as kinds;
+ghost use Rattle.justfile_token.specs.StringKind.{kind_of};
+ghost use Rattle.justfile_token.specs.Token.{lexeme_of};
+ghost use Rattle.justfile_vocabulary.specs.declared.token_kind.TokenKind.TheVariants as kinds;
 ghost use Rattle.justfile_literal.specs.Literal.{is_part};
 ghost use Rattle.justfile_parse_expression.specs.Fault.{IsLiteralFault};
 ghost use Rattle.justfile_parse_expression.specs.Literal.{IsOf};
 ghost use Rattle.justfile_parse_expression.specs.TableReader as reader;
-ghost use Rattle.justfile_parse_expression.specs.MethodResults.{Reads, TextStops};
-ghost use Rattle.justfile_tree.specs.LeafTree.{Literal, literal_of, leaf_tree_of};
+ghost use Rattle.justfile_parse_expression.specs.MethodResults.{Reads, IsErrorOfLiteral};
+ghost use Rattle.justfile_expression.specs.LeafTree.{Literal, literal_of, leaf_tree_of};
 
 use crate::expression::make_format_string;
+use crate::expression_error::{ExpressionError, LiteralError};
 use crate::parser::ExpressionParser;
 use crate::significant::TableEntry;
-use crate::stop::{LiteralRefusal, Stop};
-use justfile_base::{
+use justfile_expression::Expression;
+use justfile_literal::{command, format_part, string_literal};
+use justfile_token::{
     Expander, Fault, FormatStringPart, Keyword, StringKind, StringLiteral, TokenKind,
 };
-use justfile_literal::{command, format_part, string_literal};
-use justfile_tree::Expression;
 use std::alloc::Global;
 
 impl<'run, 'src, X: Expander> ExpressionParser<'run, 'src, X> {
@@ -25,12 +25,14 @@ impl<'run, 'src, X: Expander> ExpressionParser<'run, 'src, X> {
 
     /// A literal, if one stands next.
     #[tactic(auto, unfolding(justfile_model::specs::ExpressionReader::literal))]
-    pub(crate) fn parse_literal(&mut self) -> Result<Option<Box<Expression<'src>>>, Stop<'src>>
+    pub(crate) fn parse_literal(
+        &mut self,
+    ) -> Result<Option<Box<Expression<'src>>>, ExpressionError<'src>>
         ensures reads { Reads (option_map (λ e. leaf_tree_of e.value)) result (state_of X.answer self.new)
             (reader.literal (state_of X.answer self.old)) }
         ensures moves { IfOk result (λ found. Moves found self.old self.new) }
     {
-        if let Some(entry) = self.take(TokenKind::StringToken) {
+        if let Some(entry) = self.accept_unrecorded(TokenKind::StringToken) {
             return Ok(Some(self.cook_string(entry, false)?));
         }
         if let Some(entry) = self.accept_marked(Keyword::X, TokenKind::StringToken) {
@@ -39,7 +41,7 @@ impl<'run, 'src, X: Expander> ExpressionParser<'run, 'src, X> {
         if let Some(entry) = self.accept_marked(Keyword::F, TokenKind::StringToken) {
             return Ok(Some(self.cook_single(entry)?));
         }
-        match self.take(TokenKind::Backtick) {
+        match self.accept_unrecorded(TokenKind::Backtick) {
             Some(entry) => Ok(Some(self.cook_backtick(entry)?)),
             None => Ok(None),
         }
@@ -51,7 +53,7 @@ impl<'run, 'src, X: Expander> ExpressionParser<'run, 'src, X> {
         &self,
         entry: TableEntry<'run, 'src>,
         expand: bool,
-    ) -> Result<Box<Expression<'src>>, Stop<'src>>
+    ) -> Result<Box<Expression<'src>>, ExpressionError<'src>>
         requires { IsOf kinds.StringToken entry }
         ensures reads { Reads (λ e. leaf_tree_of e.value) result (state_of X.answer self.now)
             (reader.literal_string expand (entry.entry, state_of X.answer self.now)) }
@@ -66,7 +68,7 @@ impl<'run, 'src, X: Expander> ExpressionParser<'run, 'src, X> {
         &self,
         entry: TableEntry<'run, 'src>,
         expand: bool,
-    ) -> Result<StringLiteral<'src>, Stop<'src>>
+    ) -> Result<StringLiteral<'src>, ExpressionError<'src>>
         requires { IsOf kinds.StringToken entry }
         ensures reads { Reads (λ l. Literal (literal_of l)) result (state_of X.answer self.now)
             (reader.string_leaf expand (entry.entry, state_of X.answer self.now)) }
@@ -74,7 +76,7 @@ impl<'run, 'src, X: Expander> ExpressionParser<'run, 'src, X> {
     {
         match string_literal(self.alloc, *entry.token, expand, self.expander) {
             Ok(literal) => Ok(literal),
-            Err(fault) => Err(make_stop(self.alloc, fault)),
+            Err(fault) => Err(literal_error(self.alloc, fault)),
         }
     }
 
@@ -83,7 +85,7 @@ impl<'run, 'src, X: Expander> ExpressionParser<'run, 'src, X> {
     fn cook_backtick(
         &self,
         entry: TableEntry<'run, 'src>,
-    ) -> Result<Box<Expression<'src>>, Stop<'src>>
+    ) -> Result<Box<Expression<'src>>, ExpressionError<'src>>
         requires { IsOf kinds.Backtick entry }
         ensures reads { Reads (λ e. leaf_tree_of e.value) result (state_of X.answer self.now)
             (reader.backtick (entry.entry, state_of X.answer self.now)) }
@@ -93,7 +95,7 @@ impl<'run, 'src, X: Expander> ExpressionParser<'run, 'src, X> {
                 contents,
                 token: *entry.token,
             })?),
-            Err(fault) => Err(make_stop(self.alloc, fault)),
+            Err(fault) => Err(literal_error(self.alloc, fault)),
         }
     }
 
@@ -102,7 +104,7 @@ impl<'run, 'src, X: Expander> ExpressionParser<'run, 'src, X> {
     fn cook_single(
         &self,
         entry: TableEntry<'run, 'src>,
-    ) -> Result<Box<Expression<'src>>, Stop<'src>>
+    ) -> Result<Box<Expression<'src>>, ExpressionError<'src>>
         requires { IsOf kinds.StringToken entry }
         ensures reads { Reads (λ e. leaf_tree_of e.value) result (state_of X.answer self.now)
             (reader.whole_format_string (entry.entry, state_of X.answer self.now)) }
@@ -118,14 +120,14 @@ impl<'run, 'src, X: Expander> ExpressionParser<'run, 'src, X> {
         entry: TableEntry<'run, 'src>,
         kind: StringKind,
         part: FormatStringPart,
-    ) -> Result<StringLiteral<'src>, Stop<'src>>
+    ) -> Result<StringLiteral<'src>, ExpressionError<'src>>
         requires framed { IsTrue (is_part kind part (lexeme_of entry.token.now)) }
         ensures reads { Reads (λ l. Literal (literal_of l)) result (state_of X.answer self.now)
             (reader.part_by kind part (entry.entry, state_of X.answer self.now)) }
     {
         match format_part(self.alloc, *entry.token, kind, part) {
             Ok(literal) => Ok(literal),
-            Err(fault) => Err(make_stop(self.alloc, fault)),
+            Err(fault) => Err(literal_error(self.alloc, fault)),
         }
     }
 }
@@ -138,16 +140,16 @@ pub(crate) fn find_kind(entry: TableEntry<'_, '_>) -> StringKind
 }
 
 /// Why a literal has no text.
-fn make_stop<'src>(alloc: Global, fault: Fault<'src>) -> Stop<'src>
+fn literal_error<'src>(alloc: Global, fault: Fault<'src>) -> ExpressionError<'src>
     requires { IsLiteralFault fault }
-    ensures { TextStops result fault.entry }
+    ensures { IsErrorOfLiteral result fault.entry }
 {
     match fault {
-        Fault::Compile(error) => match Box::new(alloc, LiteralRefusal { error }) {
-            Ok(refused) => Stop::Literal(refused),
-            Err(_failed) => Stop::Memory,
+        Fault::Compile(error) => match Box::new(alloc, LiteralError { error }) {
+            Ok(refused) => ExpressionError::Literal(refused),
+            Err(_failed) => ExpressionError::Memory,
         },
-        Fault::Memory => Stop::Memory,
-        Fault::Numbers => Stop::Numbers,
+        Fault::Memory => ExpressionError::Memory,
+        Fault::Numbers => ExpressionError::Numbers,
     }
 }

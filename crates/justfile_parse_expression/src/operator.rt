@@ -2,11 +2,11 @@
 ghost use Rattle.std.specs.Prelude.{◌≡◌, ◌<◌, IsTrue};
 ghost use Rattle.justfile_model.specs.Operators as operators;
 ghost use Rattle.justfile_model.specs.Operators.{is_binary, rank};
-ghost use Rattle.justfile_tree.specs.LeafTree.{leaf_tree_of};
+ghost use Rattle.justfile_expression.specs.LeafTree.{leaf_tree_of};
 
-use justfile_base::{Token, TokenKind};
+use justfile_expression::{ConditionalOperator, Expression, ListFeature};
 use justfile_model::{Level, Operator};
-use justfile_tree::{ConditionalOperator, Expression, ListFeature};
+use justfile_token::{Token, TokenKind};
 
 /// What stands to the left of the operators of a level.
 pub(crate) fn find_left_level(level: Level) -> Level

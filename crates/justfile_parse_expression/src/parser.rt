@@ -2,23 +2,23 @@
 ghost use Rattle.std.specs.Option.{is_some};
 ghost use Rattle.std.specs.Prelude.{◌≡◌, ◌<◌, ◌≤◌, ◌+◌, ℕ, false, List, None, drop, length, map, IsTrue, IfOk, OnOk, OnSome, IfSome};
 ghost use Rattle.std.specs.List.{list_all};
-ghost use Rattle.justfile_word.specs.Keyword.{keyword_text};
-ghost use Rattle.justfile_word.specs.declared.token_kind.TokenKind.TheVariants as kinds;
+ghost use Rattle.justfile_vocabulary.specs.Keyword.{keyword_text};
+ghost use Rattle.justfile_vocabulary.specs.declared.token_kind.TokenKind.TheVariants as kinds;
 ghost use Rattle.justfile_model.specs.Expressions.{front};
 ghost use Rattle.justfile_parse_expression.specs.Conditions.{conditions_of};
-ghost use Rattle.justfile_parse_expression.specs.Formats.{AreEnded, IsTable, prop_ended};
+ghost use Rattle.justfile_parse_expression.specs.FormatStrings.{AreEnded, IsTable, prop_ended};
 ghost use Rattle.justfile_parse_expression.specs.Literal.{IsOf, is_sound};
-ghost use Rattle.justfile_model.specs.Reading.{at, is_word, marks};
+ghost use Rattle.justfile_model.specs.ReaderState.{at, is_word, marks};
 ghost use Rattle.justfile_model.specs.Versions.{version_numbers};
 ghost use Rattle.justfile_parse_expression.specs.TableReader as reader;
 ghost use Rattle.justfile_parse_expression.specs.MethodResults.{Peeks, Reads, Takes};
 ghost use Rattle.justfile_parse_expression.specs.Significant.{significant_of};
 
+use crate::expected_tokens::ExpectedTokens;
+use crate::expression_error::{ExpressionError, SyntaxError};
 use crate::significant::TableEntry;
-use crate::stop::{Refusal, Stop};
-use crate::wanted::Wanted;
-use justfile_base::{Expander, Keyword, Token, TokenKind, Version};
-use justfile_tree::ListFeature;
+use justfile_expression::ListFeature;
+use justfile_token::{Expander, Keyword, Token, TokenKind, Version};
 use std::alloc::Global;
 
 /// Reads a table of significant tokens from left to right.
@@ -48,7 +48,7 @@ pub struct ExpressionParser<'run, 'src, X> {
     pub(crate) next: usize,
     pub tokens: &'run [TableEntry<'run, 'src>],
     /// Which kinds are wanted in place of the next token.
-    pub wanted: Wanted,
+    pub expected_tokens: ExpectedTokens,
     ghost within: { next ≤ length tokens.now },
     ghost shallow: { depth ≤ limit },
     ghost nonempty: { 0 < length tokens.now },
@@ -57,7 +57,7 @@ pub struct ExpressionParser<'run, 'src, X> {
 }
 
 impl<'run, 'src, X: Expander> ExpressionParser<'run, 'src, X> {
-    ghost use Rattle.justfile_parse_expression.specs.View.{Moves, left, state_from, state_of};
+    ghost use Rattle.justfile_parse_expression.specs.View.{Moves, tokens_left, state_from, state_of};
 
     /// The parser at the first token of a table, where no expression is open, and up to `limit` may be.
     #[tactic(auto, using(crate::proofs::Rest::begin_is), unfolding(crate::specs::View::state_of))]
@@ -89,7 +89,7 @@ impl<'run, 'src, X: Expander> ExpressionParser<'run, 'src, X> {
             list_features: Vec::new(alloc),
             next: 0,
             tokens,
-            wanted: Wanted::new(),
+            expected_tokens: ExpectedTokens::new(),
         }
     }
 
@@ -124,8 +124,8 @@ impl<'run, 'src, X: Expander> ExpressionParser<'run, 'src, X> {
     }
 
     /// The next token if it is of this kind; it is not taken yet. The kind is not wanted for that.
-    #[tactic(auto, unfolding(crate::specs::TableReader::leaves, justfile_model::specs::Reading::accept, justfile_model::specs::Reading::same_kind))]
-    pub fn detect_if(&self, kind: TokenKind) -> Option<TableEntry<'run, 'src>>
+    #[tactic(auto, unfolding(crate::specs::TableReader::leaves, justfile_model::specs::ReaderState::accept, justfile_model::specs::ReaderState::same_kind))]
+    pub fn probe_if(&self, kind: TokenKind) -> Option<TableEntry<'run, 'src>>
         ensures within { OnSome result (self.now.next < length self.now.tokens.now) }
         ensures takes { Takes result (state_from X.answer self.now (self.now.next + 1)) (reader.accept kind (state_of X.answer self.now)) }
         ensures entry { IfSome result (λ entry. IsOf kind entry) }
@@ -142,8 +142,8 @@ impl<'run, 'src, X: Expander> ExpressionParser<'run, 'src, X> {
         ensures takes { Takes result (state_from X.answer self.now (self.now.next + 1)) (reader.accept kind (state_of X.answer self.now)) }
         ensures entry { IfSome result (λ entry. IsOf kind entry) }
     {
-        let Some(entry) = self.detect_if(kind) else {
-            self.wanted.add(kind);
+        let Some(entry) = self.probe_if(kind) else {
+            self.expected_tokens.add(kind);
             return None;
         };
         Some(entry)
@@ -151,15 +151,15 @@ impl<'run, 'src, X: Expander> ExpressionParser<'run, 'src, X> {
 
     /// Takes the next token if it is of this kind. The kind is not wanted for that: it is one of those
     /// that a value begins with, which are wanted all at once.
-    #[tactic(auto, unfolding(crate::specs::View::state_of, crate::specs::View::left))]
-    pub(crate) fn take(&mut self, kind: TokenKind) -> Option<TableEntry<'run, 'src>>
+    #[tactic(auto, unfolding(crate::specs::View::state_of, crate::specs::View::tokens_left))]
+    pub(crate) fn accept_unrecorded(&mut self, kind: TokenKind) -> Option<TableEntry<'run, 'src>>
         ensures takes { Takes result (state_of X.answer self.new) (reader.accept kind (state_of X.answer self.old)) }
         ensures moves { Moves result self.old self.new }
         ensures entry { IfSome result (λ entry. IsOf kind entry) }
     {
-        let entry = self.detect_if(kind)?;
+        let entry = self.probe_if(kind)?;
         self.next += 1;
-        self.wanted.clear();
+        self.expected_tokens.clear();
         Some(entry)
     }
 
@@ -169,26 +169,26 @@ impl<'run, 'src, X: Expander> ExpressionParser<'run, 'src, X> {
         ensures moves { Moves result self.old self.new }
         ensures entry { IfSome result (λ entry. IsOf kind entry) }
     {
-        let Some(entry) = self.take(kind) else {
-            self.wanted.add(kind);
+        let Some(entry) = self.accept_unrecorded(kind) else {
+            self.expected_tokens.add(kind);
             return None;
         };
         Some(entry)
     }
 
     /// Takes the next token if it is this keyword.
-    #[tactic(auto, unfolding(crate::specs::TableReader::leaves, justfile_model::specs::Reading::accept_word, crate::specs::View::state_of, crate::specs::View::left))]
+    #[tactic(auto, unfolding(crate::specs::TableReader::leaves, justfile_model::specs::ReaderState::accept_construct_keyword, crate::specs::View::state_of, crate::specs::View::tokens_left))]
     #[inline(always)]
     pub fn accept_keyword(&mut self, keyword: Keyword) -> Option<TableEntry<'run, 'src>>
         ensures takes { Takes result (state_of X.answer self.new)
-            (reader.accept_word (keyword_text keyword) (state_of X.answer self.old)) }
+            (reader.accept_construct_keyword (keyword_text keyword) (state_of X.answer self.old)) }
         ensures moves { Moves result self.old self.new }
         ensures kind { IfSome result (λ entry. entry.token.now.kind ≡ kinds.Identifier) }
     {
         let entry = self.peek()?;
         if is_word(entry, keyword.lexeme()) {
             self.next += 1;
-            self.wanted.clear();
+            self.expected_tokens.clear();
             Some(entry)
         } else {
             None
@@ -196,10 +196,10 @@ impl<'run, 'src, X: Expander> ExpressionParser<'run, 'src, X> {
     }
 
     /// Whether the next token is this keyword.
-    #[tactic(auto, unfolding(crate::specs::TableReader::leaves, justfile_model::specs::Reading::accept_word))]
+    #[tactic(auto, unfolding(crate::specs::TableReader::leaves, justfile_model::specs::ReaderState::accept_construct_keyword))]
     #[inline(always)]
     pub fn peek_keyword(&self, keyword: Keyword) -> bool
-        ensures { result ≡ is_some (reader.accept_word (keyword_text keyword) (state_of X.answer self.now)) }
+        ensures { result ≡ is_some (reader.accept_construct_keyword (keyword_text keyword) (state_of X.answer self.now)) }
     {
         match self.peek() {
             Some(entry) => is_word(entry, keyword.lexeme()),
@@ -209,7 +209,7 @@ impl<'run, 'src, X: Expander> ExpressionParser<'run, 'src, X> {
 
     /// Takes the next token if it is this mark, and the string of this kind that is glued to it. The
     /// string is returned. Few tokens stand before a string, so that is asked first.
-    #[tactic(auto, unfolding(crate::specs::View::state_of, crate::specs::View::left))]
+    #[tactic(auto, unfolding(crate::specs::View::state_of, crate::specs::View::tokens_left))]
     #[inline(always)]
     pub(crate) fn accept_marked(
         &mut self,
@@ -228,7 +228,7 @@ impl<'run, 'src, X: Expander> ExpressionParser<'run, 'src, X> {
     }
 
     /// Whether the token after the next one is of this kind. If it is not, then nothing marks it.
-    #[tactic(auto, using(crate::proofs::QuickTests::unmarked, crate::proofs::Rest::marked_end), unfolding(crate::specs::View::state_of))]
+    #[tactic(auto, using(crate::proofs::Lengths::unmarked, crate::proofs::Rest::marked_end), unfolding(crate::specs::View::state_of))]
     #[inline(always)]
     fn is_second(&self, kind: TokenKind) -> bool
         ensures { result ≡ false → (word : List ℕ) → reader.accept_marked word kind (state_of X.answer self.now) ≡ None }
@@ -242,7 +242,7 @@ impl<'run, 'src, X: Expander> ExpressionParser<'run, 'src, X> {
 
     /// Takes the next token if it is this mark, and the string of this kind that is glued to it. The
     /// string is returned.
-    #[tactic(auto, using(crate::proofs::Rest::marked_here, crate::proofs::Rest::marked_end, crate::proofs::Rest::sound_at), unfolding(crate::specs::View::state_of, crate::specs::View::left))]
+    #[tactic(auto, using(crate::proofs::Rest::marked_here, crate::proofs::Rest::marked_end, crate::proofs::Rest::sound_at), unfolding(crate::specs::View::state_of, crate::specs::View::tokens_left))]
     #[inline(never)]
     fn take_marked(&mut self, mark: Keyword, kind: TokenKind) -> Option<TableEntry<'run, 'src>>
         ensures takes { Takes result (state_of X.answer self.new)
@@ -257,7 +257,7 @@ impl<'run, 'src, X: Expander> ExpressionParser<'run, 'src, X> {
         let entry = self.tokens[self.next + 1];
         if is_marked(first, mark.lexeme(), entry, kind) {
             self.next += 2;
-            self.wanted.clear();
+            self.expected_tokens.clear();
             Some(entry)
         } else {
             None
@@ -265,7 +265,7 @@ impl<'run, 'src, X: Expander> ExpressionParser<'run, 'src, X> {
     }
 
     /// Whether the next token is this mark, and a string of this kind is glued to it.
-    #[tactic(auto, using(crate::proofs::Rest::marked_is, crate::proofs::Rest::marked_none), unfolding(crate::specs::View::state_of, crate::specs::View::left))]
+    #[tactic(auto, using(crate::proofs::Rest::marked_is, crate::proofs::Rest::marked_none), unfolding(crate::specs::View::state_of, crate::specs::View::tokens_left))]
     pub fn peek_marked(&self, mark: Keyword, kind: TokenKind) -> bool
         ensures { result ≡ is_some (reader.accept_marked (keyword_text mark) kind (state_of X.answer self.now)) }
     {
@@ -278,15 +278,18 @@ impl<'run, 'src, X: Expander> ExpressionParser<'run, 'src, X> {
     }
 
     /// Takes the next token, which has to be of this kind.
-    #[tactic(auto, unfolding(justfile_model::specs::Reading::expect))]
-    pub fn expect(&mut self, kind: TokenKind) -> Result<TableEntry<'run, 'src>, Stop<'src>>
+    #[tactic(auto, unfolding(justfile_model::specs::ReaderState::expect))]
+    pub fn expect(
+        &mut self,
+        kind: TokenKind,
+    ) -> Result<TableEntry<'run, 'src>, ExpressionError<'src>>
         ensures reads { Reads (λ entry. entry) result (state_of X.answer self.new) (reader.expect kind (state_of X.answer self.old)) }
-        ensures progress { OnOk result (left self.new < left self.old) }
+        ensures progress { OnOk result (tokens_left self.new < tokens_left self.old) }
         ensures kind { IfOk result (λ entry. entry.token.now.kind ≡ kind) }
     {
         match self.accept(kind) {
             Some(entry) => Ok(entry),
-            None => Err(Stop::Refused(Refusal::Unexpected)),
+            None => Err(ExpressionError::Refused(SyntaxError::Unexpected)),
         }
     }
 
@@ -294,9 +297,9 @@ impl<'run, 'src, X: Expander> ExpressionParser<'run, 'src, X> {
     /// is wanted.
     pub fn peek_kinds(&self, kinds: &[TokenKind]) -> bool
         ensures is { result ≡ reader.next_are kinds.now (state_of X.answer self.now) }
-        ensures within { IsTrue result → length kinds.now ≤ left self.now }
+        ensures within { IsTrue result → length kinds.now ≤ tokens_left self.now }
     {
-        if self.detect_kinds(kinds) {
+        if self.probe_kinds(kinds) {
             return true;
         }
         self.want_first(kinds);
@@ -306,14 +309,14 @@ impl<'run, 'src, X: Expander> ExpressionParser<'run, 'src, X> {
     /// The first of these kinds is wanted.
     fn want_first(&self, kinds: &[TokenKind]) {
         if let Some(kind) = kinds.first() {
-            self.wanted.add(*kind);
+            self.expected_tokens.add(*kind);
         }
     }
 
     /// Whether the next tokens are of these kinds; none is taken yet, and none is wanted.
-    pub fn detect_kinds(&self, kinds: &[TokenKind]) -> bool
+    pub fn probe_kinds(&self, kinds: &[TokenKind]) -> bool
         ensures is { result ≡ reader.next_are kinds.now (state_of X.answer self.now) }
-        ensures within { IsTrue result → length kinds.now ≤ left self.now }
+        ensures within { IsTrue result → length kinds.now ≤ tokens_left self.now }
     {
         let mut next = self.next;
         for kind in kinds {
@@ -326,27 +329,27 @@ impl<'run, 'src, X: Expander> ExpressionParser<'run, 'src, X> {
     }
 
     /// How many tokens are left.
-    #[tactic(auto, unfolding(crate::specs::View::left))]
+    #[tactic(auto, unfolding(crate::specs::View::tokens_left))]
     pub(crate) fn count_left(&self) -> usize
-        ensures { result ≡ left self.now }
+        ensures { result ≡ tokens_left self.now }
     {
         self.tokens.len() - self.next
     }
 
     /// Takes so many tokens.
-    #[tactic(auto, using(crate::proofs::NextKinds::state_skip), unfolding(crate::specs::View::state_of, crate::specs::View::left))]
+    #[tactic(auto, using(crate::proofs::NextKinds::state_skip), unfolding(crate::specs::View::state_of, crate::specs::View::tokens_left))]
     pub fn skip(&mut self, count: usize)
-        requires { count ≤ left self.old }
+        requires { count ≤ tokens_left self.old }
         ensures rest { state_of X.answer self.new ≡ at (state_of X.answer self.old) (drop count (state_of X.answer self.old).left) }
-        ensures progress { left self.new ≤ left self.old }
+        ensures progress { tokens_left self.new ≤ tokens_left self.old }
     {
         self.next += count;
-        self.wanted.clear();
+        self.expected_tokens.clear();
     }
 }
 
 /// Whether the token is this word. Most names have another length than the word, and that is asked first.
-#[tactic(auto, using(crate::proofs::QuickTests::unequal), unfolding(justfile_model::specs::Reading::is_word, justfile_model::specs::Reading::same_kind))]
+#[tactic(auto, using(crate::proofs::Lengths::unequal), unfolding(justfile_model::specs::ReaderState::is_word, justfile_model::specs::ReaderState::same_kind))]
 #[inline(always)]
 pub fn is_word(entry: TableEntry<'_, '_>, word: &str) -> bool
     ensures is { result ≡ is_word word.now (significant_of entry.entry) }
@@ -360,7 +363,7 @@ pub fn is_word(entry: TableEntry<'_, '_>, word: &str) -> bool
 }
 
 /// Whether the token is a string of this kind, directly after a mark that is this word.
-#[tactic(auto, unfolding(justfile_model::specs::Reading::same_kind))]
+#[tactic(auto, unfolding(justfile_model::specs::ReaderState::same_kind))]
 pub(crate) fn is_marked(
     mark: TableEntry<'_, '_>,
     word: &str,

@@ -3,7 +3,7 @@ ghost use Rattle.justfile_model.specs.SignificantTokens.{is_whitespace, signific
 ghost use Rattle.justfile_model.specs.Tok.{tok_of};
 ghost use Rattle.justfile_parse_expression.specs.Significant.{significant_of, without_whitespace};
 
-use justfile_base::{Token, TokenKind};
+use justfile_token::{Token, TokenKind};
 use std::alloc::{AllocError, Global};
 
 /// A token that the parser reads.

@@ -1,23 +1,23 @@
 -- The dependencies of a recipe and their arguments, as loops read them.
 use Rattle.std.proofs.Common.{◌≡◌, ◌∙◌, true, false, List, [], ◌∷◌, ◌++◌, ◌+◌, length, map, Option, Some, None, Ok, Err, refl, sym, ap, arith}
 use Rattle.std.proofs.lemmas.List.{length-append, length-map, map-append}
-use Rattle.justfile_word.specs.declared.token_kind.TokenKind.TheVariants as kinds
-use Rattle.justfile_header.specs.declared.unresolved_dependency.UnresolvedDependency.{UnresolvedDependency}
+use Rattle.justfile_vocabulary.specs.declared.token_kind.TokenKind.TheVariants as kinds
+use Rattle.justfile_recipe_header.specs.declared.unresolved_dependency.UnresolvedDependency.{UnresolvedDependency}
 use Rattle.justfile_model.specs.HeaderReader as headers
 use Rattle.justfile_model.specs.HeaderReader.{obeying}
-use Rattle.justfile_model.specs.Reading.{◌>>=◌, Unexpected, prepend, refused}
+use Rattle.justfile_model.specs.ReaderState.{◌>>=◌, Unexpected, prepend, refused}
 use Rattle.justfile_model.specs.Tree.{over_dependency_argument}
 use Rattle.justfile_model.proofs.HeaderReading as laws
 use Rattle.justfile_model.proofs.Prepended.{after_nothing}
-use Rattle.justfile_parse_attribute.specs.Halting.{HaltsAt}
-use Rattle.justfile_parse_attribute.specs.declared.halt.Halt.{Halt}
-use Rattle.justfile_parse_expression.specs.TableReader.{Read, Refusal, State, accept, expect, leaves}
+use Rattle.justfile_parse_attribute.specs.ParseErrors.{IsParseError}
+use Rattle.justfile_parse_attribute.specs.declared.parse_error.ParseError.{ParseError}
+use Rattle.justfile_parse_expression.specs.TableReader.{Read, ReadError, State, accept, expect, leaves}
 use Rattle.justfile_parse_expression.specs.declared.significant.TableEntry.{TableEntry}
 use Rattle.justfile_parse_header.specs.HeaderTable.{LeafDependency, StarredArgument, begins_dependency, dependencies, dependency, dependency_argument, dependency_arguments, misplaced_star, parenthesized, path, subsequents}
 use Rattle.justfile_parse_header.specs.Tree.{argument_tree, dependency_tree, path_tree, read_argument}
 use Rattle.justfile_parse_header.specs.declared.dependency.ReadArgument.{ReadArgument}
-use Rattle.justfile_parse_header.proofs.Halts.{halted}
-use Rattle.justfile_tree.specs.LeafTree.{Leaf}
+use Rattle.justfile_parse_header.proofs.HeaderErrors.{failed}
+use Rattle.justfile_expression.specs.LeafTree.{Leaf}
 use Rattle.justfile_parse_header.proofs.Stars.{kept_are, star_is}
 
 -- ---- dependencies: `done` stand where reading began with `old`, and `q` is what is left
@@ -38,10 +38,10 @@ module _ (old done : List UnresolvedDependency) (s q : State) (so_far : prepend 
         ∙ so_far
 
     -- a dependency is not read
-    pub dependencies_halt : (halt : Halt) (left : State) → HaltsAt halt left ⊥ (dependency q) → HaltsAt halt left ⊥ (prepend (map dependency_tree old) (dependencies s))
-    dependencies_halt halt left h =
-        halted (dependency q) (prepend (map dependency_tree old) (dependencies s))
-        (λ e k. sym so_far ∙ laws.dependencies_fail leaves (map dependency_tree done) q e begins k) halt left ⊥ ⊥ (λ k. k) h
+    pub dependencies_fail : (error : ParseError) (left : State) → IsParseError error left ⊥ (dependency q) → IsParseError error left ⊥ (prepend (map dependency_tree old) (dependencies s))
+    dependencies_fail error left h =
+        failed (dependency q) (prepend (map dependency_tree old) (dependencies s))
+        (λ e k. sym so_far ∙ laws.dependencies_fail leaves (map dependency_tree done) q e begins k) error left ⊥ ⊥ (λ k. k) h
 
 -- ---- arguments: `done` were read from `s` on, and `q` is what is left
 
@@ -61,10 +61,10 @@ module _ (done : List ReadArgument) (s q : State) (so_far : dependency_arguments
         ∙ so_far
 
     -- an argument is not read
-    pub arguments_halt : (halt : Halt) (left : State) → HaltsAt halt left ⊥ (dependency_argument (map read_argument done) q) → HaltsAt halt left ⊥ (dependency_arguments ([], s))
-    arguments_halt halt left h =
-        halted (dependency_argument (map read_argument done) q) (dependency_arguments ([], s))
-        (λ e k. sym so_far ∙ laws.dependency_arguments_fail leaves (map read_argument done, q) e none k) halt left ⊥ ⊥ (λ k. k) h
+    pub arguments_fail : (error : ParseError) (left : State) → IsParseError error left ⊥ (dependency_argument (map read_argument done) q) → IsParseError error left ⊥ (dependency_arguments ([], s))
+    arguments_fail error left h =
+        failed (dependency_argument (map read_argument done) q) (dependency_arguments ([], s))
+        (λ e k. sym so_far ∙ laws.dependency_arguments_fail leaves (map read_argument done, q) e none k) error left ⊥ ⊥ (λ k. k) h
 
 -- ---- dependencies after `&&`
 
@@ -116,17 +116,17 @@ module _ (old : List UnresolvedDependency) (s : State) where
         pub subsequents_missing : length new ≡ length old → prepend (map dependency_tree old) (subsequents s) ≡ Err (refused Unexpected rest)
         subsequents_missing h = subsequents_are ∙ some_missing (dependencies next) read h
 
-    fails : (found : Read (List LeafDependency)) (e : Refusal) → prepend (map dependency_tree old) found ≡ Err e → some_of found ≡ Err e
+    fails : (found : Read (List LeafDependency)) (e : ReadError) → prepend (map dependency_tree old) found ≡ Err e → some_of found ≡ Err e
     unfolding prepend
     fails (Ok x) e k = absurd cc
     fails (Err f) e k = k
 
     -- they are not read
-    pub subsequents_halt : (halt : Halt) (left : State) → HaltsAt halt left ⊥ (prepend (map dependency_tree old) (dependencies next))
-        → HaltsAt halt left ⊥ (prepend (map dependency_tree old) (subsequents s))
-    subsequents_halt halt left h =
-        halted (prepend (map dependency_tree old) (dependencies next)) (prepend (map dependency_tree old) (subsequents s))
-        (λ e k. subsequents_are ∙ fails (dependencies next) e k) halt left ⊥ ⊥ (λ k. k) h
+    pub subsequents_fail : (error : ParseError) (left : State) → IsParseError error left ⊥ (prepend (map dependency_tree old) (dependencies next))
+        → IsParseError error left ⊥ (prepend (map dependency_tree old) (subsequents s))
+    subsequents_fail error left h =
+        failed (prepend (map dependency_tree old) (dependencies next)) (prepend (map dependency_tree old) (subsequents s))
+        (λ e k. subsequents_are ∙ fails (dependencies next) e k) error left ⊥ ⊥ (λ k. k) h
 
 -- ---- a dependency in parentheses
 
@@ -142,10 +142,10 @@ parenthesized_read star s opener inside d after arguments rest opened named read
     rw (opened, named, read, checked) (λ i. Ok (record { star = sym starred i; path = path_tree d.recipe; arguments = sym kept i }, rest))
 
 -- its stars are not where they may be
-pub stars_halt : (star : Option TableEntry) (s : State) (opener : TableEntry) (inside : State) (names : List Leaf) (after : State)
-    (arguments : List ReadArgument) (rest : State) (halt : Halt)
+pub stars_fail : (star : Option TableEntry) (s : State) (opener : TableEntry) (inside : State) (names : List Leaf) (after : State)
+    (arguments : List ReadArgument) (rest : State) (error : ParseError)
     → expect kinds.ParenL s ≡ Ok (opener, inside) → path inside ≡ Ok (names, after) → dependency_arguments ([], after) ≡ Ok (map read_argument arguments, rest)
-    → HaltsAt halt rest ⊥ (obeying (misplaced_star star (map read_argument arguments)) rest) → HaltsAt halt rest ⊥ (parenthesized star s)
+    → IsParseError error rest ⊥ (obeying (misplaced_star star (map read_argument arguments)) rest) → IsParseError error rest ⊥ (parenthesized star s)
 unfolding headers.parenthesized
-stars_halt star s opener inside names after arguments rest halt opened named read h =
-    halted (obeying (misplaced_star star (map read_argument arguments)) rest) (parenthesized star s) (λ e k. rw (opened, named, read, k) refl) halt rest ⊥ ⊥ (λ k. k) h
+stars_fail star s opener inside names after arguments rest error opened named read h =
+    failed (obeying (misplaced_star star (map read_argument arguments)) rest) (parenthesized star s) (λ e k. rw (opened, named, read, k) refl) error rest ⊥ ⊥ (λ k. k) h

@@ -1,25 +1,25 @@
 -- How many numbers are drawn, one step after another.
 use Rattle.std.proofs.Common.{◌≡◌, ℕ, ◌+◌, ◌≤◌, Bool, true, false, cond, Some, Ok, Err, refl, sym, ap, subst, ◌∙◌, arith}
-use Rattle.justfile_word.specs.declared.numerator.Numerator.{Numerator}
-use Rattle.justfile_word.specs.declared.token_kind.TokenKind.{TokenKind}
+use Rattle.justfile_vocabulary.specs.declared.numerator.Numerator.{Numerator}
+use Rattle.justfile_vocabulary.specs.declared.token_kind.TokenKind.{TokenKind}
 use Rattle.justfile_model.specs.HeaderReader as headers
 use Rattle.justfile_model.specs.HeaderReader.{with_bindings}
-use Rattle.justfile_model.specs.Reading.{Counters, NoNumber}
+use Rattle.justfile_model.specs.ReaderState.{Counters, NoNumber}
 use Rattle.justfile_parse_expression.specs.TableReader.{Read, State, accept, expect, leaves}
 use Rattle.justfile_parse_expression.specs.declared.significant.TableEntry.{TableEntry}
-use Rattle.justfile_parse_header.specs.Counting.{HasDrawn, counters_of, names}
-use Rattle.justfile_parse_header.specs.HeaderTable.{draw_binding}
+use Rattle.justfile_parse_header.specs.Counting.{TookBindingNumbers, counters_of, names}
+use Rattle.justfile_parse_header.specs.HeaderTable.{next_binding_number}
 use Rattle.justfile_parse_header.proofs.Fewer.{accept_fewer, expect_fewer, fewer_at}
 
 -- nothing is drawn
-pub none_drawn : (n : Numerator) (before following : ℕ) → following ≤ before → HasDrawn n n before following
+pub none_drawn : (n : Numerator) (before following : ℕ) → following ≤ before → TookBindingNumbers n n before following
 none_drawn n before following h = record { least = omega arith; most = omega (arith, h); recipes = refl; constants = refl }
 
-pub unmoved : (old new : Numerator) (before following : ℕ) → new ≡ old → following ≤ before → HasDrawn old new before following
-unmoved old new before following e h = subst (λ (n : Numerator). HasDrawn old n before following) (sym e) (none_drawn old before following h)
+pub unmoved : (old new : Numerator) (before following : ℕ) → new ≡ old → following ≤ before → TookBindingNumbers old new before following
+unmoved old new before following e h = subst (λ (n : Numerator). TookBindingNumbers old n before following) (sym e) (none_drawn old before following h)
 
 -- first some, then others
-pub both_drawn : (a b c : Numerator) (before between following : ℕ) → HasDrawn a b before between → HasDrawn b c between following → HasDrawn a c before following
+pub both_drawn : (a b c : Numerator) (before between following : ℕ) → TookBindingNumbers a b before between → TookBindingNumbers b c between following → TookBindingNumbers a c before following
 both_drawn a b c before between following h k = record {
   least = omega (arith, h.least, k.least);
   most = omega (arith, h.most, k.most);
@@ -28,13 +28,13 @@ both_drawn a b c before between following h k = record {
 }
 
 -- more were there before, or fewer are left
-pub within : (a b : Numerator) (before following more fewer : ℕ) → HasDrawn a b before following → before ≤ more → fewer ≤ following → HasDrawn a b more fewer
+pub within : (a b : Numerator) (before following more fewer : ℕ) → TookBindingNumbers a b before following → before ≤ more → fewer ≤ following → TookBindingNumbers a b more fewer
 within a b before following more fewer h i j = record { least = h.least; most = omega (arith, h.most, i, j); recipes = h.recipes; constants = h.constants }
 
 -- the next number is drawn for a name that was taken
-pub one_drawn : (old new : Numerator) (number : ℕ) (s : State) (before following : ℕ) → draw_binding (counters_of old) s ≡ Ok ((number, counters_of new), s) → following + 1 ≤ before
-    → HasDrawn old new before following
-unfolding headers.draw_binding
+pub one_drawn : (old new : Numerator) (number : ℕ) (s : State) (before following : ℕ) → next_binding_number (counters_of old) s ≡ Ok ((number, counters_of new), s) → following + 1 ≤ before
+    → TookBindingNumbers old new before following
+unfolding headers.next_binding_number
 one_drawn old new number s before following is h = go (leaves.has_number (counters_of old).bindings) is
   where
     Drawn : Type 0
@@ -44,7 +44,7 @@ one_drawn old new number s before following is h = go (leaves.has_number (counte
     counters_in (Ok x) = x.0.1
     counters_in (Err e) = counters_of new
 
-    moved : with_bindings ((counters_of old).bindings + 1) (counters_of old) ≡ counters_of new → HasDrawn old new before following
+    moved : with_bindings ((counters_of old).bindings + 1) (counters_of old) ≡ counters_of new → TookBindingNumbers old new before following
     moved e = record {
       least = omega (arith, ap (λ (c : Counters). c.bindings) e);
       most = omega (arith, ap (λ (c : Counters). c.bindings) e, h);
@@ -53,25 +53,25 @@ one_drawn old new number s before following is h = go (leaves.has_number (counte
     }
 
     go : (b : Bool) → ◌≡◌ {A = Read (ℕ × Counters)} (cond b (Ok (((counters_of old).bindings, with_bindings ((counters_of old).bindings + 1) (counters_of old)), s)) (Err (NoNumber (counters_of old)))) (Ok ((number, counters_of new), s))
-        → HasDrawn old new before following
+        → TookBindingNumbers old new before following
     go true e = moved (ap counters_in e)
     go false e = let f : ◌≡◌ {A = Read (ℕ × Counters)} (Err (NoNumber (counters_of old))) (Ok ((number, counters_of new), s)) = e in cc
 
 -- a name is drawn a number for, and then nothing is read or reading halts
-pub named_drawn : (old new : Numerator) (number : ℕ) (first last : State) (following : ℕ) → draw_binding (counters_of old) last ≡ Ok ((number, counters_of new), last)
-    → names last + 1 ≤ names first → following ≤ names last → HasDrawn old new (names first) following
+pub named_drawn : (old new : Numerator) (number : ℕ) (first last : State) (following : ℕ) → next_binding_number (counters_of old) last ≡ Ok ((number, counters_of new), last)
+    → names last + 1 ≤ names first → following ≤ names last → TookBindingNumbers old new (names first) following
 named_drawn old new number first last following is h k = one_drawn old new number last (names first) following is (omega (arith, h, k))
 
 -- a token was taken before
-pub taken_drawn : (old new : Numerator) (kind : TokenKind) (s : State) (x : TableEntry × State) (following : ℕ) → accept kind s ≡ Some x → HasDrawn old new (names x.1) following
-    → HasDrawn old new (names s) following
+pub taken_drawn : (old new : Numerator) (kind : TokenKind) (s : State) (x : TableEntry × State) (following : ℕ) → accept kind s ≡ Some x → TookBindingNumbers old new (names x.1) following
+    → TookBindingNumbers old new (names s) following
 taken_drawn old new kind s x following is h = within old new (names x.1) following (names s) following h (accept_fewer kind s x is) (omega arith)
 
 -- a token is taken after it
-pub drawn_before : (old new : Numerator) (kind : TokenKind) (before : ℕ) (s : State) (x : TableEntry × State) → expect kind s ≡ Ok x → HasDrawn old new before (names s)
-    → HasDrawn old new before (names x.1)
+pub drawn_before : (old new : Numerator) (kind : TokenKind) (before : ℕ) (s : State) (x : TableEntry × State) → expect kind s ≡ Ok x → TookBindingNumbers old new before (names s)
+    → TookBindingNumbers old new before (names x.1)
 drawn_before old new kind before s x is h = within old new before (names s) before (names x.1) h (omega arith) (fewer_at s (expect kind s) x (expect_fewer kind s) is)
 
 -- a name before it is drawn no number for
-pub header_drawn : (old new : Numerator) (before following more fewer : ℕ) → HasDrawn old new before following → before + 1 ≤ more → fewer ≤ following → HasDrawn old new more (fewer + 1)
+pub header_drawn : (old new : Numerator) (before following more fewer : ℕ) → TookBindingNumbers old new before following → before + 1 ≤ more → fewer ≤ following → TookBindingNumbers old new more (fewer + 1)
 header_drawn old new before following more fewer h i j = record { least = h.least; most = omega (arith, h.most, i, j); recipes = h.recipes; constants = h.constants }

@@ -1,18 +1,18 @@
 -- What is read leaves no more identifiers than before.
 use Rattle.std.proofs.Common.{◌≡◌, ◌+◌, ◌≤◌, false, List, ◌∷◌, map, Some, None, Ok, Err, IfOk, refl, sym, ap, subst, ◌∙◌, arith}
-use Rattle.justfile_base.specs.declared.token.Token.{Token}
-use Rattle.justfile_word.specs.declared.token_kind.TokenKind.{TokenKind}
-use Rattle.justfile_word.specs.declared.token_kind.TokenKind.TheVariants as kinds
+use Rattle.justfile_token.specs.declared.token.Token.{Token}
+use Rattle.justfile_vocabulary.specs.declared.token_kind.TokenKind.{TokenKind}
+use Rattle.justfile_vocabulary.specs.declared.token_kind.TokenKind.TheVariants as kinds
 use Rattle.justfile_model.specs.ExpressionReader as expressions
-use Rattle.justfile_model.specs.Reading.{◌>>=◌, choose, prepend, with}
+use Rattle.justfile_model.specs.ReaderState.{◌>>=◌, choose, prepend, with}
 use Rattle.justfile_model.specs.SignificantTokens.{identifiers}
-use Rattle.justfile_model.specs.Expressions.{Tokens, Under}
+use Rattle.justfile_model.specs.Expressions.{Tokens, BelowLimit}
 use Rattle.justfile_model.specs.Tok.{Tok}
 use Rattle.justfile_model.specs.Tree.{Expr, itself}
 use Rattle.justfile_model.specs.TreeReader as model
 use Rattle.justfile_model.specs.TreeReader.{token_leaves}
 use Rattle.justfile_model.specs.declared.level.Level.TheVariants as levels
-use Rattle.justfile_word.specs.declared.list_feature.ListFeature.{ListFeature}
+use Rattle.justfile_vocabulary.specs.declared.list_feature.ListFeature.{ListFeature}
 use Rattle.justfile_model.proofs.ExpressionProgress.{expression_counts, value_counts}
 use Rattle.justfile_model.proofs.ExpressionSound.{expression_derives, level_at, sound}
 use Rattle.justfile_model.proofs.HeaderProgress.{counts_one}
@@ -25,10 +25,10 @@ use Rattle.justfile_parse_expression.specs.Significant.{significant_of}
 use Rattle.justfile_parse_expression.specs.TableReader.{At, Read, ReadExpr, State, accept, expect, leaves, read, value}
 use Rattle.justfile_parse_expression.specs.declared.significant.TableEntry.{TableEntry}
 use Rattle.justfile_parse_expression.proofs.Anywhere.{agree, entries_are, rel, state_alike, state_seen}
-use Rattle.justfile_parse_expression.proofs.Formats.{IsExpected, IsNext, Taken, accepted, expected}
+use Rattle.justfile_parse_expression.proofs.FormatStrings.{IsExpected, IsNext, Taken, accepted, expected}
 use Rattle.justfile_parse_expression.proofs.Seen.{Meanings}
 use Rattle.justfile_parse_header.specs.Counting.{names}
-use Rattle.justfile_tree.specs.LeafTree.{Leaf}
+use Rattle.justfile_expression.specs.LeafTree.{Leaf}
 
 abbrev pub Fewer : {A : Type 0} → State → Read A → Type 0
 Fewer s found = IfOk found (λ x. names x.1 ≤ names s)
@@ -111,11 +111,11 @@ module _ (s : State) where
   pub value_fewer : Fewer {A = Expr Leaf Token} s (value s)
   value_fewer =
       by_law (value s) (expressions.value token_leaves (state_seen s)) (value_natural (rel Meant s.run) leaves token_leaves (agree Meant s.run) (state_alike Meant s))
-      (λ y is. value_counts itself itself (Under s.run.conditions.limit)
+      (λ y is. value_counts itself itself (BelowLimit s.run.conditions.limit)
       (level_at s.run.conditions (expressions.read token_leaves) (sound s.run.conditions) levels.Value false s.depth (state_seen s) y (sym (value_is token_leaves (state_seen s)) ∙ is) (refl, refl)).derives)
 
   pub expression_fewer : Fewer {A = Expr Leaf Token} s (read (At levels.Expression false s))
   expression_fewer =
       by_law (read (At levels.Expression false s)) (expressions.read token_leaves (expressions.At levels.Expression false (state_seen s)))
       (expression_natural (rel Meant s.run) leaves token_leaves (agree Meant s.run) false (state_alike Meant s))
-      (λ y is. expression_counts itself itself (Under s.run.conditions.limit) (expression_derives s.run.conditions false s.depth (state_seen s) y is (refl, refl)).derives)
+      (λ y is. expression_counts itself itself (BelowLimit s.run.conditions.limit) (expression_derives s.run.conditions false s.depth (state_seen s) y is (refl, refl)).derives)

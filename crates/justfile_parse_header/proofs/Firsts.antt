@@ -15,21 +15,21 @@ use Rattle.justfile_attribute.specs.Attribute.{leaf_attribute_of}
 use Rattle.justfile_attribute.specs.declared.attribute.Attribute.{Attribute}
 use Rattle.justfile_attribute_set.specs.Keys.{firsts}
 use Rattle.justfile_attribute_set.specs.Pairs.{Pair, leaf_entry_of}
-use Rattle.justfile_base.specs.Token.{lexeme_of}
-use Rattle.justfile_base.specs.declared.token.Token.{Token}
-use Rattle.justfile_header.specs.declared.parameter.Parameter.{Parameter}
+use Rattle.justfile_token.specs.Token.{lexeme_of}
+use Rattle.justfile_token.specs.declared.token.Token.{Token}
+use Rattle.justfile_recipe_header.specs.declared.parameter.Parameter.{Parameter}
 use Rattle.justfile_model.specs.AttributeRules.{arg_rules, rules_in}
 use Rattle.justfile_model.specs.RecipeRules.{rules_for}
 use Rattle.justfile_parse_attribute.specs.KeyedBounds.{AreKeyed, IsKeyed}
 use Rattle.justfile_parse_attribute.specs.TextSets.{texts_in}
 use Rattle.justfile_parse_header.specs.Arguments.{AreNames, IsKeyedOption, is_of, said_by, speaks_of}
 use Rattle.justfile_parse_header.specs.HeaderTable.{Rules}
-use Rattle.justfile_parse_header.specs.SpokenNames.{AreFirsts, Firsts, IsPut, IsPutAt, attribute_at, first_at}
+use Rattle.justfile_parse_header.specs.ArgNames.{AreFirsts, Firsts, IsPut, IsPutAt, attribute_at, first_at}
 use Rattle.justfile_parse_header.specs.Tree.{parameter_tree}
 use Rattle.justfile_parse_header.proofs.ReadNames.{among_names}
-use Rattle.justfile_parse_header.proofs.Spoken.{keyed_rest, rules_left, speaks_begins, speaks_here, speaks_later}
-use Rattle.justfile_tree.specs.LeafSight.{sees_leaves}
-use Rattle.justfile_tree.specs.LeafTree.{Named}
+use Rattle.justfile_parse_header.proofs.ArgRules.{keyed_rest, rules_left, speaks_begins, speaks_here, speaks_later}
+use Rattle.justfile_expression.specs.LeafViews.{views_leaves}
+use Rattle.justfile_expression.specs.LeafTree.{Named}
 
 -- ---- one that is put
 
@@ -102,7 +102,7 @@ keyed_same (Some a) h = h
 
 -- At each name is the first attribute so far that speaks of it, and others are left.
 pub record AreFirstsBefore (rules : List Rules) (found : Firsts) (left : List Attribute) : Type 0 where
-  pub said : (name : List ℕ) → said_or (attribute_at found name) (speaks_of (rules_left left) name) ≡ speaks_of rules name
+  pub arg_attribute : (name : List ℕ) → said_or (attribute_at found name) (speaks_of (rules_left left) name) ≡ speaks_of rules name
   pub whole : (name : List ℕ) → IsKeyedSome (attribute_at found name)
   pub keyed : AreKeyed left
 
@@ -113,7 +113,7 @@ none_at found e name =
 pub firsts_begin : (ps : List Pair) (found : Firsts) (left : List Attribute) → found.entries ≡ [] → left ≡ firsts ps → AreKeyed left
     → AreFirstsBefore (arg_rules (map leaf_entry_of ps)) found left
 firsts_begin ps found left none is keyed = record {
-  said = λ name. ap (λ o. said_or o (speaks_of (rules_left left) name)) (none_at found none name) ∙ speaks_begins name ps left is;
+  arg_attribute = λ name. ap (λ o. said_or o (speaks_of (rules_left left) name)) (none_at found none name) ∙ speaks_begins name ps left is;
   whole = λ name. subst IsKeyedSome (sym (none_at found none name)) tt;
   keyed = keyed;
 }
@@ -121,7 +121,7 @@ firsts_begin ps found left none is keyed = record {
 pub firsts_end : (rules : List Rules) (found : Firsts) (left : List Attribute) → left ≡ [] → AreFirstsBefore rules found left → AreFirsts found rules
 unfolding AreFirsts
 firsts_end rules found left none h name = (
-  said_same (first_at found name) ∙ sym (ap (λ l. said_or (attribute_at found name) (speaks_of (rules_left l) name)) none) ∙ h.said name,
+  said_same (first_at found name) ∙ sym (ap (λ l. said_or (attribute_at found name) (speaks_of (rules_left l) name)) none) ∙ h.arg_attribute name,
   keyed_same (first_at found name) (h.whole name),
 )
 
@@ -154,8 +154,8 @@ module _ (rules : List Rules) (found : Firsts) (left : List Attribute) (a : Attr
   pub firsts_go_on : (new : Firsts) → IsPut a found new → AreFirstsBefore rules new rest
   unfolding IsPut
   firsts_go_on new h = record {
-    said = λ name. ap (λ o. said_or o (later name)) (h name) ∙ first_said name (attribute_at found name)
-        ∙ ap (λ l. said_or (attribute_at found name) (speaks_of (rules_left l) name)) (sym is) ∙ so_far.said name;
+    arg_attribute = λ name. ap (λ o. said_or o (later name)) (h name) ∙ first_said name (attribute_at found name)
+        ∙ ap (λ l. said_or (attribute_at found name) (speaks_of (rules_left l) name)) (sym is) ∙ so_far.arg_attribute name;
     whole = λ name. subst IsKeyedSome (sym (h name)) (first_keyed (attribute_at found name) (is_of name (leaf_attribute_of a)) (so_far.whole name) keyed_here);
     keyed = keyed_rest left a rest is so_far.keyed;
   }
@@ -171,16 +171,16 @@ module _ (rules : List Rules) (found : Firsts) (are : AreFirsts found rules) whe
     abbrev among : Bool
     among = list_any (bytes_eq text) (texts_in names)
 
-    rules_are : (is : Bool) → among ≡ is → cond is None (speaks_of rules (lexeme_of name)) ≡ rules_for sees_leaves rules (map parameter_tree ps) (Named name None)
+    rules_are : (is : Bool) → among ≡ is → cond is None (speaks_of rules (lexeme_of name)) ≡ rules_for views_leaves rules (map parameter_tree ps) (Named name None)
     rules_are is h = ap (λ b. cond b None (speaks_of rules (lexeme_of name))) (sym (among_names ps names text name is named e h))
 
     -- nothing is said of a name that was there before
-    pub named_before : among ≡ true → None ≡ rules_for sees_leaves rules (map parameter_tree ps) (Named name None)
+    pub named_before : among ≡ true → None ≡ rules_for views_leaves rules (map parameter_tree ps) (Named name None)
     named_before = rules_are true
 
     -- of another one, what the first attribute says that speaks of it
     pub named_first : among ≡ false → (other : List ℕ) → other ≡ lexeme_of name → (result : Option (Bor Attribute)) → result ≡ first_at found other
-        → said_by result ≡ rules_for sees_leaves rules (map parameter_tree ps) (Named name None)
+        → said_by result ≡ rules_for views_leaves rules (map parameter_tree ps) (Named name None)
     unfolding AreFirsts
     named_first h other same result is =
         ap said_by is ∙ (are other).0 ∙ ap (speaks_of rules) same ∙ rules_are false h

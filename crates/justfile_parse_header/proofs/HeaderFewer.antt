@@ -1,10 +1,10 @@
 -- The rules of headers leave no more identifiers than before.
 use Rattle.std.proofs.Common.{◌≡◌, ◌≤◌, false, List, [], ◌∷◌, ◌++◌, length, Option, Some, None, Ok, arith}
-use Rattle.justfile_base.specs.declared.token.Token.{Token}
-use Rattle.justfile_word.specs.declared.token_kind.TokenKind.TheVariants as kinds
+use Rattle.justfile_token.specs.declared.token.Token.{Token}
+use Rattle.justfile_vocabulary.specs.declared.token_kind.TokenKind.TheVariants as kinds
 use Rattle.justfile_model.specs.HeaderReader as headers
 use Rattle.justfile_model.specs.HeaderReader.{obeying}
-use Rattle.justfile_model.specs.Reading.{prepend}
+use Rattle.justfile_model.specs.ReaderState.{prepend}
 use Rattle.justfile_model.specs.Rules.{Broken}
 use Rattle.justfile_model.specs.Tree.{Expr}
 use Rattle.justfile_model.specs.declared.level.Level.TheVariants as levels
@@ -16,7 +16,7 @@ use Rattle.justfile_parse_header.specs.Counting.{names}
 use Rattle.justfile_parse_header.specs.HeaderTable as reader
 use Rattle.justfile_parse_header.specs.HeaderTable.{LeafDependency, StarredArgument}
 use Rattle.justfile_parse_header.proofs.Fewer.{Fewer, after_fewer, either_fewer, expect_fewer, expression_fewer, fewer_at, then_fewer, value_fewer}
-use Rattle.justfile_tree.specs.LeafTree.{Leaf}
+use Rattle.justfile_expression.specs.LeafTree.{Leaf}
 
 abbrev Names : Type 0
 Names = List Leaf

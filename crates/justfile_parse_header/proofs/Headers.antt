@@ -3,14 +3,14 @@ use Rattle.std.proofs.Common.{◌≡◌, ◌∙◌, ◌≤◌, ℕ, List, [], �
 use Rattle.std.proofs.lemmas.List.{drop-map, length-append, length-map, take-map}
 use Rattle.std.proofs.Math.Seq.{drop-append_seam, take-append_seam}
 use Rattle.std.specs.List.{flat_map}
-use Rattle.justfile_word.specs.declared.token_kind.TokenKind.TheVariants as kinds
-use Rattle.justfile_header.specs.declared.unresolved_dependency.UnresolvedDependency.{UnresolvedDependency}
+use Rattle.justfile_vocabulary.specs.declared.token_kind.TokenKind.TheVariants as kinds
+use Rattle.justfile_recipe_header.specs.declared.unresolved_dependency.UnresolvedDependency.{UnresolvedDependency}
 use Rattle.justfile_model.proofs.Prepended.{after_begin}
 use Rattle.justfile_model.specs.Features.{rules_features}
 use Rattle.justfile_model.specs.HeaderReader as headers
 use Rattle.justfile_model.specs.HeaderReader.{obeying}
-use Rattle.justfile_model.specs.Reading.{Counters, prepend, with}
-use Rattle.justfile_parse_expression.specs.TableReader.{Read, Refusal, State, expect, leaves}
+use Rattle.justfile_model.specs.ReaderState.{Counters, prepend, with}
+use Rattle.justfile_parse_expression.specs.TableReader.{Read, ReadError, State, expect, leaves}
 use Rattle.justfile_parse_expression.specs.declared.significant.TableEntry.{TableEntry}
 use Rattle.justfile_parse_header.specs.HeaderTable as reader
 use Rattle.justfile_parse_header.specs.HeaderTable.{LeafDependency, LeafParameter, ReadHeader, Rules}
@@ -27,7 +27,7 @@ abbrev pub parts : TableEntry → List LeafParameter → (priors subsequents : D
 parts name ps priors others = record { name = name; parameters = ps; priors = priors; subsequents = others }
 
 -- what is refused after others is refused
-refused_after : (done : Dependencies) (found : Read Dependencies) (e : Refusal) → prepend done found ≡ Err e → found ≡ Err e
+refused_after : (done : Dependencies) (found : Read Dependencies) (e : ReadError) → prepend done found ≡ Err e → found ≡ Err e
 unfolding prepend
 refused_after done (Ok x) e h = cc
 refused_after done (Err f) e h = h
@@ -74,32 +74,32 @@ module _ (before all : List UnresolvedDependency) (more : Dependencies) (is : ma
 -- ---- one step after another
 
 module _ (rules : List Rules) (n : Counters) (s : State) where
-  pub name_fails : (e : Refusal) → expect kinds.Identifier s ≡ Err e → reader.header rules n s ≡ Err e
+  pub name_fails : (e : ReadError) → expect kinds.Identifier s ≡ Err e → reader.header rules n s ≡ Err e
   unfolding headers.header
   name_fails e h = rw h refl
 
   module _ (name : TableEntry) (s1 : State) (named : expect kinds.Identifier s ≡ Ok (name, s1)) where
-    pub options_fail : (e : Refusal) → obeying (reader.same_options name.token.now rules) (ruled rules s1) ≡ Err e → reader.header rules n s ≡ Err e
+    pub options_fail : (e : ReadError) → obeying (reader.same_options name.token.now rules) (ruled rules s1) ≡ Err e → reader.header rules n s ≡ Err e
     unfolding headers.header headers.distinct_options leaves
     options_fail e h = rw (named, h) refl
 
     module _ (distinct : obeying (reader.same_options name.token.now rules) (ruled rules s1) ≡ Ok (tt, ruled rules s1)) where
-      pub parameters_fail : (e : Refusal) → reader.parameters rules n (ruled rules s1) ≡ Err e → reader.header rules n s ≡ Err e
+      pub parameters_fail : (e : ReadError) → reader.parameters rules n (ruled rules s1) ≡ Err e → reader.header rules n s ≡ Err e
       unfolding headers.header headers.distinct_options leaves
       parameters_fail e h = rw (named, distinct, h) refl
 
       module _ (ps : List LeafParameter) (m : Counters) (s2 : State) (taken : reader.parameters rules n (ruled rules s1) ≡ Ok ((ps, m), s2)) where
-        pub undefined_fail : (e : Refusal) → obeying (reader.undefined ps rules) s2 ≡ Err e → reader.header rules n s ≡ Err e
+        pub undefined_fail : (e : ReadError) → obeying (reader.undefined ps rules) s2 ≡ Err e → reader.header rules n s ≡ Err e
         unfolding headers.header headers.distinct_options leaves
         undefined_fail e h = rw (named, distinct, taken, h) refl
 
         module _ (defined : obeying (reader.undefined ps rules) s2 ≡ Ok (tt, s2)) where
-          pub priors_fail : (e : Refusal) → prepend [] (reader.dependencies s2) ≡ Err e → reader.header rules n s ≡ Err e
+          pub priors_fail : (e : ReadError) → prepend [] (reader.dependencies s2) ≡ Err e → reader.header rules n s ≡ Err e
           unfolding headers.header headers.distinct_options leaves
           priors_fail e h = let k = sym (after_begin (reader.dependencies s2)) ∙ h in rw (named, distinct, taken, defined, k) refl
 
           module _ (priors : List UnresolvedDependency) (s3 : State) (before : prepend [] (reader.dependencies s2) ≡ Ok (map dependency_tree priors, s3)) where
-            pub others_fail : (done : Dependencies) (e : Refusal) → prepend done (reader.subsequents s3) ≡ Err e → reader.header rules n s ≡ Err e
+            pub others_fail : (done : Dependencies) (e : ReadError) → prepend done (reader.subsequents s3) ≡ Err e → reader.header rules n s ≡ Err e
             unfolding headers.header headers.distinct_options leaves
             others_fail done e h =
                 let k = sym (after_begin (reader.dependencies s2)) ∙ before in

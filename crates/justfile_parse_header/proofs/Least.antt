@@ -19,9 +19,9 @@ use Rattle.justfile_model.specs.Tree.{Quoted}
 use Rattle.justfile_parse_header.specs.Arguments.{least_undefined, lesser_of, undefined_in}
 use Rattle.justfile_parse_header.specs.HeaderTable.{LeafParameter, Rules}
 use Rattle.justfile_parse_header.specs.Options.{of_rules}
-use Rattle.justfile_parse_header.proofs.Spoken.{rules_left, spoken_left}
-use Rattle.justfile_tree.specs.LeafSight.{sees_leaves}
-use Rattle.justfile_tree.specs.LeafTree.{Leaf}
+use Rattle.justfile_parse_header.proofs.ArgRules.{rules_left, spoken_left}
+use Rattle.justfile_expression.specs.LeafViews.{views_leaves}
+use Rattle.justfile_expression.specs.LeafTree.{Leaf}
 
 -- ---- the lesser of three
 
@@ -69,7 +69,7 @@ module _ {X : Type 0} (text : X → List ℕ) where
         go false false e f = ap (λ c. cond c q p) f ∙ sym (ap (λ c. cond c r p) (not_above f e))
 
 abbrev Text : Quoted Leaf → List ℕ
-Text = text_of sees_leaves
+Text = text_of views_leaves
 
 regroups : (f g h : Option (Quoted Leaf)) → lesser_of f (lesser_of g h) ≡ lesser_of (lesser_of f g) h
 regroups None g h = refl
@@ -113,9 +113,9 @@ module _ (parameters : List LeafParameter) where
   least_is (a ∷ others) = go (rules_in (leaf_attribute_of a)) ∙ ap (lesser_of (undefined_in parameters (leaf_attribute_of a))) (least_is others)
     where
       go : (o : Option Rules) → least_undefined parameters (cons_option o (rules_left others))
-          ≡ lesser_of (of_rules None (λ r. cond (is_parameter sees_leaves parameters r) None (Some r.name)) o) (least_undefined parameters (rules_left others))
+          ≡ lesser_of (of_rules None (λ r. cond (is_parameter views_leaves parameters r) None (Some r.name)) o) (least_undefined parameters (rules_left others))
       go None = refl
-      go (Some a) = one_more a (filter (λ r. not (is_parameter sees_leaves parameters r)) (rules_left others)) (is_parameter sees_leaves parameters a)
+      go (Some a) = one_more a (filter (λ r. not (is_parameter views_leaves parameters r)) (rules_left others)) (is_parameter views_leaves parameters a)
 
   pub begins : (ps : List Pair) (left : List Attribute) → left ≡ firsts ps → least_undefined parameters (arg_rules (map leaf_entry_of ps)) ≡ lesser_of None (least_in left)
   begins ps left e = ap (least_undefined parameters) (sym (spoken_left ps left e)) ∙ least_is left

@@ -2,7 +2,7 @@ pub mod Dependencies
 pub mod Draws
 pub mod Fewer
 pub mod Firsts
-pub mod Halts
+pub mod HeaderErrors
 pub mod HeaderFewer
 pub mod Headers
 pub mod Least
@@ -11,7 +11,7 @@ pub mod Parameters
 pub mod Paths
 pub mod ReadNames
 pub mod SameOptions
-pub mod Spoken
+pub mod ArgRules
 pub mod Stars
 pub mod Texts
 pub mod Undefined

@@ -7,21 +7,21 @@ use Rattle.justfile_attribute.specs.Attribute.{bound_by, leaf_attribute_of, lite
 use Rattle.justfile_attribute.specs.declared.attribute.Attribute.{Attribute}
 use Rattle.justfile_attribute.specs.declared.attribute.Attribute.TheVariants as variants
 use Rattle.justfile_attribute_rules.specs.Made.{quoted_leaf}
-use Rattle.justfile_base.specs.declared.name.Name.{Name}
-use Rattle.justfile_base.specs.declared.string_literal.StringLiteral.{StringLiteral}
-use Rattle.justfile_base.specs.declared.token.Token.{Token}
-use Rattle.justfile_word.specs.declared.list_feature.ListFeature.{ListFeature}
-use Rattle.justfile_word.specs.declared.list_feature.ListFeature.TheVariants as features
+use Rattle.justfile_token.specs.declared.name.Name.{Name}
+use Rattle.justfile_token.specs.declared.string_literal.StringLiteral.{StringLiteral}
+use Rattle.justfile_token.specs.declared.token.Token.{Token}
+use Rattle.justfile_vocabulary.specs.declared.list_feature.ListFeature.{ListFeature}
+use Rattle.justfile_vocabulary.specs.declared.list_feature.ListFeature.TheVariants as features
 use Rattle.justfile_model.specs.Features.{Noted, bound_place, noted_at, rules_features}
-use Rattle.justfile_model.specs.Reading.{with}
+use Rattle.justfile_model.specs.ReaderState.{with}
 use Rattle.justfile_model.specs.Tree as tree
 use Rattle.justfile_parse_expression.specs.MethodResults.{UnlessMemory}
 use Rattle.justfile_parse_expression.specs.TableReader.{State}
-use Rattle.justfile_parse_expression.specs.declared.stop.Stop.{Stop}
+use Rattle.justfile_parse_expression.specs.declared.expression_error.ExpressionError.{ExpressionError}
 use Rattle.justfile_parse_header.specs.HeaderTable.{Rules}
 use Rattle.justfile_parse_header.specs.OptionRules.{bound_place_in, features_in}
-use Rattle.justfile_tree.specs.LeafTree.{leaf_tree_of}
-use Rattle.justfile_tree.specs.declared.expression.Expression.{Expression}
+use Rattle.justfile_expression.specs.LeafTree.{leaf_tree_of}
+use Rattle.justfile_expression.specs.declared.expression.Expression.{Expression}
 
 noted : State → List (Noted Token) → State
 noted s l = record { run = s.run; depth = s.depth; left = s.left; noted = l }
@@ -86,7 +86,7 @@ module _ (flag : Option Token) (help : Option (String Global)) (help_property : 
 
   module _ (s s1 s2 s3 : State) (max_place min_place : Option Token) (max_is : max_place ≡ bound_place_in name.token max_key max) (min_is : min_place ≡ bound_place_in name.token min_key min)
       (is_1 : s1 ≡ note features.Flag flag s) (is_2 : s2 ≡ note features.Multiple multiple s1) (is_3 : s3 ≡ note features.ArgMax max_place s2) where
-    pub arg_noted : (result : Result (Unit {0}) Stop) (s4 : State) (a : Attribute) → a ≡ attribute
+    pub arg_noted : (result : Result (Unit {0}) ExpressionError) (s4 : State) (a : Attribute) → a ≡ attribute
         → UnlessMemory result (λ done. s4 ≡ note features.ArgMin min_place s3) → UnlessMemory result (λ done. s4 ≡ with (features_in (leaf_attribute_of a)) s)
     arg_noted (Err stop) s4 a is h = h
     arg_noted (Ok done) s4 a is h =

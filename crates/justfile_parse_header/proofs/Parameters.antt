@@ -3,118 +3,118 @@ use Rattle.std.proofs.Common.{◌≡◌, ◌∙◌, ℕ, Bool, true, false, List
 use Rattle.std.proofs.lemmas.List.{append-nil, map-append}
 use Rattle.std.specs.Global.{Box}
 use Rattle.std.specs.Option.{is_some}
-use Rattle.justfile_word.specs.Numerator.{number_of}
-use Rattle.justfile_word.specs.declared.numerator.Numerator.{Numerator}
-use Rattle.justfile_base.specs.declared.token.Token.{Token}
-use Rattle.justfile_word.specs.declared.token_kind.TokenKind.TheVariants as kinds
-use Rattle.justfile_header.specs.declared.parameter.Parameter.{Parameter}
+use Rattle.justfile_vocabulary.specs.Numerator.{number_of}
+use Rattle.justfile_vocabulary.specs.declared.numerator.Numerator.{Numerator}
+use Rattle.justfile_token.specs.declared.token.Token.{Token}
+use Rattle.justfile_vocabulary.specs.declared.token_kind.TokenKind.TheVariants as kinds
+use Rattle.justfile_recipe_header.specs.declared.parameter.Parameter.{Parameter}
 use Rattle.justfile_model.proofs.HeaderReading as laws
 use Rattle.justfile_model.specs.HeaderReader as headers
 use Rattle.justfile_model.specs.HeaderReader.{obeying}
-use Rattle.justfile_model.specs.Reading.{Counters, accepted}
+use Rattle.justfile_model.specs.ReaderState.{Counters, accepted}
 use Rattle.justfile_model.specs.RecipeRules.{rules_for}
 use Rattle.justfile_model.specs.Rules.{Broken}
 use Rattle.justfile_model.specs.declared.parameter_kind.ParameterKind.{ParameterKind}
 use Rattle.justfile_model.specs.declared.parameter_kind.ParameterKind.TheVariants.{Singular}
-use Rattle.justfile_parse_attribute.specs.AttributeTable.{sight_of}
-use Rattle.justfile_parse_attribute.specs.Halting.{HaltsAt}
-use Rattle.justfile_parse_attribute.specs.declared.halt.Halt.{Halt}
-use Rattle.justfile_parse_expression.specs.TableReader.{Read, Refusal, State, accept, expect, leaves}
+use Rattle.justfile_parse_attribute.specs.AttributeTable.{view_of}
+use Rattle.justfile_parse_attribute.specs.ParseErrors.{IsParseError}
+use Rattle.justfile_parse_attribute.specs.declared.parse_error.ParseError.{ParseError}
+use Rattle.justfile_parse_expression.specs.TableReader.{Read, ReadError, State, accept, expect, leaves}
 use Rattle.justfile_parse_expression.specs.declared.significant.TableEntry.{TableEntry}
-use Rattle.justfile_parse_header.specs.Counting.{HasDrawn, counters_of, names}
+use Rattle.justfile_parse_header.specs.Counting.{TookBindingNumbers, counters_of, names}
 use Rattle.justfile_parse_header.specs.HeaderTable as reader
 use Rattle.justfile_parse_header.specs.HeaderTable.{LeafParameter, Rules}
-use Rattle.justfile_parse_header.specs.Said.{AreWholeAfter, AreWholeParameters, IsSaid, IsWholeParameter, KeepsWholeParameters, said_broken}
+use Rattle.justfile_parse_header.specs.ArgAttribute.{HaveDerivedFieldsAfter, HaveDerivedParameterFields, HasArgAttribute, HasDerivedParameterFields, KeepsDerivedParameterFields, arg_attribute_broken}
 use Rattle.justfile_parse_header.specs.Tree.{parameter_tree, value_tree}
 use Rattle.justfile_parse_header.proofs.Draws.{both_drawn, none_drawn}
-use Rattle.justfile_parse_header.proofs.Halts.{halted}
-use Rattle.justfile_tree.specs.LeafSight.{sees_leaves}
-use Rattle.justfile_tree.specs.LeafTree.{Named}
-use Rattle.justfile_tree.specs.declared.expression.Expression.{Expression}
+use Rattle.justfile_parse_header.proofs.HeaderErrors.{failed}
+use Rattle.justfile_expression.specs.LeafViews.{views_leaves}
+use Rattle.justfile_expression.specs.LeafTree.{Named}
+use Rattle.justfile_expression.specs.declared.expression.Expression.{Expression}
 
 -- ---- whole ones
 
-whole_after : (rules : List Rules) (before : List LeafParameter) (ps : List Parameter) (p : Parameter) → AreWholeAfter rules before ps
-    → IsWholeParameter rules (before ++ map parameter_tree ps) p → AreWholeAfter rules before (ps ++ p ∷ [])
-whole_after rules before [] p h k = (subst (λ (l : List LeafParameter). IsWholeParameter rules l p) (append-nil before) k, tt)
+whole_after : (rules : List Rules) (before : List LeafParameter) (ps : List Parameter) (p : Parameter) → HaveDerivedFieldsAfter rules before ps
+    → HasDerivedParameterFields rules (before ++ map parameter_tree ps) p → HaveDerivedFieldsAfter rules before (ps ++ p ∷ [])
+whole_after rules before [] p h k = (subst (λ (l : List LeafParameter). HasDerivedParameterFields rules l p) (append-nil before) k, tt)
 whole_after rules before (q ∷ qs) p h k =
     let one = parameter_tree q ∷ [] in (
       h.0,
-      whole_after rules (before ++ one) qs p h.1 (subst (λ (l : List LeafParameter). IsWholeParameter rules l p) (sym (append_assoc before one (map parameter_tree qs))) k),
+      whole_after rules (before ++ one) qs p h.1 (subst (λ (l : List LeafParameter). HasDerivedParameterFields rules l p) (sym (append_assoc before one (map parameter_tree qs))) k),
     )
 
-pub none_whole : (rules : List Rules) → AreWholeParameters rules []
-unfolding AreWholeParameters
+pub none_whole : (rules : List Rules) → HaveDerivedParameterFields rules []
+unfolding HaveDerivedParameterFields
 none_whole rules = tt
 
-pub same_whole : (rules : List Rules) (ps : List Parameter) → KeepsWholeParameters rules ps ps
-unfolding KeepsWholeParameters
+pub same_whole : (rules : List Rules) (ps : List Parameter) → KeepsDerivedParameterFields rules ps ps
+unfolding KeepsDerivedParameterFields
 same_whole rules ps h = h
 
-pub both_whole : (rules : List Rules) (old between new : List Parameter) → KeepsWholeParameters rules old between → KeepsWholeParameters rules between new
-    → KeepsWholeParameters rules old new
-unfolding KeepsWholeParameters
+pub both_whole : (rules : List Rules) (old between new : List Parameter) → KeepsDerivedParameterFields rules old between → KeepsDerivedParameterFields rules between new
+    → KeepsDerivedParameterFields rules old new
+unfolding KeepsDerivedParameterFields
 both_whole rules old between new h k w = k (h w)
 
-pub then_whole : (rules : List Rules) (old new : List Parameter) → AreWholeParameters rules old → KeepsWholeParameters rules old new → AreWholeParameters rules new
-unfolding KeepsWholeParameters
+pub then_whole : (rules : List Rules) (old new : List Parameter) → HaveDerivedParameterFields rules old → KeepsDerivedParameterFields rules old new → HaveDerivedParameterFields rules new
+unfolding KeepsDerivedParameterFields
 then_whole rules old new h k = k h
 
 -- one more that is whole
-pub pushed_whole : (rules : List Rules) (old new : List Parameter) (p : Parameter) → new ≡ old ++ p ∷ [] → IsWholeParameter rules (map parameter_tree old) p
-    → KeepsWholeParameters rules old new
-unfolding AreWholeParameters KeepsWholeParameters
-pushed_whole rules old new p e h k = subst (AreWholeParameters rules) (sym e) (whole_after rules [] old p k h)
+pub pushed_whole : (rules : List Rules) (old new : List Parameter) (p : Parameter) → new ≡ old ++ p ∷ [] → HasDerivedParameterFields rules (map parameter_tree old) p
+    → KeepsDerivedParameterFields rules old new
+unfolding HaveDerivedParameterFields KeepsDerivedParameterFields
+pushed_whole rules old new p e h k = subst (HaveDerivedParameterFields rules) (sym e) (whole_after rules [] old p k h)
 
 -- ---- a loop
 
 -- from one place to another these parameters were read
 pub record IsReadTo (rules : List Rules) (s q : State) (first next : Numerator) (old done : List Parameter) : Type 0 where
   pub read : reader.singulars rules ((map parameter_tree done, counters_of next), q) ≡ reader.singulars rules ((map parameter_tree old, counters_of first), s)
-  pub drawn : HasDrawn first next (names s) (names q)
-  pub whole : KeepsWholeParameters rules old done
+  pub drawn : TookBindingNumbers first next (names s) (names q)
+  pub whole : KeepsDerivedParameterFields rules old done
 
 pub begins : (rules : List Rules) (s : State) (first : Numerator) (old : List Parameter) → IsReadTo rules s s first first old old
 begins rules s first old = record { read = refl; drawn = none_drawn first (names s) (names s) (omega arith); whole = same_whole rules old }
 
 module _ (rules : List Rules) (s q : State) (first next : Numerator) (old done : List Parameter) (so_far : IsReadTo rules s q first next old done) where
   pub ends : reader.begins_parameter q ≡ false → reader.singulars rules ((map parameter_tree old, counters_of first), s) ≡ Ok ((map parameter_tree done, counters_of next), q)
-  ends h = sym so_far.read ∙ laws.singulars_end leaves sight_of rules ((map parameter_tree done, counters_of next), q) h
+  ends h = sym so_far.read ∙ laws.singulars_end leaves view_of rules ((map parameter_tree done, counters_of next), q) h
 
   module _ (another : reader.begins_parameter q ≡ true) where
     pub goes_on : (then : Numerator) (new : List Parameter) (rest : State)
         → reader.parameter rules Singular ((map parameter_tree done, counters_of next), q) ≡ Ok ((map parameter_tree new, counters_of then), rest)
-        → HasDrawn next then (names q) (names rest) → KeepsWholeParameters rules done new → IsReadTo rules s rest first then old new
+        → TookBindingNumbers next then (names q) (names rest) → KeepsDerivedParameterFields rules done new → IsReadTo rules s rest first then old new
     goes_on then new rest is drawn whole = record {
-      read = sym (laws.singulars_go_on leaves sight_of rules ((map parameter_tree done, counters_of next), q) ((map parameter_tree new, counters_of then), rest) another is) ∙ so_far.read;
+      read = sym (laws.singulars_go_on leaves view_of rules ((map parameter_tree done, counters_of next), q) ((map parameter_tree new, counters_of then), rest) another is) ∙ so_far.read;
       drawn = both_drawn first next then (names s) (names q) (names rest) so_far.drawn drawn;
       whole = both_whole rules old done new so_far.whole whole;
     }
 
-    fails : (e : Refusal) → reader.parameter rules Singular ((map parameter_tree done, counters_of next), q) ≡ Err e
+    fails : (e : ReadError) → reader.parameter rules Singular ((map parameter_tree done, counters_of next), q) ≡ Err e
         → reader.singulars rules ((map parameter_tree old, counters_of first), s) ≡ Err e
-    fails e h = sym so_far.read ∙ laws.singulars_fail leaves sight_of rules ((map parameter_tree done, counters_of next), q) e another h
+    fails e h = sym so_far.read ∙ laws.singulars_fail leaves view_of rules ((map parameter_tree done, counters_of next), q) e another h
 
     -- a parameter is refused, or wants a number
-    pub halts : (halt : Halt) (left : State) (wanting : Refusal)
-        → HaltsAt halt left (reader.parameter rules Singular ((map parameter_tree done, counters_of next), q) ≡ Err wanting) (reader.parameter rules Singular ((map parameter_tree done, counters_of next), q))
-        → HaltsAt halt left (reader.singulars rules ((map parameter_tree old, counters_of first), s) ≡ Err wanting) (reader.singulars rules ((map parameter_tree old, counters_of first), s))
-    halts halt left wanting h = halted (reader.parameter rules Singular ((map parameter_tree done, counters_of next), q)) (reader.singulars rules ((map parameter_tree old, counters_of first), s)) fails halt left _ _ (fails wanting) h
+    pub fails : (error : ParseError) (left : State) (wanting : ReadError)
+        → IsParseError error left (reader.parameter rules Singular ((map parameter_tree done, counters_of next), q) ≡ Err wanting) (reader.parameter rules Singular ((map parameter_tree done, counters_of next), q))
+        → IsParseError error left (reader.singulars rules ((map parameter_tree old, counters_of first), s) ≡ Err wanting) (reader.singulars rules ((map parameter_tree old, counters_of first), s))
+    fails error left wanting h = failed (reader.parameter rules Singular ((map parameter_tree done, counters_of next), q)) (reader.singulars rules ((map parameter_tree old, counters_of first), s)) fails error left _ _ (fails wanting) h
 
 -- ---- what is said of one
 
 -- what is broken by what is said of a parameter is what it breaks
 said_is : (rules : List Rules) (before : List LeafParameter) (kind : ParameterKind) (export : Bool) (token : Token) (default : Option (Box Expression)) (found : Option Rules)
-    → found ≡ rules_for sees_leaves rules before (Named token None)
-    → said_broken token (is_some default) kind found ≡ reader.broken_by rules before (record { kind = kind; export = export; name = Named token None; default = value_tree default })
+    → found ≡ rules_for views_leaves rules before (Named token None)
+    → arg_attribute_broken token (is_some default) kind found ≡ reader.broken_by rules before (record { kind = kind; export = export; name = Named token None; default = value_tree default })
 said_is rules before kind export token None found is = rw is refl
 said_is rules before kind export token (Some e) found is = rw is refl
 
 -- a parameter has what is said of the first of its name
-pub named_whole : (rules : List Rules) (before : List LeafParameter) (p : Parameter) (found : Option Rules) (token : Token) → found ≡ rules_for sees_leaves rules before (Named token None)
-    → p.name.token ≡ token → IsSaid found p → IsWholeParameter rules before p
-named_whole rules before p found token is same said =
-    subst (λ (t : Token). IsSaid (rules_for sees_leaves rules before (Named t None)) p) (sym same) (subst (λ (f : Option Rules). IsSaid f p) is said)
+pub named_whole : (rules : List Rules) (before : List LeafParameter) (p : Parameter) (found : Option Rules) (token : Token) → found ≡ rules_for views_leaves rules before (Named token None)
+    → p.name.token ≡ token → HasArgAttribute found p → HasDerivedParameterFields rules before p
+named_whole rules before p found token is same arg_attribute =
+    subst (λ (t : Token). HasArgAttribute (rules_for views_leaves rules before (Named t None)) p) (sym same) (subst (λ (f : Option Rules). HasArgAttribute f p) is arg_attribute)
 
 -- ---- exported or not
 
@@ -133,35 +133,35 @@ module _ (rules : List Rules) (kind : ParameterKind) (export : Bool) (before : L
   abbrev pub Found : Read reader.Parameters
   Found = reader.named_parameter rules kind export (map parameter_tree before, counters_of first) s
 
-  pub name_fails : (e : Refusal) → expect kinds.Identifier s ≡ Err e → Found ≡ Err e
+  pub name_fails : (e : ReadError) → expect kinds.Identifier s ≡ Err e → Found ≡ Err e
   unfolding headers.named_parameter
   name_fails e h = rw h refl
 
   module _ (name : TableEntry) (s1 : State) (named : expect kinds.Identifier s ≡ Ok (name, s1)) where
-    pub default_fails : (e : Refusal) → reader.default_value s1 ≡ Err e → Found ≡ Err e
+    pub default_fails : (e : ReadError) → reader.default_value s1 ≡ Err e → Found ≡ Err e
     unfolding headers.named_parameter
     default_fails e h = rw (named, h) refl
 
     module _ (default : Option (Box Expression)) (s2 : State) (valued : reader.default_value s1 ≡ Ok (value_tree default, s2)) (has : Bool) (has_is : has ≡ is_some default)
-        (said : Option Rules) (is : said ≡ rules_for sees_leaves rules (map parameter_tree before) (Named name.token.now None)) where
-      broken_is : said_broken name.token.now has kind said ≡ reader.broken_by rules (map parameter_tree before) (record { kind = kind; export = export; name = Named name.token.now None; default = value_tree default })
-      broken_is = ap (λ (b : Bool). said_broken name.token.now b kind said) has_is ∙ said_is rules (map parameter_tree before) kind export name.token.now default said is
+        (arg_attribute : Option Rules) (is : arg_attribute ≡ rules_for views_leaves rules (map parameter_tree before) (Named name.token.now None)) where
+      broken_is : arg_attribute_broken name.token.now has kind arg_attribute ≡ reader.broken_by rules (map parameter_tree before) (record { kind = kind; export = export; name = Named name.token.now None; default = value_tree default })
+      broken_is = ap (λ (b : Bool). arg_attribute_broken name.token.now b kind arg_attribute) has_is ∙ said_is rules (map parameter_tree before) kind export name.token.now default arg_attribute is
 
-      pub said_fails : (e : Refusal) → obeying (said_broken name.token.now has kind said) s2 ≡ Err e → Found ≡ Err e
+      pub said_fails : (e : ReadError) → obeying (arg_attribute_broken name.token.now has kind arg_attribute) s2 ≡ Err e → Found ≡ Err e
       unfolding headers.named_parameter leaves
       said_fails e h =
           let k = ap (λ (l : List (Broken Token)). obeying l s2) (sym broken_is) ∙ h in
           rw (named, valued, k) refl
 
-      module _ (obeyed : obeying (said_broken name.token.now has kind said) s2 ≡ Ok (tt, s2)) where
+      module _ (obeyed : obeying (arg_attribute_broken name.token.now has kind arg_attribute) s2 ≡ Ok (tt, s2)) where
         obeyed_is : obeying (reader.broken_by rules (map parameter_tree before) (record { kind = kind; export = export; name = Named name.token.now None; default = value_tree default })) s2 ≡ Ok (tt, s2)
         obeyed_is = ap (λ (l : List (Broken Token)). obeying l s2) (sym broken_is) ∙ obeyed
 
-        pub number_fails : (e : Refusal) → reader.draw_binding (counters_of first) s2 ≡ Err e → Found ≡ Err e
+        pub number_fails : (e : ReadError) → reader.next_binding_number (counters_of first) s2 ≡ Err e → Found ≡ Err e
         unfolding headers.named_parameter leaves
         number_fails e h = rw (named, valued, obeyed_is, h) refl
 
-        pub parameter_read : (number : ℕ) (next : Numerator) → reader.draw_binding (counters_of first) s2 ≡ Ok ((number, counters_of next), s2) → (new : List Parameter) (p : Parameter)
+        pub parameter_read : (number : ℕ) (next : Numerator) → reader.next_binding_number (counters_of first) s2 ≡ Ok ((number, counters_of next), s2) → (new : List Parameter) (p : Parameter)
             → new ≡ before ++ p ∷ [] → p.name.token ≡ name.token.now
             → parameter_tree p ≡ record { kind = kind; export = export; name = Named p.name.token (Some (number_of number)); default = value_tree default }
             → Found ≡ Ok ((map parameter_tree new, counters_of next), s2)
@@ -176,6 +176,6 @@ module _ (rules : List Rules) (kind : ParameterKind) (export : Bool) (before : L
 
 -- the parameter that takes several arguments is read after those that take one
 pub last_fails : (rules : List Rules) (n : Counters) (s : State) (x : reader.Parameters × State) → reader.singulars rules (([], n), s) ≡ Ok x
-    → (e : Refusal) → reader.last_parameter rules x ≡ Err e → reader.parameters rules n s ≡ Err e
+    → (e : ReadError) → reader.last_parameter rules x ≡ Err e → reader.parameters rules n s ≡ Err e
 unfolding headers.parameters
 last_fails rules n s x singular e h = rw (singular, h) refl

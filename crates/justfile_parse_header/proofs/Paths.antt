@@ -1,20 +1,20 @@
 -- The names of a path, as a loop reads them.
 use Rattle.std.proofs.Common.{◌≡◌, ◌∙◌, List, [], ◌∷◌, ◌++◌, map, Some, None, Ok, refl, sym, ap}
 use Rattle.std.proofs.lemmas.List.{map-append}
-use Rattle.justfile_base.specs.declared.name.Name.{Name}
-use Rattle.justfile_base.specs.declared.token.Token.{Token}
-use Rattle.justfile_word.specs.declared.token_kind.TokenKind.TheVariants as kinds
+use Rattle.justfile_token.specs.declared.name.Name.{Name}
+use Rattle.justfile_token.specs.declared.token.Token.{Token}
+use Rattle.justfile_vocabulary.specs.declared.token_kind.TokenKind.TheVariants as kinds
 use Rattle.justfile_model.specs.HeaderReader as headers
-use Rattle.justfile_model.specs.Reading.{prepend}
+use Rattle.justfile_model.specs.ReaderState.{prepend}
 use Rattle.justfile_model.proofs.HeaderReading as laws
-use Rattle.justfile_parse_expression.specs.MethodResults.{StopsAt, literal_refusal, refusal_at}
+use Rattle.justfile_parse_expression.specs.MethodResults.{IsExpressionError, literal_refusal, refusal_at}
 use Rattle.justfile_parse_expression.specs.TableReader.{State, accept, expect, leaves}
 use Rattle.justfile_parse_expression.specs.declared.significant.TableEntry.{TableEntry}
-use Rattle.justfile_parse_expression.specs.declared.stop.Stop.{Stop}
-use Rattle.justfile_parse_expression.specs.declared.stop.Stop.TheVariants.{Refused, Literal, Memory, Numbers}
+use Rattle.justfile_parse_expression.specs.declared.expression_error.ExpressionError.{ExpressionError}
+use Rattle.justfile_parse_expression.specs.declared.expression_error.ExpressionError.TheVariants.{Refused, Literal, Memory, Numbers}
 use Rattle.justfile_parse_header.specs.HeaderTable.{path, path_rest}
 use Rattle.justfile_parse_header.specs.Tree.{name_tree}
-use Rattle.justfile_tree.specs.LeafTree.{Leaf, Named}
+use Rattle.justfile_expression.specs.LeafTree.{Leaf, Named}
 
 -- the first name is read
 pub path_begins : (s : State) (first : TableEntry) (rest : State) (name : Name) → expect kinds.Identifier s ≡ Ok (first, rest) → name.token ≡ first.token.now
@@ -23,7 +23,7 @@ unfolding headers.path leaves
 path_begins s first rest name h is = rw (h, is) refl
 
 -- no name is read
-pub path_fails : (s : State) (stop : Stop) (left : State) → StopsAt stop left ⊥ (expect kinds.Identifier s) → StopsAt stop left ⊥ (path s)
+pub path_fails : (s : State) (stop : ExpressionError) (left : State) → IsExpressionError stop left ⊥ (expect kinds.Identifier s) → IsExpressionError stop left ⊥ (path s)
 unfolding headers.path
 path_fails s (Refused r) left h = rw h refl
 path_fails s (Literal refused) left h = rw h refl
@@ -45,7 +45,7 @@ module _ (s q : State) (done : List Name) (so_far : prepend (map name_tree done)
         ∙ sym (laws.path_rest_go_on leaves (map name_tree done) q colons entry next rest taken h)
         ∙ so_far
 
-    pub path_stops : (stop : Stop) (left : State) → StopsAt stop left ⊥ (expect kinds.Identifier next) → StopsAt stop left ⊥ (path s)
+    pub path_stops : (stop : ExpressionError) (left : State) → IsExpressionError stop left ⊥ (expect kinds.Identifier next) → IsExpressionError stop left ⊥ (path s)
     path_stops (Refused r) left h = sym so_far ∙ laws.path_rest_fail leaves (map name_tree done) q colons next (refusal_at r left) taken h
     path_stops (Literal refused) left h = sym so_far ∙ laws.path_rest_fail leaves (map name_tree done) q colons next (literal_refusal refused.value.error) taken h
     path_stops Memory left h = tt

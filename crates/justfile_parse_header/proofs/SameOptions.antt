@@ -8,28 +8,28 @@ use Rattle.justfile_attribute.specs.declared.attribute.Attribute.{Attribute}
 use Rattle.justfile_attribute_set.specs.Keys.{firsts}
 use Rattle.justfile_attribute_set.specs.Pairs.{Pair, leaf_entry_of}
 use Rattle.justfile_attribute_rules.specs.Made.{IsRefusedBy}
-use Rattle.justfile_base.specs.declared.fault.Fault.{Fault}
-use Rattle.justfile_base.specs.declared.token.Token.{Token}
+use Rattle.justfile_token.specs.declared.fault.Fault.{Fault}
+use Rattle.justfile_token.specs.declared.token.Token.{Token}
 use Rattle.justfile_model.specs.AttributeRules.{arg_rules, rules_in}
 use Rattle.justfile_model.specs.HeaderReader.{obeying}
 use Rattle.justfile_model.specs.NewAttribute as new
-use Rattle.justfile_model.specs.Reading.{◌>>=◌}
+use Rattle.justfile_model.specs.ReaderState.{◌>>=◌}
 use Rattle.justfile_model.specs.RecipeRules.{first_character, long_options, option_of, repeated_broken, short_options, with_text}
 use Rattle.justfile_model.specs.Rules.{Broken, DuplicateLongOption, DuplicateShortOption, Rule, broken_if}
 use Rattle.justfile_model.specs.Tree.{Quoted}
-use Rattle.justfile_parse_attribute.specs.Halting.{HaltsAt, HaltsFor}
+use Rattle.justfile_parse_attribute.specs.ParseErrors.{IsParseError, IsErrorOfFault}
 use Rattle.justfile_parse_attribute.specs.TextSets.{HaveSame}
-use Rattle.justfile_parse_attribute.specs.declared.halt.Halt.{Halt}
-use Rattle.justfile_parse_attribute.proofs.AttributeSteps.{halts_for}
+use Rattle.justfile_parse_attribute.specs.declared.parse_error.ParseError.{ParseError}
+use Rattle.justfile_parse_attribute.proofs.AttributeSteps.{fails_for}
 use Rattle.justfile_parse_attribute.proofs.TextSetLemmas.{same_more, same_texts}
 use Rattle.justfile_parse_expression.specs.TableReader.{Read, State}
 use Rattle.justfile_parse_header.specs.HeaderTable.{Rules}
 use Rattle.justfile_parse_header.specs.OptionRules.{long_step, longs_from, option_step, short_step, shorts_from, then_option}
 use Rattle.justfile_parse_header.specs.Options.{Meant, called, character_of, long_in, of_rules, short_in}
-use Rattle.justfile_parse_header.proofs.Halts.{first_halts}
-use Rattle.justfile_parse_header.proofs.Spoken.{rules_left, spoken_left}
-use Rattle.justfile_tree.specs.LeafSight.{sees_leaves}
-use Rattle.justfile_tree.specs.LeafTree.{Leaf}
+use Rattle.justfile_parse_header.proofs.HeaderErrors.{first_fails}
+use Rattle.justfile_parse_header.proofs.ArgRules.{rules_left, spoken_left}
+use Rattle.justfile_expression.specs.LeafViews.{views_leaves}
+use Rattle.justfile_expression.specs.LeafTree.{Leaf}
 
 -- the options of these attributes
 abbrev pub options_left : {X : Type 0} → (Meant → Option (X × Token)) → List Attribute → List (X × Token)
@@ -66,10 +66,10 @@ module _ {X : Type 0} (same : X → X → Bool) (rule : X → Rule Token) where
       step_apart : list_any (same option) before ≡ false → option_step same rule before found s ≡ Ok (before ++ option ∷ [], s)
       step_apart = step_is false
 
-      step_same : list_any (same option) before ≡ true → (fault : Fault) (halt : Halt) → HaltsFor halt fault → IsRefusedBy (new.refuse {X = Unit {0}} (rule option) place) fault
-          → HaltsAt halt s ⊥ (option_step same rule before found s)
-      step_same among fault halt h refused =
-          subst (λ (f : Read (List X)). HaltsAt halt s ⊥ f) (sym (step_is true among)) (halts_for (List X × State) (rule option) place fault halt s h refused)
+      step_same : list_any (same option) before ≡ true → (fault : Fault) (error : ParseError) → IsErrorOfFault error fault → IsRefusedBy (new.refuse {X = Unit {0}} (rule option) place) fault
+          → IsParseError error s ⊥ (option_step same rule before found s)
+      step_same among fault error h refused =
+          subst (λ (f : Read (List X)). IsParseError error s ⊥ f) (sym (step_is true among)) (fails_for (List X × State) (rule option) place fault error s h refused)
 
   -- ---- along attributes, each with an option or none
 
@@ -89,41 +89,41 @@ module _ {X : Type 0} (same : X → X → Bool) (rule : X → Rule Token) where
         goes_on : (new : List X) → ((s : State) → option_step same rule before (option_in (leaf_attribute_of a)) s ≡ Ok (new, s)) → Ahead new rest
         goes_on new step s = sym (ap (λ (f : Read (List X)). f >>= λ x. broken_from x.0 (options_left option_in rest) x.1) (step s)) ∙ goes_first s
 
-        halts : (halt : Halt) (s : State) → HaltsAt halt s ⊥ (option_step same rule before (option_in (leaf_attribute_of a)) s) → HaltsAt halt s ⊥ (obeying broken s)
-        halts halt s h =
-            subst (λ (f : Read (Unit {0})). HaltsAt halt s ⊥ f) (goes_first s)
-            (first_halts (option_step same rule before (option_in (leaf_attribute_of a)) s) (λ x. broken_from x.0 (options_left option_in rest) x.1) halt s ⊥ h)
+        fails : (error : ParseError) (s : State) → IsParseError error s ⊥ (option_step same rule before (option_in (leaf_attribute_of a)) s) → IsParseError error s ⊥ (obeying broken s)
+        fails error s h =
+            subst (λ (f : Read (Unit {0})). IsParseError error s ⊥ f) (goes_first s)
+            (first_fails (option_step same rule before (option_in (leaf_attribute_of a)) s) (λ x. broken_from x.0 (options_left option_in rest) x.1) error s ⊥ h)
 
       ends : (before : List X) (left : List Attribute) → left ≡ [] → Ahead before left → (s : State) → obeying broken s ≡ Ok (tt, s)
       ends before left none so_far s = sym (so_far s) ∙ ap (λ (l : List Attribute). broken_from before (options_left option_in l) s) none
 
 -- ---- the options of attributes
 
-longs_are : (attributes : List Attribute) → long_options sees_leaves (rules_left attributes) ≡ options_left long_in attributes
+longs_are : (attributes : List Attribute) → long_options views_leaves (rules_left attributes) ≡ options_left long_in attributes
 longs_are [] = refl
 longs_are (a ∷ others) = go (rules_in (leaf_attribute_of a)) ∙ ap (λ (l : List (List ℕ × Token)). cons_option (long_in (leaf_attribute_of a)) l) (longs_are others)
   where
-    named : (o : Option (Quoted Leaf × Token)) (l : List (Quoted Leaf × Token)) → map (with_text sees_leaves) (cons_option o l) ≡ cons_option (option_map (with_text sees_leaves) o) (map (with_text sees_leaves) l)
+    named : (o : Option (Quoted Leaf × Token)) (l : List (Quoted Leaf × Token)) → map (with_text views_leaves) (cons_option o l) ≡ cons_option (option_map (with_text views_leaves) o) (map (with_text views_leaves) l)
     named None l = refl
     named (Some option) l = refl
 
-    go : (o : Option Rules) → long_options sees_leaves (cons_option o (rules_left others)) ≡ cons_option (of_rules None (λ r. called r r.long) o) (long_options sees_leaves (rules_left others))
+    go : (o : Option Rules) → long_options views_leaves (cons_option o (rules_left others)) ≡ cons_option (of_rules None (λ r. called r r.long) o) (long_options views_leaves (rules_left others))
     go None = refl
-    go (Some r) = named (option_of sees_leaves r.name r.long) (filter_map (λ (r : Rules). option_of sees_leaves r.name r.long) (rules_left others))
+    go (Some r) = named (option_of views_leaves r.name r.long) (filter_map (λ (r : Rules). option_of views_leaves r.name r.long) (rules_left others))
 
-shorts_are : (attributes : List Attribute) → short_options sees_leaves (rules_left attributes) ≡ options_left short_in attributes
+shorts_are : (attributes : List Attribute) → short_options views_leaves (rules_left attributes) ≡ options_left short_in attributes
 shorts_are [] = refl
 shorts_are (a ∷ others) = go (rules_in (leaf_attribute_of a)) ∙ ap (λ (l : List (ℕ × Token)). cons_option (short_in (leaf_attribute_of a)) l) (shorts_are others)
   where
-    named : (o : Option (Quoted Leaf × Token)) (l : List (Quoted Leaf × Token)) → filter_map (first_character sees_leaves) (map (with_text sees_leaves) (cons_option o l))
-        ≡ cons_option (character_of (option_map (with_text sees_leaves) o)) (filter_map (first_character sees_leaves) (map (with_text sees_leaves) l))
+    named : (o : Option (Quoted Leaf × Token)) (l : List (Quoted Leaf × Token)) → filter_map (first_character views_leaves) (map (with_text views_leaves) (cons_option o l))
+        ≡ cons_option (character_of (option_map (with_text views_leaves) o)) (filter_map (first_character views_leaves) (map (with_text views_leaves) l))
     named None l = refl
     named (Some option) l = refl
 
-    go : (o : Option Rules) → short_options sees_leaves (cons_option o (rules_left others))
-        ≡ cons_option (of_rules None (λ r. character_of (called r r.short)) o) (short_options sees_leaves (rules_left others))
+    go : (o : Option Rules) → short_options views_leaves (cons_option o (rules_left others))
+        ≡ cons_option (of_rules None (λ r. character_of (called r r.short)) o) (short_options views_leaves (rules_left others))
     go None = refl
-    go (Some r) = named (option_of sees_leaves r.name r.short) (filter_map (λ (r : Rules). option_of sees_leaves r.name r.short) (rules_left others))
+    go (Some r) = named (option_of views_leaves r.name r.short) (filter_map (λ (r : Rules). option_of views_leaves r.name r.short) (rules_left others))
 
 -- ---- the loops
 
@@ -142,10 +142,10 @@ module _ (recipe : Token) (all : List Rules) where
   ShortsAhead = Ahead nat_eq short_rule short_in (shorts_from recipe [] all)
 
   pub longs_begin : (ps : List Pair) (left : List Attribute) → all ≡ arg_rules (map leaf_entry_of ps) → left ≡ firsts ps → LongsAhead [] left
-  longs_begin ps left are e s = ap (λ (l : List (List ℕ × Token)). broken_from bytes_eq long_rule [] l s) (sym (longs_are left) ∙ ap (long_options sees_leaves) (spoken_left ps left e ∙ sym are))
+  longs_begin ps left are e s = ap (λ (l : List (List ℕ × Token)). broken_from bytes_eq long_rule [] l s) (sym (longs_are left) ∙ ap (long_options views_leaves) (spoken_left ps left e ∙ sym are))
 
   pub shorts_begin : (ps : List Pair) (left : List Attribute) → all ≡ arg_rules (map leaf_entry_of ps) → left ≡ firsts ps → ShortsAhead [] left
-  shorts_begin ps left are e s = ap (λ (l : List (ℕ × Token)). broken_from nat_eq short_rule [] l s) (sym (shorts_are left) ∙ ap (short_options sees_leaves) (spoken_left ps left e ∙ sym are))
+  shorts_begin ps left are e s = ap (λ (l : List (ℕ × Token)). broken_from nat_eq short_rule [] l s) (sym (shorts_are left) ∙ ap (short_options views_leaves) (spoken_left ps left e ∙ sym are))
 
   module _ (before : List (List ℕ)) (left : List Attribute) (so_far : LongsAhead before left) where
     pub longs_end : left ≡ [] → (s : State) → obeying (longs_from recipe [] all) s ≡ Ok (tt, s)
@@ -156,9 +156,9 @@ module _ (recipe : Token) (all : List Rules) where
       unfolding long_step
       longs_go_on = goes_on bytes_eq long_rule long_in (longs_from recipe [] all) before left a rest is so_far
 
-      pub longs_halt : (halt : Halt) (s : State) → HaltsAt halt s ⊥ (long_step recipe before (leaf_attribute_of a) s) → HaltsAt halt s ⊥ (obeying (longs_from recipe [] all) s)
+      pub longs_fail : (error : ParseError) (s : State) → IsParseError error s ⊥ (long_step recipe before (leaf_attribute_of a) s) → IsParseError error s ⊥ (obeying (longs_from recipe [] all) s)
       unfolding long_step
-      longs_halt = halts bytes_eq long_rule long_in (longs_from recipe [] all) before left a rest is so_far
+      longs_fail = fails bytes_eq long_rule long_in (longs_from recipe [] all) before left a rest is so_far
 
   module _ (before : List ℕ) (left : List Attribute) (so_far : ShortsAhead before left) where
     pub shorts_end : left ≡ [] → (s : State) → obeying (shorts_from recipe [] all) s ≡ Ok (tt, s)
@@ -169,9 +169,9 @@ module _ (recipe : Token) (all : List Rules) where
       unfolding short_step
       shorts_go_on = goes_on nat_eq short_rule short_in (shorts_from recipe [] all) before left a rest is so_far
 
-      pub shorts_halt : (halt : Halt) (s : State) → HaltsAt halt s ⊥ (short_step recipe before (leaf_attribute_of a) s) → HaltsAt halt s ⊥ (obeying (shorts_from recipe [] all) s)
+      pub shorts_fail : (error : ParseError) (s : State) → IsParseError error s ⊥ (short_step recipe before (leaf_attribute_of a) s) → IsParseError error s ⊥ (obeying (shorts_from recipe [] all) s)
       unfolding short_step
-      shorts_halt = halts nat_eq short_rule short_in (shorts_from recipe [] all) before left a rest is so_far
+      shorts_fail = fails nat_eq short_rule short_in (shorts_from recipe [] all) before left a rest is so_far
 
 -- ---- the texts before
 
@@ -198,8 +198,8 @@ module _ (recipe : Token) (before : List (List ℕ)) (a : Meant) (s : State) whe
     unfolding long_step
     long_apart = step_apart bytes_eq (λ option. DuplicateLongOption option recipe) before (long_in a) s option place is
 
-    pub long_same : list_any (bytes_eq option) before ≡ true → (fault : Fault) (halt : Halt) → HaltsFor halt fault
-        → IsRefusedBy (new.refuse {X = Unit {0}} (DuplicateLongOption option recipe) place) fault → HaltsAt halt s ⊥ (long_step recipe before a s)
+    pub long_same : list_any (bytes_eq option) before ≡ true → (fault : Fault) (error : ParseError) → IsErrorOfFault error fault
+        → IsRefusedBy (new.refuse {X = Unit {0}} (DuplicateLongOption option recipe) place) fault → IsParseError error s ⊥ (long_step recipe before a s)
     unfolding long_step
     long_same = step_same bytes_eq (λ option. DuplicateLongOption option recipe) before (long_in a) s option place is
 
@@ -226,8 +226,8 @@ module _ (recipe : Token) (before : List ℕ) (a : Meant) (s : State) where
     unfolding short_step
     short_apart = step_apart nat_eq (λ option. DuplicateShortOption option recipe) before (short_in a) s option place is
 
-    pub short_same : list_any (nat_eq option) before ≡ true → (fault : Fault) (halt : Halt) → HaltsFor halt fault
-        → IsRefusedBy (new.refuse {X = Unit {0}} (DuplicateShortOption option recipe) place) fault → HaltsAt halt s ⊥ (short_step recipe before a s)
+    pub short_same : list_any (nat_eq option) before ≡ true → (fault : Fault) (error : ParseError) → IsErrorOfFault error fault
+        → IsRefusedBy (new.refuse {X = Unit {0}} (DuplicateShortOption option recipe) place) fault → IsParseError error s ⊥ (short_step recipe before a s)
     unfolding short_step
     short_same = step_same nat_eq (λ option. DuplicateShortOption option recipe) before (short_in a) s option place is
 
@@ -244,7 +244,7 @@ module _ (first second : List (Broken Token)) (s : State) where
   pub both_obeyed : obeying first s ≡ Ok (tt, s) → obeying (first ++ second) s ≡ obeying second s
   both_obeyed h = joined ∙ ap (λ (f : Read (Unit {0})). f >>= λ x. obeying second x.1) h
 
-  pub first_broken : (halt : Halt) → HaltsAt halt s ⊥ (obeying first s) → HaltsAt halt s ⊥ (obeying (first ++ second) s)
-  first_broken halt h =
-      subst (λ (f : Read (Unit {0})). HaltsAt halt s ⊥ f) (sym joined)
-      (first_halts (obeying first s) (λ x. obeying second x.1) halt s ⊥ h)
+  pub first_broken : (error : ParseError) → IsParseError error s ⊥ (obeying first s) → IsParseError error s ⊥ (obeying (first ++ second) s)
+  first_broken error h =
+      subst (λ (f : Read (Unit {0})). IsParseError error s ⊥ f) (sym joined)
+      (first_fails (obeying first s) (λ x. obeying second x.1) error s ⊥ h)

@@ -4,31 +4,31 @@ use Rattle.std.specs.List.{cons_option, list_any}
 use Rattle.std.specs.Option.{is_some, option_map}
 use Rattle.std.proofs.lemmas.List.{at_drop_more, drop_all}
 use Rattle.justfile_attribute_rules.specs.Made.{IsRefusedBy}
-use Rattle.justfile_base.specs.declared.compile_error.CompileError.{CompileError}
-use Rattle.justfile_base.specs.declared.compile_error_kind.CompileErrorKind.TheVariants as errors
-use Rattle.justfile_base.specs.declared.fault.Fault.{Fault}
-use Rattle.justfile_base.specs.declared.fault.Fault.TheVariants as faults
-use Rattle.justfile_base.specs.declared.token.Token.{Token}
-use Rattle.justfile_header.specs.Header.{star_of}
-use Rattle.justfile_header.specs.declared.unresolved_dependency.DependencyArgument.{DependencyArgument}
+use Rattle.justfile_token.specs.declared.compile_error.CompileError.{CompileError}
+use Rattle.justfile_token.specs.declared.compile_error_kind.CompileErrorKind.TheVariants as errors
+use Rattle.justfile_token.specs.declared.fault.Fault.{Fault}
+use Rattle.justfile_token.specs.declared.fault.Fault.TheVariants as faults
+use Rattle.justfile_token.specs.declared.token.Token.{Token}
+use Rattle.justfile_recipe_header.specs.Header.{star_of}
+use Rattle.justfile_recipe_header.specs.declared.unresolved_dependency.DependencyArgument.{DependencyArgument}
 use Rattle.justfile_model.specs.HeaderReader.{obeying}
 use Rattle.justfile_model.specs.Meaning.{first_of}
 use Rattle.justfile_model.specs.NewAttribute as new
-use Rattle.justfile_model.specs.Reading.{BreaksRule}
+use Rattle.justfile_model.specs.ReaderState.{BreaksRule}
 use Rattle.justfile_model.specs.RecipeRules.{misplaced_broken, second_broken, stars}
 use Rattle.justfile_model.specs.Rules.{Rule, MappedDependencyMultipleStarredArguments, MappedDependencyWithoutStarredArgument, StarredArgumentOutsideMappedDependency}
 use Rattle.justfile_model.specs.Tree as tree
 use Rattle.justfile_model.specs.Tree.{over_dependency_argument}
 use Rattle.justfile_model.proofs.Unchanged.{argument_kept, arguments_are}
-use Rattle.justfile_parse_attribute.specs.Halting.{HaltsAt, HaltsFor}
-use Rattle.justfile_parse_attribute.specs.declared.halt.Halt.{Halt}
-use Rattle.justfile_parse_attribute.proofs.AttributeSteps.{halts_for}
+use Rattle.justfile_parse_attribute.specs.ParseErrors.{IsParseError, IsErrorOfFault}
+use Rattle.justfile_parse_attribute.specs.declared.parse_error.ParseError.{ParseError}
+use Rattle.justfile_parse_attribute.proofs.AttributeSteps.{fails_for}
 use Rattle.justfile_parse_expression.specs.TableReader.{Read, State, leaves}
 use Rattle.justfile_parse_expression.specs.declared.significant.TableEntry.{TableEntry}
 use Rattle.justfile_parse_header.specs.HeaderTable.{second_from}
 use Rattle.justfile_parse_header.specs.Tree.{argument_tree, read_argument}
 use Rattle.justfile_parse_header.specs.declared.dependency.ReadArgument.{ReadArgument}
-use Rattle.justfile_tree.specs.LeafTree.{Leaf, leaf_tree_of}
+use Rattle.justfile_expression.specs.LeafTree.{Leaf, leaf_tree_of}
 
 -- ---- one argument after another
 
@@ -87,10 +87,10 @@ module _ (star : TableEntry) (e : CompileError) (at_star : e.token ≡ star.toke
 
 module _ (s : State) where
   abbrev second_checked : List TableEntry → Read (Unit {0})
-  second_checked xs = obeying (second_broken (map leaves.spot xs)) s
+  second_checked xs = obeying (second_broken (map leaves.position xs)) s
 
   abbrev pub place_checked : Option TableEntry → List TableEntry → Read (Unit {0})
-  place_checked star xs = obeying (misplaced_broken (option_map leaves.spot star) (map leaves.spot xs)) s
+  place_checked star xs = obeying (misplaced_broken (option_map leaves.position star) (map leaves.position xs)) s
 
   -- no star after another one
   pub one_star : (xs : List TableEntry) → second_from false xs ≡ None → second_checked xs ≡ Ok (tt, s)
@@ -107,38 +107,38 @@ module _ (s : State) where
   both_stars star [] first h = absurd cc
   both_stars star (x ∷ xs) first h = refl
 
-  module _ (fault : Fault) (halt : Halt) (for : HaltsFor halt fault) where
+  module _ (fault : Fault) (error : ParseError) (for : IsErrorOfFault error fault) where
     refused_at : (rule : Rule Token) (star first : TableEntry) → Some first ≡ Some star → RefusesStar rule star fault
-        → HaltsAt {Y = Unit {0} × State} halt s ⊥ (Err (BreaksRule (record { rule = rule; token = first.token.now })))
+        → IsParseError {Y = Unit {0} × State} error s ⊥ (Err (BreaksRule (record { rule = rule; token = first.token.now })))
     refused_at rule star first is h =
         let same : star ≡ first = cc in
-        halts_for (Unit {0} × State) rule first.token.now fault halt s for (subst (λ (t : TableEntry). RefusesStar rule t fault) same h)
+        fails_for (Unit {0} × State) rule first.token.now fault error s for (subst (λ (t : TableEntry). RefusesStar rule t fault) same h)
 
-    pub second_halts : (xs : List TableEntry) (second : TableEntry) → second_from false xs ≡ Some second → RefusesStar MappedDependencyMultipleStarredArguments second fault
-        → HaltsAt halt s ⊥ (second_checked xs)
+    pub second_fails : (xs : List TableEntry) (second : TableEntry) → second_from false xs ≡ Some second → RefusesStar MappedDependencyMultipleStarredArguments second fault
+        → IsParseError error s ⊥ (second_checked xs)
     unfolding leaves
-    second_halts [] second is h = absurd cc
-    second_halts (x ∷ []) second is h = absurd cc
-    second_halts (x ∷ y ∷ xs) second is h = refused_at MappedDependencyMultipleStarredArguments second y is h
+    second_fails [] second is h = absurd cc
+    second_fails (x ∷ []) second is h = absurd cc
+    second_fails (x ∷ y ∷ xs) second is h = refused_at MappedDependencyMultipleStarredArguments second y is h
 
-    pub missing_halts : (star : TableEntry) (xs : List TableEntry) → first_of xs ≡ None → RefusesStar MappedDependencyWithoutStarredArgument star fault
-        → HaltsAt halt s ⊥ (place_checked (Some star) xs)
+    pub missing_fails : (star : TableEntry) (xs : List TableEntry) → first_of xs ≡ None → RefusesStar MappedDependencyWithoutStarredArgument star fault
+        → IsParseError error s ⊥ (place_checked (Some star) xs)
     unfolding leaves
-    missing_halts star [] is h = refused_at MappedDependencyWithoutStarredArgument star star refl h
-    missing_halts star (x ∷ xs) is h = absurd cc
+    missing_fails star [] is h = refused_at MappedDependencyWithoutStarredArgument star star refl h
+    missing_fails star (x ∷ xs) is h = absurd cc
 
-    pub outside_halts : (xs : List TableEntry) (first : TableEntry) → first_of xs ≡ Some first → RefusesStar StarredArgumentOutsideMappedDependency first fault
-        → HaltsAt halt s ⊥ (place_checked None xs)
+    pub outside_fails : (xs : List TableEntry) (first : TableEntry) → first_of xs ≡ Some first → RefusesStar StarredArgumentOutsideMappedDependency first fault
+        → IsParseError error s ⊥ (place_checked None xs)
     unfolding leaves
-    outside_halts [] first is h = absurd cc
-    outside_halts (x ∷ xs) first is h = refused_at StarredArgumentOutsideMappedDependency first x is h
+    outside_fails [] first is h = absurd cc
+    outside_fails (x ∷ xs) first is h = refused_at StarredArgumentOutsideMappedDependency first x is h
 
 -- ---- what is kept of arguments
 
-abbrev Kept : Type 0
-Kept = tree.DependencyArgument Leaf Token (Unit {0})
+abbrev KeptArguments : Type 0
+KeptArguments = tree.DependencyArgument Leaf Token (Unit {0})
 
-abbrev pub kept_of : ReadArgument → Kept
+abbrev pub kept_of : ReadArgument → KeptArguments
 kept_of a = argument_kept leaves.star (read_argument a)
 
 -- whether it was there
@@ -155,12 +155,12 @@ kept_are arguments = arguments_are leaves.star (map read_argument arguments) ∙
   where
     twice : (l : List ReadArgument) → map (argument_kept leaves.star) (map read_argument l) ≡ map kept_of l
     twice [] = refl
-    twice (a ∷ others) = ap (λ (l : List Kept). kept_of a ∷ l) (twice others)
+    twice (a ∷ others) = ap (λ (l : List KeptArguments). kept_of a ∷ l) (twice others)
 
 -- ---- a dependency is starred where its arguments have a star
 
-any_starred : List Kept → Bool
-any_starred kept = list_any (λ (a : Kept). is_some a.star) kept
+any_starred : List KeptArguments → Bool
+any_starred kept = list_any (λ (a : KeptArguments). is_some a.star) kept
 
 some_star : (b : Bool) → is_some (star_of b) ≡ b
 some_star true = refl
@@ -171,7 +171,7 @@ unfolding any_starred
 any_tree [] = refl
 any_tree (k ∷ ks) = λ i. sym (some_star k.starred) i || any_tree ks i
 
-any_more : (o : Option TableEntry) (kept : List Kept) (others : List TableEntry) → any_starred kept ≡ is_some (first_of others)
+any_more : (o : Option TableEntry) (kept : List KeptArguments) (others : List TableEntry) → any_starred kept ≡ is_some (first_of others)
     → (is_some (option_map leaves.star o) || any_starred kept) ≡ is_some (first_of (cons_option o others))
 any_more None kept others h = h
 any_more (Some star) kept others h = refl

@@ -10,15 +10,15 @@ use Rattle.std.specs.Option.{option_map}
 use Rattle.std.specs.Str.{bytes_eq, chars}
 use Rattle.justfile_attribute.specs.Attribute.{literal_leaf, option_by}
 use Rattle.justfile_attribute_rules.specs.Made.{quoted_leaf}
-use Rattle.justfile_base.specs.Token.{lexeme_of}
-use Rattle.justfile_base.specs.declared.name.Name.{Name}
-use Rattle.justfile_base.specs.declared.string_literal.StringLiteral.{StringLiteral}
-use Rattle.justfile_base.specs.declared.token.Token.{Token}
-use Rattle.justfile_header.specs.declared.parameter.Parameter.{Parameter}
+use Rattle.justfile_token.specs.Token.{lexeme_of}
+use Rattle.justfile_token.specs.declared.name.Name.{Name}
+use Rattle.justfile_token.specs.declared.string_literal.StringLiteral.{StringLiteral}
+use Rattle.justfile_token.specs.declared.token.Token.{Token}
+use Rattle.justfile_recipe_header.specs.declared.parameter.Parameter.{Parameter}
 use Rattle.justfile_model.specs.Literals.{string_of}
 use Rattle.justfile_model.specs.Meaning.{first_of, text_of}
 use Rattle.justfile_model.specs.RecipeRules.{option_of, with_text}
-use Rattle.justfile_model.specs.Sight.{or_empty}
+use Rattle.justfile_model.specs.LeafView.{or_empty}
 use Rattle.justfile_model.specs.Tree.{OptionName}
 use Rattle.justfile_parse_attribute.specs.TextSets.{HaveSame, texts_in}
 use Rattle.justfile_parse_attribute.proofs.TextSetLemmas.{same_more, same_then}
@@ -26,14 +26,14 @@ use Rattle.justfile_parse_header.specs.Arguments.{AreNames}
 use Rattle.justfile_parse_header.specs.HeaderTable.{LeafParameter}
 use Rattle.justfile_parse_header.specs.Options.{character_of, option_in}
 use Rattle.justfile_parse_header.specs.Tree.{parameter_tree}
-use Rattle.justfile_tree.specs.LeafSight.{sees_leaves}
-use Rattle.justfile_tree.specs.LeafTree.{Leaf, Literal, leaf_tree_of, literal_of}
+use Rattle.justfile_expression.specs.LeafViews.{views_leaves}
+use Rattle.justfile_expression.specs.LeafTree.{Leaf, Literal, leaf_tree_of, literal_of}
 
 -- the text of a literal is what is kept of it
-pub text_is : (l : StringLiteral) → text_of sees_leaves (quoted_leaf l) ≡ string_bytes l.cooked
+pub text_is : (l : StringLiteral) → text_of views_leaves (quoted_leaf l) ≡ string_bytes l.cooked
 text_is l = go l.expand
   where
-    go : (b : Bool) → or_empty (sees_leaves.cooked (string_of b (Literal (literal_of l)))) ≡ string_bytes l.cooked
+    go : (b : Bool) → or_empty (views_leaves.cooked (string_of b (Literal (literal_of l)))) ≡ string_bytes l.cooked
     go true = refl
     go false = refl
 
@@ -54,12 +54,12 @@ pub character_among : (c : ℕ) (others : List ℕ) → list_any (λ (d : ℕ). 
 character_among = any_turned nat_eq Decides-eqb
 
 abbrev pub is_named : List LeafParameter → (name : List ℕ) → Bool
-is_named parameters name = list_any (λ (p : LeafParameter). bytes_eq (sees_leaves.bytes p.name) name) parameters
+is_named parameters name = list_any (λ (p : LeafParameter). bytes_eq (views_leaves.bytes p.name) name) parameters
 
 -- a parameter of this name is among them
 pub named_is : (ps : List Parameter) (name : List ℕ) → list_any (λ (p : Parameter). bytes_eq (lexeme_of p.name.token) name) ps
-    ≡ list_any (λ (p : LeafParameter). bytes_eq (sees_leaves.bytes p.name) name) (map parameter_tree ps)
-named_is ps name = any_map (λ (p : LeafParameter). bytes_eq (sees_leaves.bytes p.name) name) parameter_tree ps
+    ≡ list_any (λ (p : LeafParameter). bytes_eq (views_leaves.bytes p.name) name) (map parameter_tree ps)
+named_is ps name = any_map (λ (p : LeafParameter). bytes_eq (views_leaves.bytes p.name) name) parameter_tree ps
 
 -- the names of parameters, from the first to the last
 abbrev pub names_of : List Parameter → List (List ℕ)
@@ -92,7 +92,7 @@ all_names ps i set h so_far name = named_among ps name ∙ ap (λ qs. list_any (
 
 -- an argument that is none of them, or one
 pub outside : (parameters : List LeafParameter) (set : BTreeSet (Bor (List ℕ))) (name : StringLiteral) (text : List ℕ) → AreNames parameters set → text ≡ string_bytes name.cooked
-    → list_any (bytes_eq text) (texts_in set) ≡ is_named parameters (text_of sees_leaves (quoted_leaf name))
+    → list_any (bytes_eq text) (texts_in set) ≡ is_named parameters (text_of views_leaves (quoted_leaf name))
 unfolding AreNames
 outside parameters set name text names e = sym (names text) ∙ ap (is_named parameters) (e ∙ sym (text_is name))
 
@@ -102,7 +102,7 @@ abbrev kept : Option Name → Option StringLiteral → OptionName Leaf Token
 kept key literal = option_by leaf_tree_of literal_leaf (λ t. t) key literal
 
 abbrev called_by : (name : StringLiteral) → Option StringLiteral → Option Name → Option (List ℕ × Token)
-called_by name literal key = option_map (with_text sees_leaves) (option_of sees_leaves (quoted_leaf name) (kept key literal))
+called_by name literal key = option_map (with_text views_leaves) (option_of views_leaves (quoted_leaf name) (kept key literal))
 
 pub option_is : (name : StringLiteral) (literal : Option StringLiteral) (key : Option Name) → option_in name literal key ≡ called_by name literal key
 option_is name literal (Some key) = ap (λ (text : List ℕ). Some (text, key.token)) (sym (text_is name))

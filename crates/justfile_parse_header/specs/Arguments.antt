@@ -8,7 +8,7 @@ use Rattle.std.specs.Str.{bytes_eq}
 use denote.Ref.{Bor}
 use Rattle.justfile_attribute.specs.Attribute.{leaf_attribute_of}
 use Rattle.justfile_attribute.specs.declared.attribute.Attribute as attributes
-use Rattle.justfile_base.specs.declared.token.Token.{Token}
+use Rattle.justfile_token.specs.declared.token.Token.{Token}
 use Rattle.justfile_model.specs.AttributeRules.{least, lesser, rules_in}
 use Rattle.justfile_model.specs.Meaning.{text_of}
 use Rattle.justfile_model.specs.RecipeRules.{is_parameter}
@@ -18,8 +18,8 @@ unfoldable pub use Rattle.justfile_parse_attribute.specs.KeyedBounds.{AreKeyed}
 use Rattle.justfile_parse_attribute.specs.TextSets.{texts_in}
 use Rattle.justfile_parse_header.specs.HeaderTable.{LeafParameter, Rules}
 use Rattle.justfile_parse_header.specs.Options.{of_rules}
-use Rattle.justfile_tree.specs.LeafSight.{sees_leaves}
-use Rattle.justfile_tree.specs.LeafTree.{Leaf}
+use Rattle.justfile_expression.specs.LeafViews.{views_leaves}
+use Rattle.justfile_expression.specs.LeafTree.{Leaf}
 
 -- what an attribute says, if it is one that speaks of a parameter
 abbrev pub said_by : Option (Bor attributes.Attribute) → Option Rules
@@ -27,7 +27,7 @@ said_by None = None
 said_by (Some a) = rules_in (leaf_attribute_of a.now)
 
 abbrev pub is_rule_of : (name : List ℕ) → Rules → Bool
-is_rule_of name rules = bytes_eq (text_of sees_leaves rules.name) name
+is_rule_of name rules = bytes_eq (text_of views_leaves rules.name) name
 
 -- the attribute speaks of a parameter of this name
 abbrev pub is_of : (name : List ℕ) → Attribute Leaf Token → Bool
@@ -41,11 +41,11 @@ speaks_of rules name = find (is_rule_of name) rules
 abbrev pub lesser_of : (first second : Option (Quoted Leaf)) → Option (Quoted Leaf)
 lesser_of None second = second
 lesser_of (Some q) None = Some q
-lesser_of (Some q) (Some r) = Some (lesser (text_of sees_leaves) q (Some r))
+lesser_of (Some q) (Some r) = Some (lesser (text_of views_leaves) q (Some r))
 
 -- a set has the names of these parameters
 unfoldable pub AreNames : List LeafParameter → BTreeSet (Bor (List ℕ)) → Type 0
-AreNames parameters set = (name : List ℕ) → list_any (λ (p : LeafParameter). bytes_eq (sees_leaves.bytes p.name) name) parameters ≡ list_any (bytes_eq name) (texts_in set)
+AreNames parameters set = (name : List ℕ) → list_any (λ (p : LeafParameter). bytes_eq (views_leaves.bytes p.name) name) parameters ≡ list_any (bytes_eq name) (texts_in set)
 
 pub prop_names : (parameters : List LeafParameter) (set : BTreeSet (Bor (List ℕ))) → IsProp (AreNames parameters set)
 unfolding AreNames
@@ -53,11 +53,11 @@ prop_names parameters set = hlevel (Coded-set coded_bool)
 
 -- the argument that an attribute speaks of, if it is no parameter
 abbrev pub undefined_in : List LeafParameter → Attribute Leaf Token → Option (Quoted Leaf)
-undefined_in parameters a = of_rules None (λ r. if is_parameter sees_leaves parameters r then None else Some r.name) (rules_in a)
+undefined_in parameters a = of_rules None (λ r. if is_parameter views_leaves parameters r then None else Some r.name) (rules_in a)
 
 -- of the arguments that are spoken of and are no parameters, the one with the least text, the first of these
 abbrev pub least_undefined : List LeafParameter → List Rules → Option (Quoted Leaf)
-least_undefined parameters rules = option_map (λ (r : Rules). r.name) (least (λ (r : Rules). text_of sees_leaves r.name) (filter (λ r. not (is_parameter sees_leaves parameters r)) rules))
+least_undefined parameters rules = option_map (λ (r : Rules). r.name) (least (λ (r : Rules). text_of views_leaves r.name) (filter (λ r. not (is_parameter views_leaves parameters r)) rules))
 
 abbrev pub IsKeyedOption : Option (Bor attributes.Attribute) → Type 0
 IsKeyedOption None = Unit {0}

@@ -1,19 +1,19 @@
 -- Reading the headers of a table, with all that the parser's trees hold.
 use Rattle.std.specs.Prelude.{ℕ, Bool, true, false, List, [], ◌∷◌, ◌++◌, map, Option, Some, None}
 use Rattle.std.specs.Option.{option_map}
-use Rattle.justfile_base.specs.declared.token.Token.{Token}
+use Rattle.justfile_token.specs.declared.token.Token.{Token}
 use Rattle.justfile_model.specs.HeaderReader as headers
-use Rattle.justfile_model.specs.Reading.{Counters}
+use Rattle.justfile_model.specs.ReaderState.{Counters}
 use Rattle.justfile_model.specs.RecipeRules.{misplaced_broken, options_broken, parameter_broken, second_broken, stars, undefined_broken}
 use Rattle.justfile_model.specs.Rules.{Broken}
 use Rattle.justfile_model.specs.Tree as tree
 use Rattle.justfile_model.specs.Tree.{ArgumentRules, Dependency, Expr, Parameter}
 use Rattle.justfile_model.specs.declared.parameter_kind.ParameterKind.{ParameterKind}
-use Rattle.justfile_parse_attribute.specs.AttributeTable.{sight_of}
+use Rattle.justfile_parse_attribute.specs.AttributeTable.{view_of}
 use Rattle.justfile_parse_expression.specs.TableReader.{Read, State, leaves}
 use Rattle.justfile_parse_expression.specs.declared.significant.TableEntry.{TableEntry}
-use Rattle.justfile_tree.specs.LeafSight.{sees_leaves}
-use Rattle.justfile_tree.specs.LeafTree.{Leaf}
+use Rattle.justfile_expression.specs.LeafViews.{views_leaves}
+use Rattle.justfile_expression.specs.LeafTree.{Leaf}
 
 abbrev pub Rules : Type 0
 Rules = ArgumentRules Leaf Token
@@ -33,8 +33,8 @@ ReadHeader = headers.ReadHeader TableEntry Leaf Token (Unit {0})
 
 -- ---- numbers
 
-abbrev pub draw_binding : Counters → State → Read (ℕ × Counters)
-draw_binding = headers.draw_binding leaves
+abbrev pub next_binding_number : Counters → State → Read (ℕ × Counters)
+next_binding_number = headers.next_binding_number leaves
 
 -- ---- paths
 
@@ -66,11 +66,11 @@ second_from true (x ∷ xs) = Some x
 
 -- a second star is refused
 abbrev pub second_star : (before : List StarredArgument) (star : TableEntry) → List (Broken Token)
-second_star before star = second_broken (map leaves.spot (stars before ++ star ∷ []))
+second_star before star = second_broken (map leaves.position (stars before ++ star ∷ []))
 
 -- a star that goes with no other is refused
 abbrev pub misplaced_star : (star : Option TableEntry) → List StarredArgument → List (Broken Token)
-misplaced_star star arguments = misplaced_broken (option_map leaves.spot star) (map leaves.spot (stars arguments))
+misplaced_star star arguments = misplaced_broken (option_map leaves.position star) (map leaves.position (stars arguments))
 
 abbrev pub parenthesized : (star : Option TableEntry) → State → Read LeafDependency
 parenthesized = headers.parenthesized leaves
@@ -107,38 +107,38 @@ Parameters = List LeafParameter × Counters
 
 -- what a parameter breaks that stands after others
 abbrev pub broken_by : List Rules → (before : List LeafParameter) → LeafParameter → List (Broken Token)
-broken_by rules before p = parameter_broken sees_leaves rules before p
+broken_by rules before p = parameter_broken views_leaves rules before p
 
 abbrev pub named_parameter : List Rules → ParameterKind → (export : Bool) → Parameters → State → Read Parameters
-named_parameter = headers.named_parameter leaves sight_of
+named_parameter = headers.named_parameter leaves view_of
 
 abbrev pub parameter : List Rules → ParameterKind → Parameters × State → Read Parameters
-parameter = headers.parameter leaves sight_of
+parameter = headers.parameter leaves view_of
 
 abbrev pub singulars : List Rules → Parameters × State → Read Parameters
-singulars = headers.singulars leaves sight_of
+singulars = headers.singulars leaves view_of
 
 abbrev pub variadic : List Rules → ParameterKind → Parameters × State → Read Parameters
-variadic = headers.variadic leaves sight_of
+variadic = headers.variadic leaves view_of
 
 abbrev pub last_parameter : List Rules → Parameters × State → Read Parameters
-last_parameter = headers.last_parameter leaves sight_of
+last_parameter = headers.last_parameter leaves view_of
 
 abbrev pub parameters : List Rules → Counters → State → Read Parameters
-parameters = headers.parameters leaves sight_of
+parameters = headers.parameters leaves view_of
 
 -- ---- headers
 
 -- what the options of a recipe break that are called the same
 abbrev pub same_options : (recipe : Token) → List Rules → List (Broken Token)
-same_options recipe rules = options_broken sees_leaves recipe rules
+same_options recipe rules = options_broken views_leaves recipe rules
 
 -- what is said of no parameter
 abbrev pub undefined : List LeafParameter → List Rules → List (Broken Token)
-undefined parameters rules = undefined_broken sees_leaves parameters rules
+undefined parameters rules = undefined_broken views_leaves parameters rules
 
 abbrev pub distinct_options : List Rules → (name : TableEntry) → State → Read (Unit {0})
-distinct_options = headers.distinct_options leaves sight_of
+distinct_options = headers.distinct_options leaves view_of
 
 abbrev pub header : List Rules → Counters → State → Read (ReadHeader × Counters)
-header = headers.header leaves sight_of
+header = headers.header leaves view_of

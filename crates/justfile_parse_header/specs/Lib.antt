@@ -3,6 +3,6 @@ pub mod Counting
 pub mod HeaderTable
 pub mod OptionRules
 pub mod Options
-pub mod Said
-pub mod SpokenNames
+pub mod ArgAttribute
+pub mod ArgNames
 pub mod Tree

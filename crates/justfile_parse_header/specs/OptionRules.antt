@@ -2,18 +2,18 @@
 use Rattle.std.specs.Prelude.{ℕ, Bool, List, [], ◌∷◌, ◌++◌, Option, Some, None, Ok, nat_eq}
 use Rattle.std.specs.List.{list_any}
 use Rattle.std.specs.Str.{bytes_eq}
-use Rattle.justfile_base.specs.declared.name.Name.{Name}
-use Rattle.justfile_base.specs.declared.token.Token.{Token}
+use Rattle.justfile_token.specs.declared.name.Name.{Name}
+use Rattle.justfile_token.specs.declared.token.Token.{Token}
 use Rattle.justfile_model.specs.AttributeRules.{rules_in}
 use Rattle.justfile_model.specs.Features.{Noted, rules_features}
 use Rattle.justfile_model.specs.HeaderReader.{obeying}
-use Rattle.justfile_model.specs.Reading.{◌>>=◌}
+use Rattle.justfile_model.specs.ReaderState.{◌>>=◌}
 use Rattle.justfile_model.specs.RecipeRules.{long_options, repeated_broken, short_options}
 use Rattle.justfile_model.specs.Rules.{Broken, DuplicateLongOption, DuplicateShortOption, Rule, broken_if}
 use Rattle.justfile_parse_expression.specs.TableReader.{Read, State}
 use Rattle.justfile_parse_header.specs.HeaderTable.{Rules}
 use Rattle.justfile_parse_header.specs.Options.{Meant, long_in, of_rules, short_in}
-use Rattle.justfile_tree.specs.LeafSight.{sees_leaves}
+use Rattle.justfile_expression.specs.LeafViews.{views_leaves}
 
 -- what an attribute notes
 abbrev pub features_in : Meant → List (Noted Token)
@@ -27,10 +27,10 @@ bound_place_in name None (Some number) = Some name
 
 -- the long options that are called as one before them
 abbrev pub longs_from : (recipe : Token) (before : List (List ℕ)) → List Rules → List (Broken Token)
-longs_from recipe before rules = repeated_broken bytes_eq (λ option. DuplicateLongOption option recipe) before (long_options sees_leaves rules)
+longs_from recipe before rules = repeated_broken bytes_eq (λ option. DuplicateLongOption option recipe) before (long_options views_leaves rules)
 
 abbrev pub shorts_from : (recipe : Token) (before : List ℕ) → List Rules → List (Broken Token)
-shorts_from recipe before rules = repeated_broken nat_eq (λ option. DuplicateShortOption option recipe) before (short_options sees_leaves rules)
+shorts_from recipe before rules = repeated_broken nat_eq (λ option. DuplicateShortOption option recipe) before (short_options views_leaves rules)
 
 -- an option after others, which it may not repeat
 module _ {X : Type 0} (same : X → X → Bool) (rule : X → Rule Token) where

@@ -3,22 +3,22 @@ use Rattle.std.specs.Prelude.{List, map, take, drop, Option, Some, None}
 use Rattle.std.specs.Global.{Box}
 use Rattle.std.specs.Option.{option_map}
 use Rattle.justfile_attribute_set.specs.AttributeSet.{AttributeSet, leaf_entries_of}
-use Rattle.justfile_base.specs.Namepath.{names_in}
-use Rattle.justfile_base.specs.declared.name.Name.{Name}
-use Rattle.justfile_base.specs.declared.namepath.Namepath.{Namepath}
-use Rattle.justfile_base.specs.declared.token.Token.{Token}
-use Rattle.justfile_header.specs.declared.unresolved_dependency.DependencyArgument as header_arguments
-use Rattle.justfile_header.specs.Header.{is_starred, star_of}
-use Rattle.justfile_header.specs.declared.unresolved_dependency.UnresolvedDependency.{UnresolvedDependency}
-use Rattle.justfile_header.specs.declared.parameter.Parameter as header_parameters
+use Rattle.justfile_token.specs.Namepath.{names_in}
+use Rattle.justfile_token.specs.declared.name.Name.{Name}
+use Rattle.justfile_token.specs.declared.namepath.Namepath.{Namepath}
+use Rattle.justfile_token.specs.declared.token.Token.{Token}
+use Rattle.justfile_recipe_header.specs.declared.unresolved_dependency.DependencyArgument as header_arguments
+use Rattle.justfile_recipe_header.specs.Header.{is_starred, star_of}
+use Rattle.justfile_recipe_header.specs.declared.unresolved_dependency.UnresolvedDependency.{UnresolvedDependency}
+use Rattle.justfile_recipe_header.specs.declared.parameter.Parameter as header_parameters
 use Rattle.justfile_model.specs.AttributeRules.{arg_rules}
 use Rattle.justfile_model.specs.Tree as tree
 use Rattle.justfile_model.specs.Tree.{Expr}
 use Rattle.justfile_parse_header.specs.HeaderTable as reader
 use Rattle.justfile_parse_header.specs.declared.dependency.ReadArgument.{ReadArgument}
 use Rattle.justfile_parse_header.specs.declared.header.Header.{Header}
-use Rattle.justfile_tree.specs.LeafTree.{Leaf, Named, leaf_tree_of}
-use Rattle.justfile_tree.specs.declared.expression.Expression.{Expression}
+use Rattle.justfile_expression.specs.LeafTree.{Leaf, Named, leaf_tree_of}
+use Rattle.justfile_expression.specs.declared.expression.Expression.{Expression}
 
 -- a name of a path
 abbrev pub name_tree : Name → Leaf

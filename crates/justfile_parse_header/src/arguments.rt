@@ -7,36 +7,36 @@ ghost use Rattle.justfile_model.specs.HeaderReader.{obeying};
 ghost use Rattle.justfile_model.specs.NewAttribute as new;
 ghost use Rattle.justfile_model.specs.RecipeRules.{rules_for};
 ghost use Rattle.justfile_model.specs.Rules.{UndefinedArgAttribute};
-ghost use Rattle.justfile_parse_attribute.specs.Halting.{ReadsRuled};
+ghost use Rattle.justfile_parse_attribute.specs.ParseErrors.{ReadsRuled};
 ghost use Rattle.justfile_parse_expression.specs.TableReader.{State};
 ghost use Rattle.justfile_parse_header.specs.HeaderTable as reader;
 ghost use Rattle.justfile_parse_header.specs.HeaderTable.{LeafParameter};
 ghost use Rattle.justfile_parse_header.specs.Arguments.{AreNames, IsKeyedOption, least_undefined, lesser_of, said_by, undefined_in};
-ghost use Rattle.justfile_parse_header.specs.SpokenNames.{AreFirsts};
+ghost use Rattle.justfile_parse_header.specs.ArgNames.{AreFirsts};
 ghost use Rattle.justfile_parse_header.specs.Tree.{parameter_tree, rules_of};
-ghost use Rattle.justfile_tree.specs.LeafSight.{sees_leaves};
-ghost use Rattle.justfile_tree.specs.LeafTree.{Named};
+ghost use Rattle.justfile_expression.specs.LeafViews.{views_leaves};
+ghost use Rattle.justfile_expression.specs.LeafTree.{Named};
 
+use crate::arg_names::{ArgRules, find_first};
 use crate::read_parameters::ReadParameters;
-use crate::spoken_names::{Spoken, find_first};
 use justfile_attribute::Attribute;
 use justfile_attribute_set::AttributeSet;
-use justfile_base::{CompileErrorKind, Fault, StringLiteral, Token};
-use justfile_header::Parameter;
 use justfile_parse_attribute::text_sets::{add_text, is_among};
-use justfile_parse_attribute::{Halt, make_halt};
+use justfile_parse_attribute::{ParseError, rule_error};
+use justfile_recipe_header::Parameter;
+use justfile_token::{CompileErrorKind, Fault, StringLiteral, Token};
 use std::alloc::{AllocError, Global};
 use std::collections::BTreeSet;
 
 /// What attributes say of a parameter of this name that stands after others: the first one of its
 /// name is spoken of.
 pub(crate) fn find_rules<'run, 'src>(
-    spoken: &Spoken<'run, 'src>,
+    spoken: &ArgRules<'run, 'src>,
     before: &ReadParameters<'src>,
     name: Token<'src>,
 ) -> Option<&'run Attribute<'src>>
     requires { AreFirsts spoken.now.firsts (rules_of spoken.now.attributes.now) }
-    ensures rules { said_by result ≡ rules_for sees_leaves (rules_of spoken.now.attributes.now)
+    ensures rules { said_by result ≡ rules_for views_leaves (rules_of spoken.now.attributes.now)
         (map parameter_tree before.now.list.items) (Named name.entry None) }
     ensures keyed { IsKeyedOption result }
 {
@@ -52,12 +52,12 @@ pub(crate) fn check_defined<'src>(
     attributes: &AttributeSet<'src>,
     alloc: Global,
     parameters: &[Parameter<'src>],
-) -> Result<(), Halt<'src>>
-    ensures { (s : State) → ReadsRuled (λ _. tt) result s (obeying (reader.undefined (map parameter_tree parameters.now) (rules_of attributes.now)) s) }
+) -> Result<(), ParseError<'src>>
+    ensures { (s : State) → ReadsRuled (λ _. tt) result s (obeying (reader.undefined_parameter (map parameter_tree parameters.now) (rules_of attributes.now)) s) }
 {
     match find_undefined(attributes, alloc, parameters)? {
         None => Ok(()),
-        Some(argument) => Err(make_halt(alloc, undefined_argument(alloc, argument))),
+        Some(argument) => Err(rule_error(alloc, undefined_argument_error(alloc, argument))),
     }
 }
 
@@ -78,7 +78,7 @@ fn find_undefined<'run, 'src>(
         let Some(attribute) = left.next() else {
             return Ok(found);
         };
-        found = lesser(found, undefined(attribute, &names));
+        found = min_by_text(found, undefined_parameter(attribute, &names));
     }
 }
 
@@ -99,7 +99,7 @@ fn parameter_names<'src>(
 
 /// The argument that an attribute speaks of, if it is none of these names of parameters.
 #[tactic(auto, using(crate::proofs::Texts::outside))]
-fn undefined<'run, 'src>(
+fn undefined_parameter<'run, 'src>(
     attribute: &'run Attribute<'src>,
     names: &BTreeSet<&str>,
 ) -> Option<&'run StringLiteral<'src>>
@@ -119,7 +119,7 @@ fn undefined<'run, 'src>(
 }
 
 /// The one with the lesser text, the first of them where both have the same.
-fn lesser<'run, 'src>(
+fn min_by_text<'run, 'src>(
     first: Option<&'run StringLiteral<'src>>,
     second: Option<&'run StringLiteral<'src>>,
 ) -> Option<&'run StringLiteral<'src>>
@@ -140,7 +140,7 @@ fn lesser<'run, 'src>(
 }
 
 /// The refusal of what is said of an argument that a recipe doesn't take.
-fn undefined_argument<'src>(alloc: Global, argument: &StringLiteral<'src>) -> Fault<'src>
+fn undefined_argument_error<'src>(alloc: Global, argument: &StringLiteral<'src>) -> Fault<'src>
     ensures { IsRefusedBy (new.refuse {X = Unit {0}} (UndefinedArgAttribute (string_bytes argument.now.cooked)) argument.now.token) result }
 {
     match argument.cooked.as_str().to_string(alloc) {

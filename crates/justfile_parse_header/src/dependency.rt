@@ -2,23 +2,23 @@
 ghost use Rattle.std.specs.Prelude.{◌≡◌, false, ◌<◌, ◌≤◌, ◌∷◌, ◌++◌, [], OnOk, IfOk, map};
 ghost use Rattle.justfile_model.specs.HeaderReader.{obeying};
 ghost use Rattle.justfile_model.specs.Meaning.{first_of};
-ghost use Rattle.justfile_model.specs.Reading.{prepend};
+ghost use Rattle.justfile_model.specs.ReaderState.{prepend};
 ghost use Rattle.justfile_model.specs.RecipeRules.{stars};
 ghost use Rattle.justfile_model.specs.Tree.{over_dependency_argument};
-ghost use Rattle.justfile_parse_attribute.specs.Halting.{ReadsRuled};
+ghost use Rattle.justfile_parse_attribute.specs.ParseErrors.{ReadsRuled};
 ghost use Rattle.justfile_parse_expression.specs.MethodResults.{Reads};
 ghost use Rattle.justfile_parse_expression.specs.TableReader.{State, leaves};
-ghost use Rattle.justfile_parse_expression.specs.View.{left, state_of};
+ghost use Rattle.justfile_parse_expression.specs.View.{tokens_left, state_of};
 ghost use Rattle.justfile_parse_header.specs.HeaderTable as reader;
 ghost use Rattle.justfile_parse_header.specs.Tree.{argument_tree, dependency_tree, read_argument};
 
 use crate::namepath::parse_namepath;
-use justfile_base::{CompileErrorKind, Expander, Fault, TokenKind};
-use justfile_header::{DependencyArgument, UnresolvedDependency};
-use justfile_parse_attribute::{Halt, make_halt};
+use justfile_expression::Expression;
+use justfile_parse_attribute::{ParseError, rule_error};
 use justfile_parse_expression::significant::TableEntry;
-use justfile_parse_expression::{ExpressionParser, Refusal, Stop};
-use justfile_tree::Expression;
+use justfile_parse_expression::{ExpressionError, ExpressionParser, SyntaxError};
+use justfile_recipe_header::{DependencyArgument, UnresolvedDependency};
+use justfile_token::{CompileErrorKind, Expander, Fault, TokenKind};
 use std::alloc::{AllocError, Global};
 
 /// An argument of a dependency while the arguments are read.
@@ -34,10 +34,10 @@ pub(crate) struct ReadArgument<'run, 'src> {
 pub(crate) fn parse_dependencies<'src, X: Expander>(
     parser: &mut ExpressionParser<'_, 'src, X>,
     dependencies: &mut Vec<UnresolvedDependency<'src>>,
-) -> Result<(), Halt<'src>>
+) -> Result<(), ParseError<'src>>
     ensures reads { ReadsRuled (λ _. map dependency_tree dependencies.new.items) result (state_of X.answer parser.new)
         (prepend (map dependency_tree dependencies.old.items) (reader.dependencies (state_of X.answer parser.old))) }
-    ensures progress { OnOk result (left parser.new ≤ left parser.old) }
+    ensures progress { OnOk result (tokens_left parser.new ≤ tokens_left parser.old) }
 {
     'dependencies: loop {
         if !begins_dependency(parser) {
@@ -53,10 +53,10 @@ pub(crate) fn parse_dependencies<'src, X: Expander>(
 pub(crate) fn parse_subsequents<'src, X: Expander>(
     parser: &mut ExpressionParser<'_, 'src, X>,
     dependencies: &mut Vec<UnresolvedDependency<'src>>,
-) -> Result<(), Halt<'src>>
+) -> Result<(), ParseError<'src>>
     ensures reads { ReadsRuled (λ _. map dependency_tree dependencies.new.items) result (state_of X.answer parser.new)
         (prepend (map dependency_tree dependencies.old.items) (reader.subsequents (state_of X.answer parser.old))) }
-    ensures progress { OnOk result (left parser.new ≤ left parser.old) }
+    ensures progress { OnOk result (tokens_left parser.new ≤ tokens_left parser.old) }
 {
     let Some(_operator) = parser.accept(TokenKind::AmpersandAmpersand) else {
         return Ok(());
@@ -64,7 +64,7 @@ pub(crate) fn parse_subsequents<'src, X: Expander>(
     let priors = dependencies.len();
     parse_dependencies(parser, dependencies)?;
     if dependencies.len() == priors {
-        return Err(Halt::Stopped(Stop::Refused(Refusal::Unexpected)));
+        return Err(ParseError::Unreadable(ExpressionError::Refused(SyntaxError::Unexpected)));
     }
     Ok(())
 }
@@ -82,9 +82,9 @@ fn begins_dependency<X: Expander>(parser: &ExpressionParser<'_, '_, X>) -> bool
 #[tactic(auto, using(justfile_parse_attribute::proofs::AttributeSteps::broken_first), unfolding(justfile_model::specs::HeaderReader::dependency))]
 fn parse_dependency<'src, X: Expander>(
     parser: &mut ExpressionParser<'_, 'src, X>,
-) -> Result<UnresolvedDependency<'src>, Halt<'src>>
+) -> Result<UnresolvedDependency<'src>, ParseError<'src>>
     ensures reads { ReadsRuled dependency_tree result (state_of X.answer parser.new) (reader.dependency (state_of X.answer parser.old)) }
-    ensures progress { OnOk result (left parser.new < left parser.old) }
+    ensures progress { OnOk result (tokens_left parser.new < tokens_left parser.old) }
 {
     if parser.peek_kinds(&[TokenKind::Identifier]) {
         return Ok(parse_bare(parser)?);
@@ -99,9 +99,9 @@ fn parse_dependency<'src, X: Expander>(
 #[tactic(auto, unfolding(justfile_model::specs::HeaderReader::bare_dependency))]
 fn parse_bare<'src, X: Expander>(
     parser: &mut ExpressionParser<'_, 'src, X>,
-) -> Result<UnresolvedDependency<'src>, Stop<'src>>
+) -> Result<UnresolvedDependency<'src>, ExpressionError<'src>>
     ensures reads { Reads dependency_tree result (state_of X.answer parser.new) (reader.bare_dependency (state_of X.answer parser.old)) }
-    ensures progress { OnOk result (left parser.new < left parser.old) }
+    ensures progress { OnOk result (tokens_left parser.new < tokens_left parser.old) }
 {
     let recipe = parse_namepath(parser)?;
     Ok(UnresolvedDependency {
@@ -115,9 +115,9 @@ fn parse_bare<'src, X: Expander>(
 fn parse_parenthesized<'run, 'src, X: Expander>(
     parser: &mut ExpressionParser<'run, 'src, X>,
     star: Option<TableEntry<'run, 'src>>,
-) -> Result<UnresolvedDependency<'src>, Halt<'src>>
+) -> Result<UnresolvedDependency<'src>, ParseError<'src>>
     ensures reads { ReadsRuled dependency_tree result (state_of X.answer parser.new) (reader.parenthesized star.entry (state_of X.answer parser.old)) }
-    ensures progress { OnOk result (left parser.new < left parser.old) }
+    ensures progress { OnOk result (tokens_left parser.new < tokens_left parser.old) }
 {
     parser.expect(TokenKind::ParenL)?;
     let recipe = parse_namepath(parser)?;
@@ -131,10 +131,10 @@ fn parse_parenthesized<'run, 'src, X: Expander>(
 #[tactic(auto, using(crate::proofs::Dependencies::arguments_end, crate::proofs::Dependencies::arguments_go_on))]
 fn parse_arguments<'run, 'src, X: Expander>(
     parser: &mut ExpressionParser<'run, 'src, X>,
-) -> Result<Vec<ReadArgument<'run, 'src>>, Halt<'src>>
+) -> Result<Vec<ReadArgument<'run, 'src>>, ParseError<'src>>
     ensures reads { ReadsRuled (λ arguments. map read_argument arguments.items) result (state_of X.answer parser.new)
         (reader.dependency_arguments ([], state_of X.answer parser.old)) }
-    ensures progress { OnOk result (left parser.new < left parser.old) }
+    ensures progress { OnOk result (tokens_left parser.new < tokens_left parser.old) }
 {
     let mut arguments = Vec::new(parser.alloc);
     'arguments: loop {
@@ -151,10 +151,10 @@ fn parse_arguments<'run, 'src, X: Expander>(
 fn parse_argument<'run, 'src, X: Expander>(
     parser: &mut ExpressionParser<'run, 'src, X>,
     before: &[ReadArgument<'run, 'src>],
-) -> Result<ReadArgument<'run, 'src>, Halt<'src>>
+) -> Result<ReadArgument<'run, 'src>, ParseError<'src>>
     ensures reads { ReadsRuled read_argument result (state_of X.answer parser.new)
         (reader.dependency_argument (map read_argument before.now) (state_of X.answer parser.old)) }
-    ensures progress { OnOk result (left parser.new < left parser.old) }
+    ensures progress { OnOk result (tokens_left parser.new < tokens_left parser.old) }
 {
     match parser.accept(TokenKind::Asterisk) {
         Some(star) => parse_starred(parser, before, star),
@@ -166,9 +166,9 @@ fn parse_argument<'run, 'src, X: Expander>(
 #[tactic(auto, unfolding(justfile_model::specs::HeaderReader::plain_argument))]
 fn parse_plain<'run, 'src, X: Expander>(
     parser: &mut ExpressionParser<'run, 'src, X>,
-) -> Result<ReadArgument<'run, 'src>, Stop<'src>>
+) -> Result<ReadArgument<'run, 'src>, ExpressionError<'src>>
     ensures reads { Reads read_argument result (state_of X.answer parser.new) (reader.plain_argument (state_of X.answer parser.old)) }
-    ensures progress { OnOk result (left parser.new < left parser.old) }
+    ensures progress { OnOk result (tokens_left parser.new < tokens_left parser.old) }
 {
     let value = parser.parse_expression()?;
     Ok(ReadArgument { star: None, value })
@@ -180,10 +180,10 @@ fn parse_starred<'run, 'src, X: Expander>(
     parser: &mut ExpressionParser<'run, 'src, X>,
     before: &[ReadArgument<'run, 'src>],
     star: TableEntry<'run, 'src>,
-) -> Result<ReadArgument<'run, 'src>, Halt<'src>>
+) -> Result<ReadArgument<'run, 'src>, ParseError<'src>>
     ensures reads { ReadsRuled read_argument result (state_of X.answer parser.new)
         (reader.starred_argument (map read_argument before.now) star.entry (state_of X.answer parser.old)) }
-    ensures progress { OnOk result (left parser.new < left parser.old) }
+    ensures progress { OnOk result (tokens_left parser.new < tokens_left parser.old) }
 {
     check_first(parser.alloc, before, star)?;
     let value = parser.parse_value()?;
@@ -198,12 +198,12 @@ fn check_first<'run, 'src>(
     alloc: Global,
     before: &[ReadArgument<'run, 'src>],
     star: TableEntry<'run, 'src>,
-) -> Result<(), Halt<'src>>
+) -> Result<(), ParseError<'src>>
     ensures { (s : State) → ReadsRuled (λ _. tt) result s (obeying (reader.second_star (map read_argument before.now) star.entry) s) }
 {
     match find_second(before, star) {
         None => Ok(()),
-        Some(second) => Err(make_halt(
+        Some(second) => Err(rule_error(
             alloc,
             Fault::Compile(
                 second
@@ -239,11 +239,11 @@ fn check_stars<'run, 'src>(
     alloc: Global,
     star: Option<TableEntry<'run, 'src>>,
     arguments: &[ReadArgument<'run, 'src>],
-) -> Result<(), Halt<'src>>
+) -> Result<(), ParseError<'src>>
     ensures { (s : State) → ReadsRuled (λ _. tt) result s (obeying (reader.misplaced_star star.entry (map read_argument arguments.now)) s) }
 {
     match (star, find_star(arguments)) {
-        (None, Some(first)) => Err(make_halt(
+        (None, Some(first)) => Err(rule_error(
             alloc,
             Fault::Compile(
                 first
@@ -251,7 +251,7 @@ fn check_stars<'run, 'src>(
                     .error(CompileErrorKind::StarredArgumentOutsideMappedDependency),
             ),
         )),
-        (Some(star), None) => Err(make_halt(
+        (Some(star), None) => Err(rule_error(
             alloc,
             Fault::Compile(
                 star.token

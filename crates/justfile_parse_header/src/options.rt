@@ -6,38 +6,38 @@ ghost use Rattle.justfile_attribute_rules.specs.Made.{IsRefusedBy};
 ghost use Rattle.justfile_model.specs.Features.{noted_at, rules_features};
 ghost use Rattle.justfile_model.specs.HeaderReader.{obeying};
 ghost use Rattle.justfile_model.specs.NewAttribute as new;
-ghost use Rattle.justfile_model.specs.Reading.{with};
+ghost use Rattle.justfile_model.specs.ReaderState.{with};
 ghost use Rattle.justfile_model.specs.Rules.{DuplicateLongOption, DuplicateShortOption};
-ghost use Rattle.justfile_parse_attribute.specs.Halting.{ReadsRuled};
+ghost use Rattle.justfile_parse_attribute.specs.ParseErrors.{ReadsRuled};
 ghost use Rattle.justfile_parse_attribute.specs.TextSets.{HaveSame, texts_in};
 ghost use Rattle.justfile_parse_expression.specs.MethodResults.{UnlessMemory};
 ghost use Rattle.justfile_parse_expression.specs.TableReader.{State};
-ghost use Rattle.justfile_parse_expression.specs.View.{left, state_of};
+ghost use Rattle.justfile_parse_expression.specs.View.{tokens_left, state_of};
 ghost use Rattle.justfile_parse_header.specs.HeaderTable as reader;
 ghost use Rattle.justfile_parse_header.specs.OptionRules.{bound_place_in, features_in, long_step, longs_from, short_step, shorts_from, then_option};
 ghost use Rattle.justfile_parse_header.specs.Options.{long_in};
 ghost use Rattle.justfile_parse_header.specs.Tree.{rules_of};
 
-use crate::said::{find_long, find_short_option};
+use crate::arg_attribute::{find_long, find_short_option};
 use justfile_attribute::Attribute;
 use justfile_attribute_set::AttributeSet;
-use justfile_base::{CompileErrorKind, Expander, Fault, Name, Switch, Token};
+use justfile_expression::ListFeature;
 use justfile_parse_attribute::text_sets::{add_text, is_among};
-use justfile_parse_attribute::{Halt, make_halt};
-use justfile_parse_expression::{ExpressionParser, Stop};
-use justfile_tree::ListFeature;
+use justfile_parse_attribute::{ParseError, rule_error};
+use justfile_parse_expression::{ExpressionError, ExpressionParser};
+use justfile_token::{CompileErrorKind, Expander, Fault, Name, Switch, Token};
 use std::alloc::Global;
 use std::collections::BTreeSet;
 
 /// Notes what attributes say of parameters that needs the setting for lists.
-#[tactic(auto, using(crate::proofs::Spoken::noting_begins, crate::proofs::Spoken::noting_goes_on, crate::proofs::Spoken::noting_ends))]
+#[tactic(auto, using(crate::proofs::ArgRules::noting_begins, crate::proofs::ArgRules::noting_goes_on, crate::proofs::ArgRules::noting_ends))]
 pub(crate) fn note_rules<'src, X: Expander>(
     attributes: &AttributeSet<'src>,
     parser: &mut ExpressionParser<'_, 'src, X>,
-) -> Result<(), Stop<'src>>
+) -> Result<(), ExpressionError<'src>>
     ensures notes { UnlessMemory result
         (λ done. state_of X.answer parser.new ≡ with (flat_map rules_features (rules_of attributes.now)) (state_of X.answer parser.old)) }
-    ensures stays { left parser.new ≡ left parser.old }
+    ensures stays { tokens_left parser.new ≡ tokens_left parser.old }
 {
     let mut rest = attributes.iter();
     'attributes: loop {
@@ -52,10 +52,10 @@ pub(crate) fn note_rules<'src, X: Expander>(
 fn note_attribute<'src, X: Expander>(
     attribute: &Attribute<'src>,
     parser: &mut ExpressionParser<'_, 'src, X>,
-) -> Result<(), Stop<'src>>
+) -> Result<(), ExpressionError<'src>>
     ensures notes { UnlessMemory result
         (λ done. state_of X.answer parser.new ≡ with (features_in (leaf_attribute_of attribute.now)) (state_of X.answer parser.old)) }
-    ensures stays { left parser.new ≡ left parser.old }
+    ensures stays { tokens_left parser.new ≡ tokens_left parser.old }
 {
     match attribute {
         Attribute::Arg {
@@ -91,10 +91,10 @@ fn note_at<'src, X: Expander>(
     parser: &mut ExpressionParser<'_, 'src, X>,
     feature: ListFeature,
     key: Option<Token<'src>>,
-) -> Result<(), Stop<'src>>
+) -> Result<(), ExpressionError<'src>>
     ensures notes { UnlessMemory result
         (λ done. state_of X.answer parser.new ≡ with (noted_at feature key.entry) (state_of X.answer parser.old)) }
-    ensures stays { left parser.new ≡ left parser.old }
+    ensures stays { tokens_left parser.new ≡ tokens_left parser.old }
 {
     match key {
         Some(key) => parser.note(feature, key),
@@ -123,7 +123,7 @@ pub(crate) fn check_options<'src>(
     attributes: &AttributeSet<'src>,
     alloc: Global,
     recipe: Token<'src>,
-) -> Result<(), Halt<'src>>
+) -> Result<(), ParseError<'src>>
     ensures { (s : State) → ReadsRuled (λ _. tt) result s (obeying (reader.same_options recipe.entry (rules_of attributes.now)) s) }
 {
     check_longs(attributes, alloc, recipe)?;
@@ -135,13 +135,13 @@ fn check_longs<'run, 'src>(
     attributes: &'run AttributeSet<'src>,
     alloc: Global,
     recipe: Token<'src>,
-) -> Result<(), Halt<'src>>
+) -> Result<(), ParseError<'src>>
     ensures { (s : State) → ReadsRuled (λ _. tt) result s (obeying (longs_from recipe.entry [] (rules_of attributes.now)) s) }
 {
     let mut before: BTreeSet<&'run str> = BTreeSet::new(alloc);
     let mut left = attributes.iter();
     'attributes: loop {
-        let Some(attribute) = left.next() else {
+        let Some(attribute) = tokens_left.next() else {
             return Ok(());
         };
         check_long(attribute, alloc, recipe, &mut before)?;
@@ -155,7 +155,7 @@ fn check_long<'run, 'src>(
     alloc: Global,
     recipe: Token<'src>,
     before: &mut BTreeSet<&'run str>,
-) -> Result<(), Halt<'src>>
+) -> Result<(), ParseError<'src>>
     ensures step { (s : State) → ReadsRuled
         (λ _. then_option (texts_in before.old) (long_in (leaf_attribute_of attribute.now))) result s
         (long_step recipe.entry (texts_in before.old) (leaf_attribute_of attribute.now) s) }
@@ -167,14 +167,14 @@ fn check_long<'run, 'src>(
         return Ok(());
     };
     if is_among(before, option) {
-        return Err(make_halt(alloc, same_long(alloc, recipe, option, place)));
+        return Err(rule_error(alloc, same_long_error(alloc, recipe, option, place)));
     }
     add_text(before, option)?;
     Ok(())
 }
 
 /// The refusal of a long option that is called as one before it.
-fn same_long<'src>(
+fn same_long_error<'src>(
     alloc: Global,
     recipe: Token<'src>,
     option: &str,
@@ -196,13 +196,13 @@ fn check_shorts<'src>(
     attributes: &AttributeSet<'src>,
     alloc: Global,
     recipe: Token<'src>,
-) -> Result<(), Halt<'src>>
+) -> Result<(), ParseError<'src>>
     ensures { (s : State) → ReadsRuled (λ _. tt) result s (obeying (shorts_from recipe.entry [] (rules_of attributes.now)) s) }
 {
     let mut before: Vec<char> = Vec::new(alloc);
     let mut left = attributes.iter();
     'attributes: loop {
-        let Some(attribute) = left.next() else {
+        let Some(attribute) = tokens_left.next() else {
             return Ok(());
         };
         check_short(attribute, alloc, recipe, &mut before)?;
@@ -216,7 +216,7 @@ fn check_short<'src>(
     alloc: Global,
     recipe: Token<'src>,
     before: &mut Vec<char>,
-) -> Result<(), Halt<'src>>
+) -> Result<(), ParseError<'src>>
     ensures { (s : State) → ReadsRuled (λ _. before.new.items) result s
         (short_step recipe.entry before.old.items (leaf_attribute_of attribute.now) s) }
 {
@@ -224,14 +224,14 @@ fn check_short<'src>(
         return Ok(());
     };
     if before.as_slice().contains(&option) {
-        return Err(make_halt(alloc, same_short(recipe, option, place)));
+        return Err(rule_error(alloc, same_short_error(recipe, option, place)));
     }
     before.push(option)?;
     Ok(())
 }
 
 /// The refusal of a short option that is called as one before it.
-fn same_short<'src>(recipe: Token<'src>, option: char, place: Token<'src>) -> Fault<'src>
+fn same_short_error<'src>(recipe: Token<'src>, option: char, place: Token<'src>) -> Fault<'src>
     ensures { IsRefusedBy (new.refuse {X = Unit {0}} (DuplicateShortOption option recipe.entry) place.entry) result }
 {
     Fault::Compile(place.error(CompileErrorKind::DuplicateOption {

@@ -1,12 +1,12 @@
 //! The parameters of a recipe while they are read.
 ghost use Rattle.std.specs.Prelude.{◌≡◌, ◌∷◌, ◌++◌, [], OnErr, OnOk, length, map, take};
-ghost use Rattle.justfile_base.specs.Token.{lexeme_of};
+ghost use Rattle.justfile_token.specs.Token.{lexeme_of};
 ghost use Rattle.justfile_parse_attribute.specs.TextSets.{HaveSame, texts_in};
 ghost use Rattle.justfile_parse_header.specs.Arguments.{AreNames, prop_names};
 ghost use Rattle.justfile_parse_header.specs.Tree.{parameter_tree};
 
-use justfile_header::Parameter;
 use justfile_parse_attribute::text_sets::add_text;
+use justfile_recipe_header::Parameter;
 use std::alloc::{AllocError, Global};
 use std::collections::BTreeSet;
 

@@ -1,5 +1,5 @@
 -- What is read from any place of a table on, side by side with what the definitions read of its tokens.
-use Rattle.justfile_base.specs.declared.token.Token.{Token}
+use Rattle.justfile_token.specs.declared.token.Token.{Token}
 use Rattle.justfile_model.specs.ReadAttribute.{ReadAttribute}
 use Rattle.justfile_model.specs.Tree.{Entry}
 use Rattle.justfile_model.specs.TreeReader.{token_attributes, token_leaves}
@@ -8,7 +8,7 @@ use Rattle.justfile_model.proofs.Related as a
 use Rattle.justfile_model.proofs.Related.{States}
 use Rattle.justfile_parse_expression.specs.TableReader.{Run, State, leaves}
 use Rattle.justfile_parse_item.specs.ItemTable.{kept}
-use Rattle.justfile_tree.specs.LeafTree.{Leaf}
+use Rattle.justfile_expression.specs.LeafTree.{Leaf}
 use Rattle.justfile_parse_expression.proofs.Seen.{Relates}
 use Rattle.justfile_parse_item.proofs.Seen.{respects, seen}
 use Rattle.justfile_parse_item.proofs.SeenAttributes.{IsKept, attributed}

@@ -1,28 +1,28 @@
 -- The loops over the parts of a body: over the fragments of a line, and over the lines.
 use Rattle.std.proofs.Common.{◌≡◌, ℕ, ◌<◌, true, false, List, [], ◌∷◌, ◌++◌, drop, length, map, Some, None, Ok, Err, refl, sym, ap, ◌∙◌}
 use Rattle.std.proofs.lemmas.List.{map-append}
-use Rattle.justfile_base.specs.declared.token.Token.{Token}
-use Rattle.justfile_word.specs.declared.token_kind.TokenKind.TheVariants as kinds
+use Rattle.justfile_token.specs.declared.token.Token.{Token}
+use Rattle.justfile_vocabulary.specs.declared.token_kind.TokenKind.TheVariants as kinds
 use Rattle.justfile_line.specs.declared.fragment.Fragment.{Fragment}
 use Rattle.justfile_line.specs.declared.line.Line.{Line}
 use Rattle.justfile_model.specs.Tree as tree
 use Rattle.justfile_model.specs.Tree.{BodyLine, trimmed}
 use Rattle.justfile_model.specs.Expressions.{front}
 use Rattle.justfile_model.specs.Reader as files
-use Rattle.justfile_model.specs.Reading.{◌>>=◌, Unexpected, prepend, at, choose, refused}
-use Rattle.justfile_parse_expression.specs.TableReader.{Read, Refusal, State, accept, enclosed, expect, leaves, next_are, read, At}
+use Rattle.justfile_model.specs.ReaderState.{◌>>=◌, Unexpected, prepend, at, choose, refused}
+use Rattle.justfile_parse_expression.specs.TableReader.{Read, ReadError, State, accept, enclosed, expect, leaves, next_are, read, At}
 use Rattle.justfile_parse_item.specs.ItemTable.{body, body_after, optional_body, body_line, fragment, line_rest, lines}
-use Rattle.justfile_parse_expression.specs.MethodResults.{StopsAt, literal_refusal, refusal_at}
+use Rattle.justfile_parse_expression.specs.MethodResults.{IsExpressionError, literal_refusal, refusal_at}
 use Rattle.justfile_parse_item.specs.Tree.{fragment_tree, line_tree}
-use Rattle.justfile_tree.specs.LeafTree.{Leaf, Text}
+use Rattle.justfile_expression.specs.LeafTree.{Leaf, Text}
 use Rattle.justfile_model.specs.declared.level.Level.TheVariants as levels
 use Rattle.justfile_parse_expression.specs.declared.significant.TableEntry.{TableEntry}
-use Rattle.justfile_parse_expression.specs.declared.stop.Stop.{Stop}
-use Rattle.justfile_parse_expression.specs.declared.stop.Stop.TheVariants.{Refused, Literal, Memory, Numbers}
-use Rattle.justfile_model.proofs.Reading as laws
+use Rattle.justfile_parse_expression.specs.declared.expression_error.ExpressionError.{ExpressionError}
+use Rattle.justfile_parse_expression.specs.declared.expression_error.ExpressionError.TheVariants.{Refused, Literal, Memory, Numbers}
+use Rattle.justfile_model.proofs.ItemReading as laws
 use Rattle.justfile_model.proofs.ReadingSteps.{known}
 use Rattle.justfile_parse_expression.proofs.Rules.{bind_alike, choose_alike, closed_by, then_made}
-use Rattle.justfile_parse_header.proofs.Halts.{stopped}
+use Rattle.justfile_parse_header.proofs.HeaderErrors.{stopped}
 
 pub fragment_is : (s : State) → fragment s
     ≡ choose {X = Read (tree.Fragment Leaf Token)} (accept kinds.Text s)
@@ -46,7 +46,7 @@ module _ {Z T : Type 0} (view : Z → T) (whole : State → Read (List T)) (s q 
       ∙ so_far
 
   -- a part is refused
-  stops : (found : Read T) (stop : Stop) (left : State) → ((e : Refusal) → found ≡ Err e → prepend (map view done) (whole q) ≡ Err e) → StopsAt stop left ⊥ found → StopsAt stop left ⊥ (whole s)
+  stops : (found : Read T) (stop : ExpressionError) (left : State) → ((e : ReadError) → found ≡ Err e → prepend (map view done) (whole q) ≡ Err e) → IsExpressionError stop left ⊥ found → IsExpressionError stop left ⊥ (whole s)
   stops found (Refused r) left step h = sym so_far ∙ step (refusal_at r left) h
   stops found (Literal refused) left step h = sym so_far ∙ step (literal_refusal refused.value.error) h
   stops found Memory left step h = tt
@@ -70,7 +70,7 @@ module _ (s q : State) (done : List Fragment) (so_far : prepend (map fragment_tr
       pub line_goes_on : (f : Fragment) (new : List Fragment) (rest : State) → fragment q ≡ Ok (fragment_tree f, rest) → new ≡ done ++ f ∷ [] → prepend (map fragment_tree new) (line_rest rest) ≡ line_rest s
       line_goes_on f new rest value is = goes_on fragment_tree line_rest s q done so_far f new rest (laws.line_rest_go_on leaves (map fragment_tree done) q (fragment_tree f) rest none dedent value) is
 
-      pub line_stops : (stop : Stop) (left : State) → StopsAt stop left ⊥ (fragment q) → StopsAt stop left ⊥ (line_rest s)
+      pub line_stops : (stop : ExpressionError) (left : State) → IsExpressionError stop left ⊥ (fragment q) → IsExpressionError stop left ⊥ (line_rest s)
       line_stops stop left = stops fragment_tree line_rest s q done so_far (fragment q) stop left (λ e h. laws.line_rest_fail leaves (map fragment_tree done) q e none dedent h)
 
 -- ---- the lines of a body
@@ -83,7 +83,7 @@ module _ (s q : State) (done : List Line) (so_far : prepend (map line_tree done)
     pub lines_go_on : (l : Line) (new : List Line) (rest : State) → body_line q ≡ Ok (line_tree l, rest) → new ≡ done ++ l ∷ [] → prepend (map line_tree new) (lines rest) ≡ lines s
     lines_go_on l new rest value is = goes_on line_tree lines s q done so_far l new rest (laws.lines_go_on leaves (map line_tree done) q (line_tree l) rest none value) is
 
-    pub lines_stop : (stop : Stop) (left : State) → StopsAt stop left ⊥ (body_line q) → StopsAt stop left ⊥ (lines s)
+    pub lines_stop : (stop : ExpressionError) (left : State) → IsExpressionError stop left ⊥ (body_line q) → IsExpressionError stop left ⊥ (lines s)
     lines_stop stop left = stops line_tree lines s q done so_far (body_line q) stop left (λ e h. laws.lines_fail leaves (map line_tree done) q e none h)
 
 -- a line takes an entry where no body ends
@@ -93,12 +93,12 @@ line_shrinks q l rest none value = (known {X = BodyLine Leaf Token ℕ × State}
 -- ---- a body
 
 module _ (s : State) where
-  body_fails : (e : Refusal) → lines s ≡ Err e → body s ≡ Err e
+  body_fails : (e : ReadError) → lines s ≡ Err e → body s ≡ Err e
   unfolding files.body
   body_fails e h = rw h refl
 
   -- its lines are refused
-  pub body_stops : (stop : Stop) (left : State) → StopsAt stop left ⊥ (lines s) → StopsAt stop left ⊥ (body s)
+  pub body_stops : (stop : ExpressionError) (left : State) → IsExpressionError stop left ⊥ (lines s) → IsExpressionError stop left ⊥ (body s)
   body_stops stop left h = stopped (lines s) (body s) body_fails stop left ⊥ ⊥ (λ k. k) h
 
   some_is : (ls : List (BodyLine Leaf Token ℕ)) (rest : State) → (ls ≡ [] → ⊥) → files.some_lines leaves ls rest ≡ Ok (ls, rest)

@@ -4,7 +4,7 @@ use Rattle.std.proofs.lemmas.List.{length-map}
 use Rattle.std.proofs.lemmas.List.Elements.{All-cons, All-head, All-nil, All-tail}
 use Rattle.std.proofs.lemmas.Map.Views.{All-map-IsPermutation}
 use Rattle.justfile_attribute.proofs.Ordered.{kind_seen}
-use Rattle.justfile_attribute.specs.New.{IsWholeAttribute}
+use Rattle.justfile_attribute.specs.New.{HasDerivedAttributeFields}
 use Rattle.justfile_attribute.specs.declared.attribute.Attribute.{Attribute}
 use Rattle.justfile_attribute_rules.specs.Made.{IsRefusedBy}
 use Rattle.justfile_attribute_rules.specs.RuleErrors.{SaysRule}
@@ -12,16 +12,16 @@ use Rattle.justfile_attribute_set.specs.AttributeSet.{IsInvalidBy, SaysInvalid}
 use Rattle.justfile_attribute_set.specs.Attributes.{has_kind, kind_of}
 use Rattle.justfile_attribute_set.specs.Keys.{firsts}
 use Rattle.justfile_attribute_set.specs.Pairs.{Pair, leaf_entry_of, pair_cmp}
-use Rattle.justfile_word.specs.declared.attribute_kind.AttributeKind.{AttributeKind}
-use Rattle.justfile_base.specs.declared.compile_error.CompileError.{CompileError}
-use Rattle.justfile_base.specs.declared.compile_error_kind.CompileErrorKind.TheVariants as errors
-use Rattle.justfile_base.specs.declared.compile_error_kind.CompileErrorKind.{CompileErrorKind}
-use Rattle.justfile_base.specs.declared.fault.Fault.TheVariants as faults
-use Rattle.justfile_base.specs.declared.fault.Fault.{Fault}
-use Rattle.justfile_word.specs.declared.item_kind.ItemKind.{ItemKind}
-use Rattle.justfile_base.specs.declared.name.Name.{Name}
-use Rattle.justfile_base.specs.declared.token.Token.{Token}
-use Rattle.justfile_word.specs.declared.token_kind.TokenKind.TheVariants as kinds
+use Rattle.justfile_vocabulary.specs.declared.attribute_kind.AttributeKind.{AttributeKind}
+use Rattle.justfile_token.specs.declared.compile_error.CompileError.{CompileError}
+use Rattle.justfile_token.specs.declared.compile_error_kind.CompileErrorKind.TheVariants as errors
+use Rattle.justfile_token.specs.declared.compile_error_kind.CompileErrorKind.{CompileErrorKind}
+use Rattle.justfile_token.specs.declared.fault.Fault.TheVariants as faults
+use Rattle.justfile_token.specs.declared.fault.Fault.{Fault}
+use Rattle.justfile_vocabulary.specs.declared.item_kind.ItemKind.{ItemKind}
+use Rattle.justfile_token.specs.declared.name.Name.{Name}
+use Rattle.justfile_token.specs.declared.token.Token.{Token}
+use Rattle.justfile_vocabulary.specs.declared.token_kind.TokenKind.TheVariants as kinds
 use Rattle.justfile_model.specs.AttributeKinds.{same_attribute}
 use Rattle.justfile_model.specs.AttributeRules.{first_invalid, of_some}
 use Rattle.justfile_model.specs.ContentKeys.{has_attribute, kind_of_attribute}
@@ -29,60 +29,60 @@ use Rattle.justfile_model.specs.HeaderReader.{obeying}
 use Rattle.justfile_model.proofs.OrderLaws.{in_order_permutation}
 use Rattle.justfile_model.specs.Order.{in_order}
 use Rattle.justfile_model.specs.Reader as files
-use Rattle.justfile_model.specs.Reading as reading
+use Rattle.justfile_model.specs.ReaderState as reading
 use Rattle.justfile_model.specs.Rules.{Broken, InvalidAttribute}
 use Rattle.justfile_model.specs.Tree.{Entry}
 use Rattle.justfile_parse_item.specs.Exclusions.{SaysFirst}
-use Rattle.justfile_parse_item.specs.Halting.{IsExtraneousFault}
+use Rattle.justfile_parse_item.specs.ExtraneousFault.{IsExtraneousFault}
 use Rattle.justfile_parse_item.specs.ItemTable as reader
 use Rattle.justfile_written.specs.declared.written.Written.{Written}
 use Rattle.justfile_parse_item.specs.ItemTable.{in_content_order}
 use Rattle.justfile_parse_attribute.specs.AttributeTable.{Entries}
 use Rattle.justfile_parse_attribute.specs.Attributes.{entry_of_pair}
-use Rattle.justfile_parse_attribute.specs.Halting.{HaltsAt, HaltsFor}
-use Rattle.justfile_parse_attribute.specs.WholeAttributes.{AreWholeAttributes, AreWholePairs}
-use Rattle.justfile_parse_attribute.specs.declared.halt.Halt.TheVariants as halts
-use Rattle.justfile_parse_attribute.specs.declared.halt.Halt.{Halt}
+use Rattle.justfile_parse_attribute.specs.ParseErrors.{IsParseError, IsErrorOfFault}
+use Rattle.justfile_parse_attribute.specs.DerivedAttributeFields.{HaveDerivedAttributeFields, HaveDerivedPairFields}
+use Rattle.justfile_parse_attribute.specs.declared.parse_error.ParseError.TheVariants as errors
+use Rattle.justfile_parse_attribute.specs.declared.parse_error.ParseError.{ParseError}
 use Rattle.justfile_parse_expression.specs.TableReader as tokens
 use Rattle.justfile_parse_expression.specs.TableReader.{Read, State, leaves}
 use Rattle.justfile_parse_expression.specs.declared.significant.TableEntry.{TableEntry}
-use Rattle.justfile_parse_expression.specs.declared.stop.Stop.TheVariants as stops
-use Rattle.justfile_tree.specs.LeafSight.{sees_leaves}
-use Rattle.justfile_tree.specs.LeafTree.{Leaf}
+use Rattle.justfile_parse_expression.specs.declared.expression_error.ExpressionError.TheVariants as causes
+use Rattle.justfile_expression.specs.LeafViews.{views_leaves}
+use Rattle.justfile_expression.specs.LeafTree.{Leaf}
 
 -- reading halts for the fault of a rule
-pub rule_halts : (X Y : Type 0) (rule : Broken Token) (fault : Fault) (halt : Halt) (s : State) → HaltsFor halt fault → IsRefusedBy {Y = X} (Err rule) fault
-    → HaltsAt {Y = Y} halt s ⊥ (Err (reading.BreaksRule rule))
-rule_halts X Y rule (faults.Compile e) (halts.Broken error) s h k = rw h k
-rule_halts X Y rule faults.Memory (halts.Broken error) s h k = absurd h
-rule_halts X Y rule faults.Numbers (halts.Broken error) s h k = absurd h
-rule_halts X Y rule fault (halts.Stopped stops.Memory) s h k = tt
-rule_halts X Y rule (faults.Compile e) (halts.Stopped stops.Numbers) s h k = absurd h
-rule_halts X Y rule faults.Memory (halts.Stopped stops.Numbers) s h k = absurd h
-rule_halts X Y rule faults.Numbers (halts.Stopped stops.Numbers) s h k = absurd k
-rule_halts X Y rule (faults.Compile e) (halts.Stopped (stops.Refused r)) s h k = absurd h
-rule_halts X Y rule faults.Memory (halts.Stopped (stops.Refused r)) s h k = absurd h
-rule_halts X Y rule faults.Numbers (halts.Stopped (stops.Refused r)) s h k = absurd h
-rule_halts X Y rule (faults.Compile e) (halts.Stopped (stops.Literal r)) s h k = absurd h
-rule_halts X Y rule faults.Memory (halts.Stopped (stops.Literal r)) s h k = absurd h
-rule_halts X Y rule faults.Numbers (halts.Stopped (stops.Literal r)) s h k = absurd h
+pub rule_fails : (X Y : Type 0) (rule : Broken Token) (fault : Fault) (failure : ParseError) (s : State) → IsErrorOfFault failure fault → IsRefusedBy {Y = X} (Err rule) fault
+    → IsParseError {Y = Y} failure s ⊥ (Err (reading.BreaksRule rule))
+rule_fails X Y rule (faults.Compile e) (errors.BrokenRule error) s h k = rw h k
+rule_fails X Y rule faults.Memory (errors.BrokenRule error) s h k = absurd h
+rule_fails X Y rule faults.Numbers (errors.BrokenRule error) s h k = absurd h
+rule_fails X Y rule fault (errors.Unreadable causes.Memory) s h k = tt
+rule_fails X Y rule (faults.Compile e) (errors.Unreadable causes.Numbers) s h k = absurd h
+rule_fails X Y rule faults.Memory (errors.Unreadable causes.Numbers) s h k = absurd h
+rule_fails X Y rule faults.Numbers (errors.Unreadable causes.Numbers) s h k = absurd k
+rule_fails X Y rule (faults.Compile e) (errors.Unreadable (causes.Refused r)) s h k = absurd h
+rule_fails X Y rule faults.Memory (errors.Unreadable (causes.Refused r)) s h k = absurd h
+rule_fails X Y rule faults.Numbers (errors.Unreadable (causes.Refused r)) s h k = absurd h
+rule_fails X Y rule (faults.Compile e) (errors.Unreadable (causes.Literal r)) s h k = absurd h
+rule_fails X Y rule faults.Memory (errors.Unreadable (causes.Literal r)) s h k = absurd h
+rule_fails X Y rule faults.Numbers (errors.Unreadable (causes.Literal r)) s h k = absurd h
 
 -- reading halts for attributes before no construct
-pub extraneous_halts : (Y : Type 0) (count : ℕ) (opener : Token) (fault : Fault) (halt : Halt) (s : State) → HaltsFor halt fault → IsExtraneousFault count opener fault
-    → HaltsAt {Y = Y} halt s ⊥ (Err (reading.Extraneous count opener))
-extraneous_halts Y count opener (faults.Compile e) (halts.Broken error) s h k = rw h k
-extraneous_halts Y count opener faults.Memory (halts.Broken error) s h k = absurd h
-extraneous_halts Y count opener faults.Numbers (halts.Broken error) s h k = absurd h
-extraneous_halts Y count opener fault (halts.Stopped stops.Memory) s h k = tt
-extraneous_halts Y count opener (faults.Compile e) (halts.Stopped stops.Numbers) s h k = absurd h
-extraneous_halts Y count opener faults.Memory (halts.Stopped stops.Numbers) s h k = absurd h
-extraneous_halts Y count opener faults.Numbers (halts.Stopped stops.Numbers) s h k = absurd k
-extraneous_halts Y count opener (faults.Compile e) (halts.Stopped (stops.Refused r)) s h k = absurd h
-extraneous_halts Y count opener faults.Memory (halts.Stopped (stops.Refused r)) s h k = absurd h
-extraneous_halts Y count opener faults.Numbers (halts.Stopped (stops.Refused r)) s h k = absurd h
-extraneous_halts Y count opener (faults.Compile e) (halts.Stopped (stops.Literal r)) s h k = absurd h
-extraneous_halts Y count opener faults.Memory (halts.Stopped (stops.Literal r)) s h k = absurd h
-extraneous_halts Y count opener faults.Numbers (halts.Stopped (stops.Literal r)) s h k = absurd h
+pub extraneous_fails : (Y : Type 0) (count : ℕ) (opener : Token) (fault : Fault) (failure : ParseError) (s : State) → IsErrorOfFault failure fault → IsExtraneousFault count opener fault
+    → IsParseError {Y = Y} failure s ⊥ (Err (reading.Extraneous count opener))
+extraneous_fails Y count opener (faults.Compile e) (errors.BrokenRule error) s h k = rw h k
+extraneous_fails Y count opener faults.Memory (errors.BrokenRule error) s h k = absurd h
+extraneous_fails Y count opener faults.Numbers (errors.BrokenRule error) s h k = absurd h
+extraneous_fails Y count opener fault (errors.Unreadable causes.Memory) s h k = tt
+extraneous_fails Y count opener (faults.Compile e) (errors.Unreadable causes.Numbers) s h k = absurd h
+extraneous_fails Y count opener faults.Memory (errors.Unreadable causes.Numbers) s h k = absurd h
+extraneous_fails Y count opener faults.Numbers (errors.Unreadable causes.Numbers) s h k = absurd k
+extraneous_fails Y count opener (faults.Compile e) (errors.Unreadable (causes.Refused r)) s h k = absurd h
+extraneous_fails Y count opener faults.Memory (errors.Unreadable (causes.Refused r)) s h k = absurd h
+extraneous_fails Y count opener faults.Numbers (errors.Unreadable (causes.Refused r)) s h k = absurd h
+extraneous_fails Y count opener (faults.Compile e) (errors.Unreadable (causes.Literal r)) s h k = absurd h
+extraneous_fails Y count opener faults.Memory (errors.Unreadable (causes.Literal r)) s h k = absurd h
+extraneous_fails Y count opener faults.Numbers (errors.Unreadable (causes.Literal r)) s h k = absurd h
 
 -- ---- the attributes of an item of a kind
 
@@ -94,27 +94,27 @@ module _ (item : ItemKind) (ws : Entries) (name : TableEntry) (s : State) (entri
   abbrev refusing : Found → Read (Unit {0})
   refusing o = obeying (of_some (λ (e : Entry Leaf Token). record { rule = InvalidAttribute item (kind_of_attribute e.attribute); token = name.token.now } ∷ []) o) s
 
-  allowed_is : reader.allowed item ws name s ≡ refusing (first_invalid sees_leaves item entries)
+  allowed_is : reader.allowed item ws name s ≡ refusing (first_invalid views_leaves item entries)
   unfolding leaves
   allowed_is =
-      ap (λ (es : Entries). refusing (first_invalid sees_leaves item (in_content_order es))) (map-id ws)
-      ∙ ap (λ (es : Entries). refusing (first_invalid sees_leaves item es)) (sym is)
+      ap (λ (es : Entries). refusing (first_invalid views_leaves item (in_content_order es))) (map-id ws)
+      ∙ ap (λ (es : Entries). refusing (first_invalid views_leaves item es)) (sym is)
 
-  pub is_allowed : first_invalid sees_leaves item entries ≡ None → reader.allowed item ws name s ≡ Ok (tt, s)
+  pub is_allowed : first_invalid views_leaves item entries ≡ None → reader.allowed item ws name s ≡ Ok (tt, s)
   is_allowed h = allowed_is ∙ ap refusing h
 
   says : (kind : AttributeKind) (said : CompileErrorKind) → SaysInvalid item name.token.now kind said → SaysRule name.token.now (InvalidAttribute item kind) said
   says kind (errors.InvalidAttribute item' text kind') h = h
   says kind _ h = absurd h
 
-  pub is_disallowed : (e : CompileError) (halt : Halt) → IsInvalidBy (first_invalid sees_leaves item entries) item name.token.now e
-      → HaltsFor halt (faults.Compile e) → HaltsAt halt s ⊥ (reader.allowed item ws name s)
-  is_disallowed e halt invalid h = subst (λ (f : Read (Unit {0})). HaltsAt halt s ⊥ f) (sym allowed_is) (go (first_invalid sees_leaves item entries) invalid)
+  pub is_disallowed : (e : CompileError) (error : ParseError) → IsInvalidBy (first_invalid views_leaves item entries) item name.token.now e
+      → IsErrorOfFault error (faults.Compile e) → IsParseError error s ⊥ (reader.allowed item ws name s)
+  is_disallowed e error invalid h = subst (λ (f : Read (Unit {0})). IsParseError error s ⊥ f) (sym allowed_is) (go (first_invalid views_leaves item entries) invalid)
     where
-      go : (o : Found) → IsInvalidBy o item name.token.now e → HaltsAt halt s ⊥ (refusing o)
+      go : (o : Found) → IsInvalidBy o item name.token.now e → IsParseError error s ⊥ (refusing o)
       go None k = absurd k
       go (Some first) k =
-          rule_halts (Unit {0}) (Unit {0} × State) (record { rule = InvalidAttribute item (kind_of_attribute first.attribute); token = name.token.now }) (faults.Compile e) halt s h
+          rule_fails (Unit {0}) (Unit {0} × State) (record { rule = InvalidAttribute item (kind_of_attribute first.attribute); token = name.token.now }) (faults.Compile e) error s h
           (record { token = k.0; says = says (kind_of_attribute first.attribute) e.kind k.1 })
 
 -- ---- a recipe's attributes that exclude each other
@@ -128,26 +128,26 @@ has_seen kind (p ∷ ps) =
     ∙ ap (λ (k : AttributeKind). same_attribute k kind || has_attribute kind (map leaf_entry_of ps)) (kind_seen p.0)
 
 -- each attribute that was read is as the parser makes it
-pub whole_pairs : (pairs : List Pair) → AreWholePairs pairs → All (λ (p : Pair). IsWholeAttribute p.0) pairs
-unfolding AreWholeAttributes
-whole_pairs [] h = All-nil (λ (p : Pair). IsWholeAttribute p.0)
+pub whole_pairs : (pairs : List Pair) → HaveDerivedPairFields pairs → All (λ (p : Pair). HasDerivedAttributeFields p.0) pairs
+unfolding HaveDerivedAttributeFields
+whole_pairs [] h = All-nil (λ (p : Pair). HasDerivedAttributeFields p.0)
 whole_pairs (p ∷ ps) h =
-    All-cons (λ (q : Pair). IsWholeAttribute q.0) p ps (All-head IsWholeAttribute p.0 (firsts ps) h) (whole_pairs ps (All-tail IsWholeAttribute p.0 (firsts ps) h))
+    All-cons (λ (q : Pair). HasDerivedAttributeFields q.0) p ps (All-head HasDerivedAttributeFields p.0 (firsts ps) h) (whole_pairs ps (All-tail HasDerivedAttributeFields p.0 (firsts ps) h))
 
 -- what the tree doesn't show of the pairs that were read, it doesn't show of the set
-pub set_whole : (pairs ordered : List Pair) → ordered ≡ in_order pair_cmp pairs → AreWholePairs pairs → AreWholeAttributes (firsts ordered)
-unfolding AreWholeAttributes
+pub set_whole : (pairs ordered : List Pair) → ordered ≡ in_order pair_cmp pairs → HaveDerivedPairFields pairs → HaveDerivedAttributeFields (firsts ordered)
+unfolding HaveDerivedAttributeFields
 set_whole pairs ordered e h =
-    subst (λ (ps : List Pair). All IsWholeAttribute (firsts ps)) (sym e)
-    (All-map-IsPermutation (λ (p : Pair). p.0) IsWholeAttribute pairs (in_order pair_cmp pairs) (in_order_permutation pair_cmp pairs) h)
+    subst (λ (ps : List Pair). All HasDerivedAttributeFields (firsts ps)) (sym e)
+    (All-map-IsPermutation (λ (p : Pair). p.0) HasDerivedAttributeFields pairs (in_order pair_cmp pairs) (in_order_permutation pair_cmp pairs) h)
 
 module _ (recipe : Token) where
   -- reading halts for the first rule that is broken
-  pub is_excluded : (bs : List (Broken Token)) (kind : CompileErrorKind) (e : CompileError) (halt : Halt) (s : State) → SaysFirst recipe bs (Some kind)
-      → e.kind ≡ kind → e.token ≡ recipe → HaltsFor halt (faults.Compile e) → HaltsAt halt s ⊥ (obeying bs s)
-  is_excluded [] kind e halt s first is at h = absurd first
-  is_excluded (b ∷ bs) kind e halt s first is at h =
-      rule_halts (Unit {0}) (Unit {0} × State) b (faults.Compile e) halt s h (record {
+  pub is_excluded : (bs : List (Broken Token)) (kind : CompileErrorKind) (e : CompileError) (error : ParseError) (s : State) → SaysFirst recipe bs (Some kind)
+      → e.kind ≡ kind → e.token ≡ recipe → IsErrorOfFault error (faults.Compile e) → IsParseError error s ⊥ (obeying bs s)
+  is_excluded [] kind e error s first is at h = absurd first
+  is_excluded (b ∷ bs) kind e error s first is at h =
+      rule_fails (Unit {0}) (Unit {0} × State) b (faults.Compile e) error s h (record {
         token = at ∙ sym first.1;
         says = subst (λ (k : CompileErrorKind). SaysRule b.token b.rule k) (sym is) (subst (λ (t : Token). SaysRule t b.rule kind) (sym first.1) first.0);
       })
@@ -168,10 +168,10 @@ module _ (s : State) (opener : TableEntry) (next : State) (opened : tokens.accep
     stand_alone h = before_is ∙ rw (read, h) refl
 
     -- reading halts for attributes before no construct
-    pub halts_alone : (pairs : List (Attribute × Written)) → ws ≡ map entry_of_pair pairs → reader.stands_alone rest ≡ true → (count : ℕ) → count ≡ length pairs
-        → (fault : Fault) (halt : Halt) → HaltsFor halt fault → IsExtraneousFault count opener.token.now fault → HaltsAt halt rest ⊥ (reader.item_attributes s)
-    halts_alone pairs is alone count e fault halt h k =
+    pub fails_alone : (pairs : List (Attribute × Written)) → ws ≡ map entry_of_pair pairs → reader.stands_alone rest ≡ true → (count : ℕ) → count ≡ length pairs
+        → (fault : Fault) (error : ParseError) → IsErrorOfFault error fault → IsExtraneousFault count opener.token.now fault → IsParseError error rest ⊥ (reader.item_attributes s)
+    fails_alone pairs is alone count e fault error h k =
         let counted : length ws ≡ count = ap (λ (l : Entries). length l) is ∙ length-map pairs entry_of_pair ∙ sym e in
         let refused : reader.item_attributes s ≡ Err (reading.Extraneous count opener.token.now) =
         stand_alone alone ∙ ap (λ (n : ℕ). Err (reading.Extraneous n opener.token.now)) counted in
-        subst (λ (f : Read Entries). HaltsAt halt rest ⊥ f) (sym refused) (extraneous_halts (Entries × State) count opener.token.now fault halt rest h k)
+        subst (λ (f : Read Entries). IsParseError error rest ⊥ f) (sym refused) (extraneous_fails (Entries × State) count opener.token.now fault error rest h k)

@@ -1,8 +1,8 @@
 -- The reader of lines, as the parser goes over it.
 use Rattle.std.proofs.Common.{◌≡◌, ℕ, Bool, true, false, List, [], ◌∷◌, ◌++◌, map, Some, None, Ok, Err, refl, ap, sym, ◌∙◌}
 use Rattle.std.proofs.lemmas.List.{append-nil, append_assoc}
-use Rattle.justfile_base.specs.declared.token.Token.{Token}
-use Rattle.justfile_word.specs.declared.token_kind.TokenKind.TheVariants as kinds
+use Rattle.justfile_token.specs.declared.token.Token.{Token}
+use Rattle.justfile_vocabulary.specs.declared.token_kind.TokenKind.TheVariants as kinds
 use Rattle.justfile_line.specs.Body.{body_line_of}
 use Rattle.justfile_line.specs.declared.line.Line as body
 use Rattle.justfile_item.specs.Item.{item_of}
@@ -14,18 +14,18 @@ use Rattle.justfile_model.specs.Reader as files
 use Rattle.justfile_model.specs.Reader.{comment_item, has_body, some_line}
 use Rattle.justfile_model.specs.PartReader as parts
 use Rattle.justfile_model.specs.PartReader.{after_numbered}
-use Rattle.justfile_model.specs.Reading.{◌>>=◌, Counters, prepend}
-use Rattle.justfile_parse_expression.specs.TableReader.{Read, Refusal, State, accept, expect, leaves}
+use Rattle.justfile_model.specs.ReaderState.{◌>>=◌, Counters, prepend}
+use Rattle.justfile_parse_expression.specs.TableReader.{Read, ReadError, State, accept, expect, leaves}
 use Rattle.justfile_parse_item.specs.ItemTable.{ReadItems, item_rest, ended, kept, line, line_end, on_line}
-use Rattle.justfile_parse_attribute.specs.Halting.{HaltsAt}
-use Rattle.justfile_parse_expression.specs.MethodResults.{StopsAt, literal_refusal, refusal_at}
+use Rattle.justfile_parse_attribute.specs.ParseErrors.{IsParseError}
+use Rattle.justfile_parse_expression.specs.MethodResults.{IsExpressionError, literal_refusal, refusal_at}
 use Rattle.justfile_parse_item.specs.Tree.{item_tree, line_tree}
-use Rattle.justfile_tree.specs.LeafTree.{Leaf}
-use Rattle.justfile_parse_attribute.specs.declared.halt.Halt.{Halt}
+use Rattle.justfile_expression.specs.LeafTree.{Leaf}
+use Rattle.justfile_parse_attribute.specs.declared.parse_error.ParseError.{ParseError}
 use Rattle.justfile_parse_expression.specs.declared.significant.TableEntry.{TableEntry}
-use Rattle.justfile_parse_expression.specs.declared.stop.Stop.{Stop}
-use Rattle.justfile_parse_expression.specs.declared.stop.Stop.TheVariants.{Refused, Literal, Memory, Numbers}
-use Rattle.justfile_parse_header.proofs.Halts.{halted}
+use Rattle.justfile_parse_expression.specs.declared.expression_error.ExpressionError.{ExpressionError}
+use Rattle.justfile_parse_expression.specs.declared.expression_error.ExpressionError.TheVariants.{Refused, Literal, Memory, Numbers}
+use Rattle.justfile_parse_header.proofs.HeaderErrors.{failed}
 
 abbrev Items : Type 0
 Items = List (OrderedItem Leaf Token ℕ)
@@ -39,12 +39,12 @@ module _ (done : Items) (s : State) where
   unfolding prepend files.line_end
   line_end_newline t rest h1 h2 = rw (h1, h2) refl
 
-  pub line_end_fails : (e : Refusal) → accept kinds.Eof s ≡ None → expect kinds.Eol s ≡ Err e → prepend done (line_end s) ≡ Err e
+  pub line_end_fails : (e : ReadError) → accept kinds.Eof s ≡ None → expect kinds.Eol s ≡ Err e → prepend done (line_end s) ≡ Err e
   unfolding prepend files.line_end
   line_end_fails e h1 h2 = rw (h1, h2) refl
 
   -- where no end of a line stands, the item's end stops
-  pub line_end_stops : (stop : Stop) (left : State) → accept kinds.Eof s ≡ None → StopsAt stop left ⊥ (expect kinds.Eol s) → StopsAt stop left ⊥ (prepend done (line_end s))
+  pub line_end_stops : (stop : ExpressionError) (left : State) → accept kinds.Eof s ≡ None → IsExpressionError stop left ⊥ (expect kinds.Eol s) → IsExpressionError stop left ⊥ (prepend done (line_end s))
   line_end_stops (Refused r) left none h = line_end_fails (refusal_at r left) none h
   line_end_stops (Literal refused) left none h = line_end_fails (literal_refusal refused.value.error) none h
   line_end_stops Memory left none h = tt
@@ -76,13 +76,13 @@ module _ (done : Items) (s : State) where
     unfolding after_numbered files.line
     line_blank t rest h = rw h refl
 
-    pub line_fails : (e : Refusal) → accept kinds.Eol s ≡ None → on_line n s ≡ Err e → after_numbered done (line n s) ≡ Err e
+    pub line_fails : (e : ReadError) → accept kinds.Eol s ≡ None → on_line n s ≡ Err e → after_numbered done (line n s) ≡ Err e
     unfolding after_numbered files.line
     line_fails e h1 h2 = rw (h1, h2) refl
 
     -- an item is refused, or its number is wanting
-    pub line_halts : (halt : Halt) (left : State) (wanting : Refusal) → accept kinds.Eol s ≡ None → HaltsAt halt left (on_line n s ≡ Err wanting) (on_line n s) → HaltsAt halt left (after_numbered done (line n s) ≡ Err wanting) (after_numbered done (line n s))
-    line_halts halt left wanting none h = halted (on_line n s) (after_numbered done (line n s)) (λ e. line_fails e none) halt left _ _ (line_fails wanting none) h
+    pub line_fails : (error : ParseError) (left : State) (wanting : ReadError) → accept kinds.Eol s ≡ None → IsParseError error left (on_line n s ≡ Err wanting) (on_line n s) → IsParseError error left (after_numbered done (line n s) ≡ Err wanting) (after_numbered done (line n s))
+    line_fails error left wanting none h = failed (on_line n s) (after_numbered done (line n s)) (λ e. line_fails e none) error left _ _ (line_fails wanting none) h
 
     -- after an item
     module _ (i : OrderedItem Leaf Token ℕ) (m : Counters) (rest : State) (none : accept kinds.Eol s ≡ None) (item : on_line n s ≡ Ok ((i, m), rest)) where
@@ -101,10 +101,10 @@ module _ (done : Items) (s : State) where
       pub line_goes_on : (new : Items) (last : State) → prepend (done ++ i ∷ []) (ended (has_body i) rest) ≡ Ok (new, last) → after_numbered done (line n s) ≡ Ok ((new, m), last)
       line_goes_on new last h = line_is ∙ ap (λ (f : Read Items). f >>= numbered) h
 
-      pub end_fails : (e : Refusal) → prepend (done ++ i ∷ []) (ended (has_body i) rest) ≡ Err e → after_numbered done (line n s) ≡ Err e
+      pub end_fails : (e : ReadError) → prepend (done ++ i ∷ []) (ended (has_body i) rest) ≡ Err e → after_numbered done (line n s) ≡ Err e
       end_fails e h = line_is ∙ ap (λ (f : Read Items). f >>= numbered) h
 
-      pub end_stops : (stop : Stop) (left : State) (IsShort : Type 0) → StopsAt stop left ⊥ (prepend (done ++ i ∷ []) (ended (has_body i) rest)) → StopsAt stop left IsShort (after_numbered done (line n s))
+      pub end_stops : (stop : ExpressionError) (left : State) (IsShort : Type 0) → IsExpressionError stop left ⊥ (prepend (done ++ i ∷ []) (ended (has_body i) rest)) → IsExpressionError stop left IsShort (after_numbered done (line n s))
       end_stops (Refused r) left IsShort h = end_fails (refusal_at r left) h
       end_stops (Literal refused) left IsShort h = end_fails (literal_refusal refused.value.error) h
       end_stops Memory left IsShort h = tt

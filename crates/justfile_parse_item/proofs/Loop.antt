@@ -1,32 +1,32 @@
 -- The loop over the lines of a file.
 use Rattle.std.proofs.Common.{◌≡◌, ℕ, ◌+◌, ◌<◌, ◌≤◌, List, [], ◌∷◌, ◌++◌, length, map, Some, None, Ok, Err, refl, sym, ap, ◌∙◌, arith}
-use Rattle.justfile_word.specs.Numerator.{bindings_of, constants_of, recipes_of}
-use Rattle.justfile_word.specs.declared.numerator.Numerator.{Numerator}
-use Rattle.justfile_base.specs.declared.token.Token.{Token}
-use Rattle.justfile_word.specs.declared.token_kind.TokenKind.TheVariants as kinds
+use Rattle.justfile_vocabulary.specs.Numerator.{bindings_of, constants_of, recipes_of}
+use Rattle.justfile_vocabulary.specs.declared.numerator.Numerator.{Numerator}
+use Rattle.justfile_token.specs.declared.token.Token.{Token}
+use Rattle.justfile_vocabulary.specs.declared.token_kind.TokenKind.TheVariants as kinds
 use Rattle.justfile_item.specs.declared.item.Item as file
 use Rattle.justfile_model.specs.Tree.{OrderedItem}
 use Rattle.justfile_model.specs.Reader as files
 use Rattle.justfile_model.specs.PartReader.{after_numbered}
-use Rattle.justfile_model.specs.Reading.{◌>>=◌, Counters}
+use Rattle.justfile_model.specs.ReaderState.{◌>>=◌, Counters}
 use Rattle.justfile_parse_item.specs.ItemTable as reader
 use Rattle.justfile_parse_item.specs.ItemTable.{ReadItems, after_mark, items, kept, line, read_nothing}
-use Rattle.justfile_parse_expression.specs.TableReader.{Read, Refusal, State, accept, leaves}
-use Rattle.justfile_parse_attribute.specs.Halting.{HaltsAt}
+use Rattle.justfile_parse_expression.specs.TableReader.{Read, ReadError, State, accept, leaves}
+use Rattle.justfile_parse_attribute.specs.ParseErrors.{IsParseError}
 use Rattle.justfile_parse_item.specs.MethodResults.{IsMoved}
-use Rattle.justfile_parse_expression.specs.MethodResults.{StopsAt, literal_refusal, refusal_at}
+use Rattle.justfile_parse_expression.specs.MethodResults.{IsExpressionError, literal_refusal, refusal_at}
 use Rattle.justfile_parse_item.specs.Tree.{item_tree}
-use Rattle.justfile_parse_item.specs.Whole.{AreWhole, KeepsWhole}
-use Rattle.justfile_tree.specs.LeafTree.{Leaf}
-use Rattle.justfile_parse_attribute.specs.declared.halt.Halt.{Halt}
+use Rattle.justfile_parse_item.specs.DerivedFields.{HaveDerivedFields, KeepsDerivedFields}
+use Rattle.justfile_expression.specs.LeafTree.{Leaf}
+use Rattle.justfile_parse_attribute.specs.declared.parse_error.ParseError.{ParseError}
 use Rattle.justfile_parse_expression.specs.declared.significant.TableEntry.{TableEntry}
-use Rattle.justfile_parse_expression.specs.declared.stop.Stop.{Stop}
-use Rattle.justfile_parse_expression.specs.declared.stop.Stop.TheVariants.{Refused, Literal, Memory, Numbers}
-use Rattle.justfile_model.proofs.Reading as laws
+use Rattle.justfile_parse_expression.specs.declared.expression_error.ExpressionError.{ExpressionError}
+use Rattle.justfile_parse_expression.specs.declared.expression_error.ExpressionError.TheVariants.{Refused, Literal, Memory, Numbers}
+use Rattle.justfile_model.proofs.ItemReading as laws
 use Rattle.justfile_model.proofs.ReadingSteps.{known}
-use Rattle.justfile_parse_header.proofs.Halts.{halted}
-use Rattle.justfile_parse_item.proofs.Moves.{line_moves}
-use Rattle.justfile_parse_item.proofs.Wholes.{none_whole, then_whole}
+use Rattle.justfile_parse_header.proofs.HeaderErrors.{failed}
+use Rattle.justfile_parse_item.proofs.CounterBounds.{line_moves}
+use Rattle.justfile_parse_item.proofs.DerivedItemFields.{none_whole, then_whole}
 use Rattle.justfile_parse_header.specs.Counting.{counters_of, names}
 
 abbrev Items : Type 0
@@ -46,12 +46,12 @@ taken done all m rest (Ok x) h =
     inside a b h = cc
 taken done all m rest (Err e) h = cc
 
-refused_first : (done : Items) (e : Refusal) (found : ReadItems) → after_numbered done found ≡ Err e → found ≡ Err e
+refused_first : (done : Items) (e : ReadError) (found : ReadItems) → after_numbered done found ≡ Err e → found ≡ Err e
 unfolding after_numbered
 refused_first done e (Ok x) h = cc
-refused_first done e (Err f) h = ap (λ (g : Refusal). Err g) (inside f e h)
+refused_first done e (Err f) h = ap (λ (g : ReadError). Err g) (inside f e h)
   where
-    inside : (a b : Refusal) → ◌≡◌ {A = ReadItems} (Err a) (Err b) → a ≡ b
+    inside : (a b : ReadError) → ◌≡◌ {A = ReadItems} (Err a) (Err b) → a ≡ b
     inside a b h = cc
 
 -- from one place to another these items were read
@@ -62,20 +62,20 @@ pub record IsReadTo (s q : State) (first next : Numerator) (done : List file.Ite
   pub recipes_least : recipes_of first ≤ recipes_of next
   pub most : bindings_of next + recipes_of next + names q ≤ bindings_of first + recipes_of first + names s
   pub constants : constants_of next ≡ constants_of first
-  pub whole : AreWhole done
+  pub whole : HaveDerivedFields done
 
 pub begins : (s : State) (first : Numerator) → s.depth ≡ 0 → IsReadTo s s first first []
 begins s first none = record { depth = none; read = laws.numbered_begin (items (counters_of first) s); least = omega arith; recipes_least = omega arith; most = omega arith; constants = refl; whole = none_whole }
 
 module _ (s q : State) (first next : Numerator) (done : List file.Item) (so_far : IsReadTo s q first next done) where
-  pub all_whole : AreWhole done
+  pub all_whole : HaveDerivedFields done
   all_whole = so_far.whole
 
   pub moved : IsMoved first next (names s)
   moved = record { least = so_far.least; recipes_least = so_far.recipes_least; most_is = omega (arith, so_far.most); constants = so_far.constants }
 
   module _ (none : accept kinds.Eof q ≡ None) where
-    pub goes_on : (then : Numerator) (new : List file.Item) (rest : State) → after_numbered (map item_tree done) (line (counters_of next) q) ≡ Ok ((map item_tree new, counters_of then), rest) → KeepsWhole done new → IsReadTo s rest first then new
+    pub goes_on : (then : Numerator) (new : List file.Item) (rest : State) → after_numbered (map item_tree done) (line (counters_of next) q) ≡ Ok ((map item_tree new, counters_of then), rest) → KeepsDerivedFields done new → IsReadTo s rest first then new
     goes_on then new rest value keeps =
         let t = taken (map item_tree done) (map item_tree new) (counters_of then) rest (line (counters_of next) q) value in
         let moves = line_moves (counters_of next) q so_far.depth t.0 (counters_of then) rest t.1 in
@@ -93,14 +93,14 @@ module _ (s q : State) (first next : Numerator) (done : List file.Item) (so_far 
           whole = then_whole done new so_far.whole keeps;
         }
 
-    fails : (e : Refusal) → after_numbered (map item_tree done) (line (counters_of next) q) ≡ Err e → items (counters_of first) s ≡ Err e
+    fails : (e : ReadError) → after_numbered (map item_tree done) (line (counters_of next) q) ≡ Err e → items (counters_of first) s ≡ Err e
     fails e h = sym so_far.read ∙ laws.items_fail leaves kept (map item_tree done) (counters_of next) q e none (refused_first (map item_tree done) e (line (counters_of next) q) h)
 
     -- a line is refused, or wants a number
-    pub halts : (halt : Halt) (left : State) (wanting : Refusal)
-        → HaltsAt halt left (after_numbered (map item_tree done) (line (counters_of next) q) ≡ Err wanting) (after_numbered (map item_tree done) (line (counters_of next) q))
-        → HaltsAt halt left (items (counters_of first) s ≡ Err wanting) (items (counters_of first) s)
-    halts halt left wanting h = halted (after_numbered (map item_tree done) (line (counters_of next) q)) (items (counters_of first) s) fails halt left _ _ (fails wanting) h
+    pub fails : (error : ParseError) (left : State) (wanting : ReadError)
+        → IsParseError error left (after_numbered (map item_tree done) (line (counters_of next) q) ≡ Err wanting) (after_numbered (map item_tree done) (line (counters_of next) q))
+        → IsParseError error left (items (counters_of first) s ≡ Err wanting) (items (counters_of first) s)
+    fails error left wanting h = failed (after_numbered (map item_tree done) (line (counters_of next) q)) (items (counters_of first) s) fails error left _ _ (fails wanting) h
 
     -- where a line moved the numerator, so is the file's
     pub moved_on : (then : Numerator) → IsMoved next then (names q) → IsMoved first then (names s)
@@ -127,10 +127,10 @@ module _ (s q : State) (first next : Numerator) (done : List file.Item) (so_far 
     pub ends : read_nothing rest ≡ Ok (tt, rest) → items (counters_of first) s ≡ Ok ((map item_tree done, counters_of next), rest)
     ends h = at_end_is ∙ ap (λ (f : Read (Unit {0})). after_numbered (map item_tree done) (f >>= item_rest_end)) h ∙ laws.numbered_nothing (map item_tree done) (counters_of next) rest
 
-    past : (e : Refusal) → read_nothing rest ≡ Err e → items (counters_of first) s ≡ Err e
+    past : (e : ReadError) → read_nothing rest ≡ Err e → items (counters_of first) s ≡ Err e
     past e h = at_end_is ∙ ap (λ (f : Read (Unit {0})). after_numbered (map item_tree done) (f >>= item_rest_end)) h ∙ laws.numbered_refused (map item_tree done) e
 
-    pub goes_past : (stop : Stop) (IsShort : Type 0) → StopsAt stop rest ⊥ (read_nothing rest) → StopsAt stop rest IsShort (items (counters_of first) s)
+    pub goes_past : (stop : ExpressionError) (IsShort : Type 0) → IsExpressionError stop rest ⊥ (read_nothing rest) → IsExpressionError stop rest IsShort (items (counters_of first) s)
     goes_past (Refused r) IsShort h = past (refusal_at r rest) h
     goes_past (Literal refused) IsShort h = past (literal_refusal refused.value.error) h
     goes_past Memory IsShort h = tt

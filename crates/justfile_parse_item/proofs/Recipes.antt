@@ -1,28 +1,28 @@
 -- Recipes, as the parser reads them.
 use Rattle.std.proofs.Common.{◌≡◌, ◌∙◌, ℕ, Bool, List, map-id, Option, Ok, Err, sym, ap, subst}
 use Rattle.std.specs.Option.{option_map}
-use Rattle.justfile_word.specs.Numerator.{number_of}
-use Rattle.justfile_word.specs.declared.number.Number.{Number}
-use Rattle.justfile_base.specs.declared.token.Token.{Token}
+use Rattle.justfile_vocabulary.specs.Numerator.{number_of}
+use Rattle.justfile_vocabulary.specs.declared.number.Number.{Number}
+use Rattle.justfile_token.specs.declared.token.Token.{Token}
 use Rattle.justfile_model.specs.AttributeRules.{arg_rules}
 use Rattle.justfile_model.specs.HeaderReader.{obeying}
 use Rattle.justfile_model.specs.Reader as files
-use Rattle.justfile_model.specs.Reading.{◌>>=◌, Counters}
+use Rattle.justfile_model.specs.ReaderState.{◌>>=◌, Counters}
 use Rattle.justfile_model.specs.RecipeRules.{exclusions_broken}
 use Rattle.justfile_model.specs.Tree as tree
 use Rattle.justfile_model.specs.Tree.{BodyLine, OrderedItem, bare_recipe}
 use Rattle.justfile_parse_item.specs.ItemTable as reader
-use Rattle.justfile_parse_item.specs.ItemTable.{CommentedBody, ReadItem, draw_recipe, in_content_order, optional_body}
+use Rattle.justfile_parse_item.specs.ItemTable.{CommentedBody, ReadItem, next_recipe_number, in_content_order, optional_body}
 use Rattle.justfile_parse_attribute.specs.AttributeTable.{Entries, comment_in}
-use Rattle.justfile_parse_attribute.specs.Halting.{HaltsAt}
-use Rattle.justfile_parse_attribute.specs.declared.halt.Halt.{Halt}
-use Rattle.justfile_parse_expression.specs.MethodResults.{StopsAt}
-use Rattle.justfile_parse_expression.specs.TableReader.{Read, Refusal, State, leaves}
-use Rattle.justfile_parse_expression.specs.declared.stop.Stop.{Stop}
+use Rattle.justfile_parse_attribute.specs.ParseErrors.{IsParseError}
+use Rattle.justfile_parse_attribute.specs.declared.parse_error.ParseError.{ParseError}
+use Rattle.justfile_parse_expression.specs.MethodResults.{IsExpressionError}
+use Rattle.justfile_parse_expression.specs.TableReader.{Read, ReadError, State, leaves}
+use Rattle.justfile_parse_expression.specs.declared.expression_error.ExpressionError.{ExpressionError}
 use Rattle.justfile_parse_header.specs.HeaderTable.{ReadHeader, header}
-use Rattle.justfile_parse_header.proofs.Halts.{first_halts, first_stops, halted, stopped}
-use Rattle.justfile_tree.specs.LeafSight.{sees_leaves}
-use Rattle.justfile_tree.specs.LeafTree.{Headed, Leaf, RecipeName}
+use Rattle.justfile_parse_header.proofs.HeaderErrors.{first_fails, first_stops, failed, stopped}
+use Rattle.justfile_expression.specs.LeafViews.{views_leaves}
+use Rattle.justfile_expression.specs.LeafTree.{Headed, Leaf, RecipeName}
 
 abbrev Body : Type 0
 Body = CommentedBody
@@ -39,7 +39,7 @@ module _ (quiet : Bool) (ws : Entries) (n : Counters) (s : State) (entries : Ent
 
   -- what is read after the body
   abbrev checked_by : (all kept : Entries) → ReadHeader × Counters → Body → State → ReadItem
-  checked_by all kept h b t = obeying (exclusions_broken sees_leaves h.0.name.token.now all) t >>= λ checked. draw_recipe h.1 checked.1 >>= numbered_by kept h.0 b
+  checked_by all kept h b t = obeying (exclusions_broken views_leaves h.0.name.token.now all) t >>= λ checked. next_recipe_number h.1 checked.1 >>= numbered_by kept h.0 b
 
   -- what is read after the header
   abbrev bodied_by : (all kept : Entries) → (ReadHeader × Counters) × State → ReadItem
@@ -52,11 +52,11 @@ module _ (quiet : Bool) (ws : Entries) (n : Counters) (s : State) (entries : Ent
       ∙ ap (λ (all : Entries). header (arg_rules all) n s >>= bodied_by all all) (sym is)
 
   -- the header is refused, or a number is wanting in it
-  pub header_halts : (halt : Halt) (left : State) (wanting : Refusal) → HaltsAt halt left (header (arg_rules entries) n s ≡ Err wanting) (header (arg_rules entries) n s)
-      → HaltsAt halt left (reader.recipe quiet ws n s ≡ Err wanting) (reader.recipe quiet ws n s)
-  header_halts halt left wanting h = halted (header (arg_rules entries) n s) (reader.recipe quiet ws n s) fails halt left _ _ (fails wanting) h
+  pub header_fails : (error : ParseError) (left : State) (wanting : ReadError) → IsParseError error left (header (arg_rules entries) n s ≡ Err wanting) (header (arg_rules entries) n s)
+      → IsParseError error left (reader.recipe quiet ws n s ≡ Err wanting) (reader.recipe quiet ws n s)
+  header_fails error left wanting h = failed (header (arg_rules entries) n s) (reader.recipe quiet ws n s) fails error left _ _ (fails wanting) h
     where
-      fails : (e : Refusal) → header (arg_rules entries) n s ≡ Err e → reader.recipe quiet ws n s ≡ Err e
+      fails : (e : ReadError) → header (arg_rules entries) n s ≡ Err e → reader.recipe quiet ws n s ≡ Err e
       fails e is = recipe_is ∙ ap (λ (o : Read (ReadHeader × Counters)). o >>= bodied_by entries entries) is
 
   module _ (h : ReadHeader) (m : Counters) (t : State) (read : header (arg_rules entries) n s ≡ Ok ((h, m), t)) where
@@ -64,35 +64,35 @@ module _ (quiet : Bool) (ws : Entries) (n : Counters) (s : State) (entries : Ent
     after_header = recipe_is ∙ ap (λ (o : Read (ReadHeader × Counters)). o >>= bodied_by entries entries) read
 
     -- the body is refused
-    pub body_stops : (stop : Stop) (left : State) (Wanting : Type 0) → StopsAt stop left ⊥ (optional_body t) → StopsAt stop left Wanting (reader.recipe quiet ws n s)
+    pub body_stops : (stop : ExpressionError) (left : State) (Wanting : Type 0) → IsExpressionError stop left ⊥ (optional_body t) → IsExpressionError stop left Wanting (reader.recipe quiet ws n s)
     body_stops stop left Wanting k =
-        subst (λ (o : ReadItem). StopsAt stop left Wanting o) (sym after_header) (first_stops (optional_body t) (λ b. checked_by entries entries (h, m) b.0 b.1) stop left Wanting k)
+        subst (λ (o : ReadItem). IsExpressionError stop left Wanting o) (sym after_header) (first_stops (optional_body t) (λ b. checked_by entries entries (h, m) b.0 b.1) stop left Wanting k)
 
     module _ (b : Body) (u : State) (body : optional_body t ≡ Ok (b, u)) where
       after_body : reader.recipe quiet ws n s ≡ checked_by entries entries (h, m) b u
       after_body = after_header ∙ ap (λ (o : Read Body). o >>= λ x. checked_by entries entries (h, m) x.0 x.1) body
 
       -- attributes exclude each other
-      pub exclusion_halts : (halt : Halt) (left : State) (Wanting : Type 0) → HaltsAt halt left ⊥ (obeying (exclusions_broken sees_leaves h.name.token.now entries) u)
-          → HaltsAt halt left Wanting (reader.recipe quiet ws n s)
-      exclusion_halts halt left Wanting k =
-          subst (λ (o : ReadItem). HaltsAt halt left Wanting o) (sym after_body)
-          (first_halts (obeying (exclusions_broken sees_leaves h.name.token.now entries) u) (λ checked. draw_recipe m checked.1 >>= numbered_by entries h b) halt left Wanting k)
+      pub exclusion_fails : (error : ParseError) (left : State) (Wanting : Type 0) → IsParseError error left ⊥ (obeying (exclusions_broken views_leaves h.name.token.now entries) u)
+          → IsParseError error left Wanting (reader.recipe quiet ws n s)
+      exclusion_fails error left Wanting k =
+          subst (λ (o : ReadItem). IsParseError error left Wanting o) (sym after_body)
+          (first_fails (obeying (exclusions_broken views_leaves h.name.token.now entries) u) (λ checked. next_recipe_number m checked.1 >>= numbered_by entries h b) error left Wanting k)
 
-      module _ (obeyed : obeying (exclusions_broken sees_leaves h.name.token.now entries) u ≡ Ok (tt, u)) where
-        after_check : reader.recipe quiet ws n s ≡ (draw_recipe m u >>= numbered_by entries h b)
-        after_check = after_body ∙ ap (λ (o : Read (Unit {0})). o >>= λ checked. draw_recipe m checked.1 >>= numbered_by entries h b) obeyed
+      module _ (obeyed : obeying (exclusions_broken views_leaves h.name.token.now entries) u ≡ Ok (tt, u)) where
+        after_check : reader.recipe quiet ws n s ≡ (next_recipe_number m u >>= numbered_by entries h b)
+        after_check = after_body ∙ ap (λ (o : Read (Unit {0})). o >>= λ checked. next_recipe_number m checked.1 >>= numbered_by entries h b) obeyed
 
         -- its number is wanting
-        pub number_stops : (stop : Stop) (left : State) (wanting : Refusal) → StopsAt stop left (draw_recipe m u ≡ Err wanting) (draw_recipe m u)
-            → StopsAt stop left (reader.recipe quiet ws n s ≡ Err wanting) (reader.recipe quiet ws n s)
-        number_stops stop left wanting k = stopped (draw_recipe m u) (reader.recipe quiet ws n s) fails stop left _ _ (fails wanting) k
+        pub number_stops : (stop : ExpressionError) (left : State) (wanting : ReadError) → IsExpressionError stop left (next_recipe_number m u ≡ Err wanting) (next_recipe_number m u)
+            → IsExpressionError stop left (reader.recipe quiet ws n s ≡ Err wanting) (reader.recipe quiet ws n s)
+        number_stops stop left wanting k = stopped (next_recipe_number m u) (reader.recipe quiet ws n s) fails stop left _ _ (fails wanting) k
           where
-            fails : (e : Refusal) → draw_recipe m u ≡ Err e → reader.recipe quiet ws n s ≡ Err e
+            fails : (e : ReadError) → next_recipe_number m u ≡ Err e → reader.recipe quiet ws n s ≡ Err e
             fails e is = after_check ∙ ap (λ (o : Read (ℕ × Counters)). o >>= numbered_by entries h b) is
 
         -- it is read
-        pub recipe_read : (number : ℕ) (k : Counters) → draw_recipe m u ≡ Ok ((number, k), u) → (name : RecipeName) (comment : Option (List ℕ)) (lines : List (BodyLine Leaf Token ℕ))
+        pub recipe_read : (number : ℕ) (k : Counters) → next_recipe_number m u ≡ Ok ((number, k), u) → (name : RecipeName) (comment : Option (List ℕ)) (lines : List (BodyLine Leaf Token ℕ))
             → name ≡ record { file_depth = u.run.file_depth; import_offsets = u.run.import_offsets; name = h.name.token.now; number = number_of number }
             → comment ≡ option_map comment_in b.0 → lines ≡ b.1
             → reader.recipe quiet ws n s ≡ Ok ((recipe_item entries h (Headed name) comment lines, k), u)

@@ -2,14 +2,14 @@
 -- leaves, and each leaf is made of a token of the table.
 use Rattle.std.proofs.Common.{◌≡◌, ℕ, Bool, true, false, List, [], ◌∷◌, map, All, Option, Some, None, Ok, refl, sym, ap, subst, ◌∙◌}
 use Rattle.std.specs.Prelude.{string_bytes}
-use Rattle.justfile_base.specs.StringKind.{kind_of}
-use Rattle.justfile_base.specs.Token.{lexeme_of}
-use Rattle.justfile_word.specs.declared.format_string_part.FormatStringPart.{FormatStringPart}
-use Rattle.justfile_word.specs.declared.format_string_part.FormatStringPart.TheVariants as string_parts
-use Rattle.justfile_word.specs.declared.number.Number.{Number}
-use Rattle.justfile_base.specs.declared.string_kind.StringKind.{StringKind}
-use Rattle.justfile_base.specs.declared.string_literal.StringLiteral as strings
-use Rattle.justfile_base.specs.declared.token.Token.{Token}
+use Rattle.justfile_token.specs.StringKind.{kind_of}
+use Rattle.justfile_token.specs.Token.{lexeme_of}
+use Rattle.justfile_vocabulary.specs.declared.format_string_part.FormatStringPart.{FormatStringPart}
+use Rattle.justfile_vocabulary.specs.declared.format_string_part.FormatStringPart.TheVariants as string_parts
+use Rattle.justfile_vocabulary.specs.declared.number.Number.{Number}
+use Rattle.justfile_token.specs.declared.string_kind.StringKind.{StringKind}
+use Rattle.justfile_token.specs.declared.string_literal.StringLiteral as strings
+use Rattle.justfile_token.specs.declared.token.Token.{Token}
 use Rattle.std.proofs.lemmas.List.Elements.{All-cons, All-nil}
 use Rattle.justfile_line.specs.Body.{fragment_of, body_line_of}
 use Rattle.justfile_line.specs.declared.fragment.Fragment.{Fragment}
@@ -19,7 +19,7 @@ use Rattle.justfile_model.specs.Conditions.{Conditions}
 use Rattle.justfile_attribute_set.specs.AttributeSet.{AttributeSet, leaf_entries_of, written_of, entries_of as set_entries}
 use Rattle.justfile_attribute_set.specs.Pairs.{Pair}
 use Rattle.justfile_model.specs.Meaning.{entries_of}
-use Rattle.justfile_model.specs.Sight.{sees_tokens}
+use Rattle.justfile_model.specs.LeafView.{views_tokens}
 use Rattle.justfile_model.specs.Literals as literals
 use Rattle.justfile_model.specs.Literals.{cooked_text, format_text, string_of, token_of}
 use Rattle.justfile_model.specs.Tok.{Tok, tok_of}
@@ -28,13 +28,13 @@ use Rattle.justfile_model.specs.Tree.{BodyLine, Entry, Expr, Exprs, Parts, Writt
 use Rattle.justfile_model.specs.TreeReader.{token_leaves}
 use Rattle.justfile_model.proofs.Related as a
 use Rattle.justfile_model.proofs.Related.{Alike, AlikeAll, AlikeFragment, AlikeLine, AlikeParts, Each, Respects}
-use Rattle.justfile_tree.specs.Expression as model
-use Rattle.justfile_tree.specs.Expression.{expr_of, exprs_of_row, literal_tok, part_tok}
-use Rattle.justfile_tree.specs.declared.expression.Expression.{Expression, And', Assert', Backtick, Call', Comparison', Concatenation', Conditional', FormatString', Group', Join', List', ListConcatenation', Not', Or', StringLiteral, Variable, None', Some', Row_of-Expression as ExpressionRow, end_of-Expression as row_end, more_of-Expression as row_more, Row_of-Expression-FormatString-1-2 as FormatRow, end_of-Expression-FormatString-1-2 as format_row_end, more_of-Expression-FormatString-1-2 as format_row_more}
-use Rattle.justfile_parse_item.specs.Filled.{IsGivenAttribute, IsGivenFragment, IsGivenLine, AreGivenExpressions, AreGivenParts, IsGivenCommand, IsGivenExpression, IsGivenLiteral, IsGivenPart, first_part, later_part}
+use Rattle.justfile_expression.specs.Expression as model
+use Rattle.justfile_expression.specs.Expression.{expr_of, exprs_of_row, literal_tok, part_tok}
+use Rattle.justfile_expression.specs.declared.expression.Expression.{Expression, And', Assert', Backtick, Call', Comparison', Concatenation', Conditional', FormatString', Group', Join', List', ListConcatenation', Not', Or', StringLiteral, Variable, None', Some', Row_of-Expression as ExpressionRow, end_of-Expression as row_end, more_of-Expression as row_more, Row_of-Expression-FormatString-1-2 as FormatRow, end_of-Expression-FormatString-1-2 as format_row_end, more_of-Expression-FormatString-1-2 as format_row_more}
+use Rattle.justfile_parse_item.specs.Filled.{IsFilledAttribute, IsFilledFragment, IsFilledLine, AreFilledExpressions, AreFilledParts, IsFilledCommand, IsFilledExpression, IsFilledLiteral, IsFilledPart, first_part, later_part}
 use Rattle.justfile_parse_expression.specs.TableReader.{leaves, literal_leaf}
 use Rattle.justfile_parse_item.specs.Tree.{fragment_tree, line_tree}
-use Rattle.justfile_tree.specs.LeafTree.{Leaf, LiteralText, Named, Literal, Command, Text, format_row_tree, literal_of, parts_row_tree, leaf_tree_of, trees_of_row}
+use Rattle.justfile_expression.specs.LeafTree.{Leaf, LiteralText, Named, Literal, Command, Text, format_row_tree, literal_of, parts_row_tree, leaf_tree_of, trees_of_row}
 use Rattle.justfile_parse_expression.proofs.Seen as table
 use Rattle.justfile_parse_expression.proofs.Seen.{Relates}
 
@@ -46,13 +46,13 @@ module _ (conditions : Conditions) (bound : ℕ) (IsToken : Token → Type 0) (f
   IsLiteralLeaf = table.IsLiteralLeaf conditions bound IsToken file_depth import_offsets
 
   -- an attribute with the token of its name, by its parts
-  abbrev pub IsGivenPair : Pair → Type 0
-  IsGivenPair p = IsToken p.1.name.token × IsGivenAttribute conditions.expander IsToken p.0
+  abbrev pub IsFilledPair : Pair → Type 0
+  IsFilledPair p = IsToken p.1.name.token × IsFilledAttribute conditions.expander IsToken p.0
 
   -- a set whose entries are these holds what the written attributes mean, and its parts are given
   abbrev pub AreMeant : List (Entry Leaf Token) → List (WrittenAttribute Tok Tok) → Type 0
   AreMeant entries ws = (set : AttributeSet) → leaf_entries_of set ≡ entries
-      → (entries_of (sees_tokens conditions.expander) ws ≡ Some (set_entries set)) × All IsGivenPair (written_of set)
+      → (entries_of (views_tokens conditions.expander) ws ≡ Some (set_entries set)) × All IsFilledPair (written_of set)
 
   abbrev pub seen : Relates
   seen = table.seen conditions bound IsToken file_depth import_offsets AreMeant
@@ -92,7 +92,7 @@ module _ (conditions : Conditions) (bound : ℕ) (IsToken : Token → Type 0) (f
       let x = name_seen (λ t. Named t None) token (Named token number) tok (λ t. refl) refl h in
       (x.0, x.1, ap number_in h.is)
 
-  command_seen : (lexeme : List ℕ) (contents : List ℕ) (token : Token) (tok : Tok) → IsLiteralLeaf (literals.Command lexeme) (Command token contents) tok → IsGivenCommand conditions.expander IsToken contents token × (tok ≡ tok_of token)
+  command_seen : (lexeme : List ℕ) (contents : List ℕ) (token : Token) (tok : Tok) → IsLiteralLeaf (literals.Command lexeme) (Command token contents) tok → IsFilledCommand conditions.expander IsToken contents token × (tok ≡ tok_of token)
   command_seen lexeme contents token tok h =
       let same : h.token ≡ token = ap (token_in token) (sym h.is) in
       let text : h.text ≡ contents = ap cooked_in (sym h.is) in
@@ -116,7 +116,7 @@ module _ (conditions : Conditions) (bound : ℕ) (IsToken : Token → Type 0) (f
   plain_tok : (l : strings.StringLiteral) → l.part ≡ None → literal_tok l ≡ tok_of l.token
   plain_tok l p = rw p refl
 
-  pub string_seen : (lexeme : List ℕ) (l : strings.StringLiteral) (tok : Tok) → IsLiteralLeaf (string_of l.expand lexeme) (Literal (literal_of l)) tok → IsGivenLiteral conditions.expander IsToken l × (tok ≡ literal_tok l)
+  pub string_seen : (lexeme : List ℕ) (l : strings.StringLiteral) (tok : Tok) → IsLiteralLeaf (string_of l.expand lexeme) (Literal (literal_of l)) tok → IsFilledLiteral conditions.expander IsToken l × (tok ≡ literal_tok l)
   string_seen lexeme l tok h =
       let same : literal_of l ≡ whole l.expand lexeme h.token h.text = ap (text_in (literal_of l)) (h.is ∙ whole_is l.expand lexeme h.token h.text) in
       let token : h.token ≡ l.token = ap (λ (x : LiteralText). x.token) (sym same) in
@@ -134,7 +134,7 @@ module _ (conditions : Conditions) (bound : ℕ) (IsToken : Token → Type 0) (f
 
   -- a part of a format string
   part_seen : (l : strings.StringLiteral) (kind : StringKind) (part : FormatStringPart) (token : Token) (text : List ℕ) → Literal (literal_of l) ≡ Literal (record { token = token; cooked = text; expand = false; kind = kind; part = Some part }) → IsToken token
-      → format_text kind part (lexeme_of token) ≡ Ok text → IsGivenPart IsToken kind part l × (tok_of token ≡ tok_of l.token)
+      → format_text kind part (lexeme_of token) ≡ Ok text → IsFilledPart IsToken kind part l × (tok_of token ≡ tok_of l.token)
   part_seen l kind part token text is among cooked =
       let same : literal_of l ≡ record { token = token; cooked = text; expand = false; kind = kind; part = Some part } = ap (text_in (literal_of l)) is in
       let here : token ≡ l.token = ap (λ (x : LiteralText). x.token) (sym same) in (
@@ -151,35 +151,35 @@ module _ (conditions : Conditions) (bound : ℕ) (IsToken : Token → Type 0) (f
         ap tok_of here,
       )
 
-  later_tok : (l : strings.StringLiteral) (kind : StringKind) → IsGivenPart IsToken kind string_parts.End l → part_tok l ≡ tok_of l.token
+  later_tok : (l : strings.StringLiteral) (kind : StringKind) → IsFilledPart IsToken kind string_parts.End l → part_tok l ≡ tok_of l.token
   later_tok l kind h = rw (h.is.expand_is, h.is.part_is) refl
 
-  between_tok : (l : strings.StringLiteral) (kind : StringKind) → IsGivenPart IsToken kind string_parts.Continue l → part_tok l ≡ tok_of l.token
+  between_tok : (l : strings.StringLiteral) (kind : StringKind) → IsFilledPart IsToken kind string_parts.Continue l → part_tok l ≡ tok_of l.token
   between_tok l kind h = rw (h.is.expand_is, h.is.part_is) refl
 
   -- how it is asked, by the token's own lexeme
-  single_seen : (lexeme : List ℕ) (l : strings.StringLiteral) (tok : Tok) → IsLiteralLeaf (literals.Single lexeme) (Literal (literal_of l)) tok → IsGivenPart IsToken (kind_of (lexeme_of l.token)) string_parts.Single l × (tok ≡ tok_of l.token)
+  single_seen : (lexeme : List ℕ) (l : strings.StringLiteral) (tok : Tok) → IsLiteralLeaf (literals.Single lexeme) (Literal (literal_of l)) tok → IsFilledPart IsToken (kind_of (lexeme_of l.token)) string_parts.Single l × (tok ≡ tok_of l.token)
   single_seen lexeme l tok h =
       let cooked : format_text (kind_of lexeme) string_parts.Single (lexeme_of h.token) ≡ Ok h.text = ap (format_text (kind_of lexeme) string_parts.Single) (sym h.lexeme) ∙ h.cooked in
       let x = part_seen l (kind_of lexeme) string_parts.Single h.token h.text h.is h.among cooked in
       let kind : kind_of lexeme ≡ kind_of (lexeme_of l.token) = ap kind_of (h.lexeme ∙ ap lexeme_of (ap (token_in l.token) (sym h.is))) in
-      (subst (λ (k : StringKind). IsGivenPart IsToken k string_parts.Single l) kind x.0, h.tok_is ∙ x.1)
+      (subst (λ (k : StringKind). IsFilledPart IsToken k string_parts.Single l) kind x.0, h.tok_is ∙ x.1)
 
   start_seen : (lexeme : List ℕ) (l : strings.StringLiteral) (tok : Tok) → IsLiteralLeaf (literals.Start lexeme) (Literal (literal_of l)) tok
-      → IsGivenPart IsToken (kind_of (lexeme_of l.token)) string_parts.Start l × (tok ≡ tok_of l.token) × (lexeme ≡ lexeme_of l.token)
+      → IsFilledPart IsToken (kind_of (lexeme_of l.token)) string_parts.Start l × (tok ≡ tok_of l.token) × (lexeme ≡ lexeme_of l.token)
   start_seen lexeme l tok h =
       let cooked : format_text (kind_of lexeme) string_parts.Start (lexeme_of h.token) ≡ Ok h.text = ap (format_text (kind_of lexeme) string_parts.Start) (sym h.lexeme) ∙ h.cooked in
       let x = part_seen l (kind_of lexeme) string_parts.Start h.token h.text h.is h.among cooked in
       let same : lexeme ≡ lexeme_of l.token = h.lexeme ∙ ap lexeme_of (ap (token_in l.token) (sym h.is)) in
-      (subst (λ (k : StringKind). IsGivenPart IsToken k string_parts.Start l) (ap kind_of same) x.0, h.tok_is ∙ x.1, same)
+      (subst (λ (k : StringKind). IsFilledPart IsToken k string_parts.Start l) (ap kind_of same) x.0, h.tok_is ∙ x.1, same)
 
-  end_seen : (start lexeme : List ℕ) (l : strings.StringLiteral) (tok : Tok) → IsLiteralLeaf (literals.End start lexeme) (Literal (literal_of l)) tok → IsGivenPart IsToken (kind_of start) string_parts.End l × (tok ≡ part_tok l)
+  end_seen : (start lexeme : List ℕ) (l : strings.StringLiteral) (tok : Tok) → IsLiteralLeaf (literals.End start lexeme) (Literal (literal_of l)) tok → IsFilledPart IsToken (kind_of start) string_parts.End l × (tok ≡ part_tok l)
   end_seen start lexeme l tok h =
       let cooked : format_text (kind_of start) string_parts.End (lexeme_of h.token) ≡ Ok h.text = ap (format_text (kind_of start) string_parts.End) (sym h.lexeme) ∙ h.cooked in
       let x = part_seen l (kind_of start) string_parts.End h.token h.text h.is h.among cooked in
       (x.0, h.tok_is ∙ x.1 ∙ sym (later_tok l (kind_of start) x.0))
 
-  continue_seen : (start lexeme : List ℕ) (l : strings.StringLiteral) (tok : Tok) → IsLiteralLeaf (literals.Continue start lexeme) (Literal (literal_of l)) tok → IsGivenPart IsToken (kind_of start) string_parts.Continue l × (tok ≡ part_tok l)
+  continue_seen : (start lexeme : List ℕ) (l : strings.StringLiteral) (tok : Tok) → IsLiteralLeaf (literals.Continue start lexeme) (Literal (literal_of l)) tok → IsFilledPart IsToken (kind_of start) string_parts.Continue l × (tok ≡ part_tok l)
   continue_seen start lexeme l tok h =
       let cooked : format_text (kind_of start) string_parts.Continue (lexeme_of h.token) ≡ Ok h.text = ap (format_text (kind_of start) string_parts.Continue) (sym h.lexeme) ∙ h.cooked in
       let x = part_seen l (kind_of start) string_parts.Continue h.token h.text h.is h.among cooked in
@@ -190,21 +190,21 @@ module _ (conditions : Conditions) (bound : ℕ) (IsToken : Token → Type 0) (f
   -- what is read of the tokens is its tree, and it is given what its parts have
   pub record Seen (e : Expression) (t : Expr Tok Tok) : Type 0 where
     pub same : t ≡ expr_of e
-    pub given : IsGivenExpression conditions.expander IsToken e
+    pub given : IsFilledExpression conditions.expander IsToken e
 
   record SeenRow {n : _} (row : ExpressionRow n) (ts : Exprs Tok Tok) : Type 0 where
     same : ts ≡ exprs_of_row row
-    given : AreGivenExpressions conditions.expander IsToken row
+    given : AreFilledExpressions conditions.expander IsToken row
 
   -- a format string with this start
   record SeenFormat (start : strings.StringLiteral) {n : _} (row : FormatRow n) (t : Expr Tok Tok) : Type 0 where
     same : t ≡ model.format_of (tok_of start.token) row
-    given : IsGivenPart IsToken (kind_of (lexeme_of start.token)) (first_part row) start × AreGivenParts conditions.expander IsToken (kind_of (lexeme_of start.token)) row
+    given : IsFilledPart IsToken (kind_of (lexeme_of start.token)) (first_part row) start × AreFilledParts conditions.expander IsToken (kind_of (lexeme_of start.token)) row
 
   -- the parts of a format string from this one on
   record SeenParts (start : List ℕ) (l : strings.StringLiteral) {n : _} (row : FormatRow n) (ps : Parts Tok Tok) : Type 0 where
     same : ps ≡ model.parts_of_row (part_tok l) row
-    given : IsGivenPart IsToken (kind_of start) (later_part row) l × AreGivenParts conditions.expander IsToken (kind_of start) row
+    given : IsFilledPart IsToken (kind_of start) (later_part row) l × AreFilledParts conditions.expander IsToken (kind_of start) row
 
   mutual
     pub seen_expression : (e : Expression) {t : Expr Tok Tok} → Alike seen (leaf_tree_of e) t → Seen e t
@@ -287,7 +287,7 @@ module _ (conditions : Conditions) (bound : ℕ) (IsToken : Token → Type 0) (f
         let x = start_seen lexeme start tok h in
         let y = seen_expression e c in
         let z = seen_parts lexeme literal others ps in
-        let P : List ℕ → Type 0 = λ k. IsGivenPart IsToken (kind_of k) (later_part others) literal × AreGivenParts conditions.expander IsToken (kind_of k) others in
+        let P : List ℕ → Type 0 = λ k. IsFilledPart IsToken (kind_of k) (later_part others) literal × AreFilledParts conditions.expander IsToken (kind_of k) others in
         let w = subst P x.2 z.given in
         record { same = λ i. tree.FormatString (x.1 i) (y.same i) (z.same i); given = (x.0, (y.given, w.0, w.1)) }
 
@@ -303,7 +303,7 @@ module _ (conditions : Conditions) (bound : ℕ) (IsToken : Token → Type 0) (f
 
   -- ---- bodies
 
-  fragment_seen : (f : Fragment) (t : tree.Fragment Tok Tok) → AlikeFragment seen (fragment_tree f) t → (t ≡ fragment_of f) × IsGivenFragment conditions.expander IsToken f
+  fragment_seen : (f : Fragment) (t : tree.Fragment Tok Tok) → AlikeFragment seen (fragment_tree f) t → (t ≡ fragment_of f) × IsFilledFragment conditions.expander IsToken f
   fragment_seen (fragments.Interpolation e) t (a.a_value h) = let x = seen_expression e h in (ap (λ (k : Expr Tok Tok). tree.Interpolation k) x.same, x.given)
   fragment_seen (fragments.Text token) t (a.a_text {a' = tok} h) =
       let x = name_seen Text token (Text token) tok (λ t. refl) refl h in
@@ -326,7 +326,7 @@ module _ (conditions : Conditions) (bound : ℕ) (IsToken : Token → Type 0) (f
       let y = all_seen view model_view IsGood one zs hs in
       ((λ i. x.0 i ∷ y.0 i), All-cons IsGood z zs x.1 y.1)
 
-  pub line_seen : (l : Line) (t : BodyLine Tok Tok ℕ) → AlikeLine seen (line_tree l) t → (t ≡ body_line_of l) × IsGivenLine conditions.expander IsToken l
+  pub line_seen : (l : Line) (t : BodyLine Tok Tok ℕ) → AlikeLine seen (line_tree l) t → (t ≡ body_line_of l) × IsFilledLine conditions.expander IsToken l
   line_seen l t (a.line hs) =
-      let x = all_seen fragment_tree fragment_of (IsGivenFragment conditions.expander IsToken) fragment_seen l.fragments.items hs in
+      let x = all_seen fragment_tree fragment_of (IsFilledFragment conditions.expander IsToken) fragment_seen l.fragments.items hs in
       (ap (λ (fs : List (tree.Fragment Tok Tok)). tree.Line l.number fs) x.0, x.1)

@@ -9,26 +9,26 @@ use Rattle.justfile_attribute.specs.declared.interpreter.Interpreter.{Interprete
 use Rattle.justfile_attribute_set.specs.AttributeSet.{AttributeSet, leaf_entries_of, written_of}
 use Rattle.justfile_attribute_set.specs.AttributeSet as sets
 use Rattle.justfile_attribute_set.specs.Pairs.{Pair, entry_of, leaf_entry_of}
-use Rattle.justfile_word.specs.AttributeKind.{kind_named}
-use Rattle.justfile_base.specs.StringKind.{kind_of}
-use Rattle.justfile_base.specs.Token.{lexeme_of}
-use Rattle.justfile_word.specs.declared.attribute_kind.AttributeKind.{AttributeKind}
-use Rattle.justfile_word.specs.declared.attribute_kind.AttributeKind.TheVariants as kinds
-use Rattle.justfile_base.specs.declared.name.Name.{Name}
-use Rattle.justfile_base.specs.declared.string_literal.StringLiteral as strings
-use Rattle.justfile_base.specs.declared.token.Token.{Token}
+use Rattle.justfile_vocabulary.specs.AttributeKind.{kind_named}
+use Rattle.justfile_token.specs.StringKind.{kind_of}
+use Rattle.justfile_token.specs.Token.{lexeme_of}
+use Rattle.justfile_vocabulary.specs.declared.attribute_kind.AttributeKind.{AttributeKind}
+use Rattle.justfile_vocabulary.specs.declared.attribute_kind.AttributeKind.TheVariants as kinds
+use Rattle.justfile_token.specs.declared.name.Name.{Name}
+use Rattle.justfile_token.specs.declared.string_literal.StringLiteral as strings
+use Rattle.justfile_token.specs.declared.token.Token.{Token}
 use Rattle.justfile_model.specs.Conditions.{Conditions}
 use Rattle.justfile_model.specs.Literals as literals
 use Rattle.justfile_model.specs.Literals.{Expansions, Literal, cooked_text, token_of}
 use Rattle.justfile_model.specs.ContentKeys.{entry_cmp}
 use Rattle.justfile_model.specs.ContentLeaf.{LiteralContent, TokenContent}
-use Rattle.justfile_word.specs.declared.format_string_part.FormatStringPart.{FormatStringPart}
-use Rattle.justfile_word.specs.declared.format_string_part.FormatStringPart.TheVariants as parts
+use Rattle.justfile_vocabulary.specs.declared.format_string_part.FormatStringPart.{FormatStringPart}
+use Rattle.justfile_vocabulary.specs.declared.format_string_part.FormatStringPart.TheVariants as parts
 use Rattle.justfile_model.specs.Meaning as meaning
 use Rattle.justfile_model.specs.Meaning.{by_key, by_position}
 use Rattle.justfile_model.specs.Order.{in_order}
-use Rattle.justfile_model.specs.ReadAttribute.{ReadAttribute, entry_read, keep_both, token_sight}
-use Rattle.justfile_model.specs.Sight.{content_as_read, or_empty, sees_tokens, text_or_none, text_under, tok_content}
+use Rattle.justfile_model.specs.ReadAttribute.{ReadAttribute, entry_read, keep_both, token_view}
+use Rattle.justfile_model.specs.LeafView.{content_as_read, or_empty, views_tokens, text_or_none, text_under, tok_content}
 use Rattle.justfile_model.specs.Tok.{Tok, tok_of}
 use Rattle.justfile_model.specs.Tree as tree
 use Rattle.justfile_model.specs.Tree.{Bound, Entry, Expr, OptionName, Property, Quoted, WrittenAttribute, lexeme}
@@ -42,12 +42,12 @@ use Rattle.justfile_model.proofs.NaturalAttributes.{IsMade, Keeping}
 use Rattle.justfile_model.proofs.NewAttributeLaws.{entry_made}
 use Rattle.justfile_model.proofs.Related as a
 use Rattle.justfile_model.proofs.Related.{Alike, Each}
-use Rattle.justfile_tree.specs.Expression.{expr_of, literal_tok}
-use Rattle.justfile_tree.specs.Content.{token_content}
-use Rattle.justfile_tree.specs.LeafSight.{leaf_cooked, leaf_literal, leaf_token, sees_leaves}
-use Rattle.justfile_tree.specs.LeafTree.{Leaf, leaf_tree_of}
-use Rattle.justfile_tree.specs.declared.expression.Expression.{Expression}
-use Rattle.justfile_parse_item.specs.Filled.{IfThere, IsGivenAttribute, IsGivenBoxed, IsGivenCount, IsGivenLiteral, IsGivenOption, IsGivenProperty}
+use Rattle.justfile_expression.specs.Expression.{expr_of, literal_tok}
+use Rattle.justfile_expression.specs.Content.{token_content}
+use Rattle.justfile_expression.specs.LeafViews.{leaf_cooked, leaf_literal, leaf_token, views_leaves}
+use Rattle.justfile_expression.specs.LeafTree.{Leaf, leaf_tree_of}
+use Rattle.justfile_expression.specs.declared.expression.Expression.{Expression}
+use Rattle.justfile_parse_item.specs.Filled.{IfThere, IsFilledAttribute, IsFilledBoxed, IsFilledCount, IsFilledLiteral, IsFilledOption, IsFilledProperty}
 use Rattle.justfile_parse_expression.specs.TableReader as reader
 use Rattle.justfile_parse_item.specs.ItemTable.{kept}
 use Rattle.justfile_parse_expression.specs.TableReader.{leaves}
@@ -64,8 +64,8 @@ module _ (conditions : Conditions) (bound : ℕ) (IsToken : Token → Type 0) (f
   abbrev seen : Relates
   seen = seeing.seen conditions bound IsToken file_depth import_offsets
 
-  abbrev IsSpot : Token → Tok → Type 0
-  IsSpot = table.IsSpot conditions bound IsToken file_depth import_offsets
+  abbrev IsPosition : Token → Tok → Type 0
+  IsPosition = table.IsPosition conditions bound IsToken file_depth import_offsets
 
   abbrev IsLeaf : (Token → Leaf) → Leaf → Tok → Type 0
   IsLeaf = table.IsLeaf conditions bound IsToken file_depth import_offsets
@@ -76,14 +76,14 @@ module _ (conditions : Conditions) (bound : ℕ) (IsToken : Token → Type 0) (f
   -- ---- attributes
 
   pub quoted_seen : (l : strings.StringLiteral) {q : Quoted Tok} → AlikeQuoted seen (quoted_by leaf_tree_of literal_leaf own l) q
-      → (q ≡ quoted_by expr_of literal_tok tok_of l) × IsGivenLiteral conditions.expander IsToken l
+      → (q ≡ quoted_by expr_of literal_tok tok_of l) × IsFilledLiteral conditions.expander IsToken l
   quoted_seen l {q} h =
       let x = seeing.string_seen conditions bound IsToken file_depth import_offsets h.lexeme l q.token h.token in
       ((λ i. record { expanded = sym h.expanded i; token = x.1 i }), x.0)
 
   quoted_row : (ls : List strings.StringLiteral) {qs : List (Quoted Tok)} → Each (AlikeQuoted seen) (map (quoted_by leaf_tree_of literal_leaf own) ls) qs
-      → (qs ≡ map (quoted_by expr_of literal_tok tok_of) ls) × All (IsGivenLiteral conditions.expander IsToken) ls
-  quoted_row ls h = seeing.all_seen conditions bound IsToken file_depth import_offsets (quoted_by leaf_tree_of literal_leaf own) (quoted_by expr_of literal_tok tok_of) (IsGivenLiteral conditions.expander IsToken) (λ l q k. quoted_seen l k) ls h
+      → (qs ≡ map (quoted_by expr_of literal_tok tok_of) ls) × All (IsFilledLiteral conditions.expander IsToken) ls
+  quoted_row ls h = seeing.all_seen conditions bound IsToken file_depth import_offsets (quoted_by leaf_tree_of literal_leaf own) (quoted_by expr_of literal_tok tok_of) (IsFilledLiteral conditions.expander IsToken) (λ l q k. quoted_seen l k) ls h
 
   -- what may be absent
   pub if_seen : {Z T U : Type 0} {Rel : T → U → Type 0} (view : Z → T) (model_view : Z → U) (IsGood : Z → Type 0) → ((z : Z) (u : U) → Rel (view z) u → (u ≡ model_view z) × IsGood z)
@@ -98,34 +98,34 @@ module _ (conditions : Conditions) (bound : ℕ) (IsToken : Token → Type 0) (f
   abbrev boxed_tree : Box Expression → Expr Tok Tok
   boxed_tree e = expr_of e.value
 
-  value_seen : (e : Box Expression) (t : Expr Tok Tok) → Alike seen (boxed_leaves e) t → (t ≡ boxed_tree e) × IsGivenBoxed conditions.expander IsToken e
+  value_seen : (e : Box Expression) (t : Expr Tok Tok) → Alike seen (boxed_leaves e) t → (t ≡ boxed_tree e) × IsFilledBoxed conditions.expander IsToken e
   value_seen e t h = let x = seeing.seen_expression conditions bound IsToken file_depth import_offsets e.value h in (x.same, x.given)
 
-  spot_seen : (token : Token) (tok : Tok) → IsSpot token tok → (tok ≡ tok_of token) × IsToken token
-  spot_seen token tok h = (sym h.is, h.among)
+  position_seen : (token : Token) (tok : Tok) → IsPosition token tok → (tok ≡ tok_of token) × IsToken token
+  position_seen token tok h = (sym h.is, h.among)
 
-  pub optional_seen : (o : Option (Box Expression)) {ot : Option (Expr Tok Tok)} → AlikeOption (Alike seen) (option_map boxed_leaves o) ot → (ot ≡ option_map boxed_tree o) × IfThere (IsGivenBoxed conditions.expander IsToken) o
-  optional_seen o h = if_seen boxed_leaves boxed_tree (IsGivenBoxed conditions.expander IsToken) value_seen o h
+  pub optional_seen : (o : Option (Box Expression)) {ot : Option (Expr Tok Tok)} → AlikeOption (Alike seen) (option_map boxed_leaves o) ot → (ot ≡ option_map boxed_tree o) × IfThere (IsFilledBoxed conditions.expander IsToken) o
+  optional_seen o h = if_seen boxed_leaves boxed_tree (IsFilledBoxed conditions.expander IsToken) value_seen o h
 
-  spots_seen : (o : Option Token) {ot : Option Tok} → AlikeOption IsSpot (option_map own o) ot → (ot ≡ option_map tok_of o) × IfThere IsToken o
-  spots_seen o h = if_seen own tok_of IsToken spot_seen o h
+  positions_seen : (o : Option Token) {ot : Option Tok} → AlikeOption IsPosition (option_map own o) ot → (ot ≡ option_map tok_of o) × IfThere IsToken o
+  positions_seen o h = if_seen own tok_of IsToken position_seen o h
 
   property_seen : (p : Name × Box Expression) (q : Property Tok Tok) → AlikeProperty seen (property_by leaf_tree_of literal_leaf own p) q
-      → (q ≡ property_by expr_of literal_tok tok_of p) × IsGivenProperty conditions.expander IsToken p
+      → (q ≡ property_by expr_of literal_tok tok_of p) × IsFilledProperty conditions.expander IsToken p
   property_seen p q h = let x = value_seen p.1 q.value h.value in ((λ i. record { key = sym h.key.is i; value = x.0 i }), (h.key.among, x.1))
 
   properties_seen : (o : Option (Name × Box Expression)) {oq : Option (Property Tok Tok)} → AlikeOption (AlikeProperty seen) (option_map (property_by leaf_tree_of literal_leaf own) o) oq
-      → (oq ≡ option_map (property_by expr_of literal_tok tok_of) o) × IfThere (IsGivenProperty conditions.expander IsToken) o
-  properties_seen o h = if_seen (property_by leaf_tree_of literal_leaf own) (property_by expr_of literal_tok tok_of) (IsGivenProperty conditions.expander IsToken) property_seen o h
+      → (oq ≡ option_map (property_by expr_of literal_tok tok_of) o) × IfThere (IsFilledProperty conditions.expander IsToken) o
+  properties_seen o h = if_seen (property_by leaf_tree_of literal_leaf own) (property_by expr_of literal_tok tok_of) (IsFilledProperty conditions.expander IsToken) property_seen o h
 
   option_seen : (key : Option Name) (l : Option strings.StringLiteral) {o : OptionName Tok Tok} → AlikeOptionName seen (option_by leaf_tree_of literal_leaf own key l) o
-      → (o ≡ option_by expr_of literal_tok tok_of key l) × IsGivenOption conditions.expander IsToken key l
+      → (o ≡ option_by expr_of literal_tok tok_of key l) × IsFilledOption conditions.expander IsToken key l
   option_seen (Some key) l (own_name h) = (ap tree.OwnName (sym h.is), h.among)
   option_seen None (Some l) (option_named h) = let x = quoted_seen l h in (ap tree.Named x.0, x.1)
   option_seen None None no_option = (refl, tt)
 
   bound_seen : (name : strings.StringLiteral) (key : Option Name) (count : Option ℕ) {o : Option (Bound Tok)} → AlikeOption (AlikeBound seen) (bound_by leaf_tree_of literal_leaf own name key count) o
-      → (o ≡ bound_by expr_of literal_tok tok_of name key count) × IsGivenCount conditions.expander IsToken key count
+      → (o ≡ bound_by expr_of literal_tok tok_of name key count) × IsFilledCount conditions.expander IsToken key count
   bound_seen name (Some key) (Some n) (present h) = ((λ i. Some (record { key = sym h.key.is i; number = sym h.number i })), h.key.among)
   bound_seen name None (Some n) (present h) = ((λ i. Some (record { key = sym h.key.is i; number = sym h.number i })), tt)
   bound_seen name (Some key) None absent = (refl, tt)
@@ -134,19 +134,19 @@ module _ (conditions : Conditions) (bound : ℕ) (IsToken : Token → Type 0) (f
   -- an attribute, by what it means
   record SeenAttribute (at : Attribute) (t : tree.Attribute Tok Tok) : Type 0 where
     same : t ≡ attribute_of at
-    given : IsGivenAttribute conditions.expander IsToken at
+    given : IsFilledAttribute conditions.expander IsToken at
 
   single_seen_by : (kind : AttributeKind) (o : Option (Box Expression)) {t : tree.Attribute Tok Tok} → AlikeAttribute seen (single_by leaf_tree_of literal_leaf own kind o) t
-      → (t ≡ single_by expr_of literal_tok tok_of kind o) × IfThere (IsGivenBoxed conditions.expander IsToken) o
+      → (t ≡ single_by expr_of literal_tok tok_of kind o) × IfThere (IsFilledBoxed conditions.expander IsToken) o
   single_seen_by kind None (plain k) = (refl, tt)
   single_seen_by kind (Some e) (single k {e' = t} h) = let x = value_seen e t h in (ap (tree.Single kind) x.0, x.1)
 
   texts_seen : (kind : AttributeKind) (ls : List strings.StringLiteral) {t : tree.Attribute Tok Tok} → AlikeAttribute seen (tree.Texts kind (map (quoted_by leaf_tree_of literal_leaf own) ls)) t
-      → (t ≡ tree.Texts kind (map (quoted_by expr_of literal_tok tok_of) ls)) × All (IsGivenLiteral conditions.expander IsToken) ls
+      → (t ≡ tree.Texts kind (map (quoted_by expr_of literal_tok tok_of) ls)) × All (IsFilledLiteral conditions.expander IsToken) ls
   texts_seen kind ls (texts k h) = let x = quoted_row ls h in (ap (tree.Texts kind) x.0, x.1)
 
   text_seen : (kind : AttributeKind) (l : strings.StringLiteral) {t : tree.Attribute Tok Tok} → AlikeAttribute seen (tree.Texts kind (quoted_by leaf_tree_of literal_leaf own l ∷ [])) t
-      → (t ≡ tree.Texts kind (quoted_by expr_of literal_tok tok_of l ∷ [])) × IsGivenLiteral conditions.expander IsToken l
+      → (t ≡ tree.Texts kind (quoted_by expr_of literal_tok tok_of l ∷ [])) × IsFilledLiteral conditions.expander IsToken l
   text_seen kind l (texts k (a.cons h a.nil)) = let x = quoted_seen l h in ((λ i. tree.Texts kind (x.0 i ∷ [])), x.1)
 
   script_seen : (o : Option (Interpreter strings.StringLiteral)) {t : tree.Attribute Tok Tok} → AlikeAttribute seen (leaf_attribute_of (attributes.Script o)) t
@@ -160,12 +160,12 @@ module _ (conditions : Conditions) (bound : ℕ) (IsToken : Token → Type 0) (f
   seen_attribute : (at : Attribute) {t : tree.Attribute Tok Tok} → AlikeAttribute seen (leaf_attribute_of at) t → SeenAttribute at t
   seen_attribute attributes.Android (plain kind) = record { same = refl; given = tt }
   seen_attribute (attributes.Arg flag help help_property long long_key max max_key min min_key multiple name pattern short short_key value) (arg h) =
-      let f = spots_seen flag h.flag in
+      let f = positions_seen flag h.flag in
       let p = properties_seen help_property h.help in
       let l = option_seen long_key long h.long in
       let x = bound_seen name max_key max h.max in
       let n = bound_seen name min_key min h.min in
-      let m = spots_seen multiple h.multiple in
+      let m = positions_seen multiple h.multiple in
       let q = quoted_seen name h.name in
       let t = properties_seen pattern h.pattern in
       let s = option_seen short_key short h.short in
@@ -221,32 +221,32 @@ module _ (conditions : Conditions) (bound : ℕ) (IsToken : Token → Type 0) (f
   seen_attribute attributes.Windows (plain kind) = record { same = refl; given = tt }
   seen_attribute (attributes.WorkingDirectory value) (single kind h) = let x = value_seen value _ h in record { same = ap (tree.Single kinds.WorkingDirectory) x.0; given = x.1 }
 
-  abbrev IsGivenPair : Pair → Type 0
-  IsGivenPair = seeing.IsGivenPair conditions bound IsToken file_depth import_offsets
+  abbrev IsFilledPair : Pair → Type 0
+  IsFilledPair = seeing.IsFilledPair conditions bound IsToken file_depth import_offsets
 
-  pair_seen : (p : Pair) (e : Entry Tok Tok) → AlikeEntry seen (leaf_entry_of p) e → (e ≡ entry_of p) × IsGivenPair p
+  pair_seen : (p : Pair) (e : Entry Tok Tok) → AlikeEntry seen (leaf_entry_of p) e → (e ≡ entry_of p) × IsFilledPair p
   pair_seen p e h =
       let x = seen_attribute p.0 h.attribute in
       ((λ i. record { name = sym h.name.is i; attribute = x.same i; comment = sym h.comment i }), (h.name.among, x.given))
 
   -- the attributes of a set
   set_seen : (set : AttributeSet) {es : List (Entry Tok Tok)} → Each (AlikeEntry seen) (leaf_entries_of set) es
-      → (es ≡ sets.entries_of set) × All IsGivenPair (written_of set)
-  set_seen set h = seeing.all_seen conditions bound IsToken file_depth import_offsets leaf_entry_of entry_of IsGivenPair pair_seen (written_of set) h
+      → (es ≡ sets.entries_of set) × All IsFilledPair (written_of set)
+  set_seen set h = seeing.all_seen conditions bound IsToken file_depth import_offsets leaf_entry_of entry_of IsFilledPair pair_seen (written_of set) h
 
   -- ---- what is seen of leaves
 
   -- what is kept of an attribute is what it means as it is written
   pub record IsKept (e : Entry Leaf Token) (x : ReadAttribute) : Type 0 where
     pub alike : AlikeEntry seen e x.entry
-    pub means : meaning.entry_of (sees_tokens conditions.expander) x.written ≡ Some x.entry
+    pub means : meaning.entry_of (views_tokens conditions.expander) x.written ≡ Some x.entry
 
   -- a name
   module _ {make : Token → Leaf} (holds : (t : Token) → leaf_token (make t) ≡ t) {leaf : Leaf} {tok : Tok} (h : IsLeaf make leaf tok) where
     held : leaf_token leaf ≡ h.token
     held = ap leaf_token h.is ∙ holds h.token
 
-    leaf_place : IsSpot (leaf_token leaf) tok
+    leaf_place : IsPosition (leaf_token leaf) tok
     leaf_place = record { among = subst IsToken (sym held) h.among; is = ap tok_of held ∙ sym h.tok_is }
 
     leaf_bytes : lexeme_of (leaf_token leaf) ≡ lexeme tok
@@ -275,7 +275,7 @@ module _ (conditions : Conditions) (bound : ℕ) (IsToken : Token → Type 0) (f
     literal_spelled : lexeme tok ≡ token_of l
     literal_spelled = ap lexeme h.tok_is ∙ sym h.lexeme
 
-    literal_place : IsSpot (leaf_token leaf) tok
+    literal_place : IsPosition (leaf_token leaf) tok
     literal_place = record { among = subst IsToken (sym literal_held) h.among; is = ap tok_of literal_held ∙ sym h.tok_is }
 
     literal_bytes : token_content (leaf_token leaf) ≡ tok_content tok
@@ -337,7 +337,7 @@ module _ (conditions : Conditions) (bound : ℕ) (IsToken : Token → Type 0) (f
   content_alike l l' (alike.end_literal k h) =
       ap leaf_literal h.is ∙ (λ i. content_with (sym (end_text k h) i) false (sym (literal_spelled k) i) (Some parts.End) (tok_content (sym h.tok_is i)))
 
-  abbrev sees_alike : SeesAlike seen sees_leaves (sees_tokens E)
+  abbrev sees_alike : SeesAlike seen views_leaves (views_tokens E)
   sees_alike = record {
     bytes = λ n n' h. leaf_bytes (λ t. refl) h;
     name_place = λ n n' h. leaf_place (λ t. refl) h;
@@ -348,30 +348,30 @@ module _ (conditions : Conditions) (bound : ℕ) (IsToken : Token → Type 0) (f
     cooked = cooked_alike;
     name_content = λ n n' h. leaf_content (λ t. refl) h;
     command_content = λ x t t' h. literal_bytes h;
-    spot_content = λ kind spelled b b' h. ap tok_content h.is;
+    position_content = λ kind spelled b b' h. ap tok_content h.is;
     literal_content = content_alike;
   }
 
   -- ---- what is kept of attributes
 
-  named_means : (C : Conditions) (w : WrittenAttribute Tok Tok) (e : Entry Tok Tok) → IsMade token_leaves (token_sight C) w e → meaning.entry_of (token_sight C) w ≡ Some e
+  named_means : (C : Conditions) (w : WrittenAttribute Tok Tok) (e : Entry Tok Tok) → IsMade token_leaves (token_view C) w e → meaning.entry_of (token_view C) w ≡ Some e
   named_means C w e h =
-      let m = entry_made (token_sight C) h.before h.name.tok h.kind (by_position w.arguments) (by_key w.arguments) e h.made in
+      let m = entry_made (token_view C) h.before h.name.tok h.kind (by_position w.arguments) (by_key w.arguments) e h.made in
       let named : kind_named w.name.lexeme ≡ Some h.kind = ap (λ (t : Tok). kind_named t.lexeme) h.name_is ∙ h.named in
       rw (named, m.meant) (λ i. Some (record { name = (h.name_is ∙ sym m.name_is) i; attribute = e.attribute; comment = (h.comment_is ∙ sym m.comment_is) i }))
 
-  pub keeping : Keeping seen leaves token_leaves kept.sight token_sight kept.keep kept.entry keep_both entry_read IsKept
+  pub keeping : Keeping seen leaves token_leaves kept.view token_view kept.keep kept.entry keep_both entry_read IsKept
   keeping = record {
-    sees = λ run C r. subst (λ (D : Conditions). SeesAlike seen sees_leaves (sees_tokens D.expander)) (sym r.same) sees_alike;
+    sees = λ run C r. subst (λ (D : Conditions). SeesAlike seen views_leaves (views_tokens D.expander)) (sym r.same) sees_alike;
     kept = λ run C r w w' e e' ws es made made'. record {
       alike = es;
-      means = subst (λ (D : Conditions). meaning.entry_of (sees_tokens D.expander) w' ≡ Some e') r.same (named_means C w' e' made');
+      means = subst (λ (D : Conditions). meaning.entry_of (views_tokens D.expander) w' ≡ Some e') r.same (named_means C w' e' made');
     };
     entry = λ x y h. h.alike;
   }
 
   all_mean : {xs : List (Entry Leaf Token)} {ys : List ReadAttribute} → Each IsKept xs ys
-      → meaning.all_of (meaning.entry_of (sees_tokens E)) (map (λ (x : ReadAttribute). x.written) ys) ≡ Some (map entry_read ys)
+      → meaning.all_of (meaning.entry_of (views_tokens E)) (map (λ (x : ReadAttribute). x.written) ys) ≡ Some (map entry_read ys)
   all_mean a.nil = refl
   all_mean (a.cons h hs) = rw (h.means, all_mean hs) refl
 
@@ -380,11 +380,11 @@ module _ (conditions : Conditions) (bound : ℕ) (IsToken : Token → Type 0) (f
   each_entry (a.cons h hs) = a.cons h.alike (each_entry hs)
 
   meant : {xs : List (Entry Leaf Token)} {ys : List ReadAttribute} → Each IsKept xs ys
-      → AreMeant conditions bound IsToken file_depth import_offsets (in_order (entry_cmp sees_leaves) xs) (map (λ (x : ReadAttribute). x.written) ys)
+      → AreMeant conditions bound IsToken file_depth import_offsets (in_order (entry_cmp views_leaves) xs) (map (λ (x : ReadAttribute). x.written) ys)
   meant {xs} {ys} h set e =
-      let sorted : Each (AlikeEntry seen) (in_order (entry_cmp sees_leaves) xs) (in_order (entry_cmp (sees_tokens E)) (map entry_read ys)) =
-      ordered_alike seen sees_leaves (sees_tokens E) sees_alike (each_entry h) in
-      let x = set_seen set (subst (λ (es : List (Entry Leaf Token)). Each (AlikeEntry seen) es (in_order (entry_cmp (sees_tokens E)) (map entry_read ys))) (sym e) sorted) in
+      let sorted : Each (AlikeEntry seen) (in_order (entry_cmp views_leaves) xs) (in_order (entry_cmp (views_tokens E)) (map entry_read ys)) =
+      ordered_alike seen views_leaves (views_tokens E) sees_alike (each_entry h) in
+      let x = set_seen set (subst (λ (es : List (Entry Leaf Token)). Each (AlikeEntry seen) es (in_order (entry_cmp (views_tokens E)) (map entry_read ys))) (sym e) sorted) in
       (rw (all_mean h) (ap Some x.0), x.1)
 
   pub attributed : RespectsAttributes seen leaves token_leaves kept token_attributes IsKept
@@ -393,6 +393,6 @@ module _ (conditions : Conditions) (bound : ℕ) (IsToken : Token → Type 0) (f
     attributes = λ run C r h. meant h;
     commented = λ c x y h. record {
       alike = record { name = h.alike.name; attribute = h.alike.attribute; comment = refl };
-      means = means_commented (sees_tokens E) c y.written y.entry h.means;
+      means = means_commented (views_tokens E) c y.written y.entry h.means;
     };
   }

@@ -7,9 +7,9 @@ use Rattle.std.specs.List.{slice_get}
 use Rattle.std.specs.Option.{option_to_list}
 use Rattle.std.specs.Prelude.{IsSomeAnd}
 use Rattle.justfile_line.specs.Line.{IsEmpty}
-use Rattle.justfile_base.specs.declared.token.Token.{Token}
+use Rattle.justfile_token.specs.declared.token.Token.{Token}
 use Rattle.justfile_parse_item.specs.Tree.{fragment_tree, line_tree}
-use Rattle.justfile_tree.specs.LeafTree.{Leaf}
+use Rattle.justfile_expression.specs.LeafTree.{Leaf}
 use Rattle.justfile_line.specs.declared.fragment.Fragment.{Fragment}
 use Rattle.justfile_line.specs.declared.line.Line as lines
 use Rattle.justfile_model.specs.Tree as tree

@@ -1,21 +1,21 @@
 -- Reading the items of a table, with all that the parser's trees hold.
 use Rattle.std.specs.Prelude.{ℕ, Bool, false, List, [], ◌∷◌, Option, Ok, Err, codes, nat_eq}
 use Rattle.std.specs.List.{starts_with}
-use Rattle.justfile_base.specs.Token.{lexeme_of}
-use Rattle.justfile_base.specs.declared.token.Token.{Token}
+use Rattle.justfile_token.specs.Token.{lexeme_of}
+use Rattle.justfile_token.specs.declared.token.Token.{Token}
 use Rattle.justfile_model.specs.Tree as tree
 use Rattle.justfile_model.specs.Tree.{BodyLine, Entry, Fragment, OrderedItem, commented_entry}
-use Rattle.justfile_word.specs.declared.item_kind.ItemKind.{ItemKind}
-use Rattle.justfile_word.specs.declared.token_kind.TokenKind.{TokenKind}
+use Rattle.justfile_vocabulary.specs.declared.item_kind.ItemKind.{ItemKind}
+use Rattle.justfile_vocabulary.specs.declared.token_kind.TokenKind.{TokenKind}
 use Rattle.justfile_model.specs.AttributeReader as attributes
 use Rattle.justfile_model.specs.AttributeReader.{AttributeLeaves}
 use Rattle.justfile_model.specs.ContentKeys.{entry_cmp}
 use Rattle.justfile_model.specs.Order.{in_order}
 use Rattle.justfile_model.specs.Reader as files
-use Rattle.justfile_model.specs.Reading as reading
-use Rattle.justfile_model.specs.Reading.{Counters, refused}
-use Rattle.justfile_tree.specs.LeafSight.{sees_leaves}
-use Rattle.justfile_tree.specs.LeafTree.{Leaf, Text}
+use Rattle.justfile_model.specs.ReaderState as reading
+use Rattle.justfile_model.specs.ReaderState.{Counters, refused}
+use Rattle.justfile_expression.specs.LeafViews.{views_leaves}
+use Rattle.justfile_expression.specs.LeafTree.{Leaf, Text}
 use Rattle.justfile_parse_expression.specs.declared.significant.TableEntry.{TableEntry}
 use Rattle.justfile_parse_attribute.specs.AttributeTable.{Entries}
 use Rattle.justfile_parse_expression.specs.TableReader.{Read, Run, State, leaves}
@@ -33,15 +33,15 @@ has_shebang (line ∷ lines) = is_shebang line
 -- a construct has what its attributes mean, in the order of their content
 abbrev pub kept : AttributeLeaves Run Leaf Token Entries (Entry Leaf Token)
 kept = record {
-  sight = λ run. sees_leaves;
+  view = λ run. views_leaves;
   keep = λ written entry. entry;
   entry = λ entry. entry;
   comment = commented_entry;
-  attributes = λ run entries. in_order (entry_cmp sees_leaves) entries;
+  attributes = λ run entries. in_order (entry_cmp views_leaves) entries;
 }
 
-abbrev pub draw_recipe : Counters → State → Read (ℕ × Counters)
-draw_recipe = files.draw_recipe leaves
+abbrev pub next_recipe_number : Counters → State → Read (ℕ × Counters)
+next_recipe_number = files.next_recipe_number leaves
 
 abbrev pub fragment : State → Read (Fragment Leaf Token)
 fragment = files.fragment leaves
@@ -119,11 +119,11 @@ item_attributes = files.attributes leaves kept
 
 -- the entries in the order of their content
 abbrev pub in_content_order : Entries → Entries
-in_content_order entries = in_order (entry_cmp sees_leaves) entries
+in_content_order entries = in_order (entry_cmp views_leaves) entries
 
 -- the lines of attributes before a construct
 abbrev pub lines_of_attributes : State → Read Entries
-lines_of_attributes = attributes.attribute_lines leaves kept.sight kept.keep kept.entry kept.comment
+lines_of_attributes = attributes.attribute_lines leaves kept.view kept.keep kept.entry kept.comment
 
 -- attributes that begin with this bracket stand before no blank line and no comment
 abbrev pub before_item : (opener : TableEntry) → Entries × State → Read Entries

@@ -1,8 +1,8 @@
 pub mod Exclusions
 pub mod Filled
-pub mod Halting
+pub mod ExtraneousFault
 pub mod ItemTable
 pub mod MethodResults
 pub mod Tree
-pub mod Whole
+pub mod DerivedFields
 pub mod Words

@@ -1,15 +1,15 @@
 -- What a method of the parser returns, of items, is what the definitions read.
 use Rattle.std.specs.Prelude.{◌≡◌, ℕ, ◌≤◌, ◌+◌, Result}
-use Rattle.justfile_word.specs.Numerator.{bindings_of, constants_of, recipes_of}
-use Rattle.justfile_word.specs.declared.numerator.Numerator.{Numerator}
-use Rattle.justfile_base.specs.declared.token.Token.{Token}
+use Rattle.justfile_vocabulary.specs.Numerator.{bindings_of, constants_of, recipes_of}
+use Rattle.justfile_vocabulary.specs.declared.numerator.Numerator.{Numerator}
+use Rattle.justfile_token.specs.declared.token.Token.{Token}
 use Rattle.justfile_model.specs.Tree.{OrderedItem}
-use Rattle.justfile_model.specs.Reading.{Counters}
+use Rattle.justfile_model.specs.ReaderState.{Counters}
 use Rattle.justfile_parse_item.specs.ItemTable.{ReadItem}
-use Rattle.justfile_parse_attribute.specs.Halting.{ReadsRuled}
-use Rattle.justfile_parse_attribute.specs.declared.halt.Halt.{Halt}
+use Rattle.justfile_parse_attribute.specs.ParseErrors.{ReadsRuled}
+use Rattle.justfile_parse_attribute.specs.declared.parse_error.ParseError.{ParseError}
 use Rattle.justfile_parse_expression.specs.TableReader.{State}
-use Rattle.justfile_tree.specs.LeafTree.{Leaf}
+use Rattle.justfile_expression.specs.LeafTree.{Leaf}
 
 -- bindings and recipes were numbered, together at most so many, and nothing else
 pub record IsMoved (old new : Numerator) (most : ℕ) : Type 0 where
@@ -19,5 +19,5 @@ pub record IsMoved (old new : Numerator) (most : ℕ) : Type 0 where
   pub constants : constants_of new ≡ constants_of old
 
 -- what was returned, of a construct that takes no number, is what is read from whatever counters, or says why not
-unfoldable pub ReadsUncounted : {X : Type 0} → (X → OrderedItem Leaf Token ℕ) → Result X Halt → State → (Counters → ReadItem) → Type 0
+unfoldable pub ReadsUncounted : {X : Type 0} → (X → OrderedItem Leaf Token ℕ) → Result X ParseError → State → (Counters → ReadItem) → Type 0
 ReadsUncounted view result s read = (n : Counters) → ReadsRuled (λ x. (view x, n)) result s (read n)

@@ -2,10 +2,10 @@
 use Rattle.std.specs.Prelude.{ℕ, Bool, List, Option, Some, None, drop, map, string_bytes, take}
 use Rattle.std.specs.Option.{option_copied, option_map}
 use Rattle.justfile_attribute_set.specs.AttributeSet.{leaf_entries_of}
-use Rattle.justfile_base.specs.declared.name.Name.{Name}
-use Rattle.justfile_base.specs.declared.namepath.Namepath.{Namepath}
-use Rattle.justfile_word.specs.declared.number.Number.{Number}
-use Rattle.justfile_base.specs.declared.string_literal.StringLiteral as literals
+use Rattle.justfile_token.specs.declared.name.Name.{Name}
+use Rattle.justfile_token.specs.declared.namepath.Namepath.{Namepath}
+use Rattle.justfile_vocabulary.specs.declared.number.Number.{Number}
+use Rattle.justfile_token.specs.declared.string_literal.StringLiteral as literals
 use Rattle.justfile_attribute_set.specs.AttributeSet.{AttributeSet}
 use Rattle.justfile_line.specs.declared.fragment.Fragment as fragment
 use Rattle.justfile_line.specs.declared.fragment.Fragment.TheVariants as fragments
@@ -17,14 +17,14 @@ use Rattle.justfile_item.specs.declared.item.Item as item
 use Rattle.justfile_item.specs.declared.item.Item.TheVariants as items
 use Rattle.justfile_item.specs.declared.recipe.UnresolvedRecipe.{UnresolvedRecipe}
 use Rattle.justfile_item.specs.declared.set.Set.{Set}
-use Rattle.justfile_base.specs.declared.token.Token.{Token}
+use Rattle.justfile_token.specs.declared.token.Token.{Token}
 use Rattle.justfile_model.specs.Tree as tree
 use Rattle.justfile_model.specs.Tree.{Fragment, BodyLine, OrderedItem, Quoted, assignment_of}
 use Rattle.justfile_parse_header.specs.Tree.{dependency_tree, name_tree, parameter_tree, path_tree}
 use Rattle.justfile_setting.specs.LeafSetting.{leaf_value_of}
 use Rattle.justfile_setting.specs.Setting.{keyword_of}
-use Rattle.justfile_tree.specs.LeafTree.{AssignmentName, RecipeName, Leaf, Assigned, Headed, Literal, Named, Text, leaf_tree_of, literal_of}
-use Rattle.justfile_tree.specs.declared.expression.Expression.{Expression}
+use Rattle.justfile_expression.specs.LeafTree.{AssignmentName, RecipeName, Leaf, Assigned, Headed, Literal, Named, Text, leaf_tree_of, literal_of}
+use Rattle.justfile_expression.specs.declared.expression.Expression.{Expression}
 
 abbrev pub fragment_tree : fragment.Fragment → Fragment Leaf Token
 fragment_tree (fragments.Interpolation expression) = tree.Interpolation (leaf_tree_of expression)

@@ -3,17 +3,17 @@ ghost use Rattle.std.specs.Prelude.{◌<◌, IfOk, OnOk, map};
 ghost use Rattle.justfile_parse_item.specs.ItemTable as reader;
 ghost use Rattle.justfile_parse_item.specs.MethodResults.{ReadsUncounted};
 ghost use Rattle.justfile_parse_item.specs.Tree.{item_tree};
-ghost use Rattle.justfile_parse_item.specs.Whole.{AreWholePairs, IsWholeItem};
+ghost use Rattle.justfile_parse_item.specs.DerivedFields.{HaveDerivedPairFields, HasDerivedItemFields};
 ghost use Rattle.justfile_parse_attribute.specs.Attributes.{entry_of_pair};
-ghost use Rattle.justfile_parse_expression.specs.View.{left, state_of};
+ghost use Rattle.justfile_parse_expression.specs.View.{tokens_left, state_of};
 
-use crate::construct::allowed;
+use crate::attribute_checks::check_allowed;
 use justfile_attribute::Attribute;
-use justfile_base::{Expander, ItemKind, Name, TokenKind};
 use justfile_item::{Alias, Item};
-use justfile_parse_attribute::Halt;
+use justfile_parse_attribute::ParseError;
 use justfile_parse_expression::ExpressionParser;
 use justfile_parse_header::parse_namepath;
+use justfile_token::{Expander, ItemKind, Name, TokenKind};
 use justfile_written::Written;
 
 /// NAME `:=` the path of a recipe, after the attributes and the word.
@@ -21,17 +21,17 @@ use justfile_written::Written;
 pub(crate) fn parse_alias<'src, X: Expander>(
     parser: &mut ExpressionParser<'_, 'src, X>,
     attributes: Vec<(Attribute<'src>, Written<'src>)>,
-) -> Result<Item<'src>, Halt<'src>>
-    requires { AreWholePairs attributes.items }
+) -> Result<Item<'src>, ParseError<'src>>
+    requires { HaveDerivedPairFields attributes.items }
     ensures reads { ReadsUncounted item_tree result (state_of X.answer parser.new)
         (λ n. reader.alias (map entry_of_pair attributes.entry.items) n (state_of X.answer parser.old)) }
-    ensures whole { IfOk result IsWholeItem }
-    ensures progress { OnOk result (left parser.new < left parser.old) }
+    ensures whole { IfOk result HasDerivedItemFields }
+    ensures progress { OnOk result (tokens_left parser.new < tokens_left parser.old) }
 {
     let name = parser.expect(TokenKind::Identifier)?;
     parser.expect(TokenKind::ColonEquals)?;
     let target = parse_namepath(parser)?;
-    let attributes = allowed(parser.alloc, ItemKind::Alias, attributes, name)?;
+    let attributes = check_allowed(parser.alloc, ItemKind::Alias, attributes, name)?;
     Ok(Item::Alias(Alias {
         attributes,
         name: Name::from_identifier(*name.token),

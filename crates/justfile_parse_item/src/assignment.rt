@@ -4,43 +4,43 @@ ghost use Rattle.justfile_model.specs.SignificantTokens.{identifiers};
 ghost use Rattle.justfile_parse_item.specs.ItemTable as reader;
 ghost use Rattle.justfile_parse_item.specs.MethodResults.{IsMoved};
 ghost use Rattle.justfile_parse_item.specs.Tree.{item_tree};
-ghost use Rattle.justfile_parse_item.specs.Whole.{AreWholePairs, IsWholeItem};
+ghost use Rattle.justfile_parse_item.specs.DerivedFields.{HaveDerivedPairFields, HasDerivedItemFields};
 ghost use Rattle.justfile_parse_attribute.specs.Attributes.{entry_of_pair};
 ghost use Rattle.justfile_parse_expression.specs.Significant.{significant_of};
-ghost use Rattle.justfile_parse_expression.specs.View.{left, state_of};
+ghost use Rattle.justfile_parse_expression.specs.View.{tokens_left, state_of};
 ghost use Rattle.justfile_parse_header.specs.Counting.{ReadsCounted, counters_of};
 
-use crate::construct::{allowed, is_hidden};
+use crate::attribute_checks::{check_allowed, is_private_item};
 use justfile_attribute::Attribute;
-use justfile_base::{Expander, ItemKind, Name, Numerator, TokenKind};
 use justfile_item::{Binding, Item};
-use justfile_parse_attribute::Halt;
+use justfile_parse_attribute::ParseError;
 use justfile_parse_expression::ExpressionParser;
-use justfile_parse_header::draw_binding;
+use justfile_parse_header::next_binding_number;
+use justfile_token::{Expander, ItemKind, Name, Numerator, TokenKind};
 use justfile_written::Written;
 
 /// NAME `:=` expression, after the attributes, and after `eager` or `export` or none of these words.
-#[tactic(auto, using(crate::proofs::Moved::unmoved, justfile_parse_expression::proofs::Rest::file_depth_is), unfolding(justfile_model::specs::Reader::assignment, justfile_parse_expression::specs::TableReader::leaves))]
+#[tactic(auto, using(crate::proofs::CounterSteps::unmoved, justfile_parse_expression::proofs::Rest::file_depth_is), unfolding(justfile_model::specs::Reader::assignment, justfile_parse_expression::specs::TableReader::leaves))]
 pub(crate) fn parse_assignment<'src, X: Expander>(
     parser: &mut ExpressionParser<'_, 'src, X>,
     eager: bool,
     export: bool,
     attributes: Vec<(Attribute<'src>, Written<'src>)>,
     numerator: &mut Numerator,
-) -> Result<Item<'src>, Halt<'src>>
-    requires { AreWholePairs attributes.items }
+) -> Result<Item<'src>, ParseError<'src>>
+    requires { HaveDerivedPairFields attributes.items }
     ensures reads { ReadsCounted item_tree result numerator.new (state_of X.answer parser.new)
         (reader.assignment eager export (map entry_of_pair attributes.entry.items) (counters_of numerator.old) (state_of X.answer parser.old)) }
-    ensures whole { IfOk result IsWholeItem }
-    ensures progress { OnOk result (left parser.new < left parser.old) }
+    ensures whole { IfOk result HasDerivedItemFields }
+    ensures progress { OnOk result (tokens_left parser.new < tokens_left parser.old) }
     ensures moved { IsMoved numerator.old numerator.new (identifiers (map significant_of (state_of X.answer parser.old).left)) }
 {
     let name = parser.expect(TokenKind::Identifier)?;
     parser.expect(TokenKind::ColonEquals)?;
     let value = parser.parse_expression()?;
-    let attributes = allowed(parser.alloc, ItemKind::Assignment, attributes, name)?;
-    let number = draw_binding(numerator)?;
-    let private = is_hidden(*name.token, &attributes);
+    let attributes = check_allowed(parser.alloc, ItemKind::Assignment, attributes, name)?;
+    let number = next_binding_number(numerator)?;
+    let private = is_private_item(*name.token, &attributes);
     Ok(Item::Assignment(Binding {
         attributes,
         eager,

@@ -6,12 +6,12 @@ ghost use Rattle.justfile_model.specs.Tree.{trimmed};
 ghost use Rattle.justfile_parse_item.specs.ItemTable as reader;
 ghost use Rattle.justfile_parse_expression.specs.MethodResults.{Reads};
 ghost use Rattle.justfile_parse_item.specs.Tree.{fragment_tree, line_tree};
-ghost use Rattle.justfile_parse_expression.specs.View.{left, state_of};
+ghost use Rattle.justfile_parse_expression.specs.View.{tokens_left, state_of};
 
-use justfile_base::{Expander, TokenKind};
 use justfile_line::{Fragment, Line};
 use justfile_parse_expression::significant::TableEntry;
-use justfile_parse_expression::{ExpressionParser, Refusal, Stop};
+use justfile_parse_expression::{ExpressionError, ExpressionParser, SyntaxError};
+use justfile_token::{Expander, TokenKind};
 
 /// A comment before a body, or none, and the lines of the body.
 pub(crate) type CommentedBody<'run, 'src> = (Option<TableEntry<'run, 'src>>, Vec<Line<'src>>);
@@ -21,10 +21,10 @@ pub(crate) type CommentedBody<'run, 'src> = (Option<TableEntry<'run, 'src>>, Vec
 #[tactic(auto, using(crate::proofs::Bodies::body_at_once, crate::proofs::Bodies::body_commented, crate::proofs::Bodies::body_missing))]
 pub(crate) fn parse_body_after_header<'run, 'src, X: Expander>(
     parser: &mut ExpressionParser<'run, 'src, X>,
-) -> Result<CommentedBody<'run, 'src>, Stop<'src>>
+) -> Result<CommentedBody<'run, 'src>, ExpressionError<'src>>
     ensures reads { Reads (λ b. (b.0, map line_tree b.1.items)) result (state_of X.answer parser.new)
         (reader.optional_body (state_of X.answer parser.old)) }
-    ensures progress { OnOk result (left parser.new ≤ left parser.old) }
+    ensures progress { OnOk result (tokens_left parser.new ≤ tokens_left parser.old) }
 {
     if parser.peek_kinds(&[TokenKind::Eol, TokenKind::Indent]) {
         parser.skip(2);
@@ -35,7 +35,7 @@ pub(crate) fn parse_body_after_header<'run, 'src, X: Expander>(
         parser.skip(3);
         return parse_body_after(parser, comment);
     }
-    parser.wanted.add(TokenKind::Indent);
+    parser.expected_tokens.add(TokenKind::Indent);
     Ok((None, Vec::new(parser.alloc)))
 }
 
@@ -44,10 +44,10 @@ pub(crate) fn parse_body_after_header<'run, 'src, X: Expander>(
 fn parse_body_after<'run, 'src, X: Expander>(
     parser: &mut ExpressionParser<'run, 'src, X>,
     comment: Option<TableEntry<'run, 'src>>,
-) -> Result<CommentedBody<'run, 'src>, Stop<'src>>
+) -> Result<CommentedBody<'run, 'src>, ExpressionError<'src>>
     ensures reads { Reads (λ b. (b.0, map line_tree b.1.items)) result (state_of X.answer parser.new)
         (reader.body_after comment.entry (state_of X.answer parser.old)) }
-    ensures progress { OnOk result (left parser.new ≤ left parser.old) }
+    ensures progress { OnOk result (tokens_left parser.new ≤ tokens_left parser.old) }
 {
     let lines = parse_body(parser)?;
     Ok((comment, lines))
@@ -57,15 +57,15 @@ fn parse_body_after<'run, 'src, X: Expander>(
 #[tactic(auto, using(crate::proofs::Bodies::body_some, crate::proofs::Bodies::body_none))]
 fn parse_body<'src, X: Expander>(
     parser: &mut ExpressionParser<'_, 'src, X>,
-) -> Result<Vec<Line<'src>>, Stop<'src>>
+) -> Result<Vec<Line<'src>>, ExpressionError<'src>>
     ensures reads { Reads (λ lines. map line_tree lines.items) result (state_of X.answer parser.new)
         (reader.body (state_of X.answer parser.old)) }
-    ensures progress { OnOk result (left parser.new ≤ left parser.old) }
+    ensures progress { OnOk result (tokens_left parser.new ≤ tokens_left parser.old) }
 {
     let mut lines = parse_lines(parser)?;
     trim_lines(&mut lines);
     if lines.is_empty() {
-        return Err(Stop::Refused(Refusal::Unexpected));
+        return Err(ExpressionError::Refused(SyntaxError::Unexpected));
     }
     Ok(lines)
 }
@@ -74,10 +74,10 @@ fn parse_body<'src, X: Expander>(
 #[tactic(auto, using(crate::proofs::Bodies::lines_end, crate::proofs::Bodies::lines_go_on, crate::proofs::Bodies::line_shrinks, crate::proofs::Bodies::lines_stop))]
 fn parse_lines<'src, X: Expander>(
     parser: &mut ExpressionParser<'_, 'src, X>,
-) -> Result<Vec<Line<'src>>, Stop<'src>>
+) -> Result<Vec<Line<'src>>, ExpressionError<'src>>
     ensures reads { Reads (λ lines. map line_tree lines.items) result (state_of X.answer parser.new)
         (reader.lines (state_of X.answer parser.old)) }
-    ensures progress { OnOk result (left parser.new ≤ left parser.old) }
+    ensures progress { OnOk result (tokens_left parser.new ≤ tokens_left parser.old) }
 {
     let mut lines = Vec::new(parser.alloc);
     'lines: loop {
@@ -94,9 +94,9 @@ fn parse_lines<'src, X: Expander>(
 #[tactic(auto, unfolding(justfile_model::specs::Reader::body_line))]
 fn parse_body_line<'src, X: Expander>(
     parser: &mut ExpressionParser<'_, 'src, X>,
-) -> Result<Line<'src>, Stop<'src>>
+) -> Result<Line<'src>, ExpressionError<'src>>
     ensures reads { Reads line_tree result (state_of X.answer parser.new) (reader.body_line (state_of X.answer parser.old)) }
-    ensures progress { OnOk result (left parser.new ≤ left parser.old) }
+    ensures progress { OnOk result (tokens_left parser.new ≤ tokens_left parser.old) }
 {
     let number = peek_line(parser);
     let fragments = parse_line_rest(parser)?;
@@ -118,10 +118,10 @@ fn peek_line<X: Expander>(parser: &ExpressionParser<'_, '_, X>) -> usize
 #[tactic(auto, using(crate::proofs::Bodies::line_ends, crate::proofs::Bodies::line_left, crate::proofs::Bodies::line_goes_on, crate::proofs::Bodies::line_stops))]
 fn parse_line_rest<'src, X: Expander>(
     parser: &mut ExpressionParser<'_, 'src, X>,
-) -> Result<Vec<Fragment<'src>>, Stop<'src>>
+) -> Result<Vec<Fragment<'src>>, ExpressionError<'src>>
     ensures reads { Reads (λ fragments. map fragment_tree fragments.items) result (state_of X.answer parser.new)
         (reader.line_rest (state_of X.answer parser.old)) }
-    ensures progress { OnOk result (left parser.new ≤ left parser.old) }
+    ensures progress { OnOk result (tokens_left parser.new ≤ tokens_left parser.old) }
 {
     let mut fragments = Vec::new(parser.alloc);
     'fragments: loop {
@@ -141,9 +141,9 @@ fn parse_line_rest<'src, X: Expander>(
 #[tactic(auto, using(crate::proofs::Bodies::fragment_is))]
 fn parse_fragment<'src, X: Expander>(
     parser: &mut ExpressionParser<'_, 'src, X>,
-) -> Result<Fragment<'src>, Stop<'src>>
+) -> Result<Fragment<'src>, ExpressionError<'src>>
     ensures reads { Reads fragment_tree result (state_of X.answer parser.new) (reader.fragment (state_of X.answer parser.old)) }
-    ensures progress { OnOk result (left parser.new < left parser.old) }
+    ensures progress { OnOk result (tokens_left parser.new < tokens_left parser.old) }
 {
     if let Some(text) = parser.accept(TokenKind::Text) {
         return Ok(Fragment::Text { token: *text.token });

@@ -1,112 +1,190 @@
-//! The attributes of a construct, once it is known which construct it is.
-ghost use Rattle.std.specs.Prelude.{◌≡◌, ◌&&◌, IfOk, map};
-ghost use Rattle.justfile_attribute_set.specs.AttributeSet.{IsConstruct, leaf_entries_of};
-ghost use Rattle.justfile_model.specs.ContentKeys.{has_attribute};
-ghost use Rattle.justfile_model.specs.HeaderReader.{obeying};
-ghost use Rattle.justfile_model.specs.RecipeRules.{exclusions_broken};
-ghost use Rattle.justfile_parse_item.specs.Exclusions.{IsExclusion};
-ghost use Rattle.justfile_parse_item.specs.Halting.{IsExtraneousFault};
+//! Constructs: their attributes, the words that they begin with, and what follows.
+ghost use Rattle.std.specs.Prelude.{◌≡◌, ◌<◌, ◌≤◌, IfOk, OnOk, map};
+ghost use Rattle.justfile_model.specs.SignificantTokens.{identifiers};
 ghost use Rattle.justfile_parse_item.specs.ItemTable as reader;
-ghost use Rattle.justfile_parse_item.specs.Whole.{AreWholePairs, HasWholeAttributes, is_hidden, is_private};
+ghost use Rattle.justfile_parse_item.specs.MethodResults.{IsMoved};
+ghost use Rattle.justfile_parse_item.specs.Tree.{item_tree};
+ghost use Rattle.justfile_parse_item.specs.DerivedFields.{HaveDerivedPairFields, HasDerivedItemFields};
+ghost use Rattle.justfile_parse_item.specs.Words.{word_taken, worded};
 ghost use Rattle.justfile_parse_attribute.specs.Attributes.{entry_of_pair};
-ghost use Rattle.justfile_parse_attribute.specs.Halting.{ReadsRuled};
-ghost use Rattle.justfile_parse_expression.specs.TableReader.{State};
-ghost use Rattle.justfile_tree.specs.LeafSight.{sees_leaves};
+ghost use Rattle.justfile_parse_attribute.specs.ParseErrors.{ReadsRuled};
+ghost use Rattle.justfile_parse_expression.specs.MethodResults.{Takes};
+ghost use Rattle.justfile_parse_expression.specs.Significant.{significant_of};
+ghost use Rattle.justfile_parse_expression.specs.View.{Moves, tokens_left, state_of};
+ghost use Rattle.justfile_parse_header.specs.Counting.{ReadsCounted, counters_of};
 
+use crate::alias::parse_alias;
+use crate::assignment::parse_assignment;
+use crate::attribute_checks::extraneous_error;
+use crate::function::parse_function;
+use crate::import::parse_import;
+use crate::module::parse_module;
+use crate::recipe::parse_any_recipe;
+use crate::set::parse_set;
+use crate::unexport::parse_unexport;
 use justfile_attribute::Attribute;
-use justfile_attribute_set::AttributeSet;
-use justfile_base::{AttributeKind, CompileErrorKind, Fault, ItemKind, Token};
-use justfile_parse_attribute::{Halt, make_halt};
-use justfile_parse_expression::significant::TableEntry;
+use justfile_item::Item;
+use justfile_parse_attribute::{ParseError, parse_attributes, rule_error};
+use justfile_parse_expression::ExpressionParser;
+use justfile_parse_item_parts::{Lookahead, accept_keyword_before, peek_assignment};
+use justfile_token::{Expander, Keyword, Numerator, TokenKind};
 use justfile_written::Written;
-use std::alloc::Global;
 
-/// The attributes of an item of this kind, whose name or path is at this token, if it may have them.
-#[tactic(auto, using(crate::proofs::Constructs::is_allowed, crate::proofs::Constructs::is_disallowed, crate::proofs::Constructs::set_whole, crate::proofs::Constructs::whole_pairs))]
-pub(crate) fn allowed<'src>(
-    alloc: Global,
-    item: ItemKind,
+/// A word that a construct begins with.
+#[derive(Clone, Copy, Debug, PartialEq, Eq)]
+pub(crate) enum ConstructKeyword {
+    Alias,
+    Eager,
+    Export,
+    Import,
+    Mod,
+    Set,
+    Unexport,
+}
+
+/// A construct with its attributes, where no expression is open.
+#[tactic(auto, using(crate::proofs::CounterSteps::unmoved), unfolding(justfile_model::specs::Reader::construct))]
+pub(crate) fn parse_construct<'src, X: Expander>(
+    parser: &mut ExpressionParser<'_, 'src, X>,
+    numerator: &mut Numerator,
+) -> Result<Item<'src>, ParseError<'src>>
+    requires { (state_of X.answer parser.old).depth ≡ 0 }
+    ensures reads { ReadsCounted item_tree result numerator.new (state_of X.answer parser.new)
+        (reader.construct (counters_of numerator.old) (state_of X.answer parser.old)) }
+    ensures whole { IfOk result HasDerivedItemFields }
+    ensures progress { OnOk result (tokens_left parser.new < tokens_left parser.old) }
+    ensures moved { IsMoved numerator.old numerator.new (identifiers (map significant_of (state_of X.answer parser.old).left)) }
+{
+    let attributes = parse_item_attributes(parser)?;
+    parse_content(parser, attributes, numerator)
+}
+
+/// The attributes before a construct, which follows them.
+#[tactic(auto, unfolding(justfile_model::specs::Reader::attributes))]
+fn parse_item_attributes<'src, X: Expander>(
+    parser: &mut ExpressionParser<'_, 'src, X>,
+) -> Result<Vec<(Attribute<'src>, Written<'src>)>, ParseError<'src>>
+    ensures reads { ReadsRuled (λ pairs. map entry_of_pair pairs.items) result (state_of X.answer parser.new)
+        (reader.item_attributes (state_of X.answer parser.old)) }
+    ensures whole { IfOk result (λ pairs. HaveDerivedPairFields pairs.items) }
+    ensures progress { OnOk result (tokens_left parser.new ≤ tokens_left parser.old) }
+{
+    let Some(opener) = parser.peek_if(TokenKind::BracketL) else {
+        return Ok(Vec::new(parser.alloc));
+    };
+    let attributes = parse_attributes(parser)?;
+    if stands_alone(parser) {
+        return Err(rule_error(
+            parser.alloc,
+            extraneous_error(attributes.len(), *opener.token),
+        ));
+    }
+    Ok(attributes)
+}
+
+/// Whether a blank line or a comment comes next.
+fn stands_alone<X: Expander>(parser: &ExpressionParser<'_, '_, X>) -> bool
+    ensures { result ≡ reader.stands_alone (state_of X.answer parser.now) }
+{
+    parser.peek_kinds(&[TokenKind::Eol]) || parser.peek_kinds(&[TokenKind::Comment])
+}
+
+/// A construct after its attributes.
+#[tactic(auto, using(crate::proofs::Words::content_worded, crate::proofs::Words::content_wordless))]
+fn parse_content<'src, X: Expander>(
+    parser: &mut ExpressionParser<'_, 'src, X>,
     attributes: Vec<(Attribute<'src>, Written<'src>)>,
-    name: TableEntry<'_, 'src>,
-) -> Result<AttributeSet<'src>, Halt<'src>>
-    requires construct { IsConstruct item }
-    requires whole { AreWholePairs attributes.items }
-    ensures reads { (s : State) → ReadsRuled (λ _. tt) result s (reader.allowed item (map entry_of_pair attributes.entry.items) name.entry s) }
-    ensures entries { IfOk result (λ set. leaf_entries_of set ≡ reader.in_content_order (map entry_of_pair attributes.entry.items)) }
-    ensures whole { IfOk result HasWholeAttributes }
+    numerator: &mut Numerator,
+) -> Result<Item<'src>, ParseError<'src>>
+    requires { HaveDerivedPairFields attributes.items }
+    ensures reads { ReadsCounted item_tree result numerator.new (state_of X.answer parser.new)
+        (reader.content (map entry_of_pair attributes.entry.items) (counters_of numerator.old) (state_of X.answer parser.old)) }
+    ensures whole { IfOk result HasDerivedItemFields }
+    ensures progress { OnOk result (tokens_left parser.new < tokens_left parser.old) }
+    ensures moved { IsMoved numerator.old numerator.new (identifiers (map significant_of (state_of X.answer parser.old).left)) }
 {
-    let set = AttributeSet::from_read(attributes)?;
-    match set.ensure_valid_attributes(item, *name.token) {
-        Ok(()) => Ok(set),
-        Err(error) => Err(make_halt(alloc, Fault::Compile(error))),
+    match accept_construct_keyword(parser) {
+        Some(word) => parse_after_keyword(word, parser, attributes, numerator),
+        None => parse_without_keyword(parser, attributes, numerator),
     }
 }
 
-/// Refuses attributes of the recipe with this name that exclude each other.
-pub(crate) fn check_exclusions<'src>(
-    attributes: &AttributeSet<'src>,
-    alloc: Global,
-    recipe: Token<'src>,
-) -> Result<(), Halt<'src>>
-    ensures { (s : State) → ReadsRuled (λ _. tt) result s (obeying (exclusions_broken sees_leaves recipe.entry (leaf_entries_of attributes.now)) s) }
+/// Takes the word that the construct begins with, if it begins with one: such a word is a name
+/// where nothing follows that goes with it.
+#[tactic(auto, unfolding(crate::specs::Words::word_taken))]
+fn accept_construct_keyword<X: Expander>(
+    parser: &mut ExpressionParser<'_, '_, X>,
+) -> Option<ConstructKeyword>
+    ensures takes { Takes result (state_of X.answer parser.new) (word_taken (state_of X.answer parser.old)) }
+    ensures moves { Moves result parser.old parser.new }
 {
-    match find_exclusion(attributes, recipe) {
-        None => Ok(()),
-        Some(kind) => Err(make_halt(alloc, Fault::Compile(recipe.error(kind)))),
+    if let Some(_alias) = accept_keyword_before(parser, Keyword::Alias, Lookahead::Assignment) {
+        return Some(ConstructKeyword::Alias);
+    }
+    if let Some(_eager) = accept_keyword_before(parser, Keyword::Eager, Lookahead::Assignment) {
+        return Some(ConstructKeyword::Eager);
+    }
+    if let Some(_export) = accept_keyword_before(parser, Keyword::Export, Lookahead::Assignment) {
+        return Some(ConstructKeyword::Export);
+    }
+    if let Some(_unexport) = accept_keyword_before(parser, Keyword::Unexport, Lookahead::Line) {
+        return Some(ConstructKeyword::Unexport);
+    }
+    if let Some(_import) = accept_keyword_before(parser, Keyword::Import, Lookahead::Import) {
+        return Some(ConstructKeyword::Import);
+    }
+    if let Some(_mod) = accept_keyword_before(parser, Keyword::Mod, Lookahead::Module) {
+        return Some(ConstructKeyword::Mod);
+    }
+    accept_keyword_before(parser, Keyword::Set, Lookahead::Set)?;
+    Some(ConstructKeyword::Set)
+}
+
+/// A construct after its attributes and this word.
+fn parse_after_keyword<'src, X: Expander>(
+    word: ConstructKeyword,
+    parser: &mut ExpressionParser<'_, 'src, X>,
+    attributes: Vec<(Attribute<'src>, Written<'src>)>,
+    numerator: &mut Numerator,
+) -> Result<Item<'src>, ParseError<'src>>
+    requires { HaveDerivedPairFields attributes.items }
+    ensures reads { ReadsCounted item_tree result numerator.new (state_of X.answer parser.new)
+        (worded word (map entry_of_pair attributes.entry.items) (counters_of numerator.old) (state_of X.answer parser.old)) }
+    ensures whole { IfOk result HasDerivedItemFields }
+    ensures progress { OnOk result (tokens_left parser.new < tokens_left parser.old) }
+    ensures moved { IsMoved numerator.old numerator.new (identifiers (map significant_of (state_of X.answer parser.old).left)) }
+{
+    match word {
+        ConstructKeyword::Alias => parse_alias(parser, attributes),
+        ConstructKeyword::Eager => parse_assignment(parser, true, false, attributes, numerator),
+        ConstructKeyword::Export => parse_assignment(parser, false, true, attributes, numerator),
+        ConstructKeyword::Import => parse_import(parser, attributes),
+        ConstructKeyword::Mod => parse_module(parser, attributes),
+        ConstructKeyword::Set => parse_set(parser, attributes),
+        ConstructKeyword::Unexport => parse_unexport(parser, attributes),
     }
 }
 
-/// The refusal of the first two kinds of attributes that exclude each other.
-fn find_exclusion<'src>(
-    attributes: &AttributeSet<'src>,
-    recipe: Token<'src>,
-) -> Option<CompileErrorKind<'src>>
-    ensures { IsExclusion recipe.entry (leaf_entries_of attributes.now) result }
+/// A construct that begins with no word of its own, after its attributes.
+#[tactic(auto, unfolding(justfile_model::specs::Reader::wordless))]
+fn parse_without_keyword<'src, X: Expander>(
+    parser: &mut ExpressionParser<'_, 'src, X>,
+    attributes: Vec<(Attribute<'src>, Written<'src>)>,
+    numerator: &mut Numerator,
+) -> Result<Item<'src>, ParseError<'src>>
+    requires { HaveDerivedPairFields attributes.items }
+    ensures reads { ReadsCounted item_tree result numerator.new (state_of X.answer parser.new)
+        (reader.wordless (map entry_of_pair attributes.entry.items) (counters_of numerator.old) (state_of X.answer parser.old)) }
+    ensures whole { IfOk result HasDerivedItemFields }
+    ensures progress { OnOk result (tokens_left parser.new < tokens_left parser.old) }
+    ensures moved { IsMoved numerator.old numerator.new (identifiers (map significant_of (state_of X.answer parser.old).left)) }
 {
-    let recipe = recipe.lexeme();
-    if has_both(
-        attributes,
-        AttributeKind::NoCd,
-        AttributeKind::WorkingDirectory,
-    ) {
-        Some(CompileErrorKind::NoCdAndWorkingDirectoryAttribute { recipe })
-    } else if has_both(
-        attributes,
-        AttributeKind::ExitMessage,
-        AttributeKind::NoExitMessage,
-    ) {
-        Some(CompileErrorKind::ExitMessageAndNoExitMessageAttribute { recipe })
-    } else if has_both(attributes, AttributeKind::Script, AttributeKind::Shell) {
-        Some(CompileErrorKind::ScriptAndShellAttribute { recipe })
-    } else {
-        None
+    if parser.peek_kinds(&[TokenKind::Identifier, TokenKind::ParenL]) {
+        return parse_function(parser, attributes, numerator);
     }
-}
-
-/// Whether there are attributes of both kinds.
-fn has_both(attributes: &AttributeSet<'_>, first: AttributeKind, second: AttributeKind) -> bool
-    ensures { result ≡ has_attribute first (leaf_entries_of attributes.now) && has_attribute second (leaf_entries_of attributes.now) }
-{
-    attributes.contains(first) && attributes.contains(second)
-}
-
-/// The refusal of so many attributes before a blank line or a comment.
-pub(crate) fn extraneous<'src>(count: usize, opener: Token<'src>) -> Fault<'src>
-    ensures { IsExtraneousFault count opener.entry result }
-{
-    Fault::Compile(opener.error(CompileErrorKind::ExtraneousAttributes { count }))
-}
-
-/// Whether what has this name and these attributes is private.
-pub(crate) fn is_hidden(name: Token<'_>, attributes: &AttributeSet<'_>) -> bool
-    ensures { result ≡ is_hidden name.entry attributes.now }
-{
-    is_private(name.lexeme().as_bytes()) || attributes.private()
-}
-
-/// Whether a name is private: whether it begins with `_`.
-fn is_private(name: &[u8]) -> bool
-    ensures { result ≡ is_private name.now }
-{
-    name.first() == Some(&b'_')
+    if peek_assignment(parser) {
+        return parse_assignment(parser, false, false, attributes, numerator);
+    }
+    let recipe = parse_any_recipe(parser, attributes, numerator)?;
+    Ok(Item::Recipe(recipe))
 }

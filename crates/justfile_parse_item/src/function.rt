@@ -4,37 +4,37 @@ ghost use Rattle.justfile_model.specs.SignificantTokens.{identifiers};
 ghost use Rattle.justfile_parse_item.specs.ItemTable as reader;
 ghost use Rattle.justfile_parse_item.specs.MethodResults.{IsMoved};
 ghost use Rattle.justfile_parse_item.specs.Tree.{item_tree};
-ghost use Rattle.justfile_parse_item.specs.Whole.{AreWholePairs, IsWholeItem};
+ghost use Rattle.justfile_parse_item.specs.DerivedFields.{HaveDerivedPairFields, HasDerivedItemFields};
 ghost use Rattle.justfile_parse_attribute.specs.Attributes.{entry_of_pair};
 ghost use Rattle.justfile_parse_expression.specs.Significant.{significant_of};
-ghost use Rattle.justfile_parse_expression.specs.View.{left, state_of};
+ghost use Rattle.justfile_parse_expression.specs.View.{tokens_left, state_of};
 ghost use Rattle.justfile_parse_header.specs.Counting.{ReadsCounted, counters_of};
 
-use crate::construct::allowed;
+use crate::attribute_checks::check_allowed;
 use justfile_attribute::Attribute;
-use justfile_base::{Expander, ItemKind, Name, Numerator, TokenKind};
 use justfile_item::{FunctionDefinition, Item};
-use justfile_parse_attribute::Halt;
+use justfile_parse_attribute::ParseError;
 use justfile_parse_expression::ExpressionParser;
-use justfile_parse_parts::parse_parameter_names;
+use justfile_parse_item_parts::parse_parameter_names;
+use justfile_token::{Expander, ItemKind, Name, Numerator, TokenKind};
 use justfile_written::Written;
 
 /// NAME `(` names `)` `:=` expression, after the attributes.
-#[tactic(auto, using(crate::proofs::Moved::unmoved), unfolding(justfile_model::specs::Reader::function, justfile_parse_expression::specs::TableReader::leaves))]
+#[tactic(auto, using(crate::proofs::CounterSteps::unmoved), unfolding(justfile_model::specs::Reader::function, justfile_parse_expression::specs::TableReader::leaves))]
 pub(crate) fn parse_function<'src, X: Expander>(
     parser: &mut ExpressionParser<'_, 'src, X>,
     attributes: Vec<(Attribute<'src>, Written<'src>)>,
     numerator: &mut Numerator,
-) -> Result<Item<'src>, Halt<'src>>
-    requires { AreWholePairs attributes.items }
+) -> Result<Item<'src>, ParseError<'src>>
+    requires { HaveDerivedPairFields attributes.items }
     ensures reads { ReadsCounted item_tree result numerator.new (state_of X.answer parser.new)
         (reader.function (map entry_of_pair attributes.entry.items) (counters_of numerator.old) (state_of X.answer parser.old)) }
-    ensures whole { IfOk result IsWholeItem }
-    ensures progress { OnOk result (left parser.new < left parser.old) }
+    ensures whole { IfOk result HasDerivedItemFields }
+    ensures progress { OnOk result (tokens_left parser.new < tokens_left parser.old) }
     ensures moved { IsMoved numerator.old numerator.new (identifiers (map significant_of (state_of X.answer parser.old).left)) }
 {
     let name = parser.expect(TokenKind::Identifier)?;
-    let attributes = allowed(parser.alloc, ItemKind::Function, attributes, name)?;
+    let attributes = check_allowed(parser.alloc, ItemKind::Function, attributes, name)?;
     parser.expect(TokenKind::ParenL)?;
     let parameters = parse_parameter_names(parser, numerator)?;
     parser.expect(TokenKind::ColonEquals)?;

@@ -2,44 +2,44 @@
 ghost use Rattle.std.specs.Prelude.{◌≡◌, ◌<◌, ◌≤◌, ◌∷◌, ◌++◌, [], IfOk, IsTrue, OnOk, codes, map, nat_eq};
 ghost use Rattle.std.specs.List.{starts_with};
 ghost use Rattle.std.specs.Str.{trim_end};
-ghost use Rattle.justfile_base.specs.Token.{lexeme_of};
+ghost use Rattle.justfile_token.specs.Token.{lexeme_of};
 ghost use Rattle.justfile_model.specs.SignificantTokens.{identifiers};
 ghost use Rattle.justfile_model.specs.Tree as tree;
 ghost use Rattle.justfile_parse_header.specs.Counting.{ReadsCounted, counters_of};
 ghost use Rattle.justfile_model.specs.Reader.{has_body};
-ghost use Rattle.justfile_model.specs.Reading.{prepend};
+ghost use Rattle.justfile_model.specs.ReaderState.{prepend};
 ghost use Rattle.justfile_model.specs.PartReader.{after_numbered};
 ghost use Rattle.justfile_item.specs.declared.item.Item.TheVariants as variants;
 ghost use Rattle.justfile_parse_item.specs.ItemTable as reader;
 ghost use Rattle.justfile_parse_item.specs.MethodResults.{IsMoved};
 ghost use Rattle.justfile_parse_expression.specs.MethodResults.{Reads, UnlessMemory};
-ghost use Rattle.justfile_parse_item.specs.Whole.{AreWhole, IsWholeItem, KeepsWhole};
+ghost use Rattle.justfile_parse_item.specs.DerivedFields.{HaveDerivedFields, HasDerivedItemFields, KeepsDerivedFields};
 ghost use Rattle.justfile_parse_expression.specs.Significant.{significant_of};
 ghost use Rattle.justfile_parse_item.specs.Tree.{item_tree};
-ghost use Rattle.justfile_parse_expression.specs.View.{left, state_of};
+ghost use Rattle.justfile_parse_expression.specs.View.{tokens_left, state_of};
 
-use crate::content::parse_construct;
-use justfile_base::{Expander, Numerator, Token, TokenKind};
+use crate::construct::parse_construct;
 use justfile_item::Item;
-use justfile_parse_attribute::Halt;
-use justfile_parse_expression::{ExpressionParser, Refusal, Stop};
+use justfile_parse_attribute::ParseError;
+use justfile_parse_expression::{ExpressionError, ExpressionParser, SyntaxError};
+use justfile_token::{Expander, Numerator, Token, TokenKind};
 use std::alloc::AllocError;
 
 /// The items up to the end of the file, where no expression is open.
 ///
 /// # Errors
 ///
-/// A `Halt` if what is left of the table is no file, if more numbers of bindings or of recipes are wanted than there are, or if
+/// A `ParseError` if what is left of the table is no file, if more numbers of bindings or of recipes are wanted than there are, or if
 /// memory runs out.
 #[tactic(auto, using(crate::proofs::Loop::moved, crate::proofs::Loop::moved_on))]
 pub fn parse_items<'src, X: Expander>(
     parser: &mut ExpressionParser<'_, 'src, X>,
     numerator: &mut Numerator,
-) -> Result<Vec<Item<'src>>, Halt<'src>>
+) -> Result<Vec<Item<'src>>, ParseError<'src>>
     requires { (state_of X.answer parser.old).depth ≡ 0 }
     ensures reads { ReadsCounted (λ items. map item_tree items.items) result numerator.new (state_of X.answer parser.new)
         (reader.items (counters_of numerator.old) (state_of X.answer parser.old)) }
-    ensures whole { IfOk result (λ items. AreWhole items.items) }
+    ensures whole { IfOk result (λ items. HaveDerivedFields items.items) }
     ensures moved { IsMoved numerator.old numerator.new (identifiers (map significant_of (state_of X.answer parser.old).left)) }
 {
     let mut items = Vec::new(parser.alloc);
@@ -53,30 +53,30 @@ pub fn parse_items<'src, X: Expander>(
 }
 
 /// Nothing may stand after the end of the file.
-#[tactic(auto, unfolding(crate::specs::ItemTable::read_nothing, justfile_model::specs::Reading::refused))]
+#[tactic(auto, unfolding(crate::specs::ItemTable::read_nothing, justfile_model::specs::ReaderState::refused))]
 fn expect_nothing<'src, X: Expander>(
     parser: &ExpressionParser<'_, 'src, X>,
-) -> Result<(), Stop<'src>>
+) -> Result<(), ExpressionError<'src>>
     ensures { Reads (λ nothing. nothing) result (state_of X.answer parser.now) (reader.read_nothing (state_of X.answer parser.now)) }
 {
     match parser.peek_front() {
-        Some(_entry) => Err(Stop::Refused(Refusal::Unexpected)),
+        Some(_entry) => Err(ExpressionError::Refused(SyntaxError::Unexpected)),
         None => Ok(()),
     }
 }
 
 /// The items of a line, where no expression is open.
-#[tactic(auto, using(crate::proofs::Lines::line_blank, crate::proofs::Moved::unmoved, crate::proofs::Wholes::newline_whole))]
+#[tactic(auto, using(crate::proofs::Lines::line_blank, crate::proofs::CounterSteps::unmoved, crate::proofs::DerivedItemFields::newline_whole))]
 fn parse_line<'src, X: Expander>(
     parser: &mut ExpressionParser<'_, 'src, X>,
     items: &mut Vec<Item<'src>>,
     numerator: &mut Numerator,
-) -> Result<(), Halt<'src>>
+) -> Result<(), ParseError<'src>>
     requires { (state_of X.answer parser.old).depth ≡ 0 }
     ensures reads { ReadsCounted (λ _. map item_tree items.new.items) result numerator.new (state_of X.answer parser.new)
         (after_numbered (map item_tree items.old.items) (reader.line (counters_of numerator.old) (state_of X.answer parser.old))) }
-    ensures whole { OnOk result (KeepsWhole items.old.items items.new.items) }
-    ensures progress { OnOk result (left parser.new < left parser.old) }
+    ensures whole { OnOk result (KeepsDerivedFields items.old.items items.new.items) }
+    ensures progress { OnOk result (tokens_left parser.new < tokens_left parser.old) }
     ensures moved { IsMoved numerator.old numerator.new (identifiers (map significant_of (state_of X.answer parser.old).left)) }
 {
     if let Some(_newline) = parser.accept(TokenKind::Eol) {
@@ -90,16 +90,16 @@ fn parse_line<'src, X: Expander>(
 }
 
 /// What begins a line that is not blank, where no expression is open.
-#[tactic(auto, using(crate::proofs::Moved::unmoved), unfolding(justfile_model::specs::Reader::on_line, justfile_parse_expression::specs::TableReader::leaves))]
+#[tactic(auto, using(crate::proofs::CounterSteps::unmoved), unfolding(justfile_model::specs::Reader::on_line, justfile_parse_expression::specs::TableReader::leaves))]
 fn parse_item<'src, X: Expander>(
     parser: &mut ExpressionParser<'_, 'src, X>,
     numerator: &mut Numerator,
-) -> Result<Item<'src>, Halt<'src>>
+) -> Result<Item<'src>, ParseError<'src>>
     requires { (state_of X.answer parser.old).depth ≡ 0 }
     ensures reads { ReadsCounted item_tree result numerator.new (state_of X.answer parser.new)
         (reader.on_line (counters_of numerator.old) (state_of X.answer parser.old)) }
-    ensures whole { IfOk result IsWholeItem }
-    ensures progress { OnOk result (left parser.new < left parser.old) }
+    ensures whole { IfOk result HasDerivedItemFields }
+    ensures progress { OnOk result (tokens_left parser.new < tokens_left parser.old) }
     ensures moved { IsMoved numerator.old numerator.new (identifiers (map significant_of (state_of X.answer parser.old).left)) }
 {
     if let Some(comment) = parser.accept(TokenKind::Comment) {
@@ -109,16 +109,16 @@ fn parse_item<'src, X: Expander>(
 }
 
 /// What ends an item: after a body a line starts, and the line end before it is made.
-#[tactic(auto, using(crate::proofs::Lines::ended_body, crate::proofs::Lines::ended_after, crate::proofs::Wholes::newline_whole))]
+#[tactic(auto, using(crate::proofs::Lines::ended_body, crate::proofs::Lines::ended_after, crate::proofs::DerivedItemFields::newline_whole))]
 fn parse_item_end<'src, X: Expander>(
     parser: &mut ExpressionParser<'_, 'src, X>,
     has_body: bool,
     items: &mut Vec<Item<'src>>,
-) -> Result<(), Stop<'src>>
+) -> Result<(), ExpressionError<'src>>
     ensures reads { Reads (λ _. map item_tree items.new.items) result (state_of X.answer parser.new)
         (prepend (map item_tree items.old.items) (reader.ended has_body (state_of X.answer parser.old))) }
-    ensures whole { OnOk result (KeepsWhole items.old.items items.new.items) }
-    ensures progress { OnOk result (left parser.new ≤ left parser.old) }
+    ensures whole { OnOk result (KeepsDerivedFields items.old.items items.new.items) }
+    ensures progress { OnOk result (tokens_left parser.new ≤ tokens_left parser.old) }
 {
     if has_body {
         push_newline(items)?;
@@ -132,11 +132,11 @@ fn parse_item_end<'src, X: Expander>(
 fn parse_after_item<'src, X: Expander>(
     parser: &mut ExpressionParser<'_, 'src, X>,
     items: &mut Vec<Item<'src>>,
-) -> Result<(), Stop<'src>>
+) -> Result<(), ExpressionError<'src>>
     ensures reads { Reads (λ _. map item_tree items.new.items) result (state_of X.answer parser.new)
         (prepend (map item_tree items.old.items) (reader.item_rest (state_of X.answer parser.old))) }
-    ensures whole { OnOk result (KeepsWhole items.old.items items.new.items) }
-    ensures progress { OnOk result (left parser.new ≤ left parser.old) }
+    ensures whole { OnOk result (KeepsDerivedFields items.old.items items.new.items) }
+    ensures progress { OnOk result (tokens_left parser.new ≤ tokens_left parser.old) }
 {
     match parser.accept(TokenKind::Comment) {
         Some(comment) => {
@@ -148,15 +148,15 @@ fn parse_after_item<'src, X: Expander>(
 }
 
 /// The end of a line, which is an item, or that of the file, which is left.
-#[tactic(auto, using(crate::proofs::Lines::line_end_closes, crate::proofs::Lines::line_end_newline, crate::proofs::Wholes::newline_whole, crate::proofs::Wholes::same_whole))]
+#[tactic(auto, using(crate::proofs::Lines::line_end_closes, crate::proofs::Lines::line_end_newline, crate::proofs::DerivedItemFields::newline_whole, crate::proofs::DerivedItemFields::same_whole))]
 fn parse_line_end<'src, X: Expander>(
     parser: &mut ExpressionParser<'_, 'src, X>,
     items: &mut Vec<Item<'src>>,
-) -> Result<(), Stop<'src>>
+) -> Result<(), ExpressionError<'src>>
     ensures reads { Reads (λ _. map item_tree items.new.items) result (state_of X.answer parser.new)
         (prepend (map item_tree items.old.items) (reader.line_end (state_of X.answer parser.old))) }
-    ensures whole { OnOk result (KeepsWhole items.old.items items.new.items) }
-    ensures progress { OnOk result (left parser.new ≤ left parser.old) }
+    ensures whole { OnOk result (KeepsDerivedFields items.old.items items.new.items) }
+    ensures progress { OnOk result (tokens_left parser.new ≤ tokens_left parser.old) }
 {
     if let Some(_end) = parser.peek_if(TokenKind::Eof) {
         return Ok(());
@@ -170,13 +170,16 @@ fn parse_line_end<'src, X: Expander>(
 fn make_comment<'src>(comment: Token<'src>) -> Item<'src>
     requires { IsTrue (starts_with nat_eq (lexeme_of comment) (codes "#")) }
     ensures tree { item_tree result ≡ tree.Comment (trim_end (lexeme_of comment.entry)) }
-    ensures whole { IsWholeItem result }
+    ensures whole { HasDerivedItemFields result }
 {
     Item::Comment(comment.lexeme().trim_end())
 }
 
 /// Adds an item. Whether it has a body.
-fn push_parsed<'src>(items: &mut Vec<Item<'src>>, item: Item<'src>) -> Result<bool, Stop<'src>>
+fn push_parsed<'src>(
+    items: &mut Vec<Item<'src>>,
+    item: Item<'src>,
+) -> Result<bool, ExpressionError<'src>>
     ensures trees { UnlessMemory result
         (λ done. map item_tree items.new.items ≡ map item_tree items.old.items ++ item_tree item.entry ∷ []) }
     ensures pushed { OnOk result (items.new.items ≡ items.old.items ++ item.entry ∷ []) }
@@ -193,7 +196,7 @@ fn push_known<'src>(
     items: &mut Vec<Item<'src>>,
     item: Item<'src>,
     has_body: bool,
-) -> Result<bool, Stop<'src>>
+) -> Result<bool, ExpressionError<'src>>
     ensures trees { UnlessMemory result
         (λ done. map item_tree items.new.items ≡ map item_tree items.old.items ++ item_tree item.entry ∷ []) }
     ensures pushed { OnOk result (items.new.items ≡ items.old.items ++ item.entry ∷ []) }

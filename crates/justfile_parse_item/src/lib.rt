@@ -3,9 +3,9 @@
 
 mod alias;
 mod assignment;
+mod attribute_checks;
 mod body;
 mod construct;
-mod content;
 mod function;
 mod import;
 mod items;

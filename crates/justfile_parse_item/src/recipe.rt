@@ -1,28 +1,28 @@
 ghost use Rattle.std.specs.Prelude.{◌≡◌, ◌<◌, ◌||◌, IfOk, OnErr, OnOk, map};
 ghost use Rattle.justfile_attribute_set.specs.AttributeSet.{attributes_of};
 ghost use Rattle.justfile_attribute_set.specs.Attributes.{has_kind};
-ghost use Rattle.justfile_word.specs.declared.attribute_kind.AttributeKind.TheVariants as kinds;
+ghost use Rattle.justfile_vocabulary.specs.declared.attribute_kind.AttributeKind.TheVariants as kinds;
 ghost use Rattle.justfile_model.specs.SignificantTokens.{identifiers};
 ghost use Rattle.justfile_parse_item.specs.ItemTable as reader;
 ghost use Rattle.justfile_parse_item.specs.MethodResults.{IsMoved};
 ghost use Rattle.justfile_parse_item.specs.Tree.{line_tree, recipe_tree};
-ghost use Rattle.justfile_parse_item.specs.Whole.{AreWholePairs, IsWholeRecipe};
+ghost use Rattle.justfile_parse_item.specs.DerivedFields.{HaveDerivedPairFields, HasDerivedRecipeFields};
 ghost use Rattle.justfile_parse_attribute.specs.Attributes.{entry_of_pair};
 ghost use Rattle.justfile_parse_expression.specs.Significant.{significant_of};
 ghost use Rattle.justfile_parse_expression.specs.TableReader.{State};
-ghost use Rattle.justfile_parse_expression.specs.View.{left, state_of};
+ghost use Rattle.justfile_parse_expression.specs.View.{tokens_left, state_of};
 ghost use Rattle.justfile_parse_header.specs.Counting.{ReadsCounted, ReadsNumbered, counters_of};
 
+use crate::attribute_checks::{check_exclusions, is_private_item};
 use crate::body::parse_body_after_header;
-use crate::construct::{check_exclusions, is_hidden};
 use justfile_attribute::Attribute;
 use justfile_attribute_set::AttributeSet;
-use justfile_base::{AttributeKind, Expander, Name, Number, Numerator, TokenKind};
 use justfile_item::UnresolvedRecipe;
 use justfile_line::Line;
-use justfile_parse_attribute::{Halt, comment_text};
-use justfile_parse_expression::{ExpressionParser, Stop};
+use justfile_parse_attribute::{ParseError, comment_text};
+use justfile_parse_expression::{ExpressionError, ExpressionParser};
 use justfile_parse_header::parse_header;
+use justfile_token::{AttributeKind, Expander, Name, Number, Numerator, TokenKind};
 use justfile_written::Written;
 
 /// A recipe after its attributes, with `@` before its name or not.
@@ -31,12 +31,12 @@ pub(crate) fn parse_any_recipe<'src, X: Expander>(
     parser: &mut ExpressionParser<'_, 'src, X>,
     attributes: Vec<(Attribute<'src>, Written<'src>)>,
     numerator: &mut Numerator,
-) -> Result<UnresolvedRecipe<'src>, Halt<'src>>
-    requires { AreWholePairs attributes.items }
+) -> Result<UnresolvedRecipe<'src>, ParseError<'src>>
+    requires { HaveDerivedPairFields attributes.items }
     ensures reads { ReadsCounted recipe_tree result numerator.new (state_of X.answer parser.new)
         (reader.any_recipe (map entry_of_pair attributes.entry.items) (counters_of numerator.old) (state_of X.answer parser.old)) }
-    ensures whole { IfOk result IsWholeRecipe }
-    ensures progress { OnOk result (left parser.new < left parser.old) }
+    ensures whole { IfOk result HasDerivedRecipeFields }
+    ensures progress { OnOk result (tokens_left parser.new < tokens_left parser.old) }
     ensures moved { IsMoved numerator.old numerator.new (identifiers (map significant_of (state_of X.answer parser.old).left)) }
 {
     match parser.accept(TokenKind::At) {
@@ -47,27 +47,27 @@ pub(crate) fn parse_any_recipe<'src, X: Expander>(
 
 /// A recipe from its name to its end: its header, and the body if it has one, after a comment or none. The recipe is numbered
 /// after its body.
-#[tactic(auto, using(crate::proofs::Moved::unmoved, crate::proofs::Constructs::set_whole))]
+#[tactic(auto, using(crate::proofs::CounterSteps::unmoved, crate::proofs::Constructs::set_whole))]
 fn parse_recipe<'src, X: Expander>(
     parser: &mut ExpressionParser<'_, 'src, X>,
     attributes: Vec<(Attribute<'src>, Written<'src>)>,
     quiet: bool,
     numerator: &mut Numerator,
-) -> Result<UnresolvedRecipe<'src>, Halt<'src>>
-    requires { AreWholePairs attributes.items }
+) -> Result<UnresolvedRecipe<'src>, ParseError<'src>>
+    requires { HaveDerivedPairFields attributes.items }
     ensures reads { ReadsCounted recipe_tree result numerator.new (state_of X.answer parser.new)
         (reader.recipe quiet (map entry_of_pair attributes.entry.items) (counters_of numerator.old) (state_of X.answer parser.old)) }
-    ensures whole { IfOk result IsWholeRecipe }
-    ensures progress { OnOk result (left parser.new < left parser.old) }
+    ensures whole { IfOk result HasDerivedRecipeFields }
+    ensures progress { OnOk result (tokens_left parser.new < tokens_left parser.old) }
     ensures moved { IsMoved numerator.old numerator.new (identifiers (map significant_of (state_of X.answer parser.old).left)) }
 {
-    let attributes = AttributeSet::from_read(attributes)?;
+    let attributes = AttributeSet::from_parsed(attributes)?;
     let header = parse_header(&attributes, parser, numerator)?;
     let body = parse_body_after_header(parser)?;
     check_exclusions(&attributes, parser.alloc, *header.name.token)?;
     let import_offsets = parser.import_offsets.to_vec(parser.alloc)?;
-    let number = draw_recipe(numerator)?;
-    let private = is_hidden(*header.name.token, &attributes);
+    let number = next_recipe_number(numerator)?;
+    let private = is_private_item(*header.name.token, &attributes);
     let shebang = is_script(&attributes, body.1.as_slice());
     Ok(UnresolvedRecipe {
         attributes,
@@ -88,15 +88,15 @@ fn parse_recipe<'src, X: Expander>(
 }
 
 /// The number of the next recipe.
-#[tactic(auto, unfolding(justfile_model::specs::Reader::draw_recipe, justfile_parse_expression::specs::TableReader::leaves))]
-fn draw_recipe<'src>(numerator: &mut Numerator) -> Result<Number, Stop<'src>>
+#[tactic(auto, unfolding(justfile_model::specs::Reader::next_recipe_number, justfile_parse_expression::specs::TableReader::leaves))]
+fn next_recipe_number<'src>(numerator: &mut Numerator) -> Result<Number, ExpressionError<'src>>
     ensures reads { (s : State) → ReadsNumbered (λ number. number.0) result numerator.new s
-        (reader.draw_recipe (counters_of numerator.old) s) }
+        (reader.next_recipe_number (counters_of numerator.old) s) }
     ensures unmoved { OnErr result (numerator.new ≡ numerator.old) }
 {
     match numerator.next_recipe() {
         Some(number) => Ok(number),
-        None => Err(Stop::Numbers),
+        None => Err(ExpressionError::Numbers),
     }
 }
 

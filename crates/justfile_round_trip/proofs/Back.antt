@@ -1,8 +1,8 @@
 -- What derives an expression: so do the printer's tokens of it, with the same features, under every limit under which the source stands.
 use Rattle.std.proofs.Common.{◌≡◌, ℕ, ◌+◌, ◌≤◌, Bool, true, false, cond, ◌&&◌, List, [], ◌∷◌, ◌++◌, Option, refl, sym, subst, ap, ◌∙◌, arith, codes}
 use Rattle.std.proofs.lemmas.List.{append-nil}
-use Rattle.justfile_word.specs.declared.token_kind.TokenKind.{TokenKind}
-use Rattle.justfile_word.specs.declared.token_kind.TokenKind.TheVariants as kinds
+use Rattle.justfile_vocabulary.specs.declared.token_kind.TokenKind.{TokenKind}
+use Rattle.justfile_vocabulary.specs.declared.token_kind.TokenKind.TheVariants as kinds
 use Rattle.justfile_model.specs.declared.conditional_operator.ConditionalOperator.TheVariants.{Equality, Inequality, RegexMatch, RegexMismatch}
 use Rattle.justfile_model.specs.Tok.{Tok}
 use Rattle.justfile_model.specs.SignificantTokens.{SignificantToken}
@@ -10,9 +10,9 @@ use Rattle.justfile_model.specs.Tree as tree
 use Rattle.justfile_model.specs.Tree.{lexeme, nothing}
 use Rattle.justfile_model.specs.Features.{Noted, uncompared}
 use Rattle.justfile_model.specs.Expressions as g
-use Rattle.justfile_model.specs.Expressions.{Tokens, Under, ends_open, NotNext, IsWord, NotWord, IsMarked, NotMarked, Unmarked, NotCompared, NotJoined, Expression, Disjunct, Compared, Conjunct, Condition, Braced, Conditional, Value, Sequence, FormatParts}
+use Rattle.justfile_model.specs.Expressions.{Tokens, BelowLimit, ends_open, NotNext, IsWord, NotWord, IsMarked, NotMarked, Unmarked, NotCompared, NotJoined, Expression, Disjunct, Compared, Conjunct, Condition, Braced, Conditional, Value, Sequence, FormatParts}
 use Rattle.justfile_model.specs.Printing.{is_conditional}
-use Rattle.justfile_round_trip.proofs.Reading.{Mark, mark, placed}
+use Rattle.justfile_round_trip.proofs.LexedModes.{Mark, mark, placed}
 use Rattle.justfile_round_trip.proofs.Canon as canon
 use Rattle.justfile_round_trip.proofs.Canon.{Shown, Values, Pieces, space, word, brace_left, brace_right, paren_right, expr_marks, exprs_marks, others_marks, parts_marks}
 use Rattle.justfile_round_trip.proofs.Good.{significant, closes, ends_value}
@@ -178,19 +178,19 @@ is_marked : (w : List ℕ) (kind : TokenKind) (l : List ℕ) {b : Bool} → IsMa
 is_marked w kind l = record { marks = is_word w; is_string = refl; glued = refl }
 
 -- the features of no expressions are none
-no_features : {A B : Type 0} {leaf : Tok → A} {spot : Tok → B} {Open : ℕ → Option SignificantToken → Type 0} {kind : TokenKind} {d : ℕ} {fs : List (Noted B)} {ts rest : Tokens} → Sequence leaf spot Open kind d tree.none fs ts rest → fs ≡ []
+no_features : {A B : Type 0} {leaf : Tok → A} {position : Tok → B} {MayEnter : ℕ → Option SignificantToken → Type 0} {kind : TokenKind} {d : ℕ} {fs : List (Noted B)} {ts rest : Tokens} → Sequence leaf position MayEnter kind d tree.none fs ts rest → fs ≡ []
 no_features (g.none kind) = refl
 
 -- what stands under a limit does so with less above it
-pub lower : (limit d d' : ℕ) (a b : Option SignificantToken) → d' ≤ d → Under limit d a → Under limit d' b
+pub lower : (limit d d' : ℕ) (a b : Option SignificantToken) → d' ≤ d → BelowLimit limit d a → BelowLimit limit d' b
 lower limit d d' a b le h = omega (arith, le, h)
 
-module _ (Open Open' : ℕ → Option SignificantToken → Type 0) (fewer : (d d' : ℕ) (a b : Option SignificantToken) → d' ≤ d → Open d a → Open' d' b) where
+module _ (MayEnter MayEnter' : ℕ → Option SignificantToken → Type 0) (fewer : (d d' : ℕ) (a b : Option SignificantToken) → d' ≤ d → MayEnter d a → MayEnter' d' b) where
   -- from any tokens that it begins alike
-  as_condition : {d : ℕ} {e : canon.Value} {fs : Shown} {b : Bool} {ts us rest : Tokens} → SameHead b ts us → Expression lexeme nothing Open' true d e fs us rest → Condition lexeme nothing Open' d e (fs ++ uncompared e tt) us rest
+  as_condition : {d : ℕ} {e : canon.Value} {fs : Shown} {b : Bool} {ts us rest : Tokens} → SameHead b ts us → Expression lexeme nothing MayEnter' true d e fs us rest → Condition lexeme nothing MayEnter' d e (fs ++ uncompared e tt) us rest
   as_condition (same_head kind spelled glued) x = g.condition x
 
-  value_no_conditional : {d : ℕ} {e : canon.Value} {fs : Shown} {ts rest : Tokens} → Value lexeme nothing Open d e fs ts rest → is_conditional e ≡ true → ⊥
+  value_no_conditional : {d : ℕ} {e : canon.Value} {fs : Shown} {ts rest : Tokens} → Value lexeme nothing MayEnter d e fs ts rest → is_conditional e ≡ true → ⊥
   value_no_conditional (g.not kind v) = λ e. cc
   value_no_conditional (g.literal kind) = λ e. cc
   value_no_conditional (g.expanded m) = λ e. cc
@@ -204,13 +204,13 @@ module _ (Open Open' : ℕ → Option SignificantToken → Type 0) (fewer : (d d
   value_no_conditional (g.group kind e kind2) = λ e. cc
   value_no_conditional (g.list kind s) = λ e. cc
 
-  conditional_yes : {d : ℕ} {w : SignificantToken} {e : canon.Value} {fs : Shown} {ts rest : Tokens} → Conditional lexeme nothing Open d w e fs ts rest → is_conditional e ≡ true
+  conditional_yes : {d : ℕ} {w : SignificantToken} {e : canon.Value} {fs : Shown} {ts rest : Tokens} → Conditional lexeme nothing MayEnter d w e fs ts rest → is_conditional e ≡ true
   conditional_yes (g.if_only c b next) = refl
   conditional_yes (g.if_else c b w o next) = refl
   conditional_yes (g.else_if c b w i o) = refl
 
   -- what a value's end leaves to the operators
-  value_joined : {d : ℕ} {e : canon.Value} {fs : Shown} {ts rest us : Tokens} → Value lexeme nothing Open d e fs ts rest → EndsIn (tail e) us → ValueEndsIn (tail e) us × NotJoined us
+  value_joined : {d : ℕ} {e : canon.Value} {fs : Shown} {ts rest us : Tokens} → Value lexeme nothing MayEnter d e fs ts rest → EndsIn (tail e) us → ValueEndsIn (tail e) us × NotJoined us
   value_joined (g.not kind v) h = value_joined v h
   value_joined (g.literal kind) h = (record { is = tt }, h.is.1)
   value_joined (g.expanded m) h = (record { is = tt }, h.is.1)
@@ -224,33 +224,33 @@ module _ (Open Open' : ℕ → Option SignificantToken → Type 0) (fewer : (d d
   value_joined (g.group kind e kind2) h = (record { is = tt }, h.is.1)
   value_joined (g.list kind s) h = (record { is = tt }, h.is.1)
 
-  end_none : (p : Bool) (d : ℕ) (b : Bool) (on : List Mark) → Sequence lexeme nothing Open' (closer p).kind d tree.none [] (significant b (closer p ∷ on)) (significant true on)
+  end_none : (p : Bool) (d : ℕ) (b : Bool) (on : List Mark) → Sequence lexeme nothing MayEnter' (closer p).kind d tree.none [] (significant b (closer p ∷ on)) (significant true on)
   end_none true d b on = g.none refl
   end_none false d b on = g.none refl
 
-  end_last : (p : Bool) (d : ℕ) (e : canon.Value) (fs : Shown) (ts : Tokens) (on : List Mark) → NotNext (closer p).kind ts → Expression lexeme nothing Open' false d e fs ts (significant true (closer p ∷ on))
-      → Sequence lexeme nothing Open' (closer p).kind d (tree.more e tree.none) fs ts (significant true on)
+  end_last : (p : Bool) (d : ℕ) (e : canon.Value) (fs : Shown) (ts : Tokens) (on : List Mark) → NotNext (closer p).kind ts → Expression lexeme nothing MayEnter' false d e fs ts (significant true (closer p ∷ on))
+      → Sequence lexeme nothing MayEnter' (closer p).kind d (tree.more e tree.none) fs ts (significant true on)
   end_last true d e fs ts on next h = g.last next h refl
   end_last false d e fs ts on next h = g.last next h refl
 
   -- an element and those after it
   joined : (p : Bool) (d : ℕ) (e : canon.Value) (es : Values) (fs gs : Shown) (on : List Mark) (b : Bool) → NotNext (closer p).kind (significant b (expr_marks e (others_marks es (closer p ∷ on))))
-      → ((on' : List Mark) → EndsIn (tail e) (significant true on') → StopE (significant true on') → Expression lexeme nothing Open' false d e fs (significant b (expr_marks e on')) (significant true on'))
-      → Sequence lexeme nothing Open' (closer p).kind d es gs (significant false (exprs_marks es (closer p ∷ on))) (significant true on)
-      → Sequence lexeme nothing Open' (closer p).kind d (tree.more e es) (fs ++ gs) (significant b (expr_marks e (others_marks es (closer p ∷ on)))) (significant true on)
+      → ((on' : List Mark) → EndsIn (tail e) (significant true on') → StopE (significant true on') → Expression lexeme nothing MayEnter' false d e fs (significant b (expr_marks e on')) (significant true on'))
+      → Sequence lexeme nothing MayEnter' (closer p).kind d es gs (significant false (exprs_marks es (closer p ∷ on))) (significant true on)
+      → Sequence lexeme nothing MayEnter' (closer p).kind d (tree.more e es) (fs ++ gs) (significant b (expr_marks e (others_marks es (closer p ∷ on)))) (significant true on)
   joined p d e tree.none fs gs on b next f q =
-      subst (λ x. Sequence lexeme nothing Open' (closer p).kind d (tree.more e tree.none) x (significant b (expr_marks e (closer p ∷ on))) (significant true on)) (sym (append-nil fs) ∙ ap (λ x. fs ++ x) (sym (no_features q)))
+      subst (λ x. Sequence lexeme nothing MayEnter' (closer p).kind d (tree.more e tree.none) x (significant b (expr_marks e (closer p ∷ on))) (significant true on)) (sym (append-nil fs) ∙ ap (λ x. fs ++ x) (sym (no_features q)))
       (end_last p d e fs _ on next (f (closer p ∷ on) (closer_ends (tail e) p on) (closer_stop p on)))
   joined p d e (tree.more e2 es) fs gs on b next f q = g.more next (f (others_marks (tree.more e2 es) (closer p ∷ on)) (ends_before (tail e) _ _ refl) (stop_before _ _ refl)) refl q
 
   -- both ways to print another branch
   branched : (d : ℕ) (w : SignificantToken) (c t o : canon.Value) (cs bs os : Shown) (on : List Mark) (b : Bool) → is_conditional o ≡ b
-      → ((on' : List Mark) → EndsIn (tail c) (significant true on') → StopE (significant true on') → Condition lexeme nothing Open' d c cs (significant false (expr_marks c on')) (significant true on'))
-      → ((on' : List Mark) → Braced lexeme nothing Open' d t bs (significant false (brace_left ∷ space ∷ expr_marks t (space ∷ brace_right ∷ on'))) (significant true on'))
-      → (is_conditional o ≡ false → Braced lexeme nothing Open' d o os (significant false (brace_left ∷ space ∷ expr_marks o (space ∷ brace_right ∷ on))) (significant true on))
-      → (is_conditional o ≡ true → Conditional lexeme nothing Open' d (if_token false) o os (significant true (following (expr_marks o on))) (significant true on))
+      → ((on' : List Mark) → EndsIn (tail c) (significant true on') → StopE (significant true on') → Condition lexeme nothing MayEnter' d c cs (significant false (expr_marks c on')) (significant true on'))
+      → ((on' : List Mark) → Braced lexeme nothing MayEnter' d t bs (significant false (brace_left ∷ space ∷ expr_marks t (space ∷ brace_right ∷ on'))) (significant true on'))
+      → (is_conditional o ≡ false → Braced lexeme nothing MayEnter' d o os (significant false (brace_left ∷ space ∷ expr_marks o (space ∷ brace_right ∷ on))) (significant true on))
+      → (is_conditional o ≡ true → Conditional lexeme nothing MayEnter' d (if_token false) o os (significant true (following (expr_marks o on))) (significant true on))
       → (ends_open o ≡ true → NotWord (codes "else") (significant true on))
-      → Conditional lexeme nothing Open' d w (tree.IfElse c t o) (cs ++ bs ++ os)
+      → Conditional lexeme nothing MayEnter' d w (tree.IfElse c t o) (cs ++ bs ++ os)
       (significant false (expr_marks c (space ∷ brace_left ∷ space ∷ expr_marks t (space ∷ brace_right ∷ space ∷ word (codes "else") ∷ space
       ∷ cond b (expr_marks o on) (brace_left ∷ space ∷ expr_marks o (space ∷ brace_right ∷ on)))))) (significant true on)
   branched d w c t o cs bs os on false is fc ft fb fo next =
@@ -258,31 +258,31 @@ module _ (Open Open' : ℕ → Option SignificantToken → Type 0) (fewer : (d d
   branched d w c t o cs bs os on true is fc ft fb fo next =
       let first : significant false (expr_marks o on) ≡ if_token false ∷ significant true (following (expr_marks o on)) = if_first o on false is in
       let else_token : SignificantToken = record { tok = placed (word (codes "else")) 0 0 0; glued = false } in
-      let B : Tokens → Type 0 = λ s. Braced lexeme nothing Open' d t bs (significant false (brace_left ∷ space ∷ expr_marks t (space ∷ brace_right ∷ space ∷ word (codes "else") ∷ space ∷ expr_marks o on))) (else_token ∷ s) in
+      let B : Tokens → Type 0 = λ s. Braced lexeme nothing MayEnter' d t bs (significant false (brace_left ∷ space ∷ expr_marks t (space ∷ brace_right ∷ space ∷ word (codes "else") ∷ space ∷ expr_marks o on))) (else_token ∷ s) in
       g.else_if (fc _ (ends_before (tail c) _ _ refl) (stop_before _ _ refl)) (subst B first (ft (space ∷ word (codes "else") ∷ space ∷ expr_marks o on))) (is_word (codes "else")) (is_word (codes "if")) (fo is)
 
-  put_if : {d d' : ℕ} {w : SignificantToken} {e : canon.Value} {fs gs : Shown} {ts rest : Tokens} → Conditional lexeme nothing Open d w e fs ts rest → (b : Bool) (on : List Mark)
-      → Conditional lexeme nothing Open' d' (if_token b) e gs (significant true (following (expr_marks e on))) (significant true on) → Conjunct lexeme nothing Open' d' e gs (significant b (expr_marks e on)) (significant true on)
+  put_if : {d d' : ℕ} {w : SignificantToken} {e : canon.Value} {fs gs : Shown} {ts rest : Tokens} → Conditional lexeme nothing MayEnter d w e fs ts rest → (b : Bool) (on : List Mark)
+      → Conditional lexeme nothing MayEnter' d' (if_token b) e gs (significant true (following (expr_marks e on))) (significant true on) → Conjunct lexeme nothing MayEnter' d' e gs (significant b (expr_marks e on)) (significant true on)
   put_if (g.if_only c x next) b on q = g.conditional (is_word (codes "if")) q
   put_if (g.if_else c x w o next) b on q = g.conditional (is_word (codes "if")) q
   put_if (g.else_if c x w i o) b on q = g.conditional (is_word (codes "if")) q
 
   mutual
-    pub expression_back : {condition : Bool} {d : ℕ} {e : canon.Value} {fs : Shown} {ts rest : Tokens} → Expression lexeme nothing Open condition d e fs ts rest → (d' : ℕ) → d' ≤ d → (b : Bool) (on : List Mark) → EndsIn (tail e) (significant true on) → StopE (significant true on)
-        → Expression lexeme nothing Open' condition d' e fs (significant b (expr_marks e on)) (significant true on)
+    pub expression_back : {condition : Bool} {d : ℕ} {e : canon.Value} {fs : Shown} {ts rest : Tokens} → Expression lexeme nothing MayEnter condition d e fs ts rest → (d' : ℕ) → d' ≤ d → (b : Bool) (on : List Mark) → EndsIn (tail e) (significant true on) → StopE (significant true on)
+        → Expression lexeme nothing MayEnter' condition d' e fs (significant b (expr_marks e on)) (significant true on)
     expression_back {d = d} (g.or o l kind r) d' le b on ends stop =
         g.or (fewer d d' _ _ le o) (disjunct_back l (d' + 1) (omega arith) b _ (ends_before _ _ _ refl) (record { and = λ e. cc; comparison = record { compared = record { equality = λ e. cc; inequality = λ e. cc; regex_match = λ e. cc; regex_mismatch = λ e. cc }; conjunct = record { apart = refl } } })) refl
         (expression_back r (d' + 1) (omega arith) false on ends stop)
     expression_back {d = d} (g.disjunct o l next) d' le b on ends stop = g.disjunct (fewer d d' _ _ le o) (disjunct_back l (d' + 1) (omega arith) b on ends stop.disjunct) stop.or
 
-    disjunct_back : {condition : Bool} {d : ℕ} {e : canon.Value} {fs : Shown} {ts rest : Tokens} → Disjunct lexeme nothing Open condition d e fs ts rest → (d' : ℕ) → d' ≤ d → (b : Bool) (on : List Mark) → EndsIn (tail e) (significant true on) → StopD (significant true on)
-        → Disjunct lexeme nothing Open' condition d' e fs (significant b (expr_marks e on)) (significant true on)
+    disjunct_back : {condition : Bool} {d : ℕ} {e : canon.Value} {fs : Shown} {ts rest : Tokens} → Disjunct lexeme nothing MayEnter condition d e fs ts rest → (d' : ℕ) → d' ≤ d → (b : Bool) (on : List Mark) → EndsIn (tail e) (significant true on) → StopD (significant true on)
+        → Disjunct lexeme nothing MayEnter' condition d' e fs (significant b (expr_marks e on)) (significant true on)
     disjunct_back (g.and l kind r) d' le b on ends stop =
         g.and (compared_back l d' le b _ (ends_before _ _ _ refl) (record { compared = record { equality = λ e. cc; inequality = λ e. cc; regex_match = λ e. cc; regex_mismatch = λ e. cc }; conjunct = record { apart = refl } })) refl (disjunct_back r d' le false on ends stop)
     disjunct_back (g.comparison l next) d' le b on ends stop = g.comparison (compared_back l d' le b on ends stop.comparison) stop.and
 
-    compared_back : {condition : Bool} {d : ℕ} {e : canon.Value} {fs : Shown} {ts rest : Tokens} → Compared lexeme nothing Open condition d e fs ts rest → (d' : ℕ) → d' ≤ d → (b : Bool) (on : List Mark) → EndsIn (tail e) (significant true on) → StopM (significant true on)
-        → Compared lexeme nothing Open' condition d' e fs (significant b (expr_marks e on)) (significant true on)
+    compared_back : {condition : Bool} {d : ℕ} {e : canon.Value} {fs : Shown} {ts rest : Tokens} → Compared lexeme nothing MayEnter condition d e fs ts rest → (d' : ℕ) → d' ≤ d → (b : Bool) (on : List Mark) → EndsIn (tail e) (significant true on) → StopM (significant true on)
+        → Compared lexeme nothing MayEnter' condition d' e fs (significant b (expr_marks e on)) (significant true on)
     compared_back (g.compare Equality l kind r) d' le b on ends stop =
         g.compare Equality (conjunct_back l d' le b _ (ends_before _ _ _ refl) (record { apart = refl })) refl (conjunct_back r d' le false on ends stop.conjunct)
     compared_back (g.compare Inequality l kind r) d' le b on ends stop =
@@ -293,31 +293,31 @@ module _ (Open Open' : ℕ → Option SignificantToken → Type 0) (fewer : (d d
         g.compare RegexMismatch (conjunct_back l d' le b _ (ends_before _ _ _ refl) (record { apart = refl })) refl (conjunct_back r d' le false on ends stop.conjunct)
     compared_back (g.conjunct l next) d' le b on ends stop = g.conjunct (conjunct_back l d' le b on ends stop.conjunct) stop.compared
 
-    conjunct_back : {d : ℕ} {e : canon.Value} {fs : Shown} {ts rest : Tokens} → Conjunct lexeme nothing Open d e fs ts rest → (d' : ℕ) → d' ≤ d → (b : Bool) (on : List Mark) → EndsIn (tail e) (significant true on) → StopC (significant true on)
-        → Conjunct lexeme nothing Open' d' e fs (significant b (expr_marks e on)) (significant true on)
+    conjunct_back : {d : ℕ} {e : canon.Value} {fs : Shown} {ts rest : Tokens} → Conjunct lexeme nothing MayEnter d e fs ts rest → (d' : ℕ) → d' ≤ d → (b : Bool) (on : List Mark) → EndsIn (tail e) (significant true on) → StopC (significant true on)
+        → Conjunct lexeme nothing MayEnter' d' e fs (significant b (expr_marks e on)) (significant true on)
     conjunct_back (g.conditional i c) d' le b on ends stop = put_if c b on (conditional_back c (if_token b) d' le on ends)
     conjunct_back (g.root kind r) d' le b on ends stop = g.root refl (conjunct_back r d' le false on ends stop)
     conjunct_back (g.join next l kind r) d' le b on ends stop =
-        g.join (word_head (codes "if") (value_head Open l b _) next) (value_back l d' le b _ (value_before _ _ (λ e. cc)) refl) refl (conjunct_back r d' le false on ends stop)
+        g.join (word_head (codes "if") (value_head MayEnter l b _) next) (value_back l d' le b _ (value_before _ _ (λ e. cc)) refl) refl (conjunct_back r d' le false on ends stop)
     conjunct_back (g.list_concatenation next l kind r) d' le b on ends stop =
-        g.list_concatenation (word_head (codes "if") (value_head Open l b _) next) (value_back l d' le b _ (value_before _ _ (λ e. cc)) refl) refl (conjunct_back r d' le false on ends stop)
+        g.list_concatenation (word_head (codes "if") (value_head MayEnter l b _) next) (value_back l d' le b _ (value_before _ _ (λ e. cc)) refl) refl (conjunct_back r d' le false on ends stop)
     conjunct_back (g.concatenation next l kind r) d' le b on ends stop =
-        g.concatenation (word_head (codes "if") (value_head Open l b _) next) (value_back l d' le b _ (value_before _ _ (λ e. cc)) refl) refl (conjunct_back r d' le false on ends stop)
+        g.concatenation (word_head (codes "if") (value_head MayEnter l b _) next) (value_back l d' le b _ (value_before _ _ (λ e. cc)) refl) refl (conjunct_back r d' le false on ends stop)
     conjunct_back (g.value next v unjoined) d' le b on ends stop =
         let x = value_joined v ends in
-        g.value (word_head (codes "if") (value_head Open v b _) next) (value_back v d' le b on x.0 stop.apart) x.1
+        g.value (word_head (codes "if") (value_head MayEnter v b _) next) (value_back v d' le b on x.0 stop.apart) x.1
 
-    condition_back : {d : ℕ} {e : canon.Value} {fs : Shown} {ts rest : Tokens} → Condition lexeme nothing Open d e fs ts rest → (d' : ℕ) → d' ≤ d → (b : Bool) (on : List Mark) → EndsIn (tail e) (significant true on) → StopE (significant true on)
-        → Condition lexeme nothing Open' d' e fs (significant b (expr_marks e on)) (significant true on)
-    condition_back (g.condition x) d' le b on ends stop = as_condition (expression_head Open x b on) (expression_back x d' le b on ends stop)
+    condition_back : {d : ℕ} {e : canon.Value} {fs : Shown} {ts rest : Tokens} → Condition lexeme nothing MayEnter d e fs ts rest → (d' : ℕ) → d' ≤ d → (b : Bool) (on : List Mark) → EndsIn (tail e) (significant true on) → StopE (significant true on)
+        → Condition lexeme nothing MayEnter' d' e fs (significant b (expr_marks e on)) (significant true on)
+    condition_back (g.condition x) d' le b on ends stop = as_condition (expression_head MayEnter x b on) (expression_back x d' le b on ends stop)
 
-    braced_back : {d : ℕ} {e : canon.Value} {fs : Shown} {ts rest : Tokens} → Braced lexeme nothing Open d e fs ts rest → (d' : ℕ) → d' ≤ d → (on : List Mark)
-        → Braced lexeme nothing Open' d' e fs (significant false (brace_left ∷ space ∷ expr_marks e (space ∷ brace_right ∷ on))) (significant true on)
+    braced_back : {d : ℕ} {e : canon.Value} {fs : Shown} {ts rest : Tokens} → Braced lexeme nothing MayEnter d e fs ts rest → (d' : ℕ) → d' ≤ d → (on : List Mark)
+        → Braced lexeme nothing MayEnter' d' e fs (significant false (brace_left ∷ space ∷ expr_marks e (space ∷ brace_right ∷ on))) (significant true on)
     braced_back (g.braces kind e kind2) d' le on = g.braces refl (expression_back e d' le false _ (ends_before _ _ _ refl) (stop_before _ _ refl)) refl
 
     -- after the `if`
-    conditional_back : {d : ℕ} {w : SignificantToken} {e : canon.Value} {fs : Shown} {ts rest : Tokens} → Conditional lexeme nothing Open d w e fs ts rest → (w' : SignificantToken) (d' : ℕ) → d' ≤ d → (on : List Mark) → EndsIn (tail e) (significant true on)
-        → Conditional lexeme nothing Open' d' w' e fs (significant true (following (expr_marks e on))) (significant true on)
+    conditional_back : {d : ℕ} {w : SignificantToken} {e : canon.Value} {fs : Shown} {ts rest : Tokens} → Conditional lexeme nothing MayEnter d w e fs ts rest → (w' : SignificantToken) (d' : ℕ) → d' ≤ d → (on : List Mark) → EndsIn (tail e) (significant true on)
+        → Conditional lexeme nothing MayEnter' d' w' e fs (significant true (following (expr_marks e on))) (significant true on)
     conditional_back (g.if_only c t next) w' d' le on ends =
         g.if_only (condition_back c d' le false _ (ends_before _ _ _ refl) (stop_before _ _ refl)) (braced_back t d' le on) ends.is.1
     conditional_back (g.if_else {c = c'} {b = t'} {o = o'} {cs} {bs} {os} c t w o next) w' d' le on ends =
@@ -328,27 +328,27 @@ module _ (Open Open' : ℕ → Option SignificantToken → Type 0) (fewer : (d d
         (λ is. conditional_back o (if_token false) d' le on (subst (λ x. EndsIn x (significant true on)) (sym (tail_conditional o' is)) ends)) (no_else (ends_open o') ends)
 
     -- a conditional in braces
-    braced_conditional : {d : ℕ} {e : canon.Value} {fs : Shown} {ts rest : Tokens} → Braced lexeme nothing Open d e fs ts rest → is_conditional e ≡ true → (d' : ℕ) → d' ≤ d → (on : List Mark) → EndsIn (tail e) (significant true on)
-        → Conditional lexeme nothing Open' d' (if_token false) e fs (significant true (following (expr_marks e on))) (significant true on)
+    braced_conditional : {d : ℕ} {e : canon.Value} {fs : Shown} {ts rest : Tokens} → Braced lexeme nothing MayEnter d e fs ts rest → is_conditional e ≡ true → (d' : ℕ) → d' ≤ d → (on : List Mark) → EndsIn (tail e) (significant true on)
+        → Conditional lexeme nothing MayEnter' d' (if_token false) e fs (significant true (following (expr_marks e on))) (significant true on)
     braced_conditional (g.braces kind e kind2) is d' le on ends = expression_conditional e is d' le on ends
 
-    expression_conditional : {condition : Bool} {d : ℕ} {e : canon.Value} {fs : Shown} {ts rest : Tokens} → Expression lexeme nothing Open condition d e fs ts rest → is_conditional e ≡ true → (d' : ℕ) → d' ≤ d → (on : List Mark) → EndsIn (tail e) (significant true on)
-        → Conditional lexeme nothing Open' d' (if_token false) e fs (significant true (following (expr_marks e on))) (significant true on)
+    expression_conditional : {condition : Bool} {d : ℕ} {e : canon.Value} {fs : Shown} {ts rest : Tokens} → Expression lexeme nothing MayEnter condition d e fs ts rest → is_conditional e ≡ true → (d' : ℕ) → d' ≤ d → (on : List Mark) → EndsIn (tail e) (significant true on)
+        → Conditional lexeme nothing MayEnter' d' (if_token false) e fs (significant true (following (expr_marks e on))) (significant true on)
     expression_conditional (g.or o l kind r) is d' le on ends = absurd (no_bool (sym is))
     expression_conditional (g.disjunct o l next) is d' le on ends = disjunct_conditional l is d' (omega arith) on ends
 
-    disjunct_conditional : {condition : Bool} {d : ℕ} {e : canon.Value} {fs : Shown} {ts rest : Tokens} → Disjunct lexeme nothing Open condition d e fs ts rest → is_conditional e ≡ true → (d' : ℕ) → d' ≤ d → (on : List Mark) → EndsIn (tail e) (significant true on)
-        → Conditional lexeme nothing Open' d' (if_token false) e fs (significant true (following (expr_marks e on))) (significant true on)
+    disjunct_conditional : {condition : Bool} {d : ℕ} {e : canon.Value} {fs : Shown} {ts rest : Tokens} → Disjunct lexeme nothing MayEnter condition d e fs ts rest → is_conditional e ≡ true → (d' : ℕ) → d' ≤ d → (on : List Mark) → EndsIn (tail e) (significant true on)
+        → Conditional lexeme nothing MayEnter' d' (if_token false) e fs (significant true (following (expr_marks e on))) (significant true on)
     disjunct_conditional (g.and l kind r) is d' le on ends = absurd (no_bool (sym is))
     disjunct_conditional (g.comparison l next) is d' le on ends = compared_conditional l is d' le on ends
 
-    compared_conditional : {condition : Bool} {d : ℕ} {e : canon.Value} {fs : Shown} {ts rest : Tokens} → Compared lexeme nothing Open condition d e fs ts rest → is_conditional e ≡ true → (d' : ℕ) → d' ≤ d → (on : List Mark) → EndsIn (tail e) (significant true on)
-        → Conditional lexeme nothing Open' d' (if_token false) e fs (significant true (following (expr_marks e on))) (significant true on)
+    compared_conditional : {condition : Bool} {d : ℕ} {e : canon.Value} {fs : Shown} {ts rest : Tokens} → Compared lexeme nothing MayEnter condition d e fs ts rest → is_conditional e ≡ true → (d' : ℕ) → d' ≤ d → (on : List Mark) → EndsIn (tail e) (significant true on)
+        → Conditional lexeme nothing MayEnter' d' (if_token false) e fs (significant true (following (expr_marks e on))) (significant true on)
     compared_conditional (g.compare by l kind r) is d' le on ends = absurd (no_bool (sym is))
     compared_conditional (g.conjunct l next) is d' le on ends = conjunct_conditional l is d' le on ends
 
-    conjunct_conditional : {d : ℕ} {e : canon.Value} {fs : Shown} {ts rest : Tokens} → Conjunct lexeme nothing Open d e fs ts rest → is_conditional e ≡ true → (d' : ℕ) → d' ≤ d → (on : List Mark) → EndsIn (tail e) (significant true on)
-        → Conditional lexeme nothing Open' d' (if_token false) e fs (significant true (following (expr_marks e on))) (significant true on)
+    conjunct_conditional : {d : ℕ} {e : canon.Value} {fs : Shown} {ts rest : Tokens} → Conjunct lexeme nothing MayEnter d e fs ts rest → is_conditional e ≡ true → (d' : ℕ) → d' ≤ d → (on : List Mark) → EndsIn (tail e) (significant true on)
+        → Conditional lexeme nothing MayEnter' d' (if_token false) e fs (significant true (following (expr_marks e on))) (significant true on)
     conjunct_conditional (g.conditional i c) is d' le on ends = conditional_back c (if_token false) d' le on ends
     conjunct_conditional (g.root kind r) is d' le on ends = absurd (no_bool (sym is))
     conjunct_conditional (g.join next l kind r) is d' le on ends = absurd (no_bool (sym is))
@@ -356,8 +356,8 @@ module _ (Open Open' : ℕ → Option SignificantToken → Type 0) (fewer : (d d
     conjunct_conditional (g.concatenation next l kind r) is d' le on ends = absurd (no_bool (sym is))
     conjunct_conditional (g.value next v unjoined) is d' le on ends = absurd (value_no_conditional v is)
 
-    pub value_back : {d : ℕ} {e : canon.Value} {fs : Shown} {ts rest : Tokens} → Value lexeme nothing Open d e fs ts rest → (d' : ℕ) → d' ≤ d → (b : Bool) (on : List Mark) → ValueEndsIn (tail e) (significant true on) → glued_string (significant true on) ≡ false
-        → Value lexeme nothing Open' d' e fs (significant b (expr_marks e on)) (significant true on)
+    pub value_back : {d : ℕ} {e : canon.Value} {fs : Shown} {ts rest : Tokens} → Value lexeme nothing MayEnter d e fs ts rest → (d' : ℕ) → d' ≤ d → (b : Bool) (on : List Mark) → ValueEndsIn (tail e) (significant true on) → glued_string (significant true on) ≡ false
+        → Value lexeme nothing MayEnter' d' e fs (significant b (expr_marks e on)) (significant true on)
     value_back (g.not kind v) d' le b on ends apart = g.not refl (value_back v d' le true on ends apart)
     value_back (g.literal kind) d' le b on ends apart = g.literal refl
     value_back (g.expanded {token} m) d' le b on ends apart = g.expanded (is_marked (codes "x") kinds.StringToken token.tok.lexeme)
@@ -376,15 +376,15 @@ module _ (Open Open' : ℕ → Option SignificantToken → Type 0) (fewer : (d d
     value_back (g.group kind e kind2) d' le b on ends apart = g.group refl (expression_back e d' le true _ (ends_before _ _ _ refl) (stop_before _ _ refl)) refl
     value_back (g.list kind s) d' le b on ends apart = g.list refl (sequence_back false s refl d' le true on)
 
-    pub sequence_back : (p : Bool) {closing : TokenKind} {d : ℕ} {es : Values} {fs : Shown} {ts rest : Tokens} → Sequence lexeme nothing Open closing d es fs ts rest → closing ≡ (closer p).kind → (d' : ℕ) → d' ≤ d → (b : Bool) (on : List Mark)
-        → Sequence lexeme nothing Open' (closer p).kind d' es fs (significant b (exprs_marks es (closer p ∷ on))) (significant true on)
+    pub sequence_back : (p : Bool) {closing : TokenKind} {d : ℕ} {es : Values} {fs : Shown} {ts rest : Tokens} → Sequence lexeme nothing MayEnter closing d es fs ts rest → closing ≡ (closer p).kind → (d' : ℕ) → d' ≤ d → (b : Bool) (on : List Mark)
+        → Sequence lexeme nothing MayEnter' (closer p).kind d' es fs (significant b (exprs_marks es (closer p ∷ on))) (significant true on)
     sequence_back p (g.none kind) same d' le b on = end_none p d' b on
     sequence_back p {closing} (g.last {e = e'} {fs} next e kind) same d' le b on =
-        end_last p d' e' fs _ on (subst (λ k. NotNext k (significant b (expr_marks e' (closer p ∷ on)))) same (next_head closing (expression_head Open e b _) next)) (expression_back e d' le b (closer p ∷ on) (closer_ends (tail e') p on) (closer_stop p on))
+        end_last p d' e' fs _ on (subst (λ k. NotNext k (significant b (expr_marks e' (closer p ∷ on)))) same (next_head closing (expression_head MayEnter e b _) next)) (expression_back e d' le b (closer p ∷ on) (closer_ends (tail e') p on) (closer_stop p on))
     sequence_back p {closing} (g.more {e = e'} {es = es'} {fs} {gs} next e kind s) same d' le b on =
-        joined p d' e' es' fs gs on b (subst (λ k. NotNext k (significant b (expr_marks e' (others_marks es' (closer p ∷ on))))) same (next_head closing (expression_head Open e b _) next)) (expression_back e d' le b) (sequence_back p s same d' le false on)
+        joined p d' e' es' fs gs on b (subst (λ k. NotNext k (significant b (expr_marks e' (others_marks es' (closer p ∷ on))))) same (next_head closing (expression_head MayEnter e b _) next)) (expression_back e d' le b) (sequence_back p s same d' le false on)
 
-    parts_back : {d : ℕ} {ps : Pieces} {fs : Shown} {ts rest : Tokens} → FormatParts lexeme nothing Open d ps fs ts rest → (d' : ℕ) → d' ≤ d → (b : Bool) (on : List Mark)
-        → FormatParts lexeme nothing Open' d' ps fs (significant b (parts_marks ps on)) (significant true on)
+    parts_back : {d : ℕ} {ps : Pieces} {fs : Shown} {ts rest : Tokens} → FormatParts lexeme nothing MayEnter d ps fs ts rest → (d' : ℕ) → d' ≤ d → (b : Bool) (on : List Mark)
+        → FormatParts lexeme nothing MayEnter' d' ps fs (significant b (parts_marks ps on)) (significant true on)
     parts_back (g.end kind) d' le b on = g.end refl
     parts_back (g.next {ps = ps'} kind e ps) d' le b on = g.next refl (expression_back e d' le false _ (parts_ends _ ps' on) (parts_stop ps' on)) (parts_back ps d' le false on)

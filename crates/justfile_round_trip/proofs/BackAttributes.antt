@@ -1,19 +1,19 @@
 -- The tokens of good attributes derive them.
 use Rattle.std.proofs.Common.{◌≡◌, ℕ, Bool, true, false, List, [], ◌∷◌, ◌++◌, Option, Some, None, refl, sym, subst, ◌∙◌, cond}
-use Rattle.justfile_word.specs.declared.token_kind.TokenKind.TheVariants as kinds
+use Rattle.justfile_vocabulary.specs.declared.token_kind.TokenKind.TheVariants as kinds
 use Rattle.justfile_model.specs.AttributeKinds.{name_takes_keys}
 use Rattle.justfile_model.specs.AttributeLines as g
 use Rattle.justfile_model.specs.AttributeLines.{IsKey, ArgumentOf, Arguments, AttributeOf, AttributesEnd, AttributeLines}
-use Rattle.justfile_model.specs.Expressions.{Tokens, IsKind, NotNext, Under, Expression}
+use Rattle.justfile_model.specs.Expressions.{Tokens, IsKind, NotNext, BelowLimit, Expression}
 use Rattle.justfile_model.specs.SignificantTokens.{SignificantToken, is_whitespace}
 use Rattle.justfile_model.specs.Tree as tree
 use Rattle.justfile_model.specs.Tree.{bare_attribute, commented_line, lexeme, nothing}
-use Rattle.justfile_round_trip.proofs.Reading.{Mark, placed}
+use Rattle.justfile_round_trip.proofs.LexedModes.{Mark, placed}
 use Rattle.justfile_round_trip.proofs.Back.{none_but_closing}
 use Rattle.justfile_round_trip.proofs.Canon as canon
 use Rattle.justfile_round_trip.proofs.Canon.{Shown, word, paren_right, newline, expr_marks}
 use Rattle.justfile_round_trip.proofs.CanonAttributes.{Argument, Written, ShapeEntry, bracket_right, argument_marks, other_arguments_marks, parenthesized_marks, comment_marks, attributes_marks, entries_marks}
-use Rattle.justfile_model.specs.Rewritten.{rewritten_entries}
+use Rattle.justfile_model.specs.PrintedAttributes.{rewritten_entries}
 use Rattle.justfile_round_trip.proofs.Good.{significant, ends_value, GoodOptionalComment}
 use Rattle.justfile_round_trip.proofs.GoodAttributes.{is_literal, GoodArgument, GoodArguments, AllGoodWritten, GoodEntries}
 
@@ -55,12 +55,12 @@ glued_after (w ∷ ws) glued = glued_after ws true
 
 module _ (limit : ℕ) where
   positional : (keys : Bool) {e : canon.Value} {fs : Shown} {ts rest : Tokens} → Begun ts → (keys ≡ true → IsKey ts → ⊥)
-      → Expression lexeme nothing (Under limit) false 0 e fs ts rest
-      → ArgumentOf lexeme nothing (Under limit) keys (tree.Positional tt e) fs ts rest
+      → Expression lexeme nothing (BelowLimit limit) false 0 e fs ts rest
+      → ArgumentOf lexeme nothing (BelowLimit limit) keys (tree.Positional tt e) fs ts rest
   positional keys begun no_key x = g.positional no_key x
 
   argument_back : (keys : Bool) (a : Argument) (glued : Bool) (on : List Mark) → GoodArgument limit keys a → ends_value (significant true on) ≡ true
-      → (fs : Shown) × ArgumentOf lexeme nothing (Under limit) keys a fs (significant glued (argument_marks a on)) (significant true on)
+      → (fs : Shown) × ArgumentOf lexeme nothing (BelowLimit limit) keys a fs (significant glued (argument_marks a on)) (significant true on)
   argument_back keys (tree.Positional first value) glued on h stop =
       (h.0.features, positional keys (begins glued (expr_marks value on)) (λ k. literal_no_key value glued on (h.1 k)) (h.0.derives.derives glued on stop))
   argument_back true (tree.Bare key) glued on h stop = ([], g.bare (is_key _ _ refl stop) (none_but_closing kinds.Equals _ refl stop))
@@ -69,7 +69,7 @@ module _ (limit : ℕ) where
   argument_back false (tree.Keyed key value) glued on h stop = let bad = h.1 in cc
 
   arguments_back : (keys : Bool) (a : Argument) (arguments : List Argument) (glued : Bool) (on : List Mark) → GoodArguments limit keys (a ∷ arguments)
-      → (fs : Shown) × Arguments lexeme nothing (Under limit) keys (a ∷ arguments) fs (significant glued (argument_marks a (other_arguments_marks arguments (paren_right ∷ on)))) (significant true on)
+      → (fs : Shown) × Arguments lexeme nothing (BelowLimit limit) keys (a ∷ arguments) fs (significant glued (argument_marks a (other_arguments_marks arguments (paren_right ∷ on)))) (significant true on)
   arguments_back keys a [] glued on h = let r = argument_back keys a glued (paren_right ∷ on) h.0 refl in (r.0, g.last r.1 refl)
   arguments_back keys a (b ∷ arguments) glued on h =
       let r = argument_back keys a glued (other_arguments_marks (b ∷ arguments) (paren_right ∷ on)) h.0 refl in
@@ -78,17 +78,17 @@ module _ (limit : ℕ) where
 
   -- a name and its arguments, up to the closing bracket
   attribute_back : (name : List ℕ) (arguments : List Argument) (on : List Mark) → GoodArguments limit (name_takes_keys name) arguments
-      → (fs : Shown) × AttributeOf lexeme nothing (Under limit) (bare_attribute name arguments) fs (significant true (word name ∷ parenthesized_marks arguments (bracket_right ∷ on))) (significant true (bracket_right ∷ on))
+      → (fs : Shown) × AttributeOf lexeme nothing (BelowLimit limit) (bare_attribute name arguments) fs (significant true (word name ∷ parenthesized_marks arguments (bracket_right ∷ on))) (significant true (bracket_right ∷ on))
   attribute_back name [] on h = ([], g.plain refl (λ e. cc) (λ e. cc))
   attribute_back name (a ∷ arguments) on h =
       let r = arguments_back (name_takes_keys name) a arguments true (bracket_right ∷ on) h in (r.0, g.long refl refl r.1)
 
   -- the end of a line of attributes
   end_back : (comment : Option (List ℕ)) (on : List Mark) → GoodOptionalComment comment
-      → AttributesEnd lexeme nothing (Under limit) comment (significant true (comment_marks comment (newline ∷ on))) (significant true on)
+      → AttributesEnd lexeme nothing (BelowLimit limit) comment (significant true (comment_marks comment (newline ∷ on))) (significant true on)
   end_back None on h = g.bare refl
   end_back (Some t) on h =
-      subst (λ x. AttributesEnd lexeme nothing (Under limit) (Some x) (significant true (comment_marks (Some t) (newline ∷ on))) (significant true on)) h.trimmed
+      subst (λ x. AttributesEnd lexeme nothing (BelowLimit limit) (Some x) (significant true (comment_marks (Some t) (newline ∷ on))) (significant true on)) h.trimmed
       (g.commented refl refl)
 
   -- the line of one attribute
@@ -100,18 +100,18 @@ module _ (limit : ℕ) where
   -- lines of attributes before what is none
   pub attributes_back : (ws : List Written) (glued : Bool) (on : List Mark) → AllGoodWritten limit ws
       → NotNext kinds.BracketL (significant (glued_after ws glued) on)
-      → (fs : Shown) × AttributeLines lexeme nothing (Under limit) ws fs (significant glued (attributes_marks ws on)) (significant (glued_after ws glued) on)
+      → (fs : Shown) × AttributeLines lexeme nothing (BelowLimit limit) ws fs (significant glued (attributes_marks ws on)) (significant (glued_after ws glued) on)
   attributes_back [] glued on h next = ([], g.none next)
   attributes_back (w ∷ ws) glued on h next =
       let r = attribute_back w.name w.arguments (comment_marks w.comment (newline ∷ attributes_marks ws on)) h.0.arguments in
       let q = attributes_back ws true on h.1 next in
       let line = g.line {ws = bare_attribute w.name w.arguments ∷ []} refl (g.last r.1 refl) (end_back w.comment (attributes_marks ws on) h.0.comment) q.1 in (
         r.0 ++ q.0,
-        subst (λ all. AttributeLines lexeme nothing (Under limit) (all ++ ws) (r.0 ++ q.0) (significant glued (attributes_marks (w ∷ ws) on))
+        subst (λ all. AttributeLines lexeme nothing (BelowLimit limit) (all ++ ws) (r.0 ++ q.0) (significant glued (attributes_marks (w ∷ ws) on))
             (significant (glued_after ws true) on)) (line_is w.name w.arguments w.comment) line,
       )
 
   pub entries_back : (entries : List ShapeEntry) (glued : Bool) (on : List Mark) → GoodEntries limit entries
       → NotNext kinds.BracketL (significant (glued_after (rewritten_entries entries) glued) on)
-      → (fs : Shown) × AttributeLines lexeme nothing (Under limit) (rewritten_entries entries) fs (significant glued (entries_marks entries on)) (significant (glued_after (rewritten_entries entries) glued) on)
+      → (fs : Shown) × AttributeLines lexeme nothing (BelowLimit limit) (rewritten_entries entries) fs (significant glued (entries_marks entries on)) (significant (glued_after (rewritten_entries entries) glued) on)
   entries_back entries glued on h next = attributes_back (rewritten_entries entries) glued on h next

@@ -2,9 +2,9 @@
 use Rattle.std.proofs.Common.{◌≡◌, ℕ, Bool, true, false, ◌&&◌, List, [], ◌∷◌, ◌++◌, Option, Some, None, refl, ap, codes}
 use Rattle.std.specs.Str.{IsUtf8}
 use Rattle.std.proofs.lemmas.Str.{IsUtf8-append}
-use Rattle.justfile_word.specs.declared.token_kind.TokenKind.TheVariants as kinds
-use Rattle.justfile_model.specs.Expressions.{Tokens, NotNext, Under}
-use Rattle.justfile_model.specs.Files.{keeps_lexemes}
+use Rattle.justfile_vocabulary.specs.declared.token_kind.TokenKind.TheVariants as kinds
+use Rattle.justfile_model.specs.Expressions.{Tokens, NotNext, BelowLimit}
+use Rattle.justfile_model.specs.Files.{to_lexemes}
 use Rattle.justfile_model.specs.Grammar as g
 use Rattle.justfile_model.specs.Grammar.{OnLine}
 use Rattle.justfile_model.specs.Headers as header
@@ -15,7 +15,7 @@ use Rattle.justfile_model.specs.Settings.{ExpressionForm, InterpreterForm, Plain
 use Rattle.justfile_model.specs.SignificantTokens.{SignificantToken}
 use Rattle.justfile_model.specs.Tree as tree
 use Rattle.justfile_model.specs.Tree.{assignment_of, bare_module, lexeme, nothing}
-use Rattle.justfile_round_trip.proofs.Reading.{Mark}
+use Rattle.justfile_round_trip.proofs.LexedModes.{Mark}
 use Rattle.justfile_round_trip.proofs.Back.{none_but_closing, is_word}
 use Rattle.justfile_round_trip.proofs.Canon.{Shown, Value, ShapeContent, expr_on, paren_right, word}
 use Rattle.justfile_round_trip.proofs.CanonHeaders.{path_on, path_rest_on, path_marks, path_rest_marks, at_marks, header_rest_marks}
@@ -77,7 +77,7 @@ file_path_back q glued on = by q.expanded
 module _ (limit : ℕ) where
   -- the value of a setting, with its features
   abbrev ValueBack : SettingForm → ShapeSetting → List Mark → Type 0
-  ValueBack form v on = (fs : Shown) × ValueOf lexeme nothing (Under limit) form v fs (significant true (setting_value_marks v on)) (significant true on)
+  ValueBack form v on = (fs : Shown) × ValueOf lexeme nothing (BelowLimit limit) form v fs (significant true (setting_value_marks v on)) (significant true on)
 
   setting_value_back : (form : SettingForm) (v : ShapeSetting) (on : List Mark) → GoodSettingValue limit form v → EndsLine (significant true on) → ValueBack form v on
   setting_value_back TruthForm (tree.Truth true) on h ends = ([], parts.bare ends)
@@ -91,7 +91,7 @@ module _ (limit : ℕ) where
 
   -- a construct on one line, with its features
   abbrev pub ContentBack : ShapeContent → Bool → List Mark → Type 0
-  ContentBack content glued on = (fs : Shown) × OnLine keeps_lexemes (Under limit) content fs (significant glued (content_marks content on)) (significant true on)
+  ContentBack content glued on = (fs : Shown) × OnLine to_lexemes (BelowLimit limit) content fs (significant glued (content_marks content on)) (significant true on)
 
   assignment_back : (eager export : Bool) (name : List ℕ) (value : Value) (glued : Bool) (on : List Mark) → (eager && export) ≡ false
       → GoodExpression limit value → EndsLine (significant true on)

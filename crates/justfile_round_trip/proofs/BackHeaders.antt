@@ -2,17 +2,17 @@
 use Rattle.std.proofs.Common.{◌≡◌, ℕ, Bool, true, false, cond, List, [], ◌∷◌, ◌++◌, Option, Some, None, refl, sym, subst, ap, ◌∙◌, arith}
 use Rattle.std.specs.Prelude.{◌&&◌}
 use Rattle.std.specs.List.{flat_map}
-use Rattle.justfile_word.specs.declared.token_kind.TokenKind.TheVariants as kinds
+use Rattle.justfile_vocabulary.specs.declared.token_kind.TokenKind.TheVariants as kinds
 use Rattle.justfile_model.specs.declared.parameter_kind.ParameterKind.{ParameterKind}
 use Rattle.justfile_model.specs.declared.parameter_kind.ParameterKind.TheVariants.{Plus, Singular, Star}
-use Rattle.justfile_model.specs.Expressions.{Tokens, NotNext, Under}
+use Rattle.justfile_model.specs.Expressions.{Tokens, NotNext, BelowLimit}
 use Rattle.justfile_model.specs.Headers as g
 use Rattle.justfile_model.specs.Headers.{PathRest, PathOf, NamedParameter, ParameterOf, Parameters, DependencyArguments, DependencyOf, Dependencies, AllDependencies, NamedHeader, HeaderOf}
 use Rattle.justfile_model.specs.RecipeRules.{dependency_broken, header_broken, misplaced_broken, second_broken, stars}
 use Rattle.justfile_model.specs.SignificantTokens.{SignificantToken, is_whitespace}
 use Rattle.justfile_model.specs.Tree.{lexeme, nothing}
 use Rattle.justfile_model.proofs.Binds.{nothing_in}
-use Rattle.justfile_round_trip.proofs.Reading.{Mark, placed}
+use Rattle.justfile_round_trip.proofs.LexedModes.{Mark, placed}
 use Rattle.justfile_round_trip.proofs.Back.{StopE, glued_string, is_string, lower, none_but_closing, stop_before, ends_before, value_before, expression_back, value_back}
 use Rattle.justfile_round_trip.proofs.Canon.{Shown, colon, word, paren_right, space}
 use Rattle.justfile_round_trip.proofs.CanonHeaders.{ShapeParameter, ShapeArgument, ShapeDependency, ShapeHeader, default_marks, dollar_marks, prefix_marks, parameters_marks, path_rest_marks, path_marks, dependency_arguments_marks, dependency_parts_marks, dependency_marks, dependencies_marks, subsequents_marks, header_rest_marks, header_marks, ampersands}
@@ -117,54 +117,54 @@ module _ (limit : ℕ) where
   -- ---- parameters
 
   record ParameterBack (kind : ParameterKind) (p : ShapeParameter) (fs : Shown) (b : Bool) (on : List Mark) : Type 0 where
-    derives : ParameterOf lexeme nothing (Under limit) kind p fs (significant b (dollar_marks p.export (word p.name ∷ default_marks p.default on))) (significant true on)
+    derives : ParameterOf lexeme nothing (BelowLimit limit) kind p fs (significant b (dollar_marks p.export (word p.name ∷ default_marks p.default on))) (significant true on)
     same_kind : p.kind ≡ kind
 
   named_back : {kind : ParameterKind} {export : Bool} {p : ShapeParameter} {fs : Shown} {ts rest : Tokens}
-      → NamedParameter lexeme nothing (Under limit) kind export p fs ts rest → (b : Bool) (on : List Mark) → Parted (significant true on)
-      → NamedParameter lexeme nothing (Under limit) kind export p fs (significant b (word p.name ∷ default_marks p.default on)) (significant true on)
+      → NamedParameter lexeme nothing (BelowLimit limit) kind export p fs ts rest → (b : Bool) (on : List Mark) → Parted (significant true on)
+      → NamedParameter lexeme nothing (BelowLimit limit) kind export p fs (significant b (word p.name ∷ default_marks p.default on)) (significant true on)
   named_back (g.required kind next) b on h = g.required refl h.no_equals
   named_back (g.optional {e = e'} kind kind2 v) b on h =
-      g.optional refl refl (value_back (Under limit) (Under limit) (lower limit) v 0 (omega arith) true on (value_before (tail e') _ h.no_paren) h.apart)
+      g.optional refl refl (value_back (BelowLimit limit) (BelowLimit limit) (lower limit) v 0 (omega arith) true on (value_before (tail e') _ h.no_paren) h.apart)
 
   named_parts : {kind : ParameterKind} {export : Bool} {p : ShapeParameter} {fs : Shown} {ts rest : Tokens}
-      → NamedParameter lexeme nothing (Under limit) kind export p fs ts rest → (p.kind ≡ kind) × (p.export ≡ export)
+      → NamedParameter lexeme nothing (BelowLimit limit) kind export p fs ts rest → (p.kind ≡ kind) × (p.export ≡ export)
   named_parts (g.required kind next) = (refl, refl)
   named_parts (g.optional kind kind2 v) = (refl, refl)
 
-  parameter_back : {kind : ParameterKind} {p : ShapeParameter} {fs : Shown} {ts rest : Tokens} → ParameterOf lexeme nothing (Under limit) kind p fs ts rest
+  parameter_back : {kind : ParameterKind} {p : ShapeParameter} {fs : Shown} {ts rest : Tokens} → ParameterOf lexeme nothing (BelowLimit limit) kind p fs ts rest
       → (b : Bool) (on : List Mark) → Parted (significant true on) → ParameterBack kind p fs b on
   parameter_back {p = p} {fs = fs} (g.exported {kind = k} kind n) b on h =
       let parts = named_parts n in
       record {
-        derives = subst (λ x. ParameterOf lexeme nothing (Under limit) k p fs (significant b (dollar_marks x (word p.name ∷ default_marks p.default on))) (significant true on)) (sym parts.1)
+        derives = subst (λ x. ParameterOf lexeme nothing (BelowLimit limit) k p fs (significant b (dollar_marks x (word p.name ∷ default_marks p.default on))) (significant true on)) (sym parts.1)
             (g.exported refl (named_back n true on h));
         same_kind = parts.0;
       }
   parameter_back {p = p} {fs = fs} (g.unexported {kind = k} n) b on h =
       let parts = named_parts n in
       record {
-        derives = subst (λ x. ParameterOf lexeme nothing (Under limit) k p fs (significant b (dollar_marks x (word p.name ∷ default_marks p.default on))) (significant true on)) (sym parts.1)
+        derives = subst (λ x. ParameterOf lexeme nothing (BelowLimit limit) k p fs (significant b (dollar_marks x (word p.name ∷ default_marks p.default on))) (significant true on)) (sym parts.1)
             (g.unexported (named_back n b on h));
         same_kind = parts.0;
       }
 
   -- the parameters after the name of a recipe, and the colon
-  parameters_back : {ps : List ShapeParameter} {fs : Shown} {ts rest : Tokens} → Parameters lexeme nothing (Under limit) ps fs ts rest → (b : Bool) (on : List Mark)
-      → Parameters lexeme nothing (Under limit) ps fs (significant b (parameters_marks ps (colon ∷ on))) (significant true on)
+  parameters_back : {ps : List ShapeParameter} {fs : Shown} {ts rest : Tokens} → Parameters lexeme nothing (BelowLimit limit) ps fs ts rest → (b : Bool) (on : List Mark)
+      → Parameters lexeme nothing (BelowLimit limit) ps fs (significant b (parameters_marks ps (colon ∷ on))) (significant true on)
   parameters_back (g.none kind) b on = g.none refl
   parameters_back (g.more {p = p} {ps = ps} {fs = fs} {gs = gs} x r) b on =
       let others = parameters_marks ps (colon ∷ on) in
       let q = parameter_back x false others (parameters_parted ps on) in
-      subst (λ k. Parameters lexeme nothing (Under limit) (p ∷ ps) (fs ++ gs) (significant false (prefix_marks k (dollar_marks p.export (word p.name ∷ default_marks p.default others)))) (significant true on))
+      subst (λ k. Parameters lexeme nothing (BelowLimit limit) (p ∷ ps) (fs ++ gs) (significant false (prefix_marks k (dollar_marks p.export (word p.name ∷ default_marks p.default others)))) (significant true on))
       (sym q.same_kind) (g.more q.derives (parameters_back r true on))
   parameters_back (g.plus {p = p} {fs = fs} kind x kind2) b on =
       let q = parameter_back x true (colon ∷ on) (parameters_parted [] on) in
-      subst (λ k. Parameters lexeme nothing (Under limit) (p ∷ []) fs (significant false (prefix_marks k (dollar_marks p.export (word p.name ∷ default_marks p.default (colon ∷ on))))) (significant true on))
+      subst (λ k. Parameters lexeme nothing (BelowLimit limit) (p ∷ []) fs (significant false (prefix_marks k (dollar_marks p.export (word p.name ∷ default_marks p.default (colon ∷ on))))) (significant true on))
       (sym q.same_kind) (g.plus refl q.derives refl)
   parameters_back (g.star {p = p} {fs = fs} kind x kind2) b on =
       let q = parameter_back x true (colon ∷ on) (parameters_parted [] on) in
-      subst (λ k. Parameters lexeme nothing (Under limit) (p ∷ []) fs (significant false (prefix_marks k (dollar_marks p.export (word p.name ∷ default_marks p.default (colon ∷ on))))) (significant true on))
+      subst (λ k. Parameters lexeme nothing (BelowLimit limit) (p ∷ []) fs (significant false (prefix_marks k (dollar_marks p.export (word p.name ∷ default_marks p.default (colon ∷ on))))) (significant true on))
       (sym q.same_kind) (g.star refl q.derives refl)
 
   -- ---- dependencies
@@ -182,14 +182,14 @@ module _ (limit : ℕ) where
 
   -- an argument ends before the others, or before the closing parenthesis
   record ArgumentsBack (arguments : List ShapeArgument) (fs : Shown) (ts : Tokens) (on : List Mark) : Type 0 where
-    derives : DependencyArguments lexeme nothing nothing (Under limit) arguments fs (significant true (dependency_arguments_marks arguments (paren_right ∷ on))) (significant true on)
+    derives : DependencyArguments lexeme nothing nothing (BelowLimit limit) arguments fs (significant true (dependency_arguments_marks arguments (paren_right ∷ on))) (significant true on)
     ends : {x : End} → EndsIn x ts → EndsIn x (significant true (dependency_arguments_marks arguments (paren_right ∷ on)))
     value_ends : {x : End} → ValueEndsIn x ts → ValueEndsIn x (significant true (dependency_arguments_marks arguments (paren_right ∷ on)))
     stops : StopE (significant true (dependency_arguments_marks arguments (paren_right ∷ on)))
     apart : glued_string (significant true (dependency_arguments_marks arguments (paren_right ∷ on))) ≡ false
     no_colons : (c : Bool) → NotNext kinds.ColonColon (significant c (dependency_arguments_marks arguments (paren_right ∷ on)))
 
-  arguments_back : {arguments : List ShapeArgument} {fs : Shown} {ts rest : Tokens} → DependencyArguments lexeme nothing nothing (Under limit) arguments fs ts rest
+  arguments_back : {arguments : List ShapeArgument} {fs : Shown} {ts rest : Tokens} → DependencyArguments lexeme nothing nothing (BelowLimit limit) arguments fs ts rest
       → (on : List Mark) → ArgumentsBack arguments fs ts on
   arguments_back (g.none kind) on = record {
     derives = g.none refl;
@@ -201,19 +201,19 @@ module _ (limit : ℕ) where
   }
   arguments_back (g.plain {e = e'} {others = others} x r) on =
       let q = arguments_back r on in
-      let head = expression_head (Under limit) x false (dependency_arguments_marks others (paren_right ∷ on)) in
+      let head = expression_head (BelowLimit limit) x false (dependency_arguments_marks others (paren_right ∷ on)) in
       record {
-        derives = g.plain (expression_back (Under limit) (Under limit) (lower limit) x 0 (omega arith) false _ (q.ends (expression_ends (Under limit) x)) q.stops) q.derives;
+        derives = g.plain (expression_back (BelowLimit limit) (BelowLimit limit) (lower limit) x 0 (omega arith) false _ (q.ends (expression_ends (BelowLimit limit) x)) q.stops) q.derives;
         ends = λ {x} h. ends_too x head h;
         value_ends = λ {x} h. value_ends_too x head h;
-        stops = stop_beside head (expression_begins (Under limit) x);
+        stops = stop_beside head (expression_begins (BelowLimit limit) x);
         apart = apart head;
-        no_colons = λ c. not_begun kinds.ColonColon (begins_too head (expression_begins (Under limit) x)) refl;
+        no_colons = λ c. not_begun kinds.ColonColon (begins_too head (expression_begins (BelowLimit limit) x)) refl;
       }
   arguments_back (g.starred {e = e'} kind v r) on =
       let q = arguments_back r on in
       record {
-        derives = g.starred refl (value_back (Under limit) (Under limit) (lower limit) v 0 (omega arith) true _ (q.value_ends (value_ends (Under limit) v)) q.apart) q.derives;
+        derives = g.starred refl (value_back (BelowLimit limit) (BelowLimit limit) (lower limit) v 0 (omega arith) true _ (q.value_ends (value_ends (BelowLimit limit) v)) q.apart) q.derives;
         ends = λ {x} h. ends_before x _ _ refl;
         value_ends = λ {x} h. value_before x _ (λ e. cc);
         stops = star_stops _ _ refl;
@@ -222,9 +222,9 @@ module _ (limit : ℕ) where
       }
 
   -- a dependency after a space, before what begins with no two colons
-  dependency_back : {d : ShapeDependency} {fs : Shown} {ts rest : Tokens} → DependencyOf lexeme nothing nothing (Under limit) d fs ts rest → NoBareStar d.star d.arguments
+  dependency_back : {d : ShapeDependency} {fs : Shown} {ts rest : Tokens} → DependencyOf lexeme nothing nothing (BelowLimit limit) d fs ts rest → NoBareStar d.star d.arguments
       → (on : List Mark) → ((c : Bool) → NotNext kinds.ColonColon (significant c on))
-      → DependencyOf lexeme nothing nothing (Under limit) d fs (significant false (dependency_marks d on)) (significant true on)
+      → DependencyOf lexeme nothing nothing (BelowLimit limit) d fs (significant false (dependency_marks d on)) (significant true on)
   dependency_back (g.bare p) s on h = g.bare (path_back p false on h)
   dependency_back (g.plain kind p (g.none kind2)) s on h = g.bare (path_back p false on h)
   dependency_back (g.plain kind p (g.plain x r)) s on h =
@@ -238,9 +238,9 @@ module _ (limit : ℕ) where
       let q = arguments_back (g.starred {mark = m} kind3 v r) on in g.starred refl refl (path_back p true _ q.no_colons) q.derives
 
   -- dependencies, each after a space, before what begins none
-  dependencies_back : {ds : List ShapeDependency} {fs : Shown} {ts rest : Tokens} → Dependencies lexeme nothing nothing (Under limit) ds fs ts rest → AllStarred ds
+  dependencies_back : {ds : List ShapeDependency} {fs : Shown} {ts rest : Tokens} → Dependencies lexeme nothing nothing (BelowLimit limit) ds fs ts rest → AllStarred ds
       → (on : List Mark) → ((c : Bool) → Done (significant c on))
-      → Dependencies lexeme nothing nothing (Under limit) ds fs (significant true (dependencies_marks ds on)) (significant true on)
+      → Dependencies lexeme nothing nothing (BelowLimit limit) ds fs (significant true (dependencies_marks ds on)) (significant true on)
   dependencies_back (g.none a b c) s on h = let q = h true in g.none q.no_name q.no_star q.no_paren
   dependencies_back (g.more {ds = ds} x r) s on h =
       g.more (dependency_back x s.0 (dependencies_marks ds on) (λ c. dependencies_no_colons ds on c (λ b. (h b).no_colons))) (dependencies_back r s.1 on h)
@@ -248,28 +248,28 @@ module _ (limit : ℕ) where
   ampersands_done : (on : List Mark) → Done (significant false (ampersands ∷ on))
   ampersands_done on = record { no_name = λ e. cc; no_star = λ e. cc; no_paren = λ e. cc; no_colons = λ e. cc }
 
-  all_back : {ds ss : List ShapeDependency} {fs : Shown} {ts rest : Tokens} → AllDependencies lexeme nothing nothing (Under limit) ds ss fs ts rest
+  all_back : {ds ss : List ShapeDependency} {fs : Shown} {ts rest : Tokens} → AllDependencies lexeme nothing nothing (BelowLimit limit) ds ss fs ts rest
       → AllStarred ds → AllStarred ss → (on : List Mark) → ((c : Bool) → ends_value (significant c on) ≡ true)
-      → AllDependencies lexeme nothing nothing (Under limit) ds ss fs (significant true (dependencies_marks ds (subsequents_marks ss on))) (significant true on)
+      → AllDependencies lexeme nothing nothing (BelowLimit limit) ds ss fs (significant true (dependencies_marks ds (subsequents_marks ss on))) (significant true on)
   all_back (g.priors x next) s r on h =
       g.priors (dependencies_back x s on (λ c. done _ (h c))) (none_but_closing kinds.AmpersandAmpersand _ refl (h true))
   all_back (g.both {d = d} {others = others} x kind y) s r on h =
       g.both (dependencies_back x s (space ∷ ampersands ∷ dependencies_marks (d ∷ others) on) (λ c. ampersands_done (dependencies_marks (d ∷ others) on))) refl (dependencies_back y r on (λ c. done _ (h c)))
 
-  named_header_back : {quiet : Bool} {h : ShapeHeader} {fs : Shown} {ts rest : Tokens} → NamedHeader lexeme nothing nothing (Under limit) quiet h fs ts rest
+  named_header_back : {quiet : Bool} {h : ShapeHeader} {fs : Shown} {ts rest : Tokens} → NamedHeader lexeme nothing nothing (BelowLimit limit) quiet h fs ts rest
       → AllStarred h.priors → AllStarred h.subsequents → (b : Bool) (on : List Mark) → ((c : Bool) → ends_value (significant c on) ≡ true)
-      → NamedHeader lexeme nothing nothing (Under limit) quiet h fs (significant b (word h.name ∷ header_rest_marks h on)) (significant true on)
+      → NamedHeader lexeme nothing nothing (BelowLimit limit) quiet h fs (significant b (word h.name ∷ header_rest_marks h on)) (significant true on)
   named_header_back (g.header {ds = ds} {ss = ss} kind ps all) s r b on h =
       g.header refl (parameters_back ps true (dependencies_marks ds (subsequents_marks ss on))) (all_back all s r on h)
 
   -- a header, before what a value ends at
-  header_marks_back : {h : ShapeHeader} {fs : Shown} {ts rest : Tokens} → HeaderOf lexeme nothing nothing (Under limit) h fs ts rest
+  header_marks_back : {h : ShapeHeader} {fs : Shown} {ts rest : Tokens} → HeaderOf lexeme nothing nothing (BelowLimit limit) h fs ts rest
       → AllStarred h.priors → AllStarred h.subsequents → (b : Bool) (on : List Mark) → ((c : Bool) → ends_value (significant c on) ≡ true)
-      → HeaderOf lexeme nothing nothing (Under limit) h fs (significant b (header_marks h on)) (significant true on)
+      → HeaderOf lexeme nothing nothing (BelowLimit limit) h fs (significant b (header_marks h on)) (significant true on)
   header_marks_back (g.quiet kind (g.header {name = n} kind2 ps all)) s r b on h = g.quiet refl (named_header_back (g.header {name = n} kind2 ps all) s r true on h)
   header_marks_back (g.loud (g.header {name = n} kind2 ps all)) s r b on h = g.loud (named_header_back (g.header {name = n} kind2 ps all) s r b on h)
 
-  pub header_back : {h : ShapeHeader} {fs : Shown} {ts rest : Tokens} → HeaderOf lexeme nothing nothing (Under limit) h fs ts rest → header_broken h ≡ []
+  pub header_back : {h : ShapeHeader} {fs : Shown} {ts rest : Tokens} → HeaderOf lexeme nothing nothing (BelowLimit limit) h fs ts rest → header_broken h ≡ []
       → HeaderDerivesBack limit h fs
   header_back {h} x unbroken = record {
     derives = λ b on stop.

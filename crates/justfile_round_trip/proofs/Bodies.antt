@@ -1,12 +1,12 @@
 -- A printed body, at any indentation, and what follows it, is lexed back.
 use Rattle.std.proofs.Common.{◌≡◌, ℕ, Bool, true, false, cond, List, [], ◌∷◌, ◌++◌, length, drop, None, Some, refl, sym, ap, ◌∙◌, subst}
 use Rattle.std.specs.Prelude.{◌&&◌, ◌||◌, not}
-use Rattle.justfile_word.specs.declared.token_kind.TokenKind.TheVariants as kinds
-use Rattle.justfile_word.specs.ByteClass.{class_of}
+use Rattle.justfile_vocabulary.specs.declared.token_kind.TokenKind.TheVariants as kinds
+use Rattle.justfile_vocabulary.specs.ByteClass.{class_of}
 use Rattle.justfile_model.specs.Bytes.{blank, white, line_feed, blank_len, closes_levels}
 use Rattle.justfile_model.specs.Next.{begins_blank_line}
 use Rattle.justfile_model.specs.Tree.{Text, Interpolation, Line}
-use Rattle.justfile_round_trip.proofs.Reading.{Mark, mark, LexesTo}
+use Rattle.justfile_round_trip.proofs.LexedModes.{Mark, mark, LexesTo}
 use Rattle.justfile_round_trip.proofs.Inline.{head_is, amid, space_step}
 use Rattle.justfile_round_trip.proofs.Lines.{at_item, line_end}
 use Rattle.justfile_round_trip.proofs.BodyLines.{at_line, in_line, IsLevel, text_step, body_line_end, interpolation_start, interpolation_end, empty_step, indent_step, level_step, white_blanks, closes_over, closes_feed, closes_nothing, ends_body, dedent_step}

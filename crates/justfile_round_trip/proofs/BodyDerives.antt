@@ -1,9 +1,9 @@
 -- The printer's tokens of a good body are read as its lines again.
 use Rattle.std.proofs.Common.{ℕ, Bool, true, false, List, [], ◌∷◌, ◌++◌, refl}
-use Rattle.justfile_word.specs.declared.token_kind.TokenKind.TheVariants as kinds
+use Rattle.justfile_vocabulary.specs.declared.token_kind.TokenKind.TheVariants as kinds
 use Rattle.justfile_model.specs.Tree.{Text, Interpolation, Line}
 use Rattle.justfile_model.specs.Grammar as g
-use Rattle.justfile_round_trip.proofs.Reading.{Mark, mark}
+use Rattle.justfile_round_trip.proofs.LexedModes.{Mark, mark}
 use Rattle.justfile_round_trip.proofs.Canon.{Shown, Fragment, Row, newline, fragments_marks, lines_marks}
 use Rattle.justfile_round_trip.proofs.Good.{GoodFragments, GoodLines, GoodBody, significant}
 use Rattle.justfile_round_trip.proofs.BodyGood.{Tokens, LineOf, LinesOf}

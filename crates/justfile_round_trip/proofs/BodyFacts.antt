@@ -6,11 +6,11 @@ use Rattle.std.specs.Str.{bytes_eq}
 use Rattle.std.proofs.lemmas.Bool.{and_parts}
 use Rattle.std.proofs.lemmas.Bool.Decides.{nat_tests}
 use Rattle.std.proofs.lemmas.List.{reverse-append, reverse-reverse}
-use Rattle.justfile_word.specs.declared.byte_class.ByteClass.{ByteClass}
-use Rattle.justfile_word.specs.declared.byte_class.ByteClass.TheVariants as classes
-use Rattle.justfile_word.specs.declared.token_kind.TokenKind.{TokenKind}
-use Rattle.justfile_word.specs.declared.token_kind.TokenKind.TheVariants as kinds
-use Rattle.justfile_word.specs.ByteClass.{begins_fixed, class_of}
+use Rattle.justfile_vocabulary.specs.declared.byte_class.ByteClass.{ByteClass}
+use Rattle.justfile_vocabulary.specs.declared.byte_class.ByteClass.TheVariants as classes
+use Rattle.justfile_vocabulary.specs.declared.token_kind.TokenKind.{TokenKind}
+use Rattle.justfile_vocabulary.specs.declared.token_kind.TokenKind.TheVariants as kinds
+use Rattle.justfile_vocabulary.specs.ByteClass.{begins_fixed, class_of}
 use Rattle.justfile_model.specs.Bytes.{blank, white, line_feed, blank_len, is_line_end, closes_levels}
 use Rattle.justfile_model.specs.LexicalFault.{UnpairedCarriageReturn, Here}
 use Rattle.justfile_model.specs.Tok.{Tok}
@@ -20,12 +20,12 @@ use Rattle.justfile_model.specs.Lexed.{Lexed}
 use Rattle.justfile_model.specs.Next.{NextToken, token_by_class, token_within_line, body_token, text_or, InText, region_by, token_in_region, at_end_by, is_level, begins_blank_line, next}
 use Rattle.justfile_model.specs.Printing.{ends_in_return}
 use Rattle.justfile_model.proofs.CutLemmas.{is_line_feed}
-use Rattle.justfile_round_trip.proofs.Reading.{take_front, drop_front}
+use Rattle.justfile_round_trip.proofs.LexedModes.{take_front, drop_front}
 use Rattle.justfile_round_trip.proofs.Inline.{Each, head_is}
 use Rattle.justfile_round_trip.proofs.Lines.{at_item, item_next}
 use Rattle.justfile_round_trip.proofs.BodyLines.{IsRaw, IsWhite, white_blanks, closes_over, no_feed, swapped}
 use Rattle.justfile_round_trip.proofs.RawTexts.{scan, NoFeed, text_no_feed, text_rest, raw_newline, raw_braces}
-use Rattle.justfile_round_trip.proofs.Sound.{Runs, runs_one, runs_from}
+use Rattle.justfile_round_trip.proofs.TokenFacts.{Runs, runs_one, runs_from}
 use Rattle.justfile_round_trip.proofs.Good.{pale}
 use Rattle.justfile_round_trip.proofs.BodyTokens.{InBody, Clear, At, First, Start, Amid, front, past, Ready, Seen, Empty, NotFirst, Closing, AtEnd, AtBlankLine, AtLevel, TokenFact, token_fact, no_interpolation, in_body_there, stops_here, not_blank_past, past_line_end}
 

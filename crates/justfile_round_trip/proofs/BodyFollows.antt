@@ -1,7 +1,7 @@
 -- What is printed after a body in normal form: nothing, or an item, with line ends before it or not.
 use Rattle.std.proofs.Common.{◌≡◌, ℕ, Bool, true, false, List, [], ◌∷◌, ◌++◌, refl, ap, arith, codes}
 use Rattle.std.specs.Prelude.{not}
-use Rattle.justfile_word.specs.ByteClass.{class_of}
+use Rattle.justfile_vocabulary.specs.ByteClass.{class_of}
 use Rattle.justfile_model.specs.Bytes.{white}
 use Rattle.justfile_model.specs.Modes.{is_empty}
 use Rattle.justfile_model.specs.NormalShape.{after_newline, normal_rest}

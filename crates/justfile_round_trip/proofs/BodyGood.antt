@@ -3,13 +3,13 @@ use Rattle.std.proofs.Common.{◌≡◌, ℕ, suc, Bool, true, false, List, [], 
 use Rattle.std.specs.Prelude.{◌&&◌, ◌||◌, not}
 use Rattle.std.specs.Str.{IsUtf8}
 use Rattle.std.proofs.lemmas.Bool.{and_parts}
-use Rattle.justfile_word.specs.declared.token_kind.TokenKind.{TokenKind}
-use Rattle.justfile_word.specs.declared.token_kind.TokenKind.TheVariants as kinds
+use Rattle.justfile_vocabulary.specs.declared.token_kind.TokenKind.{TokenKind}
+use Rattle.justfile_vocabulary.specs.declared.token_kind.TokenKind.TheVariants as kinds
 use Rattle.justfile_model.specs.SignificantTokens.{SignificantToken}
 use Rattle.justfile_model.specs.Tree.{Text, Interpolation, Line, lexeme, nothing, line_before, trimmed}
 use Rattle.justfile_model.specs.Grammar as g
-use Rattle.justfile_model.specs.Expressions.{Under, Expression}
-use Rattle.justfile_model.specs.Files.{keeps_lexemes}
+use Rattle.justfile_model.specs.Expressions.{BelowLimit, Expression}
+use Rattle.justfile_model.specs.Files.{to_lexemes}
 use Rattle.justfile_model.specs.Grammar.{LineRest, BodyLines}
 use Rattle.justfile_model.specs.Printing.{ends_in_return, printable_fragments, printable_body}
 use Rattle.justfile_round_trip.proofs.Canon.{Shown, Value, Fragment, Row}
@@ -112,8 +112,8 @@ module _ (P : Outline → Type 0) (keep : (k : TokenKind) (l : List ℕ) (s : Ou
   quiet_walk : (k : TokenKind) (t : SignificantToken) (rest : Tokens) → t.tok.kind ≡ k → quiet k ≡ true → Walked P (t ∷ rest) → Walked P rest
   quiet_walk k t rest e h w = record { outline = outline_after t.tok.kind t.tok.lexeme w.outline; is = keep t.tok.kind t.tok.lexeme w.outline (ap quiet e ∙ h) w.is; sound = w.sound.1 }
 
-  walk_past : (limit : ℕ) {condition : Bool} {depth : ℕ} {e : Value} {ns : Shown} {tokens rest : Tokens} → Expression lexeme nothing (Under limit) condition depth e ns tokens rest → Walked P tokens → Walked P rest
-  walk_past limit = walk lexeme nothing (Under limit) (Walked P) quiet_walk
+  walk_past : (limit : ℕ) {condition : Bool} {depth : ℕ} {e : Value} {ns : Shown} {tokens rest : Tokens} → Expression lexeme nothing (BelowLimit limit) condition depth e ns tokens rest → Walked P tokens → Walked P rest
+  walk_past limit = walk lexeme nothing (BelowLimit limit) (Walked P) quiet_walk
 
 pub quiet_stays : (k : TokenKind) → quiet k ≡ true → shifts k ≡ false
 quiet_stays kinds.Indent h = cc
@@ -168,11 +168,11 @@ printable_rest (Interpolation e) (k ∷ fs) p = p
 module _ (limit : ℕ) where
   -- fragments up to the line end, which is taken, or up to the dedent, which is not
   abbrev pub LineOf : List Fragment → Shown → Tokens → Tokens → Type 0
-  LineOf = LineRest lexeme nothing (Under limit)
+  LineOf = LineRest lexeme nothing (BelowLimit limit)
 
   -- lines up to the dedent, which is taken
   abbrev pub LinesOf : List Row → Shown → Tokens → Tokens → Type 0
-  LinesOf = BodyLines keeps_lexemes (Under limit)
+  LinesOf = BodyLines to_lexemes (BelowLimit limit)
 
   -- what is known of the parts of a line by themselves
   abbrev pub PartsGood : List Fragment → Type 0
@@ -185,13 +185,13 @@ module _ (limit : ℕ) where
   AllPartsGood (Line number fs ∷ ls) = PartsGood fs × AllPartsGood ls
 
   -- in an interpolation
-  walk_inside : {condition : Bool} {depth : ℕ} {e : Value} {ns : Shown} {tokens rest : Tokens} (colon : Bool) → Expression lexeme nothing (Under limit) condition depth e ns tokens rest → BodySound (interpolating colon) tokens → BodySound (interpolating colon) rest
+  walk_inside : {condition : Bool} {depth : ℕ} {e : Value} {ns : Shown} {tokens rest : Tokens} (colon : Bool) → Expression lexeme nothing (BelowLimit limit) condition depth e ns tokens rest → BodySound (interpolating colon) tokens → BodySound (interpolating colon) rest
   walk_inside {rest} colon x s =
       let w = walk_past (λ o. o ≡ interpolating colon) (λ k l o h e. ap (outline_after k l) e ∙ quiet_keeps k l colon h) limit x (record { outline = interpolating colon; is = refl; sound = s }) in
       subst (λ o. BodySound o rest) w.is w.sound
 
   -- outside bodies
-  pub walk_outside : {condition : Bool} {depth : ℕ} {e : Value} {ns : Shown} {tokens rest : Tokens} → Expression lexeme nothing (Under limit) condition depth e ns tokens rest → Walked IsOutside tokens → Walked IsOutside rest
+  pub walk_outside : {condition : Bool} {depth : ℕ} {e : Value} {ns : Shown} {tokens rest : Tokens} → Expression lexeme nothing (BelowLimit limit) condition depth e ns tokens rest → Walked IsOutside tokens → Walked IsOutside rest
   walk_outside = walk_past IsOutside (λ k l s h o. outside_after k l s (quiet_stays k h) o) limit
 
   trimmed_good : (ls : List Row) → GoodLines limit ls → GoodLines limit (trimmed ls)

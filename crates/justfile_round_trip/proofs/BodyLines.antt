@@ -6,12 +6,12 @@ use Rattle.std.specs.Str.{bytes_eq}
 use Rattle.std.proofs.lemmas.Bool.{and_parts}
 use Rattle.std.proofs.lemmas.Bool.Decides.{nat_tests}
 use Rattle.std.proofs.lemmas.Slice.Eq.{bytes_eq-Decides}
-use Rattle.justfile_word.specs.declared.byte_class.ByteClass.{ByteClass}
-use Rattle.justfile_word.specs.declared.byte_class.ByteClass.TheVariants as classes
-use Rattle.justfile_word.specs.declared.token_kind.TokenKind.TheVariants.{Colon, Dedent, Eol, Indent, InterpolationEnd, InterpolationStart, Text, Whitespace}
-use Rattle.justfile_word.specs.ByteClass.{class_of}
-use Rattle.justfile_word.specs.Indentation.{IsIndentation, is_space_or_tab}
-use Rattle.justfile_word.proofs.IndentationLemmas.{all_equal}
+use Rattle.justfile_vocabulary.specs.declared.byte_class.ByteClass.{ByteClass}
+use Rattle.justfile_vocabulary.specs.declared.byte_class.ByteClass.TheVariants as classes
+use Rattle.justfile_vocabulary.specs.declared.token_kind.TokenKind.TheVariants.{Colon, Dedent, Eol, Indent, InterpolationEnd, InterpolationStart, Text, Whitespace}
+use Rattle.justfile_vocabulary.specs.ByteClass.{class_of}
+use Rattle.justfile_vocabulary.specs.Indentation.{IsIndentation, is_space_or_tab}
+use Rattle.justfile_vocabulary.proofs.IndentationLemmas.{all_equal}
 use Rattle.justfile_model.specs.declared.open_delimiter.OpenDelimiter.{OpenDelimiter}
 use Rattle.justfile_model.specs.declared.raw_text.RawText.TheVariants as raw_texts
 use Rattle.justfile_model.specs.Bytes.{blank, white, line_feed, blank_len, is_mixed, closes_levels}
@@ -19,7 +19,7 @@ use Rattle.justfile_model.specs.LiteralText.{pieces_len, raw_len}
 use Rattle.justfile_model.specs.Tok.{Tok}
 use Rattle.justfile_model.specs.Modes.{Mode, is_empty}
 use Rattle.justfile_model.specs.Next.{fixed_token, token_by_class, token_within_line, body_token, text_or, layout, begins_blank_line, next}
-use Rattle.justfile_round_trip.proofs.Reading.{Mark, mark, LexesTo, step, take_front}
+use Rattle.justfile_round_trip.proofs.LexedModes.{Mark, mark, LexesTo, step, take_front}
 use Rattle.justfile_round_trip.proofs.Inline.{Each, head_is, amid, amid_next, and_no}
 use Rattle.justfile_round_trip.proofs.Lines.{at_item, run_more, laid_after}
 

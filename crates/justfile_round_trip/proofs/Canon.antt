@@ -1,7 +1,7 @@
 -- What the printer means: the printed text before more, and its tokens before more.
 use Rattle.std.proofs.Common.{◌≡◌, ℕ, Bool, true, false, cond, List, [], ◌∷◌, ◌++◌, refl, ap, ◌∙◌, append_assoc, codes}
 use Rattle.std.specs.List.{flat_map}
-use Rattle.justfile_word.specs.declared.token_kind.TokenKind.TheVariants as kinds
+use Rattle.justfile_vocabulary.specs.declared.token_kind.TokenKind.TheVariants as kinds
 use Rattle.justfile_model.specs.declared.conditional_operator.ConditionalOperator.{ConditionalOperator}
 use Rattle.justfile_model.specs.declared.conditional_operator.ConditionalOperator.TheVariants.{Equality, Inequality, RegexMatch, RegexMismatch}
 use Rattle.justfile_model.specs.Tree as tree
@@ -9,7 +9,7 @@ use Rattle.justfile_model.specs.Tree.{Expr, Or, And, Comparison, Concatenation, 
 use Rattle.justfile_model.specs.Features.{Noted}
 use Rattle.justfile_model.specs.Expressions.{operator_kind}
 use Rattle.justfile_model.specs.Printing.{fixed_text, is_conditional, other_text, expr_text, exprs_text, parts_text, fragment_text, line_text, body_text}
-use Rattle.justfile_round_trip.proofs.Reading.{Mark, mark}
+use Rattle.justfile_round_trip.proofs.LexedModes.{Mark, mark}
 
 -- What a shape is made of: expressions, fragments, lines of bodies, and items with their contents.
 abbrev pub Value : Type 0

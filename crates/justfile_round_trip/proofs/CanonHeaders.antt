@@ -1,13 +1,13 @@
 -- The printed text of the header of a recipe before more, and its tokens before more.
 use Rattle.std.proofs.Common.{◌≡◌, ℕ, Bool, true, false, List, [], ◌∷◌, ◌++◌, Option, Some, None, refl, ap, codes}
 use Rattle.std.specs.List.{flat_map}
-use Rattle.justfile_base.specs.Path.{path_text, separated_name}
-use Rattle.justfile_word.specs.declared.token_kind.TokenKind.TheVariants as kinds
+use Rattle.justfile_token.specs.Path.{path_text, separated_name}
+use Rattle.justfile_vocabulary.specs.declared.token_kind.TokenKind.TheVariants as kinds
 use Rattle.justfile_model.specs.declared.parameter_kind.ParameterKind.{ParameterKind}
 use Rattle.justfile_model.specs.declared.parameter_kind.ParameterKind.TheVariants.{Plus, Singular, Star}
 use Rattle.justfile_model.specs.Printing.{fixed_text, if_some, if_true, expr_text, prefix_text, parameter_text, dependency_argument_text, parenthesized, dependency_text, subsequents_text, header_text}
 use Rattle.justfile_model.specs.Tree as tree
-use Rattle.justfile_round_trip.proofs.Reading.{Mark, mark}
+use Rattle.justfile_round_trip.proofs.LexedModes.{Mark, mark}
 use Rattle.justfile_round_trip.proofs.Canon.{Value, colon, word, paren_left, paren_right, space, expr_on, expr_marks, expr_is, then}
 use Rattle.justfile_round_trip.proofs.CanonAttributes.{equals}
 

@@ -1,12 +1,12 @@
 -- What the printer means by items: their printed text before more, and their tokens before more.
 use Rattle.std.proofs.Common.{◌≡◌, ℕ, List, [], ◌∷◌, ◌++◌, Option, None, refl, ap, ◌∙◌, append_assoc, codes}
-use Rattle.justfile_base.specs.Path.{path_text}
-use Rattle.justfile_word.specs.declared.token_kind.TokenKind.TheVariants as kinds
+use Rattle.justfile_token.specs.Path.{path_text}
+use Rattle.justfile_vocabulary.specs.declared.token_kind.TokenKind.TheVariants as kinds
 use Rattle.justfile_model.specs.Docs.{doc_of}
 use Rattle.justfile_model.specs.Tree.{AliasParts, AssignmentParts, FunctionParts, ImportParts, ModuleParts, SettingParts, Alias, Assignment, Function, Import, Module, Recipe, Setting, Unexport, Comment, Newline, Construct, Shape, bare_recipe}
 use Rattle.justfile_model.specs.Printing.{comment_text, fixed_text, expr_text, body_text, doc_line, if_some, if_true, header_text, alias_text, assignment_text, function_text, import_text, module_text, setting_text, names_text, file_path_text, setting_value_text, entries_text, content_text, item_text, item_end, text}
 use Rattle.justfile_model.proofs.DocsText.{none_shown}
-use Rattle.justfile_round_trip.proofs.Reading.{Mark, mark}
+use Rattle.justfile_round_trip.proofs.LexedModes.{Mark, mark}
 use Rattle.justfile_round_trip.proofs.Canon.{Row, ShapeContent, ShapeItem, paren_left, paren_right, space, newline, word, expr_on, expr_marks, body_on, body_marks, then, expr_is, body_is}
 use Rattle.justfile_round_trip.proofs.CanonAttributes.{ShapeEntry, comment_on, entries_on, comment_marks, entries_marks, comment_is, entries_is}
 use Rattle.justfile_round_trip.proofs.CanonHeaders.{ShapeHeader, path_on, path_marks, path_is, header_on, header_marks, header_is}

@@ -11,7 +11,7 @@ use Rattle.justfile_model.proofs.CommentEnds.{ends_before_feed, no_feeds, no_ret
 use Rattle.justfile_model.proofs.TrimLaws.{dropped_once, kept, kept_scalars}
 use Rattle.justfile_round_trip.proofs.Good.{GoodComment}
 use Rattle.justfile_round_trip.proofs.Literals.{front_byte}
-use Rattle.justfile_round_trip.proofs.Sound.{LexedComment}
+use Rattle.justfile_round_trip.proofs.TokenFacts.{LexedComment}
 
 module _ (l : List ℕ) (u : IsUtf8 l) (c : LexedComment l) where
   cs : List ℕ

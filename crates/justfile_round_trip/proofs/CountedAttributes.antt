@@ -5,16 +5,16 @@ use Rattle.std.specs.List.{flat_map}
 use Rattle.std.specs.Ordering.{is_gt}
 use Rattle.std.specs.declared.cmp.Ordering.{Ordering}
 use Rattle.std.proofs.lemmas.Bool.{or_parts}
-use Rattle.justfile_word.specs.AttributeKind.{kind_named}
-use Rattle.justfile_word.specs.declared.attribute_kind.AttributeKind.{AttributeKind}
-use Rattle.justfile_word.specs.declared.attribute_kind.AttributeKind.TheVariants as kinds
+use Rattle.justfile_vocabulary.specs.AttributeKind.{kind_named}
+use Rattle.justfile_vocabulary.specs.declared.attribute_kind.AttributeKind.{AttributeKind}
+use Rattle.justfile_vocabulary.specs.declared.attribute_kind.AttributeKind.TheVariants as kinds
 use Rattle.justfile_model.specs.AttributeKinds.{known_keys, takes_expressions, least_count, most_count}
 use Rattle.justfile_model.specs.AttributeRules.{has_more, count_broken, repeats_broken, unknown_broken, arguments_broken, known_broken, named_broken, attribute_broken, duplicates_broken, attributes_broken}
 use Rattle.justfile_model.specs.ContentKeys.{entry_cmp}
 use Rattle.justfile_model.specs.Literals.{Expansions}
 use Rattle.justfile_model.specs.Meaning.{all_of, of_given, quoted, Placed, by_position, by_key, at_key, property_of, value_of, bare_of, option_named, option_at, bound_of, rules_of, single_of, texts_of, env_of, signal_of, signal_set, of_expressions, of_literals, by_takes, attribute_of, entry_of, entries_of}
 use Rattle.justfile_model.specs.Order.{placed, in_order}
-use Rattle.justfile_model.specs.Sight.{Sight, sees_lexemes}
+use Rattle.justfile_model.specs.LeafView.{LeafView, views_lexemes}
 use Rattle.justfile_model.specs.Tree as tree
 use Rattle.justfile_model.specs.Tree.{Quoted, OptionName, Property, Bound, ArgumentRules, Attribute}
 use Rattle.justfile_model.proofs.Binds.{some_back, never_some, bind_back, nothing_in}
@@ -114,8 +114,8 @@ module _ (weight : Value → ℕ) (weightless : (expanded : Bool) (l : List ℕ)
       λ i. literal_weight e q.first q.is i + literals_weight es qs.first qs.is i
 
   module _ (expander : Expansions) where
-    abbrev sight : Sight (List ℕ) (Unit {0})
-    sight = sees_lexemes expander
+    abbrev view : LeafView (List ℕ) (Unit {0})
+    view = views_lexemes expander
 
     -- ---- what is found at a key
 
@@ -125,40 +125,40 @@ module _ (weight : Value → ℕ) (weightless : (expanded : Bool) (l : List ℕ)
     abbrev table_weight : List (List ℕ) → List KeyOf → ℕ
     table_weight = counted.table_weight weight expander
 
-    option_weightless : (o : Option KeyOf) (r : OptionName (List ℕ) (Unit {0})) → option_at sight o ≡ Some r → found_weight o ≡ 0
+    option_weightless : (o : Option KeyOf) (r : OptionName (List ℕ) (Unit {0})) → option_at view o ≡ Some r → found_weight o ≡ 0
     option_weightless None r h = refl
     option_weightless (Some k) r h = by k.value h
       where
-        by : (v : Option Value) → option_named sight k.key v ≡ Some r → optional_weight v ≡ 0
+        by : (v : Option Value) → option_named view k.key v ≡ Some r → optional_weight v ≡ 0
         by None h = refl
         by (Some e) h = let q = bind_back (quoted e) _ r h in literal_weight e q.first q.is
 
-    bare_weightless : (o : Option KeyOf) (r : Option (Unit {0})) → of_given (bare_of sight) o ≡ Some r → found_weight o ≡ 0
+    bare_weightless : (o : Option KeyOf) (r : Option (Unit {0})) → of_given (bare_of view) o ≡ Some r → found_weight o ≡ 0
     bare_weightless None r h = refl
     bare_weightless (Some k) r h = by k.value h
       where
-        by : (v : Option Value) → of_given (bare_of sight) (Some (record { key = k.key; value = v })) ≡ Some r → optional_weight v ≡ 0
+        by : (v : Option Value) → of_given (bare_of view) (Some (record { key = k.key; value = v })) ≡ Some r → optional_weight v ≡ 0
         by None h = refl
         by (Some e) h = never_some r h
 
-    bound_weightless : (o : Option KeyOf) (r : Option (Bound (Unit {0}))) → of_given (bound_of sight) o ≡ Some r → found_weight o ≡ 0
+    bound_weightless : (o : Option KeyOf) (r : Option (Bound (Unit {0}))) → of_given (bound_of view) o ≡ Some r → found_weight o ≡ 0
     bound_weightless None r h = refl
     bound_weightless (Some k) r h =
-        let b = bind_back (bound_of sight k) (λ y. Some (Some y)) r h in
+        let b = bind_back (bound_of view k) (λ y. Some (Some y)) r h in
         let v = bind_back k.value _ b.first b.is in
         let q = bind_back (quoted v.first) _ b.first v.gives in
         ap optional_weight v.is ∙ literal_weight v.first q.first q.is
 
-    property_found : (o : Option KeyOf) (r : Option (Property (List ℕ) (Unit {0}))) → of_given (property_of sight) o ≡ Some r
+    property_found : (o : Option KeyOf) (r : Option (Property (List ℕ) (Unit {0}))) → of_given (property_of view) o ≡ Some r
         → found_weight o ≡ property_weight r
     property_found None r h = ap property_weight (some_back None r h)
     property_found (Some k) r h =
-        let p = bind_back (property_of sight k) (λ y. Some (Some y)) r h in
+        let p = bind_back (property_of view k) (λ y. Some (Some y)) r h in
         let v = bind_back k.value _ p.first p.is in
         ap optional_weight v.is ∙ ap (λ (p : Property (List ℕ) (Unit {0})). weight p.value) (some_back _ p.first v.gives)
         ∙ ap property_weight (some_back (Some p.first) r p.gives)
 
-    value_found : (o : Option KeyOf) (r : Option Value) → of_given (value_of sight) o ≡ Some r → found_weight o ≡ optional_weight r
+    value_found : (o : Option KeyOf) (r : Option Value) → of_given (value_of view) o ≡ Some r → found_weight o ≡ optional_weight r
     value_found None r h = ap optional_weight (some_back None r h)
     value_found (Some k) r h =
         let v = bind_back k.value (λ y. Some (Some y)) r h in
@@ -166,60 +166,60 @@ module _ (weight : Value → ℕ) (weightless : (expanded : Bool) (l : List ℕ)
 
     -- ---- each kind
 
-    arg_found : (q : Quoted (List ℕ)) (keys : List KeyOf) (rules : ArgumentRules (List ℕ) (Unit {0})) → rules_of sight (q ∷ []) keys ≡ Some rules
+    arg_found : (q : Quoted (List ℕ)) (keys : List KeyOf) (rules : ArgumentRules (List ℕ) (Unit {0})) → rules_of view (q ∷ []) keys ≡ Some rules
         → table_weight (known_keys kinds.Arg) keys ≡ attribute_weight (tree.Arg rules)
     arg_found q keys rules h =
-        let s = said sight q keys rules h in
+        let s = said view q keys rules h in
         all_keys _ _ _ _ _ _ _ _ _ (option_weightless _ rules.long s.long) (option_weightless _ rules.short s.short) (bare_weightless _ rules.flag s.flag)
         (bare_weightless _ rules.multiple s.multiple) (bound_weightless _ rules.max s.max) (bound_weightless _ rules.min s.min)
         ∙ (λ i. property_found _ rules.pattern s.pattern i + (value_found _ rules.value s.value i + property_found _ rules.help s.help i))
 
-    cache_found : (keys : List KeyOf) (a : Meant) → of_literals sight kinds.Cache [] keys ≡ Some a → table_weight (known_keys kinds.Cache) keys ≡ attribute_weight a
+    cache_found : (keys : List KeyOf) (a : Meant) → of_literals view kinds.Cache [] keys ≡ Some a → table_weight (known_keys kinds.Cache) keys ≡ attribute_weight a
     cache_found keys a h =
-        let extra = bind_back (of_given (value_of sight) (at_key sight (codes "extra") keys)) _ a h in
-        let inputs = bind_back (of_given (value_of sight) (at_key sight (codes "inputs") keys)) _ a extra.gives in
-        let outputs = bind_back (of_given (value_of sight) (at_key sight (codes "outputs") keys)) _ a inputs.gives in
+        let extra = bind_back (of_given (value_of view) (at_key view (codes "extra") keys)) _ a h in
+        let inputs = bind_back (of_given (value_of view) (at_key view (codes "inputs") keys)) _ a extra.gives in
+        let outputs = bind_back (of_given (value_of view) (at_key view (codes "outputs") keys)) _ a inputs.gives in
         three_keys _ _ _
         ∙ (λ i. value_found _ extra.first extra.is i + (value_found _ inputs.first inputs.is i + value_found _ outputs.first outputs.is i))
         ∙ ap attribute_weight (some_back (tree.Cache extra.first inputs.first outputs.first) a outputs.gives)
 
-    texts_weight : (kind : AttributeKind) (texts : List (Quoted (List ℕ))) → attribute_weight (texts_of sight kind texts) ≡ 0
+    texts_weight : (kind : AttributeKind) (texts : List (Quoted (List ℕ))) → attribute_weight (texts_of view kind texts) ≡ 0
     texts_weight kind [] = refl
     texts_weight kind (q ∷ texts) = refl
 
-    literals_found : (kind : AttributeKind) (texts : List (Quoted (List ℕ))) (keys : List KeyOf) (a : Meant) → of_literals sight kind texts keys ≡ Some a
+    literals_found : (kind : AttributeKind) (texts : List (Quoted (List ℕ))) (keys : List KeyOf) (a : Meant) → of_literals view kind texts keys ≡ Some a
         → table_weight (known_keys kind) keys ≡ attribute_weight a
     literals_found kinds.Arg [] keys a h = never_some a h
     literals_found kinds.Arg (q ∷ texts) keys a h =
-        let r = bind_back (rules_of sight (q ∷ []) keys) _ a h in arg_found q keys r.first r.is ∙ ap attribute_weight (some_back (tree.Arg r.first) a r.gives)
+        let r = bind_back (rules_of view (q ∷ []) keys) _ a h in arg_found q keys r.first r.is ∙ ap attribute_weight (some_back (tree.Arg r.first) a r.gives)
     literals_found kinds.Cache texts keys a h = cache_found keys a h
     literals_found kinds.Continue texts keys a h =
-        let s = bind_back (all_of (signal_of sight) texts) _ a h in ap attribute_weight (some_back (tree.Signals (signal_set s.first)) a s.gives)
+        let s = bind_back (all_of (signal_of view) texts) _ a h in ap attribute_weight (some_back (tree.Signals (signal_set s.first)) a s.gives)
     literals_found kinds.Env texts keys a h = sym (texts_weight kinds.Env texts) ∙ ap attribute_weight (some_back _ a h)
     literals_found kind texts keys a h = sym (texts_weight kind texts) ∙ ap attribute_weight (some_back _ a h)
 
     -- no more than the bound
-    at_most : (kind : AttributeKind) (found most : ℕ) → count_broken sight tt kind found ≡ [] → most_count kind ≡ Some most → found ≤ most
+    at_most : (kind : AttributeKind) (found most : ℕ) → count_broken view tt kind found ≡ [] → most_count kind ≡ Some most → found ≤ most
     at_most kind found most h e =
         let n = unless (nat_lt found (least_count kind) || has_more found (most_count kind)) _ h in
         let m = or_parts (nat_lt found (least_count kind)) (has_more found (most_count kind)) n in
         ltb-false most found (sym (ap (has_more found) e) ∙ m.1)
 
     single_found : (kind : AttributeKind) (ps : List PlacedValue) (a : Meant) → length ps ≤ 1
-        → Some (single_of sight kind (map (λ (p : PlacedValue). p.value) ps)) ≡ Some a → places_weight ps ≡ attribute_weight a
+        → Some (single_of view kind (map (λ (p : PlacedValue). p.value) ps)) ≡ Some a → places_weight ps ≡ attribute_weight a
     single_found kind [] a few h = ap attribute_weight (some_back (tree.Plain kind) a h)
     single_found kind (p ∷ []) a few h = ap attribute_weight (some_back (tree.Single kind p.value) a h)
     single_found kind (p ∷ q ∷ ps) a few h = absurd (omega (arith, few))
 
-    env_found : (ps : List PlacedValue) (a : Meant) → length ps ≤ 2 → env_of sight (map (λ (p : PlacedValue). p.value) ps) ≡ Some a
+    env_found : (ps : List PlacedValue) (a : Meant) → length ps ≤ 2 → env_of view (map (λ (p : PlacedValue). p.value) ps) ≡ Some a
         → places_weight ps ≡ attribute_weight a
     env_found [] a few h = never_some a h
     env_found (p ∷ []) a few h = never_some a h
     env_found (p ∷ q ∷ []) a few h = ap attribute_weight (some_back (tree.Env p.value q.value) a h)
     env_found (p ∷ q ∷ r ∷ ps) a few h = absurd (omega (arith, few))
 
-    expressions_found : (kind : AttributeKind) (ps : List PlacedValue) (a : Meant) → takes_expressions kind ≡ true → count_broken sight tt kind (length ps) ≡ []
-        → of_expressions sight kind (map (λ (p : PlacedValue). p.value) ps) ≡ Some a → places_weight ps ≡ attribute_weight a
+    expressions_found : (kind : AttributeKind) (ps : List PlacedValue) (a : Meant) → takes_expressions kind ≡ true → count_broken view tt kind (length ps) ≡ []
+        → of_expressions view kind (map (λ (p : PlacedValue). p.value) ps) ≡ Some a → places_weight ps ≡ attribute_weight a
     expressions_found kinds.Env ps a takes few h = env_found ps a (at_most kinds.Env (length ps) 2 few refl) h
     expressions_found kinds.Confirm ps a takes few h = single_found kinds.Confirm ps a (at_most kinds.Confirm (length ps) 1 few refl) h
     expressions_found kinds.Doc ps a takes few h = single_found kinds.Doc ps a (at_most kinds.Doc (length ps) 1 few refl) h
@@ -234,8 +234,8 @@ module _ (weight : Value → ℕ) (weightless : (expanded : Bool) (l : List ℕ)
     no_words _ h = refl
 
     taken : (takes : Bool) (kind : AttributeKind) (ps : List PlacedValue) (keys : List KeyOf) (a : Meant) → takes_expressions kind ≡ takes
-        → count_broken sight tt kind (length ps) ≡ [] → keys_weight keys ≡ table_weight (known_keys kind) keys
-        → by_takes sight takes kind (map (λ (p : PlacedValue). p.value) ps) keys ≡ Some a → places_weight ps + keys_weight keys ≡ attribute_weight a
+        → count_broken view tt kind (length ps) ≡ [] → keys_weight keys ≡ table_weight (known_keys kind) keys
+        → by_takes view takes kind (map (λ (p : PlacedValue). p.value) ps) keys ≡ Some a → places_weight ps + keys_weight keys ≡ attribute_weight a
     taken true kind ps keys a takes few found h =
         values_alone _ _ _ (found ∙ ap (λ words. table_weight words keys) (no_words kind takes)) (expressions_found kind ps a takes few h)
     taken false kind ps keys a takes few found h =
@@ -244,28 +244,28 @@ module _ (weight : Value → ℕ) (weightless : (expanded : Bool) (l : List ℕ)
 
     -- ---- attributes
 
-    entry_weight : (w : Written) (e : ShapeEntry) → entry_of sight w ≡ Some e → attribute_broken sight w ≡ []
+    entry_weight : (w : Written) (e : ShapeEntry) → entry_of view w ≡ Some e → attribute_broken view w ≡ []
         → arguments_weight w.arguments ≡ attribute_weight e.attribute
     entry_weight w e m u =
         let kind = bind_back (kind_named w.name) _ e m in
-        let attribute = bind_back (attribute_of sight kind.first (by_position w.arguments) (by_key w.arguments)) _ e kind.gives in
-        let known : known_broken sight w kind.first ≡ [] = ap (named_broken sight w) (sym kind.is) ∙ u in
-        let parts = nothing_in _ (arguments_broken sight tt kind.first (by_position w.arguments) (by_key w.arguments)) known in
-        let repeats = nothing_in _ (repeats_broken sight tt [] (by_key w.arguments)) parts.0 in
-        let unknown = nothing_in _ (unknown_broken sight tt kind.first (by_key w.arguments)) parts.1 in
-        let few = nothing_in (count_broken sight tt kind.first (length (by_position w.arguments))) _ (nothing_in _ _ unknown.0).0 in
+        let attribute = bind_back (attribute_of view kind.first (by_position w.arguments) (by_key w.arguments)) _ e kind.gives in
+        let known : known_broken view w kind.first ≡ [] = ap (named_broken view w) (sym kind.is) ∙ u in
+        let parts = nothing_in _ (arguments_broken view tt kind.first (by_position w.arguments) (by_key w.arguments)) known in
+        let repeats = nothing_in _ (repeats_broken view tt [] (by_key w.arguments)) parts.0 in
+        let unknown = nothing_in _ (unknown_broken view tt kind.first (by_key w.arguments)) parts.1 in
+        let few = nothing_in (count_broken view tt kind.first (length (by_position w.arguments))) _ (nothing_in _ _ unknown.0).0 in
         in_two w.arguments
         ∙ taken (takes_expressions kind.first) kind.first (by_position w.arguments) (by_key w.arguments) attribute.first refl few.0
         (counted.keys_found weight expander kind.first (by_key w.arguments) repeats.1 unknown.1) attribute.is
         ∙ ap (λ (e : ShapeEntry). attribute_weight e.attribute) (some_back (record { name = tt; attribute = attribute.first; comment = w.comment }) e attribute.gives)
 
-    all_weight : (ws : List Written) (es : List ShapeEntry) → all_of (entry_of sight) ws ≡ Some es → flat_map (attribute_broken sight) ws ≡ []
+    all_weight : (ws : List Written) (es : List ShapeEntry) → all_of (entry_of view) ws ≡ Some es → flat_map (attribute_broken view) ws ≡ []
         → written_weight ws ≡ entries_weight es
     all_weight [] es m u = ap entries_weight (some_back [] es m)
     all_weight (w ∷ ws) es m u =
-        let e = bind_back (entry_of sight w) _ es m in
-        let r = bind_back (all_of (entry_of sight) ws) _ es e.gives in
-        let n = nothing_in (attribute_broken sight w) (flat_map (attribute_broken sight) ws) u in
+        let e = bind_back (entry_of view w) _ es m in
+        let r = bind_back (all_of (entry_of view) ws) _ es e.gives in
+        let n = nothing_in (attribute_broken view w) (flat_map (attribute_broken view) ws) u in
         (λ i. entry_weight w e.first e.is n.0 i + all_weight ws r.first r.is n.1 i) ∙ ap entries_weight (some_back (e.first ∷ r.first) es r.gives)
 
     -- the order does not count
@@ -283,15 +283,15 @@ module _ (weight : Value → ℕ) (weightless : (expanded : Bool) (l : List ℕ)
     in_order_weight cmp [] = refl
     in_order_weight cmp (e ∷ es) = placed_weight cmp e (in_order cmp es) ∙ ap (λ n. attribute_weight e.attribute + n) (in_order_weight cmp es)
 
-    meant_weight : (ws : List Written) (es : List ShapeEntry) → entries_of sight ws ≡ Some es → attributes_broken sight ws ≡ []
+    meant_weight : (ws : List Written) (es : List ShapeEntry) → entries_of view ws ≡ Some es → attributes_broken view ws ≡ []
         → written_weight ws ≡ entries_weight es
     meant_weight ws es m u =
-        let all = bind_back (all_of (entry_of sight) ws) _ es m in
-        let n = nothing_in (flat_map (attribute_broken sight) ws) (duplicates_broken sight [] ws) u in
-        all_weight ws all.first all.is n.0 ∙ sym (in_order_weight (entry_cmp sight) all.first)
-        ∙ ap entries_weight (some_back (in_order (entry_cmp sight) all.first) es all.gives)
+        let all = bind_back (all_of (entry_of view) ws) _ es m in
+        let n = nothing_in (flat_map (attribute_broken view) ws) (duplicates_broken view [] ws) u in
+        all_weight ws all.first all.is n.0 ∙ sym (in_order_weight (entry_cmp view) all.first)
+        ∙ ap entries_weight (some_back (in_order (entry_cmp view) all.first) es all.gives)
 
     -- attributes that mean the same and break no rule have as much in them
-    pub same_weight : (ws others : List Written) (es : List ShapeEntry) → entries_of sight ws ≡ Some es → entries_of sight others ≡ Some es
-        → attributes_broken sight ws ≡ [] → attributes_broken sight others ≡ [] → written_weight ws ≡ written_weight others
+    pub same_weight : (ws others : List Written) (es : List ShapeEntry) → entries_of view ws ≡ Some es → entries_of view others ≡ Some es
+        → attributes_broken view ws ≡ [] → attributes_broken view others ≡ [] → written_weight ws ≡ written_weight others
     same_weight ws others es m n u v = meant_weight ws es m u ∙ sym (meant_weight others es n v)

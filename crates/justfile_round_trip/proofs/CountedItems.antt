@@ -6,22 +6,22 @@ use Rattle.justfile_model.specs.AttributeRules.{attributes_broken, of_some}
 use Rattle.justfile_model.specs.Conditions.{VersionNumbers}
 use Rattle.justfile_model.specs.ConstructRules.{construct_broken, form_broken}
 use Rattle.justfile_model.specs.Docs.{Before, documented, redocumented}
-use Rattle.justfile_word.specs.contracts.list_feature.ListFeature.{the_type}
-use Rattle.justfile_word.specs.declared.list_feature.ListFeature.{ListFeature}
+use Rattle.justfile_vocabulary.specs.contracts.list_feature.ListFeature.{the_type}
+use Rattle.justfile_vocabulary.specs.declared.list_feature.ListFeature.{ListFeature}
 use Rattle.justfile_model.specs.Features.{ConstructFeatures, Noted}
 use Rattle.justfile_model.specs.Files.{all_features, broken, construct_features, item_broken, ordered_item, says_doc, undocumented}
 use Rattle.justfile_model.specs.Files as files
 use Rattle.justfile_model.specs.Literals.{Expansions}
 use Rattle.justfile_model.specs.Meaning.{entries_of}
 use Rattle.justfile_model.specs.NormalShape.{after_newline, normal, normal_rest}
-use Rattle.justfile_model.specs.Rewritten.{docs_written, rewritten_entries}
+use Rattle.justfile_model.specs.PrintedAttributes.{docs_written, rewritten_entries}
 use Rattle.justfile_model.specs.Tree as tree
 use Rattle.justfile_model.specs.Tree.{Construct, Shape, WrittenShape}
 use Rattle.justfile_model.proofs.Binds.{some_back, nothing_in}
 use Rattle.justfile_model.proofs.DocsKept.{CountsConstructs, docs_written_counts, documented_counts}
 use Rattle.justfile_model.proofs.Ordered.{construct_meant, meanings_of}
-use Rattle.justfile_model.proofs.RewrittenEntries.{sees, entries_again, attributes_again}
-use Rattle.justfile_model.proofs.RewrittenItems.{content_starless}
+use Rattle.justfile_model.proofs.PrintedEntries.{sees, entries_again, attributes_again}
+use Rattle.justfile_model.proofs.PrintedItems.{content_starless}
 use Rattle.justfile_round_trip.specs.RoundTrip.{times}
 use Rattle.justfile_round_trip.proofs.Canon as canon
 use Rattle.justfile_round_trip.proofs.Canon.{ShapeContent, ShapeItem, Shown}

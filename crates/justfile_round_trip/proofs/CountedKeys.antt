@@ -5,14 +5,14 @@ use Rattle.std.specs.List.{filter, find, list_any}
 use Rattle.std.specs.Str.{bytes_eq}
 use Rattle.std.proofs.lemmas.Bool.{or_parts}
 use Rattle.std.proofs.lemmas.Slice.Eq.{bytes_eq-Decides}
-use Rattle.justfile_word.specs.declared.attribute_kind.AttributeKind.{AttributeKind}
-use Rattle.justfile_word.specs.declared.attribute_kind.AttributeKind.TheVariants as kinds
+use Rattle.justfile_vocabulary.specs.declared.attribute_kind.AttributeKind.{AttributeKind}
+use Rattle.justfile_vocabulary.specs.declared.attribute_kind.AttributeKind.TheVariants as kinds
 use Rattle.justfile_model.specs.AttributeKinds.{known_keys}
 use Rattle.justfile_model.specs.AttributeRules.{of_some, least, repeats_broken, is_known, unknown_broken}
 use Rattle.justfile_model.specs.Literals.{Expansions}
 use Rattle.justfile_model.specs.Meaning.{KeyArgument, at_key}
 use Rattle.justfile_model.specs.Rules.{Broken}
-use Rattle.justfile_model.specs.Sight.{Sight, sees_lexemes}
+use Rattle.justfile_model.specs.LeafView.{LeafView, views_lexemes}
 use Rattle.justfile_model.proofs.Binds.{never_nil, nothing_in}
 use Rattle.justfile_round_trip.proofs.Canon.{Value}
 
@@ -93,35 +93,35 @@ module _ (weight : Value → ℕ) where
   keys_weight (k ∷ keys) = optional_weight k.value + keys_weight keys
 
   module _ (expander : Expansions) where
-    abbrev sight : Sight (List ℕ) (Unit {0})
-    sight = sees_lexemes expander
+    abbrev view : LeafView (List ℕ) (Unit {0})
+    view = views_lexemes expander
 
     abbrev pub found_weight : Option KeyOf → ℕ
     found_weight None = 0
     found_weight (Some k) = optional_weight k.value
 
     abbrev at_weight : List ℕ → List KeyOf → ℕ
-    at_weight word keys = found_weight (at_key sight word keys)
+    at_weight word keys = found_weight (at_key view word keys)
 
     abbrev pub table_weight : List (List ℕ) → List KeyOf → ℕ
     table_weight [] keys = 0
     table_weight (word ∷ words) keys = at_weight word keys + table_weight words keys
 
     -- one more key, whose name none before it has
-    pushed : (word : List ℕ) (before : List KeyOf) (k : KeyOf) → at_key sight k.key before ≡ None
+    pushed : (word : List ℕ) (before : List KeyOf) (k : KeyOf) → at_key view k.key before ≡ None
         → at_weight word (before ++ k ∷ []) ≡ at_weight word before + cond (bytes_eq k.key word) (optional_weight k.value) 0
     pushed word before k h = by (bytes_eq k.key word) refl
       where
         by : (b : Bool) → bytes_eq k.key word ≡ b → at_weight word (before ++ k ∷ []) ≡ at_weight word before + cond b (optional_weight k.value) 0
         by true e =
-            let none : at_key sight word before ≡ None = ap (λ w. at_key sight w before) (sym ((bytes_eq-Decides k.key word).0 e)) ∙ h in
+            let none : at_key view word before ≡ None = ap (λ w. at_key view w before) (sym ((bytes_eq-Decides k.key word).0 e)) ∙ h in
             after_none _ _ _ (ap found_weight (find_after (λ (x : KeyOf). bytes_eq x.key word) before k none ∙ ap (λ b. cond b (Some k) None) e))
             (ap found_weight none)
         by false e =
             let same = ap found_weight (find_before (λ (x : KeyOf). bytes_eq x.key word) before k e) in
             omega (arith, same)
 
-    table_pushed : (words : List (List ℕ)) (before : List KeyOf) (k : KeyOf) → at_key sight k.key before ≡ None
+    table_pushed : (words : List (List ℕ)) (before : List KeyOf) (k : KeyOf) → at_key view k.key before ≡ None
         → table_weight words (before ++ k ∷ []) ≡ table_weight words before + spread k.key words (optional_weight k.value)
     table_pushed [] before k h = refl
     table_pushed (word ∷ words) before k h =
@@ -134,13 +134,13 @@ module _ (weight : Value → ℕ) where
     AllKnown words [] = Unit {0}
     AllKnown words (k ∷ keys) = (list_any (bytes_eq k.key) words ≡ true) × AllKnown words keys
 
-    none_unknown : (kind : AttributeKind) (keys : List KeyOf) → filter (λ k. not (is_known sight tt kind k)) keys ≡ [] → AllKnown (known_keys kind) keys
+    none_unknown : (kind : AttributeKind) (keys : List KeyOf) → filter (λ k. not (is_known view tt kind k)) keys ≡ [] → AllKnown (known_keys kind) keys
     none_unknown kind [] h = tt
-    none_unknown kind (k ∷ keys) h = by (is_known sight tt kind k) refl h (none_unknown kind keys)
+    none_unknown kind (k ∷ keys) h = by (is_known view tt kind k) refl h (none_unknown kind keys)
       where
-        by : (b : Bool) → is_known sight tt kind k ≡ b
-            → cond (not b) (k ∷ filter (λ k. not (is_known sight tt kind k)) keys) (filter (λ k. not (is_known sight tt kind k)) keys) ≡ []
-            → (filter (λ k. not (is_known sight tt kind k)) keys ≡ [] → AllKnown (known_keys kind) keys)
+        by : (b : Bool) → is_known view tt kind k ≡ b
+            → cond (not b) (k ∷ filter (λ k. not (is_known view tt kind k)) keys) (filter (λ k. not (is_known view tt kind k)) keys) ≡ []
+            → (filter (λ k. not (is_known view tt kind k)) keys ≡ [] → AllKnown (known_keys kind) keys)
             → (list_any (bytes_eq k.key) (known_keys kind) ≡ true) × AllKnown (known_keys kind) keys
         by true e h more = (e, more h)
         by false e h more = never_nil k _ h
@@ -150,16 +150,16 @@ module _ (weight : Value → ℕ) where
     least_none [] f some h = refl
     least_none (k ∷ keys) f some h = absurd (some _ h)
 
-    all_known : (kind : AttributeKind) (keys : List KeyOf) → unknown_broken sight tt kind keys ≡ [] → AllKnown (known_keys kind) keys
+    all_known : (kind : AttributeKind) (keys : List KeyOf) → unknown_broken view tt kind keys ≡ [] → AllKnown (known_keys kind) keys
     all_known kind keys h = none_unknown kind keys (least_none _ _ (λ k e. never_nil _ [] e) h)
 
     -- keys that are known and apart give what is found at the words
-    table_from : (words : List (List ℕ)) (before keys : List KeyOf) → AllApart words → repeats_broken sight tt before keys ≡ [] → AllKnown words keys
+    table_from : (words : List (List ℕ)) (before keys : List KeyOf) → AllApart words → repeats_broken view tt before keys ≡ [] → AllKnown words keys
         → table_weight words (before ++ keys) ≡ table_weight words before + keys_weight keys
     table_from words before [] apart h known = let e = ap (table_weight words) (append-nil before) in omega (arith, e)
     table_from words before (k ∷ keys) apart h known =
-        let n = nothing_in _ (repeats_broken sight tt (before ++ k ∷ []) keys) h in
-        let none = nothing_found (at_key sight k.key before) (unless _ _ n.0) in
+        let n = nothing_in _ (repeats_broken view tt (before ++ k ∷ []) keys) h in
+        let none = nothing_found (at_key view k.key before) (unless _ _ n.0) in
         let first = table_pushed words before k none in
         let once = spread_once k.key words (optional_weight k.value) apart known.0 in
         let others = table_from words (before ++ k ∷ []) keys apart n.1 known.1 in
@@ -170,7 +170,7 @@ module _ (weight : Value → ℕ) where
     table_none [] = refl
     table_none (word ∷ words) = let h = table_none words in omega (arith, h)
 
-    pub keys_found : (kind : AttributeKind) (keys : List KeyOf) → repeats_broken sight tt [] keys ≡ [] → unknown_broken sight tt kind keys ≡ []
+    pub keys_found : (kind : AttributeKind) (keys : List KeyOf) → repeats_broken view tt [] keys ≡ [] → unknown_broken view tt kind keys ≡ []
         → keys_weight keys ≡ table_weight (known_keys kind) keys
     keys_found kind keys h u =
         let all = table_from (known_keys kind) [] keys (apart_words kind) h (all_known kind keys u) in

@@ -3,19 +3,19 @@ use Rattle.std.proofs.Common.{ℕ, Bool, true, List, [], ◌∷◌, ◌++◌, Op
 use Rattle.std.specs.Str.{IsUtf8}
 use Rattle.std.proofs.lemmas.Str.{IsUtf8-nil, IsUtf8-append}
 use Rattle.std.proofs.Math.Utf8.{encode}
-use Rattle.justfile_word.specs.declared.token_kind.TokenKind.TheVariants as kinds
+use Rattle.justfile_vocabulary.specs.declared.token_kind.TokenKind.TheVariants as kinds
 use Rattle.justfile_model.specs.SignificantTokens.{SignificantToken}
 use Rattle.justfile_model.specs.Tree as tree
 use Rattle.justfile_model.specs.Tree.{Shape, Construct, bare_recipe, lexeme, nothing, trimmed}
 use Rattle.justfile_model.specs.AttributeLines.{AttributeLines}
 use Rattle.justfile_model.specs.Grammar as g
-use Rattle.justfile_model.specs.Expressions.{Under}
+use Rattle.justfile_model.specs.Expressions.{BelowLimit}
 use Rattle.justfile_model.specs.Features.{ConstructFeatures}
-use Rattle.justfile_model.specs.Files.{keeps_lexemes}
+use Rattle.justfile_model.specs.Files.{to_lexemes}
 use Rattle.justfile_model.specs.Grammar.{Items, LineEnd, Block, NotEmpty}
 use Rattle.justfile_model.specs.ItemParts.{EndsLine, at_comment, at_line_end}
-use Rattle.justfile_model.specs.Rewritten.{rewritten_entries, rewritten_item}
-use Rattle.justfile_round_trip.proofs.Reading.{Mark, mark}
+use Rattle.justfile_model.specs.PrintedAttributes.{rewritten_entries, rewritten_item}
+use Rattle.justfile_round_trip.proofs.LexedModes.{Mark, mark}
 use Rattle.justfile_round_trip.proofs.AttributesUtf8.{comment_utf8, entries_utf8}
 use Rattle.justfile_round_trip.proofs.BackAttributes.{glued_after, entries_back}
 use Rattle.justfile_round_trip.proofs.BackContents.{content_back, content_no_bracket, content_utf8, header_no_bracket}
@@ -38,13 +38,13 @@ use Rattle.justfile_round_trip.proofs.BodyUtf8.{newline_utf8, body_utf8}
 module _ (limit : ℕ) where
   -- what derives, with its features
   abbrev Derived : Shape → List SignificantToken → Type 0
-  Derived items ts = (ns : List (ConstructFeatures (Unit {0}))) × Items keeps_lexemes (Under limit) (map rewritten_item items) ns ts
+  Derived items ts = (ns : List (ConstructFeatures (Unit {0}))) × Items to_lexemes (BelowLimit limit) (map rewritten_item items) ns ts
 
   abbrev AfterItem : Shape → List SignificantToken → Type 0
-  AfterItem items ts = (ns : List (ConstructFeatures (Unit {0}))) × g.ItemRest keeps_lexemes (Under limit) (map rewritten_item items) ns ts
+  AfterItem items ts = (ns : List (ConstructFeatures (Unit {0}))) × g.ItemRest to_lexemes (BelowLimit limit) (map rewritten_item items) ns ts
 
   abbrev Ended : Shape → List SignificantToken → Type 0
-  Ended items ts = (ns : List (ConstructFeatures (Unit {0}))) × LineEnd keeps_lexemes (Under limit) (map rewritten_item items) ns ts
+  Ended items ts = (ns : List (ConstructFeatures (Unit {0}))) × LineEnd to_lexemes (BelowLimit limit) (map rewritten_item items) ns ts
 
   comment_back : (t : List ℕ) (items : Shape) (glued : Bool) (on : List Mark) → GoodComment t → AfterItem items (significant true on) → Derived (tree.Comment t ∷ items) (significant glued (mark kinds.Comment t ∷ on))
   comment_back t items glued on h e = subst (λ x. Derived (tree.Comment x ∷ items) (significant glued (mark kinds.Comment t ∷ on))) h.trimmed (e.0, g.comment refl e.1)
@@ -55,12 +55,12 @@ module _ (limit : ℕ) where
   -- a recipe with a body, up to the Dedent
   block_back : (ind : List ℕ) (header : ShapeHeader) (comment : Option (List ℕ)) (l : Row) (ls : List Row) (glued : Bool) (on : List Mark) → GoodHeader limit header
       → GoodOptionalComment comment → EndedBody limit (l ∷ ls)
-      → (ns : Shown) × Block keeps_lexemes (Under limit) (tree.Recipe (bare_recipe header comment (l ∷ ls))) ns (significant glued (header_marks header (comment_marks comment (newline ∷ body_marks ind (l ∷ ls) on)))) (significant true on)
+      → (ns : Shown) × Block to_lexemes (BelowLimit limit) (tree.Recipe (bare_recipe header comment (l ∷ ls))) ns (significant glued (header_marks header (comment_marks comment (newline ∷ body_marks ind (l ∷ ls) on)))) (significant true on)
   block_back ind header None (tree.Line n fs) ls glued on h c b =
       let body : List Row = tree.Line n fs ∷ ls in
       let read = body_back limit ind n fs ls on b.good in (
         h.features ++ read.0,
-        subst (λ x. Block keeps_lexemes (Under limit) (tree.Recipe (bare_recipe header None x)) (h.features ++ read.0) (significant glued (header_marks header (newline ∷ body_marks ind body on))) (significant true on)) b.ended
+        subst (λ x. Block to_lexemes (BelowLimit limit) (tree.Recipe (bare_recipe header None x)) (h.features ++ read.0) (significant glued (header_marks header (newline ∷ body_marks ind body on))) (significant true on)) b.ended
             (g.recipe {lines = body} (h.derives.derives glued (newline ∷ body_marks ind body on) refl) (g.at_once refl refl) read.1 (subst NotEmpty (sym b.ended) tt)),
       )
   block_back ind header (Some t) (tree.Line n fs) ls glued on h c b =
@@ -68,14 +68,14 @@ module _ (limit : ℕ) where
       let after : List Mark = comment_marks (Some t) (newline ∷ body_marks ind body on) in
       let read = body_back limit ind n fs ls on b.good in (
         h.features ++ read.0,
-        subst (λ x. Block keeps_lexemes (Under limit) (tree.Recipe (bare_recipe header (Some t) x)) (h.features ++ read.0) (significant glued (header_marks header after)) (significant true on)) b.ended
-            (subst (λ x. Block keeps_lexemes (Under limit) (tree.Recipe (bare_recipe header (Some x) (trimmed body))) (h.features ++ read.0) (significant glued (header_marks header after)) (significant true on)) c.trimmed
+        subst (λ x. Block to_lexemes (BelowLimit limit) (tree.Recipe (bare_recipe header (Some t) x)) (h.features ++ read.0) (significant glued (header_marks header after)) (significant true on)) b.ended
+            (subst (λ x. Block to_lexemes (BelowLimit limit) (tree.Recipe (bare_recipe header (Some x) (trimmed body))) (h.features ++ read.0) (significant glued (header_marks header after)) (significant true on)) c.trimmed
             (g.recipe {lines = body} (h.derives.derives glued after refl) (g.commented refl refl refl) read.1 (subst NotEmpty (sym b.ended) tt))),
       )
 
   -- lines of attributes before a header
   attributes_before_header : (entries : List ShapeEntry) (header : ShapeHeader) (glued : Bool) (on : List Mark) → GoodEntries limit entries
-      → (ns : Shown) × AttributeLines lexeme nothing (Under limit) (rewritten_entries entries) ns
+      → (ns : Shown) × AttributeLines lexeme nothing (BelowLimit limit) (rewritten_entries entries) ns
       (significant glued (entries_marks entries (header_marks header on)))
       (significant (glued_after (rewritten_entries entries) glued) (header_marks header on))
   attributes_before_header entries header glued on h =

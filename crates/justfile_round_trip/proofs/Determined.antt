@@ -1,8 +1,8 @@
 -- The features of an expression are determined by it.
 use Rattle.std.proofs.Common.{◌≡◌, ℕ, Bool, true, false, [], ◌++◌, Option, refl, sym, ap, ◌∙◌}
 use Rattle.std.proofs.lemmas.List.{append-nil}
-use Rattle.justfile_word.specs.declared.token_kind.TokenKind.{TokenKind}
-use Rattle.justfile_word.specs.declared.list_feature.ListFeature.TheVariants as features
+use Rattle.justfile_vocabulary.specs.declared.token_kind.TokenKind.{TokenKind}
+use Rattle.justfile_vocabulary.specs.declared.list_feature.ListFeature.TheVariants as features
 use Rattle.justfile_model.specs.SignificantTokens.{SignificantToken}
 use Rattle.justfile_model.specs.Tree as tree
 use Rattle.justfile_model.specs.Tree.{lexeme, nothing}
@@ -44,9 +44,9 @@ abbrev mutual
   parts_features (tree.Last l) = []
   parts_features (tree.Continue l v ps) = value_features false v ++ parts_features ps
 
-module _ (Open : ℕ → Option SignificantToken → Type 0) where
+module _ (MayEnter : ℕ → Option SignificantToken → Type 0) where
   -- the condition matters to operators alone
-  one_condition : {d : ℕ} {v : canon.Value} {fs : Shown} {ts rest : Tokens} → Value lexeme nothing Open d v fs ts rest → (condition : Bool) → value_features condition v ≡ value_features false v
+  one_condition : {d : ℕ} {v : canon.Value} {fs : Shown} {ts rest : Tokens} → Value lexeme nothing MayEnter d v fs ts rest → (condition : Bool) → value_features condition v ≡ value_features false v
   one_condition (e.not kind v) c = refl
   one_condition (e.literal kind) c = refl
   one_condition (e.expanded m) c = refl
@@ -60,7 +60,7 @@ module _ (Open : ℕ → Option SignificantToken → Type 0) where
   one_condition (e.group kind x kind2) c = refl
   one_condition (e.list kind xs) c = refl
 
-  conjunct_condition : {d : ℕ} {v : canon.Value} {fs : Shown} {ts rest : Tokens} → Conjunct lexeme nothing Open d v fs ts rest → (condition : Bool) → value_features condition v ≡ value_features false v
+  conjunct_condition : {d : ℕ} {v : canon.Value} {fs : Shown} {ts rest : Tokens} → Conjunct lexeme nothing MayEnter d v fs ts rest → (condition : Bool) → value_features condition v ≡ value_features false v
   conjunct_condition (e.conditional i (e.if_only x b next)) c = refl
   conjunct_condition (e.conditional i (e.if_else x b is o next)) c = refl
   conjunct_condition (e.conditional i (e.else_if x b is again o)) c = refl
@@ -71,19 +71,19 @@ module _ (Open : ℕ → Option SignificantToken → Type 0) where
   conjunct_condition (e.value next v unjoined) c = one_condition v c
 
   mutual
-    pub of_expression : {condition : Bool} {d : ℕ} {v : canon.Value} {fs : Shown} {ts rest : Tokens} → Expression lexeme nothing Open condition d v fs ts rest → fs ≡ value_features condition v
+    pub of_expression : {condition : Bool} {d : ℕ} {v : canon.Value} {fs : Shown} {ts rest : Tokens} → Expression lexeme nothing MayEnter condition d v fs ts rest → fs ≡ value_features condition v
     of_expression (e.or o l kind r) = λ i. of_disjunct l i ++ noted features.LogicalOperator tt ++ of_expression r i
     of_expression (e.disjunct o l next) = of_disjunct l
 
-    of_disjunct : {condition : Bool} {d : ℕ} {v : canon.Value} {fs : Shown} {ts rest : Tokens} → Disjunct lexeme nothing Open condition d v fs ts rest → fs ≡ value_features condition v
+    of_disjunct : {condition : Bool} {d : ℕ} {v : canon.Value} {fs : Shown} {ts rest : Tokens} → Disjunct lexeme nothing MayEnter condition d v fs ts rest → fs ≡ value_features condition v
     of_disjunct (e.and l kind r) = λ i. of_compared l i ++ noted features.LogicalOperator tt ++ of_disjunct r i
     of_disjunct (e.comparison l next) = of_compared l
 
-    of_compared : {condition : Bool} {d : ℕ} {v : canon.Value} {fs : Shown} {ts rest : Tokens} → Compared lexeme nothing Open condition d v fs ts rest → fs ≡ value_features condition v
+    of_compared : {condition : Bool} {d : ℕ} {v : canon.Value} {fs : Shown} {ts rest : Tokens} → Compared lexeme nothing MayEnter condition d v fs ts rest → fs ≡ value_features condition v
     of_compared {condition} (e.compare by l kind r) = λ i. of_conjunct l i ++ compared condition tt ++ of_conjunct r i
     of_compared {condition} (e.conjunct l next) = of_conjunct l ∙ sym (conjunct_condition l condition)
 
-    of_conjunct : {d : ℕ} {v : canon.Value} {fs : Shown} {ts rest : Tokens} → Conjunct lexeme nothing Open d v fs ts rest → fs ≡ value_features false v
+    of_conjunct : {d : ℕ} {v : canon.Value} {fs : Shown} {ts rest : Tokens} → Conjunct lexeme nothing MayEnter d v fs ts rest → fs ≡ value_features false v
     of_conjunct (e.conditional i x) = of_conditional x
     of_conjunct (e.root kind r) = of_conjunct r
     of_conjunct (e.join next l kind r) = λ i. of_value l i ++ of_conjunct r i
@@ -91,18 +91,18 @@ module _ (Open : ℕ → Option SignificantToken → Type 0) where
     of_conjunct (e.concatenation next l kind r) = λ i. of_value l i ++ of_conjunct r i
     of_conjunct (e.value next v unjoined) = of_value v
 
-    of_condition : {d : ℕ} {v : canon.Value} {fs : Shown} {ts rest : Tokens} → Condition lexeme nothing Open d v fs ts rest → fs ≡ value_features true v ++ uncompared v tt
+    of_condition : {d : ℕ} {v : canon.Value} {fs : Shown} {ts rest : Tokens} → Condition lexeme nothing MayEnter d v fs ts rest → fs ≡ value_features true v ++ uncompared v tt
     of_condition (e.condition {e = v} x) = ap (λ fs. fs ++ uncompared v tt) (of_expression x)
 
-    of_braced : {d : ℕ} {v : canon.Value} {fs : Shown} {ts rest : Tokens} → Braced lexeme nothing Open d v fs ts rest → fs ≡ value_features false v
+    of_braced : {d : ℕ} {v : canon.Value} {fs : Shown} {ts rest : Tokens} → Braced lexeme nothing MayEnter d v fs ts rest → fs ≡ value_features false v
     of_braced (e.braces kind x kind2) = of_expression x
 
-    of_conditional : {d : ℕ} {word : SignificantToken} {v : canon.Value} {fs : Shown} {ts rest : Tokens} → Conditional lexeme nothing Open d word v fs ts rest → fs ≡ value_features false v
+    of_conditional : {d : ℕ} {word : SignificantToken} {v : canon.Value} {fs : Shown} {ts rest : Tokens} → Conditional lexeme nothing MayEnter d word v fs ts rest → fs ≡ value_features false v
     of_conditional (e.if_only c b next) = λ i. of_condition c i ++ of_braced b i ++ noted features.IfWithoutElse tt
     of_conditional (e.if_else c b is o next) = λ i. of_condition c i ++ of_braced b i ++ of_braced o i
     of_conditional (e.else_if c b is again o) = λ i. of_condition c i ++ of_braced b i ++ of_conditional o i
 
-    pub of_value : {d : ℕ} {v : canon.Value} {fs : Shown} {ts rest : Tokens} → Value lexeme nothing Open d v fs ts rest → fs ≡ value_features false v
+    pub of_value : {d : ℕ} {v : canon.Value} {fs : Shown} {ts rest : Tokens} → Value lexeme nothing MayEnter d v fs ts rest → fs ≡ value_features false v
     of_value (e.not kind v) = λ i. noted features.NegationOperator tt ++ of_value v i
     of_value (e.literal kind) = refl
     of_value (e.expanded m) = refl
@@ -116,11 +116,11 @@ module _ (Open : ℕ → Option SignificantToken → Type 0) where
     of_value (e.group kind x kind2) = of_expression x
     of_value (e.list kind xs) = λ i. noted features.ListLiteral tt ++ of_sequence xs i
 
-    pub of_sequence : {closing : TokenKind} {d : ℕ} {es : Values} {fs : Shown} {ts rest : Tokens} → Sequence lexeme nothing Open closing d es fs ts rest → fs ≡ values_features es
+    pub of_sequence : {closing : TokenKind} {d : ℕ} {es : Values} {fs : Shown} {ts rest : Tokens} → Sequence lexeme nothing MayEnter closing d es fs ts rest → fs ≡ values_features es
     of_sequence (e.none kind) = refl
     of_sequence (e.last {fs = fs} next x kind) = sym (append-nil fs) ∙ ap (λ fs. fs ++ []) (of_expression x)
     of_sequence (e.more next x kind xs) = λ i. of_expression x i ++ of_sequence xs i
 
-    of_parts : {d : ℕ} {ps : Pieces} {fs : Shown} {ts rest : Tokens} → FormatParts lexeme nothing Open d ps fs ts rest → fs ≡ parts_features ps
+    of_parts : {d : ℕ} {ps : Pieces} {fs : Shown} {ts rest : Tokens} → FormatParts lexeme nothing MayEnter d ps fs ts rest → fs ≡ parts_features ps
     of_parts (e.end kind) = refl
     of_parts (e.next kind x ps) = λ i. of_expression x i ++ of_parts ps i

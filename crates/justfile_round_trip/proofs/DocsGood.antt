@@ -6,7 +6,7 @@ use Rattle.justfile_model.specs.Docs.{Before, LineEnd, Other, comment_taken, doc
 use Rattle.justfile_model.specs.Files.{says_doc}
 use Rattle.justfile_model.specs.Modes.{is_empty}
 use Rattle.justfile_model.specs.Printing.{doc_comment, shown_doc}
-use Rattle.justfile_model.specs.Rewritten.{after_doc, doc_written, docs_written}
+use Rattle.justfile_model.specs.PrintedAttributes.{after_doc, doc_written, docs_written}
 use Rattle.justfile_model.specs.Tree.{Alias, Assignment, Comment, Construct, Function, Import, Module, Newline, Recipe, Setting, Shape, Unexport, bare_recipe}
 use Rattle.justfile_model.proofs.DocComments.{doc_comment_ends, doc_comment_first}
 use Rattle.justfile_model.proofs.DocsText.{none_shown}

@@ -1,12 +1,12 @@
 -- How an expression ends and begins, and so what may follow it.
 use Rattle.std.proofs.Common.{◌≡◌, ℕ, Bool, cond, List, ◌∷◌, Option, refl, codes}
-use Rattle.justfile_word.specs.declared.token_kind.TokenKind.TheVariants as kinds
+use Rattle.justfile_vocabulary.specs.declared.token_kind.TokenKind.TheVariants as kinds
 use Rattle.justfile_model.specs.SignificantTokens.{SignificantToken}
 use Rattle.justfile_model.specs.Tree as tree
 use Rattle.justfile_model.specs.Tree.{Expr, lexeme, nothing}
 use Rattle.justfile_model.specs.Expressions as g
 use Rattle.justfile_model.specs.Expressions.{Tokens, ends_open, NotNext, IsWord, NotWord, NotJoined, Expression, Disjunct, Compared, Conjunct, Conditional, Value}
-use Rattle.justfile_round_trip.proofs.Reading.{Mark}
+use Rattle.justfile_round_trip.proofs.LexedModes.{Mark}
 use Rattle.justfile_round_trip.proofs.Canon as canon
 use Rattle.justfile_round_trip.proofs.Canon.{Shown, expr_marks}
 use Rattle.justfile_round_trip.proofs.Good.{significant}
@@ -51,8 +51,8 @@ pub record ValueEndsIn (x : End) (ts : Tokens) : Type 0 where
 pub data SameHead (glued : Bool) : Tokens → Tokens → Type 0 where
   same_head : {t u : SignificantToken} {ts us : Tokens} → t.tok.kind ≡ u.tok.kind → (u.tok.kind ≡ kinds.Identifier → t.tok.lexeme ≡ u.tok.lexeme) → u.glued ≡ glued → SameHead glued (t ∷ ts) (u ∷ us)
 
-module _ (Open : ℕ → Option SignificantToken → Type 0) where
-  pub value_head : {d : ℕ} {e : canon.Value} {fs : Shown} {ts rest : Tokens} → Value lexeme nothing Open d e fs ts rest → (b : Bool) (on : List Mark) → SameHead b ts (significant b (expr_marks e on))
+module _ (MayEnter : ℕ → Option SignificantToken → Type 0) where
+  pub value_head : {d : ℕ} {e : canon.Value} {fs : Shown} {ts rest : Tokens} → Value lexeme nothing MayEnter d e fs ts rest → (b : Bool) (on : List Mark) → SameHead b ts (significant b (expr_marks e on))
   value_head (g.not kind v) b on = same_head kind (λ e. cc) refl
   value_head (g.literal kind) b on = same_head kind (λ e. cc) refl
   value_head (g.expanded m) b on = same_head m.marks.is_name (λ _. m.marks.spelled) refl
@@ -66,12 +66,12 @@ module _ (Open : ℕ → Option SignificantToken → Type 0) where
   value_head (g.group kind e kind2) b on = same_head kind (λ e. cc) refl
   value_head (g.list kind s) b on = same_head kind (λ e. cc) refl
 
-  conditional_head : {d : ℕ} {e : canon.Value} {fs : Shown} {i : SignificantToken} {ts rest : Tokens} → IsWord (codes "if") i → Conditional lexeme nothing Open d i e fs ts rest → (b : Bool) (on : List Mark) → SameHead b (i ∷ ts) (significant b (expr_marks e on))
+  conditional_head : {d : ℕ} {e : canon.Value} {fs : Shown} {i : SignificantToken} {ts rest : Tokens} → IsWord (codes "if") i → Conditional lexeme nothing MayEnter d i e fs ts rest → (b : Bool) (on : List Mark) → SameHead b (i ∷ ts) (significant b (expr_marks e on))
   conditional_head i (g.if_only c x next) b on = same_head i.is_name (λ _. i.spelled) refl
   conditional_head i (g.if_else c x w o next) b on = same_head i.is_name (λ _. i.spelled) refl
   conditional_head i (g.else_if c x w j o) b on = same_head i.is_name (λ _. i.spelled) refl
 
-  pub conjunct_head : {d : ℕ} {e : canon.Value} {fs : Shown} {ts rest : Tokens} → Conjunct lexeme nothing Open d e fs ts rest → (b : Bool) (on : List Mark) → SameHead b ts (significant b (expr_marks e on))
+  pub conjunct_head : {d : ℕ} {e : canon.Value} {fs : Shown} {ts rest : Tokens} → Conjunct lexeme nothing MayEnter d e fs ts rest → (b : Bool) (on : List Mark) → SameHead b ts (significant b (expr_marks e on))
   conjunct_head (g.conditional i c) b on = conditional_head i c b on
   conjunct_head (g.root kind r) b on = same_head kind (λ e. cc) refl
   conjunct_head (g.join next l kind r) b on = value_head l b _
@@ -79,14 +79,14 @@ module _ (Open : ℕ → Option SignificantToken → Type 0) where
   conjunct_head (g.concatenation next l kind r) b on = value_head l b _
   conjunct_head (g.value next v joined) b on = value_head v b on
 
-  compared_head : {condition : Bool} {d : ℕ} {e : canon.Value} {fs : Shown} {ts rest : Tokens} → Compared lexeme nothing Open condition d e fs ts rest → (b : Bool) (on : List Mark) → SameHead b ts (significant b (expr_marks e on))
+  compared_head : {condition : Bool} {d : ℕ} {e : canon.Value} {fs : Shown} {ts rest : Tokens} → Compared lexeme nothing MayEnter condition d e fs ts rest → (b : Bool) (on : List Mark) → SameHead b ts (significant b (expr_marks e on))
   compared_head (g.compare by l kind r) b on = conjunct_head l b _
   compared_head (g.conjunct l next) b on = conjunct_head l b on
 
-  disjunct_head : {condition : Bool} {d : ℕ} {e : canon.Value} {fs : Shown} {ts rest : Tokens} → Disjunct lexeme nothing Open condition d e fs ts rest → (b : Bool) (on : List Mark) → SameHead b ts (significant b (expr_marks e on))
+  disjunct_head : {condition : Bool} {d : ℕ} {e : canon.Value} {fs : Shown} {ts rest : Tokens} → Disjunct lexeme nothing MayEnter condition d e fs ts rest → (b : Bool) (on : List Mark) → SameHead b ts (significant b (expr_marks e on))
   disjunct_head (g.and l kind r) b on = compared_head l b _
   disjunct_head (g.comparison l next) b on = compared_head l b on
 
-  pub expression_head : {condition : Bool} {d : ℕ} {e : canon.Value} {fs : Shown} {ts rest : Tokens} → Expression lexeme nothing Open condition d e fs ts rest → (b : Bool) (on : List Mark) → SameHead b ts (significant b (expr_marks e on))
+  pub expression_head : {condition : Bool} {d : ℕ} {e : canon.Value} {fs : Shown} {ts rest : Tokens} → Expression lexeme nothing MayEnter condition d e fs ts rest → (b : Bool) (on : List Mark) → SameHead b ts (significant b (expr_marks e on))
   expression_head (g.or o l kind r) b on = disjunct_head l b _
   expression_head (g.disjunct o l next) b on = disjunct_head l b on

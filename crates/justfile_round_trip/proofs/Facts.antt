@@ -6,27 +6,27 @@ use Rattle.std.specs.List.{prefix_len, starts_with}
 use Rattle.std.proofs.lemmas.Bool.{and_parts}
 use Rattle.std.proofs.lemmas.Bool.Decides.{nat_tests}
 use Rattle.std.proofs.lemmas.List.{append-nil}
-use Rattle.justfile_word.specs.declared.byte_class.ByteClass.{ByteClass}
-use Rattle.justfile_word.specs.declared.byte_class.ByteClass.TheVariants as classes
-use Rattle.justfile_base.specs.declared.delimiter.Delimiter.{Delimiter}
-use Rattle.justfile_base.specs.declared.delimiter.Delimiter.TheVariants.{Brace, Bracket, Paren}
-use Rattle.justfile_base.specs.declared.string_kind.StringDelimiter.{StringDelimiter}
-use Rattle.justfile_base.specs.declared.string_kind.StringDelimiter.TheVariants as delimiters
-use Rattle.justfile_base.specs.declared.string_kind.StringKind.{StringKind}
-use Rattle.justfile_word.specs.declared.token_kind.TokenKind.{TokenKind}
-use Rattle.justfile_word.specs.declared.token_kind.TokenKind.TheVariants as kinds
-use Rattle.justfile_word.specs.ByteClass.{class_of}
-use Rattle.justfile_base.specs.StringKind.{delimiter_len, is_quote, kind_of, token_kind_of}
+use Rattle.justfile_vocabulary.specs.declared.byte_class.ByteClass.{ByteClass}
+use Rattle.justfile_vocabulary.specs.declared.byte_class.ByteClass.TheVariants as classes
+use Rattle.justfile_token.specs.declared.delimiter.Delimiter.{Delimiter}
+use Rattle.justfile_token.specs.declared.delimiter.Delimiter.TheVariants.{Brace, Bracket, Paren}
+use Rattle.justfile_token.specs.declared.string_kind.StringDelimiter.{StringDelimiter}
+use Rattle.justfile_token.specs.declared.string_kind.StringDelimiter.TheVariants as delimiters
+use Rattle.justfile_token.specs.declared.string_kind.StringKind.{StringKind}
+use Rattle.justfile_vocabulary.specs.declared.token_kind.TokenKind.{TokenKind}
+use Rattle.justfile_vocabulary.specs.declared.token_kind.TokenKind.TheVariants as kinds
+use Rattle.justfile_vocabulary.specs.ByteClass.{class_of}
+use Rattle.justfile_token.specs.StringKind.{delimiter_len, is_quote, kind_of, token_kind_of}
 use Rattle.justfile_model.specs.declared.open_delimiter.OpenDelimiter.{OpenDelimiter}
 use Rattle.justfile_model.specs.declared.raw_text.RawText.TheVariants as raw_texts
 use Rattle.justfile_model.specs.Bytes.{in_word, word_len, is_line_end, is_interpolation_start, is_interpolation_end, is_mixed, closes_levels, first_char}
 use Rattle.justfile_model.specs.LiteralText.{raw_len, is_delimiter, pieces_len}
-use Rattle.justfile_model.specs.LexicalFault.{LexicalRefusal}
+use Rattle.justfile_model.specs.LexicalFault.{LexicalError}
 use Rattle.justfile_model.specs.Tok.{Tok}
 use Rattle.justfile_model.specs.Modes.{Mode, is_empty, head_of, innermost, nested}
 use Rattle.justfile_model.specs.Next.{NextToken, format_kind, doubled_token, fixed_token, opening, literal_part, literal_token, is_backtick, is_same, closing_delimiter, brace_by, closing, line_end_token, escaped_line_end, token_by_class, token_outside_text, text_or, body_token, at_end_by, Region, InText, InInterpolation, Inline, token_in_region, token_within_line, blanks_or, tested_blanks, is_level, layout, begins_blank_line, next_by, next}
 use Rattle.justfile_model.proofs.CutLemmas.{raw_stops, raw_within}
-use Rattle.justfile_round_trip.proofs.Reading.{drop_front}
+use Rattle.justfile_round_trip.proofs.LexedModes.{drop_front}
 use Rattle.justfile_round_trip.proofs.Inline.{Each, IsName, IsPart, delimiter_of, delimiter_length, assoc3, length3, literal_again, quote_is}
 use Rattle.justfile_round_trip.proofs.Good.{IsDelimited, IsString, IsCommand, IsFormatLiteral, IsFormatStart, IsPartOf, IsPartOfOpen}
 use Rattle.justfile_round_trip.proofs.FormatScans.{braces_front, closers_front, same_front, stable_closing, part_cut, start_opens}
@@ -164,7 +164,7 @@ module _ (m : Mode) (rest : List ℕ) where
   any : (k : TokenKind) (n : ℕ) → ((l following : List ℕ) → Fact m k l following) → Finds m rest (Ok (k, n))
   any k n f = record { fact = λ l following e len. f l following }
 
-  refused : {r : LexicalRefusal} → Finds m rest (Err r)
+  refused : {r : LexicalError} → Finds m rest (Err r)
   refused = record { fact = tt }
 
   twice_finds : (b : ℕ) (k : TokenKind) → ((l following : List ℕ) → Fact m k l following) → Finds m rest (doubled_token b k rest)

@@ -1,15 +1,15 @@
 -- Fixed tokens inside one line are lexed back.
 use Rattle.std.proofs.Common.{◌≡◌, ◌≢◌, ℕ, Bool, false, cond, eqb, List, [], ◌∷◌, ◌++◌, length, get_or, Option, Ok, refl, sym, ap, ◌∙◌, subst}
-use Rattle.justfile_word.specs.declared.byte_class.ByteClass.TheVariants as classes
-use Rattle.justfile_base.specs.declared.delimiter.Delimiter.TheVariants.{Brace, Bracket, Paren}
-use Rattle.justfile_word.specs.declared.token_kind.TokenKind.{TokenKind}
-use Rattle.justfile_word.specs.declared.token_kind.TokenKind.TheVariants.{AmpersandAmpersand, Asterisk, At, Bang, BangEquals, BangTilde, BarBar, BraceL, BraceR, BracketL, BracketR, ColonColon, ColonEquals, Comma, Dollar, Eof, Equals, EqualsEquals, EqualsTilde, ParenL, ParenR, Plus, PlusPlus, QuestionMark, Slash}
-use Rattle.justfile_word.specs.ByteClass.{class_of}
+use Rattle.justfile_vocabulary.specs.declared.byte_class.ByteClass.TheVariants as classes
+use Rattle.justfile_token.specs.declared.delimiter.Delimiter.TheVariants.{Brace, Bracket, Paren}
+use Rattle.justfile_vocabulary.specs.declared.token_kind.TokenKind.{TokenKind}
+use Rattle.justfile_vocabulary.specs.declared.token_kind.TokenKind.TheVariants.{AmpersandAmpersand, Asterisk, At, Bang, BangEquals, BangTilde, BarBar, BraceL, BraceR, BracketL, BracketR, ColonColon, ColonEquals, Comma, Dollar, Eof, Equals, EqualsEquals, EqualsTilde, ParenL, ParenR, Plus, PlusPlus, QuestionMark, Slash}
+use Rattle.justfile_vocabulary.specs.ByteClass.{class_of}
 use Rattle.justfile_model.specs.declared.open_delimiter.OpenDelimiter.{OpenDelimiter}
 use Rattle.justfile_model.specs.Tok.{Tok}
 use Rattle.justfile_model.specs.Modes.{is_empty, opener, mode_after}
 use Rattle.justfile_model.specs.Next.{fixed_token, token_by_class}
-use Rattle.justfile_round_trip.proofs.Reading.{Mark, mark, LexesTo, step}
+use Rattle.justfile_round_trip.proofs.LexedModes.{Mark, mark, LexesTo, step}
 use Rattle.justfile_round_trip.proofs.Inline.{amid, amid_next, and_false, and_no}
 
 module _ {os : List OpenDelimiter} {ls : List (List ℕ)} {c : Bool} {i : Option Tok} {f : Bool} where

@@ -3,15 +3,15 @@ use Rattle.std.proofs.Common.{◌≡◌, ℕ, zero, suc, ◌+◌, Bool, true, fa
 use Rattle.std.specs.Prelude.{◌&&◌, ◌||◌}
 use Rattle.std.proofs.lemmas.Bool.{and_parts}
 use Rattle.std.proofs.lemmas.Bool.Decides.{nat_tests}
-use Rattle.justfile_base.specs.declared.string_kind.StringDelimiter.{StringDelimiter}
-use Rattle.justfile_base.specs.declared.string_kind.StringDelimiter.TheVariants as delimiters
-use Rattle.justfile_base.specs.declared.string_kind.StringKind.{StringKind}
-use Rattle.justfile_base.specs.StringKind.{escapes, kind_of}
+use Rattle.justfile_token.specs.declared.string_kind.StringDelimiter.{StringDelimiter}
+use Rattle.justfile_token.specs.declared.string_kind.StringDelimiter.TheVariants as delimiters
+use Rattle.justfile_token.specs.declared.string_kind.StringKind.{StringKind}
+use Rattle.justfile_token.specs.StringKind.{escapes, kind_of}
 use Rattle.justfile_model.specs.declared.raw_text.RawText.TheVariants as raw_texts
 use Rattle.justfile_model.specs.Bytes.{is_interpolation_start, is_interpolation_end, is_interpolation_escape}
 use Rattle.justfile_model.specs.LiteralText.{pieces_len, hides, ends, raw_len, is_delimiter}
 use Rattle.justfile_model.proofs.CutLemmas.{raw_within}
-use Rattle.justfile_round_trip.proofs.Reading.{take_front, drop_front}
+use Rattle.justfile_round_trip.proofs.LexedModes.{take_front, drop_front}
 use Rattle.justfile_round_trip.proofs.Inline.{delimiter_of, closing_of, stop_of, IsPart, assoc3, length3}
 use Rattle.justfile_round_trip.proofs.Literals.{scan, same_delimiter}
 

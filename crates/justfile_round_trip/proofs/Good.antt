@@ -2,11 +2,11 @@
 use Rattle.std.proofs.Common.{◌≡◌, ℕ, Bool, true, false, List, [], ◌∷◌, ◌++◌, length, drop, Option, Some, None}
 use Rattle.std.specs.Prelude.{◌&&◌, ◌||◌}
 use Rattle.std.specs.Str.{IsUtf8, trim_end}
-use Rattle.justfile_base.specs.declared.string_kind.StringKind.{StringKind}
-use Rattle.justfile_word.specs.declared.token_kind.TokenKind.{TokenKind}
-use Rattle.justfile_word.specs.declared.token_kind.TokenKind.TheVariants as kinds
-use Rattle.justfile_word.specs.ByteClass.{class_of}
-use Rattle.justfile_base.specs.StringKind.{kind_of, token_kind_of}
+use Rattle.justfile_token.specs.declared.string_kind.StringKind.{StringKind}
+use Rattle.justfile_vocabulary.specs.declared.token_kind.TokenKind.{TokenKind}
+use Rattle.justfile_vocabulary.specs.declared.token_kind.TokenKind.TheVariants as kinds
+use Rattle.justfile_vocabulary.specs.ByteClass.{class_of}
+use Rattle.justfile_token.specs.StringKind.{kind_of, token_kind_of}
 use Rattle.justfile_model.specs.Bytes.{blank, white, blank_len}
 use Rattle.justfile_model.specs.declared.raw_text.RawText.TheVariants as raw_texts
 use Rattle.justfile_model.specs.LiteralText.{raw_len}
@@ -16,8 +16,8 @@ use Rattle.justfile_model.specs.Tok.{Tok}
 use Rattle.justfile_model.specs.SignificantTokens.{SignificantToken, significant_from}
 use Rattle.justfile_model.specs.Tree as tree
 use Rattle.justfile_model.specs.Tree.{Or, And, Comparison, Concatenation, ListConcatenation, Join, Root, If, IfElse, Not, StringLiteral, FormatLiteral, FormatString, Backtick, Assert, AssertMessage, Variable, Call, Group, ListOf, Last, Continue, Text, Interpolation, Line, lexeme, nothing, trimmed}
-use Rattle.justfile_model.specs.Expressions.{Under, Expression}
-use Rattle.justfile_round_trip.proofs.Reading.{Mark, mark, placed}
+use Rattle.justfile_model.specs.Expressions.{BelowLimit, Expression}
+use Rattle.justfile_round_trip.proofs.LexedModes.{Mark, mark, placed}
 use Rattle.justfile_round_trip.proofs.Inline.{head_is, IsName, IsLiteral, IsPart, delimiter_of}
 use Rattle.justfile_round_trip.proofs.Lines.{IsComment}
 use Rattle.justfile_round_trip.proofs.BodyLines.{IsRaw}
@@ -170,7 +170,7 @@ GoodOptionalComment (Some t) = GoodComment t
 module _ (limit : ℕ) where
   -- the value's tokens derive it, before any others that a value ends at
   pub record DerivesBack (e : Value) (features : Shown) : Type 0 where
-    pub derives : (glued : Bool) (on : List Mark) → ends_value (significant true on) ≡ true → Expression lexeme nothing (Under limit) false 0 e features (significant glued (expr_marks e on)) (significant true on)
+    pub derives : (glued : Bool) (on : List Mark) → ends_value (significant true on) ≡ true → Expression lexeme nothing (BelowLimit limit) false 0 e features (significant glued (expr_marks e on)) (significant true on)
 
   -- a value that no other is open around
   pub record GoodExpression (e : Value) : Type 0 where

@@ -1,7 +1,7 @@
 -- What is known of attributes that are printed: each name has its fact, and each value derives back.
 use Rattle.std.proofs.Common.{◌≡◌, ℕ, Bool, true, false, List, [], ◌∷◌}
 use Rattle.justfile_model.specs.AttributeKinds.{name_takes_keys}
-use Rattle.justfile_model.specs.Rewritten.{rewritten_entry, rewritten_entries}
+use Rattle.justfile_model.specs.PrintedAttributes.{rewritten_entry, rewritten_entries}
 use Rattle.justfile_model.specs.Tree.{StringLiteral, Positional, Bare, Keyed}
 use Rattle.justfile_round_trip.proofs.Canon.{Value}
 use Rattle.justfile_round_trip.proofs.CanonAttributes.{Argument, Written, ShapeEntry}

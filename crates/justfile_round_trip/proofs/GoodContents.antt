@@ -1,15 +1,15 @@
 -- What is known of a construct on one line that is printed: each of its lexemes has its fact, and its values derive back.
 use Rattle.std.proofs.Common.{◌≡◌, ℕ, Bool, true, false, ◌&&◌, List, [], ◌∷◌, Option, Some, None, refl, codes}
 use Rattle.std.specs.Str.{IsUtf8}
-use Rattle.justfile_word.specs.Keyword.{keyword_text}
-use Rattle.justfile_word.specs.declared.keyword.Keyword.{Keyword}
-use Rattle.justfile_word.specs.declared.token_kind.TokenKind.TheVariants as kinds
+use Rattle.justfile_vocabulary.specs.Keyword.{keyword_text}
+use Rattle.justfile_vocabulary.specs.declared.keyword.Keyword.{Keyword}
+use Rattle.justfile_vocabulary.specs.declared.token_kind.TokenKind.TheVariants as kinds
 use Rattle.justfile_model.specs.Docs.{doc_of, redocumented}
-use Rattle.justfile_model.specs.Expressions.{Sequence, Under}
+use Rattle.justfile_model.specs.Expressions.{Sequence, BelowLimit}
 use Rattle.justfile_model.specs.Settings.{ExpressionForm, InterpreterForm, PlainForm, SettingForm, TruthForm, setting_form}
 use Rattle.justfile_model.specs.Tree as tree
 use Rattle.justfile_model.specs.Tree.{assignment_of, bare_module, bare_recipe, lexeme, nothing}
-use Rattle.justfile_round_trip.proofs.Reading.{Mark, mark}
+use Rattle.justfile_round_trip.proofs.LexedModes.{Mark, mark}
 use Rattle.justfile_round_trip.proofs.Canon.{Shown, Value, Values, ShapeContent, exprs_on, exprs_marks}
 use Rattle.justfile_round_trip.proofs.CanonHeaders.{ShapeHeader}
 use Rattle.justfile_round_trip.proofs.CanonItems.{body_in}
@@ -38,7 +38,7 @@ module _ (limit : ℕ) where
   -- the tokens of expressions in brackets derive them
   pub record SequenceDerivesBack (es : Values) (features : Shown) : Type 0 where
     pub derives : (glued : Bool) (on : List Mark)
-        → Sequence lexeme nothing (Under limit) kinds.BracketR 0 es features (significant glued (exprs_marks es (mark kinds.BracketR (codes "]") ∷ on))) (significant true on)
+        → Sequence lexeme nothing (BelowLimit limit) kinds.BracketR 0 es features (significant glued (exprs_marks es (mark kinds.BracketR (codes "]") ∷ on))) (significant true on)
 
   -- expressions in brackets that no other is open around
   pub record GoodSequence (es : Values) : Type 0 where

@@ -1,10 +1,10 @@
 -- What is known of the header of a recipe that is printed: each of its lexemes has its fact, and its tokens derive it.
 use Rattle.std.proofs.Common.{◌≡◌, ℕ, Bool, true, List, [], ◌∷◌, Option, Some, None}
 use Rattle.std.specs.Str.{IsUtf8}
-use Rattle.justfile_model.specs.Expressions.{Under}
+use Rattle.justfile_model.specs.Expressions.{BelowLimit}
 use Rattle.justfile_model.specs.Headers.{HeaderOf}
 use Rattle.justfile_model.specs.Tree.{lexeme, nothing}
-use Rattle.justfile_round_trip.proofs.Reading.{Mark}
+use Rattle.justfile_round_trip.proofs.LexedModes.{Mark}
 use Rattle.justfile_round_trip.proofs.Canon.{Shown, Value}
 use Rattle.justfile_round_trip.proofs.CanonHeaders.{ShapeParameter, ShapeArgument, ShapeDependency, ShapeHeader, header_on, header_marks}
 use Rattle.justfile_round_trip.proofs.Good.{GoodValue, ends_value, significant}
@@ -46,7 +46,7 @@ module _ (limit : ℕ) where
   -- the header's tokens derive it, before any others that a value ends at
   pub record HeaderDerivesBack (h : ShapeHeader) (features : Shown) : Type 0 where
     pub derives : (glued : Bool) (on : List Mark) → ends_value (significant true on) ≡ true
-        → HeaderOf lexeme nothing nothing (Under limit) h features (significant glued (header_marks h on)) (significant true on)
+        → HeaderOf lexeme nothing nothing (BelowLimit limit) h features (significant glued (header_marks h on)) (significant true on)
 
   pub record GoodHeader (h : ShapeHeader) : Type 0 where
     pub lexes : LexesHeader h

@@ -5,25 +5,25 @@ use Rattle.std.specs.List.{prefix_len, count_by}
 use Rattle.std.proofs.lemmas.List.{append-nil}
 use Rattle.std.specs.Str.{bytes_eq}
 use Rattle.std.proofs.lemmas.Bool.Decides.{nat_tests}
-use Rattle.justfile_word.specs.declared.byte_class.ByteClass.{ByteClass}
-use Rattle.justfile_word.specs.declared.byte_class.ByteClass.TheVariants as classes
-use Rattle.justfile_base.specs.declared.delimiter.Delimiter.TheVariants.{FormatString}
+use Rattle.justfile_vocabulary.specs.declared.byte_class.ByteClass.{ByteClass}
+use Rattle.justfile_vocabulary.specs.declared.byte_class.ByteClass.TheVariants as classes
+use Rattle.justfile_token.specs.declared.delimiter.Delimiter.TheVariants.{FormatString}
 use Rattle.justfile_model.specs.declared.open_delimiter.OpenDelimiter.{OpenDelimiter}
-use Rattle.justfile_base.specs.declared.string_kind.StringDelimiter.{StringDelimiter}
-use Rattle.justfile_base.specs.declared.string_kind.StringDelimiter.TheVariants as delimiters
-use Rattle.justfile_base.specs.declared.string_kind.StringKind.{StringKind}
+use Rattle.justfile_token.specs.declared.string_kind.StringDelimiter.{StringDelimiter}
+use Rattle.justfile_token.specs.declared.string_kind.StringDelimiter.TheVariants as delimiters
+use Rattle.justfile_token.specs.declared.string_kind.StringKind.{StringKind}
 use Rattle.justfile_model.specs.declared.raw_text.RawText.TheVariants as raw_texts
-use Rattle.justfile_word.specs.declared.token_kind.TokenKind.{TokenKind}
-use Rattle.justfile_word.specs.declared.token_kind.TokenKind.TheVariants.{Eof, FormatStringContinue, FormatStringEnd, FormatStringStart, Identifier, Whitespace}
-use Rattle.justfile_word.specs.ByteClass.{class_of}
+use Rattle.justfile_vocabulary.specs.declared.token_kind.TokenKind.{TokenKind}
+use Rattle.justfile_vocabulary.specs.declared.token_kind.TokenKind.TheVariants.{Eof, FormatStringContinue, FormatStringEnd, FormatStringStart, Identifier, Whitespace}
+use Rattle.justfile_vocabulary.specs.ByteClass.{class_of}
 use Rattle.justfile_model.specs.Bytes.{blank, in_word, is_interpolation_end, is_interpolation_start}
-use Rattle.justfile_base.specs.StringKind.{delimiter_len, is_quote, kind_of, quote_of, token_kind_of}
+use Rattle.justfile_token.specs.StringKind.{delimiter_len, is_quote, kind_of, quote_of, token_kind_of}
 use Rattle.justfile_model.specs.LiteralText.{raw_len}
 use Rattle.justfile_model.specs.Tok.{Tok}
 use Rattle.justfile_model.specs.Places.{is_newline}
 use Rattle.justfile_model.specs.Modes.{Mode, is_empty, opener, mode_after}
 use Rattle.justfile_model.specs.Next.{token_by_class, token_within_line, next, literal_token, literal_part, is_backtick}
-use Rattle.justfile_round_trip.proofs.Reading.{Mark, mark, LexesTo, step, drop_front}
+use Rattle.justfile_round_trip.proofs.LexedModes.{Mark, mark, LexesTo, step, drop_front}
 
 -- each byte passes
 abbrev pub Each : (ByteClass → Bool) → List ℕ → Type 0

@@ -1,6 +1,6 @@
 -- Of all texts with the same normal shape, the printed one has the least need.
 use Rattle.std.proofs.Common.{◌≡◌, ℕ, ◌≤◌, true, List, sym, ap, subst, ◌∙◌}
-use Rattle.justfile_word.specs.Indentation.{IsIndentation}
+use Rattle.justfile_vocabulary.specs.Indentation.{IsIndentation}
 use Rattle.justfile_model.specs.Conditions.{Conditions, with_limit}
 use Rattle.justfile_model.specs.Features.{Noted}
 use Rattle.justfile_model.specs.Files.{FileDerives}

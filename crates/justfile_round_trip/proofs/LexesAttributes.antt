@@ -1,15 +1,15 @@
 -- The text of good attributes is lexed back.
 use Rattle.std.proofs.Common.{◌≡◌, ℕ, Bool, false, List, [], ◌∷◌, ◌++◌, Option, Some, None, refl}
-use Rattle.justfile_base.specs.declared.delimiter.Delimiter.TheVariants.{Bracket, Paren}
-use Rattle.justfile_word.specs.declared.token_kind.TokenKind.TheVariants.{BracketL, Comment}
-use Rattle.justfile_word.specs.ByteClass.{class_of}
+use Rattle.justfile_token.specs.declared.delimiter.Delimiter.TheVariants.{Bracket, Paren}
+use Rattle.justfile_vocabulary.specs.declared.token_kind.TokenKind.TheVariants.{BracketL, Comment}
+use Rattle.justfile_vocabulary.specs.ByteClass.{class_of}
 use Rattle.justfile_model.specs.declared.open_delimiter.OpenDelimiter.{OpenDelimiter}
 use Rattle.justfile_model.specs.Bytes.{blank}
 use Rattle.justfile_model.specs.Modes.{opener}
 use Rattle.justfile_model.specs.Next.{token_by_class}
 use Rattle.justfile_model.specs.Tok.{Tok}
 use Rattle.justfile_model.specs.Tree.{Positional, Bare, Keyed}
-use Rattle.justfile_round_trip.proofs.Reading.{Mark, mark, LexesTo, step}
+use Rattle.justfile_round_trip.proofs.LexedModes.{Mark, mark, LexesTo, step}
 use Rattle.justfile_round_trip.proofs.Inline.{head_is, joins, head_word, amid, name_step, space_step}
 use Rattle.justfile_round_trip.proofs.Fixed.{comma_step, equals_before, open_paren_step, close_paren_step, close_bracket_step}
 use Rattle.justfile_round_trip.proofs.Lines.{at_item, comment_no_blank, comment_step, item_next, line_end}

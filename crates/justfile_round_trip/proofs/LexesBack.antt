@@ -1,10 +1,10 @@
 -- The text of good items is lexed back.
 use Rattle.std.proofs.Common.{ℕ, Bool, false, List, [], ◌∷◌, Option, Some, None, refl, sym, ap, subst}
-use Rattle.justfile_word.specs.ByteClass.{class_of}
+use Rattle.justfile_vocabulary.specs.ByteClass.{class_of}
 use Rattle.justfile_model.specs.Tree as tree
 use Rattle.justfile_model.specs.Tree.{Shape}
 use Rattle.justfile_model.specs.Next.{next}
-use Rattle.justfile_round_trip.proofs.Reading.{LexesTo, end}
+use Rattle.justfile_round_trip.proofs.LexedModes.{LexesTo, end}
 use Rattle.justfile_round_trip.proofs.Lines.{at_item, item_comment, blank_line, line_end}
 use Rattle.justfile_round_trip.proofs.Canon.{Row, ShapeContent}
 use Rattle.justfile_round_trip.proofs.CanonAttributes.{ShapeEntry}

@@ -1,16 +1,16 @@
 -- The text of good headers is lexed back.
 use Rattle.std.proofs.Common.{◌≡◌, ℕ, Bool, true, false, eqb, List, [], ◌∷◌, ◌++◌, get_or, Option, Some, None, refl}
-use Rattle.justfile_word.specs.declared.byte_class.ByteClass.TheVariants as classes
-use Rattle.justfile_base.specs.declared.delimiter.Delimiter.TheVariants.{Paren}
-use Rattle.justfile_word.specs.declared.token_kind.TokenKind.TheVariants as kinds
-use Rattle.justfile_word.specs.ByteClass.{class_of}
+use Rattle.justfile_vocabulary.specs.declared.byte_class.ByteClass.TheVariants as classes
+use Rattle.justfile_token.specs.declared.delimiter.Delimiter.TheVariants.{Paren}
+use Rattle.justfile_vocabulary.specs.declared.token_kind.TokenKind.TheVariants as kinds
+use Rattle.justfile_vocabulary.specs.ByteClass.{class_of}
 use Rattle.justfile_model.specs.declared.open_delimiter.OpenDelimiter.{OpenDelimiter}
 use Rattle.justfile_model.specs.declared.parameter_kind.ParameterKind.{ParameterKind}
 use Rattle.justfile_model.specs.declared.parameter_kind.ParameterKind.TheVariants.{Plus, Singular, Star}
 use Rattle.justfile_model.specs.Bytes.{blank}
 use Rattle.justfile_model.specs.Modes.{opener}
 use Rattle.justfile_model.specs.Next.{fixed_token, token_by_class}
-use Rattle.justfile_round_trip.proofs.Reading.{Mark, mark, LexesTo, step}
+use Rattle.justfile_round_trip.proofs.LexedModes.{Mark, mark, LexesTo, step}
 use Rattle.justfile_round_trip.proofs.Inline.{head_is, joins, head_word, amid, IsName, name_step, space_step}
 use Rattle.justfile_round_trip.proofs.Fixed.{dollar_step, asterisk_step, and_step, plus_before, equals_before, colon_colon_step, open_paren_step, close_paren_step}
 use Rattle.justfile_round_trip.proofs.Lines.{at_item, item_next, item_name}

@@ -1,15 +1,15 @@
 -- The text of good values is lexed back.
 use Rattle.std.proofs.Common.{◌≡◌, ℕ, Bool, true, false, cond, eqb, List, [], ◌∷◌, ◌++◌, get_or, Option, refl, sym, ap, ◌∙◌, subst, arith, codes}
 use Rattle.std.proofs.lemmas.Bool.Decides.{nat_tests}
-use Rattle.justfile_word.specs.declared.byte_class.ByteClass.TheVariants as classes
-use Rattle.justfile_base.specs.declared.delimiter.Delimiter.TheVariants.{Brace, Bracket, FormatString, Paren}
-use Rattle.justfile_base.specs.declared.string_kind.StringDelimiter.{StringDelimiter}
-use Rattle.justfile_base.specs.declared.string_kind.StringDelimiter.TheVariants as delimiters
-use Rattle.justfile_base.specs.declared.string_kind.StringKind.{StringKind}
-use Rattle.justfile_word.specs.declared.token_kind.TokenKind.{TokenKind}
-use Rattle.justfile_word.specs.declared.token_kind.TokenKind.TheVariants as kinds
-use Rattle.justfile_word.specs.ByteClass.{class_of}
-use Rattle.justfile_base.specs.StringKind.{kind_of, quote_of, token_kind_of}
+use Rattle.justfile_vocabulary.specs.declared.byte_class.ByteClass.TheVariants as classes
+use Rattle.justfile_token.specs.declared.delimiter.Delimiter.TheVariants.{Brace, Bracket, FormatString, Paren}
+use Rattle.justfile_token.specs.declared.string_kind.StringDelimiter.{StringDelimiter}
+use Rattle.justfile_token.specs.declared.string_kind.StringDelimiter.TheVariants as delimiters
+use Rattle.justfile_token.specs.declared.string_kind.StringKind.{StringKind}
+use Rattle.justfile_vocabulary.specs.declared.token_kind.TokenKind.{TokenKind}
+use Rattle.justfile_vocabulary.specs.declared.token_kind.TokenKind.TheVariants as kinds
+use Rattle.justfile_vocabulary.specs.ByteClass.{class_of}
+use Rattle.justfile_token.specs.StringKind.{kind_of, quote_of, token_kind_of}
 use Rattle.justfile_model.specs.declared.conditional_operator.ConditionalOperator.{ConditionalOperator}
 use Rattle.justfile_model.specs.declared.conditional_operator.ConditionalOperator.TheVariants.{Equality, Inequality, RegexMatch, RegexMismatch}
 use Rattle.justfile_model.specs.declared.open_delimiter.OpenDelimiter.{OpenDelimiter}
@@ -21,7 +21,7 @@ use Rattle.justfile_model.specs.Printing.{is_conditional}
 use Rattle.justfile_model.specs.Tok.{Tok}
 use Rattle.justfile_model.specs.Tree as tree
 use Rattle.justfile_model.specs.Tree.{Or, And, Comparison, Concatenation, ListConcatenation, Join, Root, If, IfElse, Not, StringLiteral, FormatLiteral, FormatString, Backtick, Assert, AssertMessage, Variable, Call, Group, ListOf, Last, Continue}
-use Rattle.justfile_round_trip.proofs.Reading.{Mark, mark, LexesTo}
+use Rattle.justfile_round_trip.proofs.LexedModes.{Mark, mark, LexesTo}
 use Rattle.justfile_round_trip.proofs.Inline.{head_is, joins, head_word, amid, IsName, IsLiteral, name_step, space_step, literal_step, whole_step, start_step, continue_step, end_step}
 use Rattle.justfile_round_trip.proofs.Fixed.{slash_step, comma_step, and_step, or_step, plus_step, plus_plus_step, bang_step, equals_equals_step, equals_tilde_step, bang_equals_step, bang_tilde_step, open_paren_step, close_paren_step, open_bracket_step, close_bracket_step, open_brace_step, close_brace_step}
 use Rattle.justfile_round_trip.proofs.Canon.{Value, Values, Pieces, operator_codes, expr_on, exprs_on, others_on, parts_on, expr_marks, exprs_marks, others_marks, parts_marks}

@@ -51,10 +51,10 @@ pub mod MeantAttributes
 pub mod PlainLiterals
 pub mod Quoted
 pub mod RawTexts
-pub mod Reading
+pub mod LexedModes
 pub mod RoundTrip
 pub mod SideBySide
-pub mod Sound
+pub mod TokenFacts
 pub mod Trimmed
 pub mod Walks
 pub mod WalksHeaders

@@ -2,9 +2,9 @@
 use Rattle.std.proofs.Common.{◌≡◌, ℕ, ◌+◌, Bool, true, false, cond, eqb, List, [], ◌∷◌, ◌++◌, length, take, drop, Option, None, Ok, refl, sym, ap, ◌∙◌, subst, arith}
 use Rattle.std.specs.Prelude.{◌&&◌, slice_index}
 use Rattle.std.specs.Str.{bytes_eq}
-use Rattle.justfile_word.specs.declared.byte_class.ByteClass.TheVariants as classes
-use Rattle.justfile_word.specs.declared.token_kind.TokenKind.TheVariants.{Comment, Eol, Identifier}
-use Rattle.justfile_word.specs.ByteClass.{class_of}
+use Rattle.justfile_vocabulary.specs.declared.byte_class.ByteClass.TheVariants as classes
+use Rattle.justfile_vocabulary.specs.declared.token_kind.TokenKind.TheVariants.{Comment, Eol, Identifier}
+use Rattle.justfile_vocabulary.specs.ByteClass.{class_of}
 use Rattle.justfile_model.specs.declared.open_delimiter.OpenDelimiter.{OpenDelimiter}
 use Rattle.justfile_model.specs.declared.raw_text.RawText.TheVariants as raw_texts
 use Rattle.justfile_model.specs.Bytes.{blank, in_word, blank_len}
@@ -12,7 +12,7 @@ use Rattle.justfile_model.specs.LiteralText.{raw_len}
 use Rattle.justfile_model.specs.Tok.{Tok}
 use Rattle.justfile_model.specs.Modes.{Mode, is_empty}
 use Rattle.justfile_model.specs.Next.{token_by_class, token_within_line, layout, at_line_start, begins_blank_line, next}
-use Rattle.justfile_round_trip.proofs.Reading.{Mark, mark, LexesTo, step, take_front, drop_front}
+use Rattle.justfile_round_trip.proofs.LexedModes.{Mark, mark, LexesTo, step, take_front, drop_front}
 use Rattle.justfile_round_trip.proofs.Inline.{Each, head_is, amid, amid_next, IsName, run_each}
 
 -- where an item begins

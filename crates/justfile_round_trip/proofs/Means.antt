@@ -4,7 +4,7 @@ use Rattle.std.specs.Option.{option_map}
 use Rattle.justfile_model.specs.Docs.{Nothing, documented}
 use Rattle.justfile_model.specs.Files.{ordered_item, ordered, says_doc, undocumented}
 use Rattle.justfile_model.specs.Meaning.{entries_of}
-use Rattle.justfile_model.specs.Sight.{Sight}
+use Rattle.justfile_model.specs.LeafView.{LeafView}
 use Rattle.justfile_model.specs.Tree as tree
 use Rattle.justfile_model.specs.Tree.{Construct, WrittenItem, WrittenShape, Shape, starless, starless_argument, starless_dependency}
 use Rattle.justfile_model.proofs.Binds.{some_back}
@@ -62,33 +62,33 @@ same_content (tree.Recipe parts) = λ i. tree.Recipe (record {
   body = parts.body;
 })
 
-module _ (sight : Sight (List ℕ) (Unit {0})) where
+module _ (view : LeafView (List ℕ) (Unit {0})) where
   abbrev pub meant_item : ShapeWritten → ShapeItem
   meant_item tree.Newline = tree.Newline
   meant_item (tree.Comment t) = tree.Comment t
-  meant_item (Construct ws content) = Construct (entries_or_none (entries_of sight ws)) content
+  meant_item (Construct ws content) = Construct (entries_or_none (entries_of view ws)) content
 
   abbrev pub meant : WrittenShape → Shape
   meant = map meant_item
 
-  item_meant : (i : ShapeWritten) (x : ShapeItem) → ordered_item sight i ≡ Some x → x ≡ meant_item i
+  item_meant : (i : ShapeWritten) (x : ShapeItem) → ordered_item view i ≡ Some x → x ≡ meant_item i
   item_meant tree.Newline x h = sym (some_back tree.Newline x h)
   item_meant (tree.Comment t) x h = sym (some_back (tree.Comment t) x h)
   item_meant (Construct ws content) x h =
-      let m = construct_meant sight ws content x h in
+      let m = construct_meant view ws content x h in
       m.item_is ∙ (λ i. Construct (entries_or_none (sym m.means i)) (same_content content i))
 
-  undocumented_meant : (items : WrittenShape) (all : Shape) → undocumented sight items ≡ Some all → all ≡ meant items
+  undocumented_meant : (items : WrittenShape) (all : Shape) → undocumented view items ≡ Some all → all ≡ meant items
   undocumented_meant [] all h = sym (some_back [] all h)
   undocumented_meant (i ∷ items) all h =
-      let m = meanings_of sight i items all h in
+      let m = meanings_of view i items all h in
       m.all_are ∙ (λ j. item_meant i m.first m.first_is j ∷ undocumented_meant items m.others m.others_are j)
 
   -- what is ordered is that, with its docs
-  pub docs_meant : (items : WrittenShape) (all : Shape) → ordered sight items ≡ Some all → all ≡ documented says_doc Nothing (meant items)
-  docs_meant items all h = by (undocumented sight items) refl h
+  pub docs_meant : (items : WrittenShape) (all : Shape) → ordered view items ≡ Some all → all ≡ documented says_doc Nothing (meant items)
+  docs_meant items all h = by (undocumented view items) refl h
     where
-      by : (o : Option Shape) → undocumented sight items ≡ o → option_map (documented says_doc Nothing) o ≡ Some all
+      by : (o : Option Shape) → undocumented view items ≡ o → option_map (documented says_doc Nothing) o ≡ Some all
           → all ≡ documented says_doc Nothing (meant items)
       by None e h = cc
       by (Some plain) e h = sym (some_back (documented says_doc Nothing plain) all h) ∙ ap (documented says_doc Nothing) (undocumented_meant items plain e)

@@ -10,14 +10,14 @@ use Rattle.std.proofs.lemmas.Bool.{and_parts}
 use Rattle.std.proofs.lemmas.Bool.Decides.{nat_tests}
 use Rattle.std.proofs.lemmas.Str.{IsUtf8-nil}
 use Rattle.std.proofs.lemmas.List.{append-nil}
-use Rattle.justfile_word.specs.ByteClass.{class_of}
-use Rattle.justfile_word.specs.AttributeKind.{attribute_name, kind_named, takes_keys}
-use Rattle.justfile_word.specs.declared.attribute_kind.AttributeKind.{AttributeKind}
-use Rattle.justfile_word.specs.declared.attribute_kind.AttributeKind.TheVariants as attributes
-use Rattle.justfile_word.specs.declared.byte_class.ByteClass.{ByteClass}
-use Rattle.justfile_word.specs.declared.byte_class.ByteClass.TheVariants as classes
-use Rattle.justfile_word.specs.declared.signal.Signal.{Signal}
-use Rattle.justfile_word.proofs.AttributeKindLaws.{named}
+use Rattle.justfile_vocabulary.specs.ByteClass.{class_of}
+use Rattle.justfile_vocabulary.specs.AttributeKind.{attribute_name, kind_named, takes_keys}
+use Rattle.justfile_vocabulary.specs.declared.attribute_kind.AttributeKind.{AttributeKind}
+use Rattle.justfile_vocabulary.specs.declared.attribute_kind.AttributeKind.TheVariants as attributes
+use Rattle.justfile_vocabulary.specs.declared.byte_class.ByteClass.{ByteClass}
+use Rattle.justfile_vocabulary.specs.declared.byte_class.ByteClass.TheVariants as classes
+use Rattle.justfile_vocabulary.specs.declared.signal.Signal.{Signal}
+use Rattle.justfile_vocabulary.proofs.AttributeKindLaws.{named}
 use Rattle.justfile_model.specs.AttributeKinds.{named_takes_keys, name_takes_keys, takes_expressions}
 use Rattle.justfile_model.specs.Bytes.{in_word}
 use Rattle.justfile_model.specs.ContentKeys.{kind_of_attribute, entry_cmp}
@@ -25,7 +25,7 @@ use Rattle.justfile_model.specs.Meaning as meaning
 use Rattle.justfile_model.specs.Meaning.{◌>>=◌, all_of, of_given, first_of, quoted, Placed, KeyArgument, by_position, by_key, count_of, signal_set, text_of, at_key, property_of, value_of, bare_of, option_named, option_at, bound_of, rules_of, single_of, texts_of, env_of, signal_of, of_expressions, of_literals, by_takes, attribute_of, entry_of, entries_of}
 use Rattle.justfile_model.specs.Order.{placed, in_order}
 use Rattle.justfile_model.specs.Printing.{fixed_text, quoted_argument, signal_argument, keyed_if, bare_if, option_argument, number_literal, rules_arguments, attribute_arguments}
-use Rattle.justfile_model.specs.Sight.{Sight}
+use Rattle.justfile_model.specs.LeafView.{LeafView}
 use Rattle.justfile_model.specs.Tree as tree
 use Rattle.justfile_model.specs.Tree.{Quoted, Property, Bound, OptionName, ArgumentRules, Attribute}
 use Rattle.justfile_round_trip.proofs.Inline.{Each, IsName}
@@ -277,7 +277,7 @@ module _ (limit : ℕ) where
 
   -- ---- what they mean
 
-  module _ (sight : Sight (List ℕ) (Unit {0})) where
+  module _ (view : LeafView (List ℕ) (Unit {0})) where
     given_good : {Y : Type 0} (P : Y → Type 0) (f : KeyArgument (List ℕ) (Unit {0}) → Option Y)
         → ((k : KeyArgument (List ℕ) (Unit {0})) (y : Y) → f k ≡ Some y → GoodKey k → P y)
         → (o : Option (KeyArgument (List ℕ) (Unit {0}))) (r : Option Y) → of_given f o ≡ Some r → IfGiven GoodKey o → IfGiven P r
@@ -286,7 +286,7 @@ module _ (limit : ℕ) where
         let b = bind_some (f k) (λ y. Some (Some y)) r e in
         subst (IfGiven P) (some_same b.2) (step k b.0 b.1 h)
 
-    property_good : (k : KeyArgument (List ℕ) (Unit {0})) (p : Property (List ℕ) (Unit {0})) → property_of sight k ≡ Some p → GoodKey k → GoodProperty p
+    property_good : (k : KeyArgument (List ℕ) (Unit {0})) (p : Property (List ℕ) (Unit {0})) → property_of view k ≡ Some p → GoodKey k → GoodProperty p
     property_good k p e h =
         let b = bind_some k.value _ p e in
         subst GoodProperty (some_same b.2) (subst (IfGiven (GoodExpression limit)) b.1 h)
@@ -294,21 +294,21 @@ module _ (limit : ℕ) where
     value_good : (k : KeyArgument (List ℕ) (Unit {0})) (v : Value) → k.value ≡ Some v → GoodKey k → GoodExpression limit v
     value_good k v e h = subst (IfGiven (GoodExpression limit)) e h
 
-    bound_good : (k : KeyArgument (List ℕ) (Unit {0})) (b : Bound (Unit {0})) → bound_of sight k ≡ Some b → GoodKey k → GoodBound b
+    bound_good : (k : KeyArgument (List ℕ) (Unit {0})) (b : Bound (Unit {0})) → bound_of view k ≡ Some b → GoodKey k → GoodBound b
     bound_good k b e h =
         let value = bind_some k.value _ b e in
         let literal = bind_some (quoted value.0) _ b value.2 in
-        let number = bind_some (count_of (text_of sight literal.0)) _ b literal.2 in
-        subst GoodBound (some_same number.2) (count_small (text_of sight literal.0) number.0 number.1)
+        let number = bind_some (count_of (text_of view literal.0)) _ b literal.2 in
+        subst GoodBound (some_same number.2) (count_small (text_of view literal.0) number.0 number.1)
 
-    named_good : (key : List ℕ) (value : Option Value) (o : OptionName (List ℕ) (Unit {0})) → option_named sight key value ≡ Some o
+    named_good : (key : List ℕ) (value : Option Value) (o : OptionName (List ℕ) (Unit {0})) → option_named view key value ≡ Some o
         → IfGiven (GoodExpression limit) value → GoodOption o
     named_good key None o e h = subst GoodOption (some_same e) tt
     named_good key (Some value) o e h =
         let b = bind_some (quoted value) _ o e in
         subst GoodOption (some_same b.2) (quoted_is value b.0 b.1 h)
 
-    option_at_good : (k : Option (KeyArgument (List ℕ) (Unit {0}))) (o : OptionName (List ℕ) (Unit {0})) → option_at sight k ≡ Some o → IfGiven GoodKey k
+    option_at_good : (k : Option (KeyArgument (List ℕ) (Unit {0}))) (o : OptionName (List ℕ) (Unit {0})) → option_at view k ≡ Some o → IfGiven GoodKey k
         → GoodOption o
     option_at_good None o e h = subst GoodOption (some_same e) tt
     option_at_good (Some k) o e h = named_good k.key k.value o e h
@@ -318,69 +318,69 @@ module _ (limit : ℕ) where
     first_good (t ∷ ts) q e h = subst GoodQuoted (some_same e) h.0
 
     meant_rules : (texts : List (Quoted (List ℕ))) (keys : List (KeyArgument (List ℕ) (Unit {0}))) (a : ArgumentRules (List ℕ) (Unit {0}))
-        → rules_of sight texts keys ≡ Some a → AllQuoted texts → AllKeys keys → GoodRules a
+        → rules_of view texts keys ≡ Some a → AllQuoted texts → AllKeys keys → GoodRules a
     meant_rules texts keys a e h ks =
-        let at : (word : List ℕ) → IfGiven GoodKey (at_key sight word keys) = λ word. found_good (meaning.is_key sight word) keys ks in
+        let at : (word : List ℕ) → IfGiven GoodKey (at_key view word keys) = λ word. found_good (meaning.is_key view word) keys ks in
         binding (first_of texts) _ _ e (λ name name_is e.
-        binding (of_given (bare_of sight) (at_key sight (codes "flag") keys)) _ _ e (λ flag flag_is e.
-        binding (of_given (property_of sight) (at_key sight (codes "help") keys)) _ _ e (λ help help_is e.
-        binding (option_at sight (at_key sight (codes "long") keys)) _ _ e (λ long long_is e.
-        binding (of_given (bound_of sight) (at_key sight (codes "max") keys)) _ _ e (λ max max_is e.
-        binding (of_given (bound_of sight) (at_key sight (codes "min") keys)) _ _ e (λ min min_is e.
-        binding (of_given (bare_of sight) (at_key sight (codes "multiple") keys)) _ _ e (λ multiple multiple_is e.
-        binding (of_given (property_of sight) (at_key sight (codes "pattern") keys)) _ _ e (λ pattern pattern_is e.
-        binding (option_at sight (at_key sight (codes "short") keys)) _ _ e (λ short short_is e.
-        binding (of_given (value_of sight) (at_key sight (codes "value") keys)) _ _ e (λ value value_is e.
+        binding (of_given (bare_of view) (at_key view (codes "flag") keys)) _ _ e (λ flag flag_is e.
+        binding (of_given (property_of view) (at_key view (codes "help") keys)) _ _ e (λ help help_is e.
+        binding (option_at view (at_key view (codes "long") keys)) _ _ e (λ long long_is e.
+        binding (of_given (bound_of view) (at_key view (codes "max") keys)) _ _ e (λ max max_is e.
+        binding (of_given (bound_of view) (at_key view (codes "min") keys)) _ _ e (λ min min_is e.
+        binding (of_given (bare_of view) (at_key view (codes "multiple") keys)) _ _ e (λ multiple multiple_is e.
+        binding (of_given (property_of view) (at_key view (codes "pattern") keys)) _ _ e (λ pattern pattern_is e.
+        binding (option_at view (at_key view (codes "short") keys)) _ _ e (λ short short_is e.
+        binding (of_given (value_of view) (at_key view (codes "value") keys)) _ _ e (λ value value_is e.
         subst GoodRules (some_same e) (record {
           name = first_good texts name name_is h;
           long = option_at_good _ long long_is (at (codes "long"));
           short = option_at_good _ short short_is (at (codes "short"));
-          pattern = given_good GoodProperty (property_of sight) property_good _ pattern pattern_is (at (codes "pattern"));
-          value = given_good (GoodExpression limit) (value_of sight) value_good _ value value_is (at (codes "value"));
-          min = given_good GoodBound (bound_of sight) bound_good _ min min_is (at (codes "min"));
-          max = given_good GoodBound (bound_of sight) bound_good _ max max_is (at (codes "max"));
-          help = given_good GoodProperty (property_of sight) property_good _ help help_is (at (codes "help"));
+          pattern = given_good GoodProperty (property_of view) property_good _ pattern pattern_is (at (codes "pattern"));
+          value = given_good (GoodExpression limit) (value_of view) value_good _ value value_is (at (codes "value"));
+          min = given_good GoodBound (bound_of view) bound_good _ min min_is (at (codes "min"));
+          max = given_good GoodBound (bound_of view) bound_good _ max max_is (at (codes "max"));
+          help = given_good GoodProperty (property_of view) property_good _ help help_is (at (codes "help"));
         })))))))))))
 
-    cache_good : (keys : List (KeyArgument (List ℕ) (Unit {0}))) (a : Attribute (List ℕ) (Unit {0})) → of_literals sight attributes.Cache [] keys ≡ Some a
+    cache_good : (keys : List (KeyArgument (List ℕ) (Unit {0}))) (a : Attribute (List ℕ) (Unit {0})) → of_literals view attributes.Cache [] keys ≡ Some a
         → AllKeys keys → GoodAttribute a
     unfolding class_of
     cache_good keys a e ks =
-        let at : (word : List ℕ) → IfGiven GoodKey (at_key sight word keys) = λ word. found_good (meaning.is_key sight word) keys ks in
+        let at : (word : List ℕ) → IfGiven GoodKey (at_key view word keys) = λ word. found_good (meaning.is_key view word) keys ks in
         let value : (v : Value) → GoodExpression limit v → GoodExpression limit v = λ v h. h in
-        let extra = bind_some (of_given (value_of sight) (at_key sight (codes "extra") keys)) _ a e in
-        let inputs = bind_some (of_given (value_of sight) (at_key sight (codes "inputs") keys)) _ a extra.2 in
-        let outputs = bind_some (of_given (value_of sight) (at_key sight (codes "outputs") keys)) _ a inputs.2 in
+        let extra = bind_some (of_given (value_of view) (at_key view (codes "extra") keys)) _ a e in
+        let inputs = bind_some (of_given (value_of view) (at_key view (codes "inputs") keys)) _ a extra.2 in
+        let outputs = bind_some (of_given (value_of view) (at_key view (codes "outputs") keys)) _ a inputs.2 in
         let join = arguments_joined true in
         subst GoodAttribute (some_same outputs.2)
         (join _ _ (join _ _
         (keyed_good (codes "extra") (λ e. e) (GoodExpression limit) (word_good (codes "extra") refl refl) value extra.0
-        (given_good (GoodExpression limit) (value_of sight) value_good _ extra.0 extra.1 (at (codes "extra"))))
+        (given_good (GoodExpression limit) (value_of view) value_good _ extra.0 extra.1 (at (codes "extra"))))
         (keyed_good (codes "inputs") (λ e. e) (GoodExpression limit) (word_good (codes "inputs") refl refl) value inputs.0
-        (given_good (GoodExpression limit) (value_of sight) value_good _ inputs.0 inputs.1 (at (codes "inputs")))))
+        (given_good (GoodExpression limit) (value_of view) value_good _ inputs.0 inputs.1 (at (codes "inputs")))))
         (keyed_good (codes "outputs") (λ e. e) (GoodExpression limit) (word_good (codes "outputs") refl refl) value outputs.0
-        (given_good (GoodExpression limit) (value_of sight) value_good _ outputs.0 outputs.1 (at (codes "outputs")))))
+        (given_good (GoodExpression limit) (value_of view) value_good _ outputs.0 outputs.1 (at (codes "outputs")))))
 
-    signals_good : (texts : List (Quoted (List ℕ))) (given : List Signal) → all_of (signal_of sight) texts ≡ Some given → AllQuoted texts
+    signals_good : (texts : List (Quoted (List ℕ))) (given : List Signal) → all_of (signal_of view) texts ≡ Some given → AllQuoted texts
         → GoodArguments limit false (map signal_argument (signal_set given))
     signals_good [] given e h = subst (λ (g : List Signal). GoodArguments limit false (map signal_argument (signal_set g))) (some_same e) tt
     signals_good (q ∷ qs) given e h = signal_arguments (signal_set given) (some_limit h.0)
 
-    single_good : (kind : AttributeKind) (values : List Value) → takes_keys kind ≡ false → AllValues values → GoodAttribute (single_of sight kind values)
+    single_good : (kind : AttributeKind) (values : List Value) → takes_keys kind ≡ false → AllValues values → GoodAttribute (single_of view kind values)
     single_good kind [] no_keys h = tt
     single_good kind (v ∷ vs) no_keys h = ((h.0, λ k. let bad : true ≡ false = sym k ∙ no_keys in cc), tt)
 
-    texts_good : (kind : AttributeKind) (texts : List (Quoted (List ℕ))) → AllQuoted texts → GoodAttribute (texts_of sight kind texts)
+    texts_good : (kind : AttributeKind) (texts : List (Quoted (List ℕ))) → AllQuoted texts → GoodAttribute (texts_of view kind texts)
     texts_good kind [] h = tt
     texts_good kind (q ∷ qs) h = quoted_arguments (takes_keys kind) (q ∷ qs) h
 
-    env_good : (values : List Value) (a : Attribute (List ℕ) (Unit {0})) → env_of sight values ≡ Some a → AllValues values → GoodAttribute a
+    env_good : (values : List Value) (a : Attribute (List ℕ) (Unit {0})) → env_of view values ≡ Some a → AllValues values → GoodAttribute a
     env_good [] a e h = cc
     env_good (key ∷ []) a e h = cc
     env_good (key ∷ value ∷ values) a e h = subst GoodAttribute (some_same e) ((h.0, λ k. cc), ((h.1.0, λ k. cc), tt))
 
     expressions_good : (kind : AttributeKind) (values : List Value) (a : Attribute (List ℕ) (Unit {0})) → takes_expressions kind ≡ true
-        → of_expressions sight kind values ≡ Some a → AllValues values → GoodAttribute a
+        → of_expressions view kind values ≡ Some a → AllValues values → GoodAttribute a
     expressions_good attributes.Env values a takes e h = env_good values a e h
     expressions_good attributes.Confirm values a takes e h = subst GoodAttribute (some_same e) (single_good attributes.Confirm values refl h)
     expressions_good attributes.Doc values a takes e h = subst GoodAttribute (some_same e) (single_good attributes.Doc values refl h)
@@ -389,18 +389,18 @@ module _ (limit : ℕ) where
     expressions_good _ values a takes e h = cc
 
     literals_good : (kind : AttributeKind) (texts : List (Quoted (List ℕ))) (keys : List (KeyArgument (List ℕ) (Unit {0}))) (a : Attribute (List ℕ) (Unit {0}))
-        → of_literals sight kind texts keys ≡ Some a → AllQuoted texts → AllKeys keys → GoodAttribute a
+        → of_literals view kind texts keys ≡ Some a → AllQuoted texts → AllKeys keys → GoodAttribute a
     literals_good attributes.Arg texts keys a e h ks =
-        let b = bind_some (rules_of sight texts keys) _ a e in
+        let b = bind_some (rules_of view texts keys) _ a e in
         subst GoodAttribute (some_same b.2) (rules_good b.0 (meant_rules texts keys b.0 b.1 h ks))
     literals_good attributes.Cache texts keys a e h ks = cache_good keys a e ks
     literals_good attributes.Continue texts keys a e h ks =
-        let b = bind_some (all_of (signal_of sight) texts) _ a e in
+        let b = bind_some (all_of (signal_of view) texts) _ a e in
         subst GoodAttribute (some_same b.2) (signals_good texts b.0 b.1 h)
     literals_good kind texts keys a e h ks = subst GoodAttribute (some_same e) (texts_good kind texts h)
 
     meant_by : (takes : Bool) (kind : AttributeKind) (values : List Value) (keys : List (KeyArgument (List ℕ) (Unit {0}))) (a : Attribute (List ℕ) (Unit {0}))
-        → takes_expressions kind ≡ takes → by_takes sight takes kind values keys ≡ Some a → AllValues values → AllKeys keys
+        → takes_expressions kind ≡ takes → by_takes view takes kind values keys ≡ Some a → AllValues values → AllKeys keys
         → GoodAttribute a
     meant_by true kind values keys a takes e h ks = expressions_good kind values a takes e h
     meant_by false kind values keys a takes e h ks =
@@ -408,10 +408,10 @@ module _ (limit : ℕ) where
         literals_good kind b.0 keys a b.2 (all_quoted values b.0 b.1 h) ks
 
     -- an attribute whose values are good means one that is
-    pub entry_good : (w : Written) (e : ShapeEntry) → entry_of sight w ≡ Some e → GoodSourceAttribute w → GoodEntry limit e
+    pub entry_good : (w : Written) (e : ShapeEntry) → entry_of view w ≡ Some e → GoodSourceAttribute w → GoodEntry limit e
     entry_good w e is h =
-        let kind = bind_some (kind_named (sight.bytes w.name)) _ e is in
-        let attribute = bind_some (attribute_of sight kind.0 (by_position w.arguments) (by_key w.arguments)) _ e kind.2 in
+        let kind = bind_some (kind_named (view.bytes w.name)) _ e is in
+        let attribute = bind_some (attribute_of view kind.0 (by_position w.arguments) (by_key w.arguments)) _ e kind.2 in
         let good = meant_by (takes_expressions kind.0) kind.0 _ (by_key w.arguments) attribute.0 refl attribute.1 (source_values w.arguments h.arguments)
         (source_keys w.arguments h.arguments) in
         subst (GoodEntry limit) (some_same attribute.2) (record {
@@ -420,12 +420,12 @@ module _ (limit : ℕ) where
           comment = h.comment;
         })
 
-    all_entries_good : (ws : List Written) (entries : List ShapeEntry) → all_of (entry_of sight) ws ≡ Some entries → AllGoodAttributes ws
+    all_entries_good : (ws : List Written) (entries : List ShapeEntry) → all_of (entry_of view) ws ≡ Some entries → AllGoodAttributes ws
         → GoodEntries limit entries
     all_entries_good [] entries e h = subst (GoodEntries limit) (some_same e) tt
     all_entries_good (w ∷ ws) entries e h =
-        let first = bind_some (entry_of sight w) _ entries e in
-        let others = bind_some (all_of (entry_of sight) ws) _ entries first.2 in
+        let first = bind_some (entry_of view w) _ entries e in
+        let others = bind_some (all_of (entry_of view) ws) _ entries first.2 in
         subst (GoodEntries limit) (some_same others.2) (entry_good w first.0 first.1 h.0, all_entries_good ws others.0 others.1 h.1)
 
     placed_good : (cmp : ShapeEntry → ShapeEntry → Ordering) (x : ShapeEntry) (ys : List ShapeEntry) → GoodEntry limit x → GoodEntries limit ys
@@ -442,7 +442,7 @@ module _ (limit : ℕ) where
     in_order_good cmp (x ∷ xs) h = placed_good cmp x (in_order cmp xs) h.0 (in_order_good cmp xs h.1)
 
     -- attributes whose values are good mean entries that are
-    pub entries_good : (ws : List Written) (entries : List ShapeEntry) → entries_of sight ws ≡ Some entries → AllGoodAttributes ws → GoodEntries limit entries
+    pub entries_good : (ws : List Written) (entries : List ShapeEntry) → entries_of view ws ≡ Some entries → AllGoodAttributes ws → GoodEntries limit entries
     entries_good ws entries e h =
-        let b = bind_some (all_of (entry_of sight) ws) _ entries e in
-        subst (GoodEntries limit) (some_same b.2) (in_order_good (entry_cmp sight) b.0 (all_entries_good ws b.0 b.1 h))
+        let b = bind_some (all_of (entry_of view) ws) _ entries e in
+        subst (GoodEntries limit) (some_same b.2) (in_order_good (entry_cmp view) b.0 (all_entries_good ws b.0 b.1 h))

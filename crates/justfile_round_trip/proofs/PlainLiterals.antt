@@ -9,22 +9,22 @@ use Rattle.std.proofs.lemmas.Bool.Decides.{nat_tests}
 use Rattle.std.proofs.lemmas.Fmt.{decimal_is_IsNumeral}
 use Rattle.std.proofs.lemmas.Str.{IsUtf8-append, IsUtf8-from_ascii}
 use Rattle.std.proofs.lemmas.Str.Parse.{digit_from_value}
-use Rattle.justfile_word.specs.declared.signal.Signal.{Signal}
-use Rattle.justfile_word.specs.declared.signal.Signal.TheVariants.{Hangup, Interrupt, Quit}
-use Rattle.justfile_base.specs.declared.string_kind.StringDelimiter.{StringDelimiter}
-use Rattle.justfile_base.specs.declared.string_kind.StringDelimiter.TheVariants as delimiters
-use Rattle.justfile_base.specs.declared.string_kind.StringKind.{StringKind}
-use Rattle.justfile_word.specs.declared.token_kind.TokenKind.TheVariants as kinds
-use Rattle.justfile_word.specs.Signal.{signal_name}
-use Rattle.justfile_base.specs.StringKind.{escapes, is_quote, kind_of, quote_of, token_kind_of}
+use Rattle.justfile_vocabulary.specs.declared.signal.Signal.{Signal}
+use Rattle.justfile_vocabulary.specs.declared.signal.Signal.TheVariants.{Hangup, Interrupt, Quit}
+use Rattle.justfile_token.specs.declared.string_kind.StringDelimiter.{StringDelimiter}
+use Rattle.justfile_token.specs.declared.string_kind.StringDelimiter.TheVariants as delimiters
+use Rattle.justfile_token.specs.declared.string_kind.StringKind.{StringKind}
+use Rattle.justfile_vocabulary.specs.declared.token_kind.TokenKind.TheVariants as kinds
+use Rattle.justfile_vocabulary.specs.Signal.{signal_name}
+use Rattle.justfile_token.specs.StringKind.{escapes, is_quote, kind_of, quote_of, token_kind_of}
 use Rattle.justfile_model.specs.LiteralText.{pieces_len}
 use Rattle.justfile_model.specs.Printing.{fixed_text, number_literal}
 use Rattle.justfile_model.specs.SignificantTokens.{SignificantToken}
 use Rattle.justfile_model.specs.Tree as tree
 use Rattle.justfile_model.specs.Tree.{lexeme, nothing}
 use Rattle.justfile_model.specs.Expressions as g
-use Rattle.justfile_model.specs.Expressions.{Under, Expression}
-use Rattle.justfile_round_trip.proofs.Reading.{mark, placed}
+use Rattle.justfile_model.specs.Expressions.{BelowLimit, Expression}
+use Rattle.justfile_round_trip.proofs.LexedModes.{mark, placed}
 use Rattle.justfile_round_trip.proofs.Literals.{scan, delimiter_ends, no_quote}
 use Rattle.justfile_round_trip.proofs.Canon as canon
 use Rattle.justfile_round_trip.proofs.Canon.{paren_right}
@@ -115,7 +115,7 @@ quote_utf8 delimiters.QuoteSingle more u = plain (codes "'") more refl u
 pub some_limit : {limit : ℕ} {e : canon.Value} → GoodExpression limit e → 0 < limit
 some_limit h = by (h.derives.derives false (paren_right ∷ []) refl)
   where
-    by : {limit : ℕ} {e : canon.Value} {fs : canon.Shown} {ts rest : g.Tokens} → Expression lexeme nothing (Under limit) false 0 e fs ts rest → 0 < limit
+    by : {limit : ℕ} {e : canon.Value} {fs : canon.Shown} {ts rest : g.Tokens} → Expression lexeme nothing (BelowLimit limit) false 0 e fs ts rest → 0 < limit
     by (g.or o l kind r) = o
     by (g.disjunct o l next) = o
 
@@ -124,7 +124,7 @@ literal_token l = record { tok = placed (mark kinds.StringToken l) 0 0 0; glued 
 
 -- a literal alone
 literal_derives : (limit : ℕ) (l : List ℕ) → 0 < limit
-    → Expression lexeme nothing (Under limit) false 0 (tree.StringLiteral false l) [] (literal_token l ∷ []) []
+    → Expression lexeme nothing (BelowLimit limit) false 0 (tree.StringLiteral false l) [] (literal_token l ∷ []) []
 unfolding literal_token
 literal_derives limit l some =
     g.disjunct some
@@ -139,7 +139,7 @@ literal_good limit l some string utf8 = record {
   derives = record {
     derives = λ glued on stop.
         let q = stops _ (significant true on) stop in
-        expression_back (Under limit) (Under limit) (lower limit) (literal_derives limit l some) 0 (omega arith) glued on q.0 q.1;
+        expression_back (BelowLimit limit) (BelowLimit limit) (lower limit) (literal_derives limit l some) 0 (omega arith) glued on q.0 q.1;
   };
   utf8 = utf8;
 }

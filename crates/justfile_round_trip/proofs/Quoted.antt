@@ -2,19 +2,19 @@
 use Rattle.std.proofs.Common.{◌≡◌, ℕ, ◌+◌, ◌-◌, ◌<◌, ◌≤◌, Bool, true, false, List, [], ◌∷◌, ◌++◌, length, get_or, take, drop, Option, Some, None, refl, sym, ap, ◌∙◌, subst, arith, append_assoc, add-zero, get_or-drop}
 use Rattle.std.proofs.lemmas.List.{append-nil, length-append}
 use Rattle.std.specs.Str.{IsUtf8}
-use Rattle.justfile_word.specs.declared.token_kind.TokenKind.{TokenKind}
-use Rattle.justfile_word.specs.declared.token_kind.TokenKind.TheVariants as kinds
-use Rattle.justfile_base.specs.declared.string_kind.StringDelimiter.{StringDelimiter}
-use Rattle.justfile_base.specs.declared.string_kind.StringDelimiter.TheVariants.{Backtick, QuoteDouble, QuoteSingle}
-use Rattle.justfile_base.specs.declared.string_kind.StringKind.{StringKind}
-use Rattle.justfile_base.specs.StringKind.{delimiter_len, delimiter_text, kind_of}
+use Rattle.justfile_vocabulary.specs.declared.token_kind.TokenKind.{TokenKind}
+use Rattle.justfile_vocabulary.specs.declared.token_kind.TokenKind.TheVariants as kinds
+use Rattle.justfile_token.specs.declared.string_kind.StringDelimiter.{StringDelimiter}
+use Rattle.justfile_token.specs.declared.string_kind.StringDelimiter.TheVariants.{Backtick, QuoteDouble, QuoteSingle}
+use Rattle.justfile_token.specs.declared.string_kind.StringKind.{StringKind}
+use Rattle.justfile_token.specs.StringKind.{delimiter_len, delimiter_text, kind_of}
 use Rattle.justfile_model.specs.Tok.{Tok}
 use Rattle.justfile_model.specs.Lexed.{Lexed}
 use Rattle.justfile_model.specs.SignificantTokens.{SignificantToken, significant_tokens}
-use Rattle.justfile_round_trip.proofs.Reading.{take_front, drop_front}
+use Rattle.justfile_round_trip.proofs.LexedModes.{take_front, drop_front}
 use Rattle.justfile_round_trip.proofs.Inline.{delimiter_of, delimiter_length, IsPart}
 use Rattle.justfile_round_trip.proofs.Good.{IsDelimited, IsPartOf, IsPartOfOpen}
-use Rattle.justfile_round_trip.proofs.Sound.{Around, innermost, around, is_comment, outside, LexemeFact, Sound, lexed_sound}
+use Rattle.justfile_round_trip.proofs.TokenFacts.{Around, innermost, around, is_comment, outside, LexemeFact, Sound, lexed_sound}
 
 -- The delimiter of this kind is at the front, and again at the end.
 pub record IsQuotedBy (k : StringKind) (l : List ℕ) : Type 0 where

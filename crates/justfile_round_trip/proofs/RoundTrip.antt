@@ -4,26 +4,26 @@ use Rattle.std.specs.Prelude.{if◌then◌else◌}
 use Rattle.std.specs.Str.{IsUtf8}
 use Rattle.std.proofs.lemmas.List.{length-map}
 use denote.Enum.Bare.{sameb}
-use Rattle.justfile_word.specs.Indentation.{IsIndentation}
+use Rattle.justfile_vocabulary.specs.Indentation.{IsIndentation}
 use Rattle.justfile_model.specs.Tok.{Tok}
 use Rattle.justfile_model.specs.Lexed.{Lexed}
 use Rattle.justfile_model.specs.SignificantTokens.{SignificantToken, is_whitespace, significant_from, significant_tokens}
 use Rattle.justfile_model.specs.Tree as tree
 use Rattle.justfile_model.specs.Tree.{Content, Construct, Tree, Shape, over_content, over_parameter, lexeme, nothing, shape_of}
 use Rattle.justfile_model.specs.Grammar as g
-use Rattle.justfile_word.specs.contracts.list_feature.ListFeature.{the_type}
-use Rattle.justfile_word.specs.declared.list_feature.ListFeature.{ListFeature}
+use Rattle.justfile_vocabulary.specs.contracts.list_feature.ListFeature.{the_type}
+use Rattle.justfile_vocabulary.specs.declared.list_feature.ListFeature.{ListFeature}
 use Rattle.justfile_model.specs.Docs.{Nothing, documented}
 use Rattle.justfile_model.specs.Features.{ConstructFeatures, Noted, over_noted}
 use Rattle.justfile_model.specs.Conditions.{Conditions}
-use Rattle.justfile_model.specs.Expressions.{Under}
+use Rattle.justfile_model.specs.Expressions.{BelowLimit}
 use Rattle.justfile_model.specs.Grammar.{File}
 use Rattle.justfile_model.specs.NormalShape.{normal}
 use Rattle.justfile_model.specs.Printing.{text, printable}
 use Rattle.justfile_model.specs.Literals.{over_literal, AreCookedTexts}
-use Rattle.justfile_model.specs.Files.{FileDerives, ShapeDerives, all_features, says_doc, literals, content_bindings, bindings, content_recipes, recipes, keeps_lexemes}
-use Rattle.justfile_model.specs.Rewritten.{docs_written, rewritten}
-use Rattle.justfile_model.specs.Sight.{sees_lexemes}
+use Rattle.justfile_model.specs.Files.{FileDerives, ShapeDerives, all_features, says_doc, literals, content_bindings, bindings, content_recipes, recipes, to_lexemes}
+use Rattle.justfile_model.specs.PrintedAttributes.{docs_written, rewritten}
+use Rattle.justfile_model.specs.LeafView.{views_lexemes}
 use Rattle.justfile_model.proofs.DocsKept.{documented_counts, printable_count}
 use Rattle.justfile_model.proofs.DocsText.{text_written}
 use Rattle.justfile_model.proofs.Ordered.{undocumented_of}
@@ -34,9 +34,9 @@ use Rattle.justfile_model.proofs.Leaves.{lexemes, elsewhere, file_forgets, file_
 use Rattle.justfile_model.proofs.LexedLaws.{one_list}
 use Rattle.justfile_model.proofs.Normal.{normal_twice, normal_literals, normal_bindings, normal_recipes}
 use Rattle.justfile_round_trip.specs.RoundTrip.{TextDerives, times, ReadsBack, printed}
-use Rattle.justfile_round_trip.proofs.Reading.{Mark, placed, tok_at, toks, lexed}
-use Rattle.justfile_model.proofs.RewrittenItems.{AllPrintAgain, normal_again, rewritten_means, rewritten_texts, rewritten_unbroken, rewritten_undocumented, shape_again}
-use Rattle.justfile_model.proofs.RewrittenLiterals.{texts_are_there, texts_of, texts_cook}
+use Rattle.justfile_round_trip.proofs.LexedModes.{Mark, placed, tok_at, toks, lexed}
+use Rattle.justfile_model.proofs.PrintedItems.{AllPrintAgain, normal_again, rewritten_means, rewritten_texts, rewritten_unbroken, rewritten_undocumented, shape_again}
+use Rattle.justfile_model.proofs.PrintedLiterals.{texts_are_there, texts_of, texts_cook}
 use Rattle.justfile_model.proofs.Spelled.{lexed_spelled}
 use Rattle.justfile_round_trip.proofs.Canon.{Shown}
 use Rattle.justfile_round_trip.proofs.CanonItems.{text_on, marks, text_is}
@@ -47,7 +47,7 @@ use Rattle.justfile_round_trip.proofs.Good.{unplaced, significant}
 use Rattle.justfile_round_trip.proofs.GoodItems.{AtStart, start_no_doc}
 use Rattle.justfile_round_trip.proofs.Means.{docs_meant, meant}
 use Rattle.justfile_round_trip.proofs.LexesBack.{lex_start}
-use Rattle.justfile_round_trip.proofs.Sound.{lexed_sound}
+use Rattle.justfile_round_trip.proofs.TokenFacts.{lexed_sound}
 use Rattle.justfile_round_trip.proofs.BodyLines.{IsLevel, level_is}
 use Rattle.justfile_round_trip.proofs.BodyFacts.{lexed_bodies}
 use Rattle.justfile_round_trip.proofs.Written.{file_good}
@@ -82,7 +82,7 @@ good_lexed limit s indentation i h =
     subst (λ x. Lexed x (toks x 0 ts)) (sym (printed_text limit s indentation h)) (lexed (text_on indentation (docs_written s)) ts (lex_start limit indentation i false h))
 
 good_file : (limit : ℕ) (s : Shape) (indentation : List ℕ) → AtStart limit (docs_written s)
-    → (ns : List (ConstructFeatures (Unit {0}))) × File keeps_lexemes (Under limit) (rewritten s) ns (significant_tokens (back_tokens s indentation))
+    → (ns : List (ConstructFeatures (Unit {0}))) × File to_lexemes (BelowLimit limit) (rewritten s) ns (significant_tokens (back_tokens s indentation))
 unfolding back_tokens
 good_file limit s indentation h =
     let found = derive_start limit indentation h false in
@@ -143,13 +143,13 @@ module _ (conditions : Conditions) where
   source_good : (source : List ℕ) (t : Tree) (fs : List (Noted Tok)) → TextDerives conditions source t fs → printable (shape_of t) ≡ true → Documented (normal (shape_of t))
   source_good source t fs h p =
       let f = shape_derives source t fs h in
-      let sight = sees_lexemes conditions.expander in
-      let shape_is = docs_meant sight f.written (shape_of t) f.ordered_is in
-      let prints : printable (meant sight f.written) ≡ true = sym (documented_counts printable printable_count says_doc Nothing (meant sight f.written)) ∙ ap printable (sym shape_is) ∙ p in
+      let view = views_lexemes conditions.expander in
+      let shape_is = docs_meant view f.written (shape_of t) f.ordered_is in
+      let prints : printable (meant view f.written) ≡ true = sym (documented_counts printable printable_count says_doc Nothing (meant view f.written)) ∙ ap printable (sym shape_is) ∙ p in
       record {
-        plain = normal (meant sight f.written);
-        good = file_good conditions.limit conditions.current sight f.derives f.unbroken (lexed_sound source h.tokens h.utf8 h.lexed) (lexed_bodies source h.tokens h.lexed) prints;
-        shape_is = ap normal shape_is ∙ sym (normal_documented Nothing (meant sight f.written));
+        plain = normal (meant view f.written);
+        good = file_good conditions.limit conditions.current view f.derives f.unbroken (lexed_sound source h.tokens h.utf8 h.lexed) (lexed_bodies source h.tokens h.lexed) prints;
+        shape_is = ap normal shape_is ∙ sym (normal_documented Nothing (meant view f.written));
       }
 
   -- its items are good with their docs as comments
@@ -170,9 +170,9 @@ module _ (conditions : Conditions) where
   source_times : (feature : ListFeature) (ts : List SignificantToken) (s : Shape) (ns : Shown) → ShapeDerives conditions ts s ns
       → times feature ns ≡ shape_weight feature conditions.expander s
   source_times feature ts s ns f =
-      let sight = sees_lexemes conditions.expander in
-      let m = undocumented_of sight f.written s f.ordered_is in
-      ap (times feature) (f.features_are ∙ ap (all_features sight f.written) (of_file (Under conditions.limit) f.derives))
+      let view = views_lexemes conditions.expander in
+      let m = undocumented_of view f.written s f.ordered_is in
+      ap (times feature) (f.features_are ∙ ap (all_features view f.written) (of_file (BelowLimit conditions.limit) f.derives))
       ∙ undocumented_times feature conditions.expander conditions.current f.written m.items m.items_are f.unbroken
       ∙ sym (documented_weight feature conditions.expander Nothing m.items)
       ∙ ap (shape_weight feature conditions.expander) (sym m.all_are)
@@ -185,12 +185,12 @@ module _ (conditions : Conditions) where
 
   good_derives : (s : Shape) (indentation : List ℕ) → Documented s → AllPrintAgain conditions.current conditions.expander s → DerivesAgain s indentation
   good_derives s indentation d again =
-      let sight = sees_lexemes conditions.expander in
+      let view = views_lexemes conditions.expander in
       let file = good_file conditions.limit s indentation (written_good s d) in
       let texts = rewritten_texts conditions.current conditions.expander s again in
       let unbroken = rewritten_unbroken conditions.current conditions.expander s again in
       record {
-        features = all_features sight (rewritten s) file.0;
+        features = all_features view (rewritten s) file.0;
         derives = record {
           written = rewritten s;
           by_construct = file.0;
@@ -202,7 +202,7 @@ module _ (conditions : Conditions) where
           ordered_is = rewritten_means conditions.current conditions.expander s again (docs_settled s d);
         };
         weight = λ feature.
-            ap (λ fs. times feature (all_features sight (rewritten s) fs)) (of_file (Under conditions.limit) file.1)
+            ap (λ fs. times feature (all_features view (rewritten s) fs)) (of_file (BelowLimit conditions.limit) file.1)
             ∙ undocumented_times feature conditions.expander conditions.current (rewritten s) (docs_written s) (rewritten_undocumented conditions.current conditions.expander s again) unbroken
             ∙ written_docs_weight feature conditions.expander s;
       }

@@ -1,8 +1,8 @@
 -- Expressions that stand side by side: what follows one in the source, it ends before in the printed text too.
 use Rattle.std.proofs.Common.{◌≡◌, ℕ, Bool, true, false, cond, ◌∷◌, Option, refl, sym, subst, ap, ◌∙◌, codes}
 use Rattle.std.specs.Prelude.{◌&&◌}
-use Rattle.justfile_word.specs.declared.token_kind.TokenKind.{TokenKind}
-use Rattle.justfile_word.specs.declared.token_kind.TokenKind.TheVariants as kinds
+use Rattle.justfile_vocabulary.specs.declared.token_kind.TokenKind.{TokenKind}
+use Rattle.justfile_vocabulary.specs.declared.token_kind.TokenKind.TheVariants as kinds
 use Rattle.justfile_model.specs.Expressions as g
 use Rattle.justfile_model.specs.Expressions.{Tokens, NotNext, NotJoined, Expression, Disjunct, Compared, Conjunct, Conditional, Value, ends_open}
 use Rattle.justfile_model.specs.SignificantTokens.{SignificantToken}
@@ -35,8 +35,8 @@ begins_with e h = begins (ap may_begin e ∙ h)
 pub not_begun : (kind : TokenKind) {ts : Tokens} → Begins ts → may_begin kind ≡ false → NotNext kind ts
 not_begun kind (begins h) n = λ e. let bad : true ≡ false = sym h ∙ ap may_begin e ∙ n in cc
 
-module _ (Open : ℕ → Option SignificantToken → Type 0) where
-  value_begins : {d : ℕ} {e : canon.Value} {fs : Shown} {ts rest : Tokens} → Value lexeme nothing Open d e fs ts rest → Begins ts
+module _ (MayEnter : ℕ → Option SignificantToken → Type 0) where
+  value_begins : {d : ℕ} {e : canon.Value} {fs : Shown} {ts rest : Tokens} → Value lexeme nothing MayEnter d e fs ts rest → Begins ts
   value_begins (g.not kind v) = begins_with kind refl
   value_begins (g.literal kind) = begins_with kind refl
   value_begins (g.expanded m) = begins_with m.marks.is_name refl
@@ -50,7 +50,7 @@ module _ (Open : ℕ → Option SignificantToken → Type 0) where
   value_begins (g.group kind e kind2) = begins_with kind refl
   value_begins (g.list kind s) = begins_with kind refl
 
-  conjunct_begins : {d : ℕ} {e : canon.Value} {fs : Shown} {ts rest : Tokens} → Conjunct lexeme nothing Open d e fs ts rest → Begins ts
+  conjunct_begins : {d : ℕ} {e : canon.Value} {fs : Shown} {ts rest : Tokens} → Conjunct lexeme nothing MayEnter d e fs ts rest → Begins ts
   conjunct_begins (g.conditional i c) = begins_with i.is_name refl
   conjunct_begins (g.root kind r) = begins_with kind refl
   conjunct_begins (g.join next l kind r) = value_begins l
@@ -58,21 +58,21 @@ module _ (Open : ℕ → Option SignificantToken → Type 0) where
   conjunct_begins (g.concatenation next l kind r) = value_begins l
   conjunct_begins (g.value next v joined) = value_begins v
 
-  compared_begins : {condition : Bool} {d : ℕ} {e : canon.Value} {fs : Shown} {ts rest : Tokens} → Compared lexeme nothing Open condition d e fs ts rest → Begins ts
+  compared_begins : {condition : Bool} {d : ℕ} {e : canon.Value} {fs : Shown} {ts rest : Tokens} → Compared lexeme nothing MayEnter condition d e fs ts rest → Begins ts
   compared_begins (g.compare by l kind r) = conjunct_begins l
   compared_begins (g.conjunct l next) = conjunct_begins l
 
-  disjunct_begins : {condition : Bool} {d : ℕ} {e : canon.Value} {fs : Shown} {ts rest : Tokens} → Disjunct lexeme nothing Open condition d e fs ts rest → Begins ts
+  disjunct_begins : {condition : Bool} {d : ℕ} {e : canon.Value} {fs : Shown} {ts rest : Tokens} → Disjunct lexeme nothing MayEnter condition d e fs ts rest → Begins ts
   disjunct_begins (g.and l kind r) = compared_begins l
   disjunct_begins (g.comparison l next) = compared_begins l
 
-  pub expression_begins : {condition : Bool} {d : ℕ} {e : canon.Value} {fs : Shown} {ts rest : Tokens} → Expression lexeme nothing Open condition d e fs ts rest → Begins ts
+  pub expression_begins : {condition : Bool} {d : ℕ} {e : canon.Value} {fs : Shown} {ts rest : Tokens} → Expression lexeme nothing MayEnter condition d e fs ts rest → Begins ts
   expression_begins (g.or o l kind r) = disjunct_begins l
   expression_begins (g.disjunct o l next) = disjunct_begins l
 
   -- ---- how it ends
 
-  pub value_ends : {d : ℕ} {e : canon.Value} {fs : Shown} {ts rest : Tokens} → Value lexeme nothing Open d e fs ts rest → ValueEndsIn (tail e) rest
+  pub value_ends : {d : ℕ} {e : canon.Value} {fs : Shown} {ts rest : Tokens} → Value lexeme nothing MayEnter d e fs ts rest → ValueEndsIn (tail e) rest
   value_ends (g.not kind v) = value_ends v
   value_ends (g.literal kind) = record { is = tt }
   value_ends (g.expanded m) = record { is = tt }
@@ -86,7 +86,7 @@ module _ (Open : ℕ → Option SignificantToken → Type 0) where
   value_ends (g.group kind e kind2) = record { is = tt }
   value_ends (g.list kind s) = record { is = tt }
 
-  value_ends_joined : {d : ℕ} {e : canon.Value} {fs : Shown} {ts rest : Tokens} → Value lexeme nothing Open d e fs ts rest → NotJoined rest → EndsIn (tail e) rest
+  value_ends_joined : {d : ℕ} {e : canon.Value} {fs : Shown} {ts rest : Tokens} → Value lexeme nothing MayEnter d e fs ts rest → NotJoined rest → EndsIn (tail e) rest
   value_ends_joined (g.not kind v) j = value_ends_joined v j
   value_ends_joined (g.literal kind) j = record { is = (tt, j) }
   value_ends_joined (g.expanded m) j = record { is = (tt, j) }
@@ -104,19 +104,19 @@ module _ (Open : ℕ → Option SignificantToken → Type 0) where
   open_ends true h = record { is = (tt, h refl) }
   open_ends false h = record { is = (tt, tt) }
 
-  conditional_ends : {d : ℕ} {w : SignificantToken} {e : canon.Value} {fs : Shown} {ts rest : Tokens} → Conditional lexeme nothing Open d w e fs ts rest
+  conditional_ends : {d : ℕ} {w : SignificantToken} {e : canon.Value} {fs : Shown} {ts rest : Tokens} → Conditional lexeme nothing MayEnter d w e fs ts rest
       → EndsIn (cond (ends_open e) OfOpen OfClosed) rest
   conditional_ends (g.if_only c b next) = record { is = (tt, next) }
   conditional_ends (g.if_else {o = o'} c b w o next) = open_ends (ends_open o') next
   conditional_ends (g.else_if c b w i o) = conditional_ends o
 
-  conditional_tail : {d : ℕ} {w : SignificantToken} {e : canon.Value} {fs : Shown} {ts rest : Tokens} → Conditional lexeme nothing Open d w e fs ts rest
+  conditional_tail : {d : ℕ} {w : SignificantToken} {e : canon.Value} {fs : Shown} {ts rest : Tokens} → Conditional lexeme nothing MayEnter d w e fs ts rest
       → cond (ends_open e) OfOpen OfClosed ≡ tail e
   conditional_tail (g.if_only c b next) = refl
   conditional_tail (g.if_else c b w o next) = refl
   conditional_tail (g.else_if c b w i o) = refl
 
-  conjunct_ends : {d : ℕ} {e : canon.Value} {fs : Shown} {ts rest : Tokens} → Conjunct lexeme nothing Open d e fs ts rest → EndsIn (tail e) rest
+  conjunct_ends : {d : ℕ} {e : canon.Value} {fs : Shown} {ts rest : Tokens} → Conjunct lexeme nothing MayEnter d e fs ts rest → EndsIn (tail e) rest
   conjunct_ends {rest = rest} (g.conditional i c) = subst (λ x. EndsIn x rest) (conditional_tail c) (conditional_ends c)
   conjunct_ends (g.root kind r) = conjunct_ends r
   conjunct_ends (g.join next l kind r) = conjunct_ends r
@@ -124,15 +124,15 @@ module _ (Open : ℕ → Option SignificantToken → Type 0) where
   conjunct_ends (g.concatenation next l kind r) = conjunct_ends r
   conjunct_ends (g.value next v joined) = value_ends_joined v joined
 
-  compared_ends : {condition : Bool} {d : ℕ} {e : canon.Value} {fs : Shown} {ts rest : Tokens} → Compared lexeme nothing Open condition d e fs ts rest → EndsIn (tail e) rest
+  compared_ends : {condition : Bool} {d : ℕ} {e : canon.Value} {fs : Shown} {ts rest : Tokens} → Compared lexeme nothing MayEnter condition d e fs ts rest → EndsIn (tail e) rest
   compared_ends (g.compare by l kind r) = conjunct_ends r
   compared_ends (g.conjunct l next) = conjunct_ends l
 
-  disjunct_ends : {condition : Bool} {d : ℕ} {e : canon.Value} {fs : Shown} {ts rest : Tokens} → Disjunct lexeme nothing Open condition d e fs ts rest → EndsIn (tail e) rest
+  disjunct_ends : {condition : Bool} {d : ℕ} {e : canon.Value} {fs : Shown} {ts rest : Tokens} → Disjunct lexeme nothing MayEnter condition d e fs ts rest → EndsIn (tail e) rest
   disjunct_ends (g.and l kind r) = disjunct_ends r
   disjunct_ends (g.comparison l next) = compared_ends l
 
-  pub expression_ends : {condition : Bool} {d : ℕ} {e : canon.Value} {fs : Shown} {ts rest : Tokens} → Expression lexeme nothing Open condition d e fs ts rest → EndsIn (tail e) rest
+  pub expression_ends : {condition : Bool} {d : ℕ} {e : canon.Value} {fs : Shown} {ts rest : Tokens} → Expression lexeme nothing MayEnter condition d e fs ts rest → EndsIn (tail e) rest
   expression_ends (g.or o l kind r) = expression_ends r
   expression_ends (g.disjunct o l next) = disjunct_ends l
 

@@ -1,9 +1,9 @@
 -- What each token of a header leaves as it was, the header leaves as it was, and after it a colon has come.
 use Rattle.std.proofs.Common.{◌≡◌, ℕ, Bool, true, false, List, ◌∷◌, refl, ap, ◌∙◌}
-use Rattle.justfile_word.specs.declared.token_kind.TokenKind.{TokenKind}
-use Rattle.justfile_word.specs.declared.token_kind.TokenKind.TheVariants as kinds
+use Rattle.justfile_vocabulary.specs.declared.token_kind.TokenKind.{TokenKind}
+use Rattle.justfile_vocabulary.specs.declared.token_kind.TokenKind.TheVariants as kinds
 use Rattle.justfile_model.specs.declared.parameter_kind.ParameterKind.{ParameterKind}
-use Rattle.justfile_model.specs.Expressions.{IsKind, Tokens, Under}
+use Rattle.justfile_model.specs.Expressions.{IsKind, Tokens, BelowLimit}
 use Rattle.justfile_model.specs.Headers as g
 use Rattle.justfile_model.specs.Headers.{PathRest, PathOf, NamedParameter, ParameterOf, Parameters, DependencyArguments, DependencyOf, Dependencies, AllDependencies, HeaderOf}
 use Rattle.justfile_model.specs.SignificantTokens.{SignificantToken}
@@ -47,12 +47,12 @@ module _ (limit : ℕ) where
     quietly k t ts e h w = on k t ts e (quiet_stays k h) w
 
     walk_named : {kind : ParameterKind} {export : Bool} {p : ShapeParameter} {fs : Shown} {ts rest : Tokens}
-        → NamedParameter lexeme nothing (Under limit) kind export p fs ts rest → Walked P ts → Walked P rest
+        → NamedParameter lexeme nothing (BelowLimit limit) kind export p fs ts rest → Walked P ts → Walked P rest
     walk_named (g.required {name = t} {rest = rest} kind next) w = on kinds.Identifier t rest kind refl w
     walk_named (g.optional {name = t} {equals = u} {tokens = ts} kind kind2 v) w =
-        walk_value lexeme nothing (Under limit) (Walked P) quietly v (on kinds.Equals u ts kind2 refl (on kinds.Identifier t (u ∷ ts) kind refl w))
+        walk_value lexeme nothing (BelowLimit limit) (Walked P) quietly v (on kinds.Equals u ts kind2 refl (on kinds.Identifier t (u ∷ ts) kind refl w))
 
-    walk_parameter : {kind : ParameterKind} {p : ShapeParameter} {fs : Shown} {ts rest : Tokens} → ParameterOf lexeme nothing (Under limit) kind p fs ts rest
+    walk_parameter : {kind : ParameterKind} {p : ShapeParameter} {fs : Shown} {ts rest : Tokens} → ParameterOf lexeme nothing (BelowLimit limit) kind p fs ts rest
         → Walked P ts → Walked P rest
     walk_parameter (g.exported {dollar = t} {tokens = ts} kind n) w = walk_named n (on kinds.Dollar t ts kind refl w)
     walk_parameter (g.unexported n) w = walk_named n w
@@ -65,32 +65,32 @@ module _ (limit : ℕ) where
     pub walk_path : {names : List (List ℕ)} {ts rest : Tokens} → PathOf lexeme names ts rest → Walked P ts → Walked P rest
     walk_path (g.path {name = t} {tokens = ts} kind r) w = walk_path_rest r (on kinds.Identifier t ts kind refl w)
 
-    walk_arguments : {arguments : List ShapeArgument} {fs : Shown} {ts rest : Tokens} → DependencyArguments lexeme nothing nothing (Under limit) arguments fs ts rest
+    walk_arguments : {arguments : List ShapeArgument} {fs : Shown} {ts rest : Tokens} → DependencyArguments lexeme nothing nothing (BelowLimit limit) arguments fs ts rest
         → Walked P ts → Walked P rest
     walk_arguments (g.none {closer = t} {rest = rest} kind) w = on kinds.ParenR t rest kind refl w
-    walk_arguments (g.plain x r) w = walk_arguments r (walk lexeme nothing (Under limit) (Walked P) quietly x w)
+    walk_arguments (g.plain x r) w = walk_arguments r (walk lexeme nothing (BelowLimit limit) (Walked P) quietly x w)
     walk_arguments (g.starred {mark = t} {tokens = ts} kind v r) w =
-        walk_arguments r (walk_value lexeme nothing (Under limit) (Walked P) quietly v (on kinds.Asterisk t ts kind refl w))
+        walk_arguments r (walk_value lexeme nothing (BelowLimit limit) (Walked P) quietly v (on kinds.Asterisk t ts kind refl w))
 
-    walk_dependency : {d : ShapeDependency} {fs : Shown} {ts rest : Tokens} → DependencyOf lexeme nothing nothing (Under limit) d fs ts rest → Walked P ts
+    walk_dependency : {d : ShapeDependency} {fs : Shown} {ts rest : Tokens} → DependencyOf lexeme nothing nothing (BelowLimit limit) d fs ts rest → Walked P ts
         → Walked P rest
     walk_dependency (g.bare p) w = walk_path p w
     walk_dependency (g.plain {opener = t} {tokens = ts} kind p r) w = walk_arguments r (walk_path p (on kinds.ParenL t ts kind refl w))
     walk_dependency (g.starred {mark = t} {opener = u} {tokens = ts} kind kind2 p r) w =
         walk_arguments r (walk_path p (on kinds.ParenL u ts kind2 refl (on kinds.Asterisk t (u ∷ ts) kind refl w)))
 
-    walk_dependencies : {ds : List ShapeDependency} {fs : Shown} {ts rest : Tokens} → Dependencies lexeme nothing nothing (Under limit) ds fs ts rest → Walked P ts
+    walk_dependencies : {ds : List ShapeDependency} {fs : Shown} {ts rest : Tokens} → Dependencies lexeme nothing nothing (BelowLimit limit) ds fs ts rest → Walked P ts
         → Walked P rest
     walk_dependencies (g.none a b c) w = w
     walk_dependencies (g.more d r) w = walk_dependencies r (walk_dependency d w)
 
-    walk_all : {ds ss : List ShapeDependency} {fs : Shown} {ts rest : Tokens} → AllDependencies lexeme nothing nothing (Under limit) ds ss fs ts rest → Walked P ts
+    walk_all : {ds ss : List ShapeDependency} {fs : Shown} {ts rest : Tokens} → AllDependencies lexeme nothing nothing (BelowLimit limit) ds ss fs ts rest → Walked P ts
         → Walked P rest
     walk_all (g.priors x next) w = walk_dependencies x w
     walk_all (g.both {operator = t} {next = ts} x kind y) w = walk_dependencies y (on kinds.AmpersandAmpersand t ts kind refl (walk_dependencies x w))
 
   -- up to the colon and with it
-  walk_parameters : {ps : List ShapeParameter} {fs : Shown} {ts rest : Tokens} → Parameters lexeme nothing (Under limit) ps fs ts rest → Walked IsOutside ts
+  walk_parameters : {ps : List ShapeParameter} {fs : Shown} {ts rest : Tokens} → Parameters lexeme nothing (BelowLimit limit) ps fs ts rest → Walked IsOutside ts
       → Walked IsHeader rest
   walk_parameters (g.none {colon = t} {rest = rest} kind) w = past_colon t rest kind w
   walk_parameters (g.more p r) w = walk_parameters r (walk_parameter IsOutside outside_after p w)
@@ -99,7 +99,7 @@ module _ (limit : ℕ) where
   walk_parameters (g.star {prefix = t} {colon = u} {tokens = ts} {rest = rest} kind p kind2) w =
       past_colon u rest kind2 (walk_parameter IsOutside outside_after p (on IsOutside outside_after kinds.Asterisk t ts kind refl w))
 
-  pub walk_header : {h : ShapeHeader} {fs : Shown} {ts rest : Tokens} → HeaderOf lexeme nothing nothing (Under limit) h fs ts rest → Walked IsOutside ts
+  pub walk_header : {h : ShapeHeader} {fs : Shown} {ts rest : Tokens} → HeaderOf lexeme nothing nothing (BelowLimit limit) h fs ts rest → Walked IsOutside ts
       → Walked IsHeader rest
   walk_header (g.quiet {at = t} kind (g.header {name = u} {tokens = ts} kind2 ps all)) w =
       walk_all IsHeader header_after all (walk_parameters ps (on IsOutside outside_after kinds.Identifier u ts kind2 refl (on IsOutside outside_after kinds.At t (u ∷ ts) kind refl w)))

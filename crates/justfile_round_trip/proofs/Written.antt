@@ -2,7 +2,7 @@
 use Rattle.std.proofs.Common.{◌≡◌, ℕ, Bool, true, false, ◌&&◌, List, [], ◌∷◌, ◌++◌, Option, Some, None, refl, sym, ap, ◌∙◌, subst}
 use Rattle.std.specs.Str.{trim_end}
 use Rattle.std.proofs.lemmas.Bool.{and_parts}
-use Rattle.justfile_word.specs.declared.token_kind.TokenKind.TheVariants as kinds
+use Rattle.justfile_vocabulary.specs.declared.token_kind.TokenKind.TheVariants as kinds
 use Rattle.justfile_model.specs.SignificantTokens.{SignificantToken}
 use Rattle.justfile_model.specs.Tree as tree
 use Rattle.justfile_model.specs.AttributeLines as attribute
@@ -15,12 +15,12 @@ use Rattle.justfile_model.specs.Headers as header
 use Rattle.justfile_model.specs.Headers.{HeaderOf}
 use Rattle.justfile_model.specs.Meaning.{entries_of}
 use Rattle.justfile_model.specs.RecipeRules.{header_broken}
-use Rattle.justfile_model.specs.Sight.{Sight}
+use Rattle.justfile_model.specs.LeafView.{LeafView}
 use Rattle.justfile_model.specs.Tree.{Shape, WrittenShape, assignment_of, bare_recipe, lexeme, nothing, trimmed}
 use Rattle.justfile_model.specs.Grammar as g
-use Rattle.justfile_model.specs.Expressions.{IsKind, Under, Expression}
+use Rattle.justfile_model.specs.Expressions.{IsKind, BelowLimit, Expression}
 use Rattle.justfile_model.specs.Grammar.{BeforeBody, NotEmpty, OnLine, Items, ItemRest, LineEnd, File}
-use Rattle.justfile_model.specs.Files.{broken, item_broken, keeps_lexemes}
+use Rattle.justfile_model.specs.Files.{broken, item_broken, to_lexemes}
 use Rattle.justfile_model.specs.NormalShape.{after_newline, normal_rest, normal}
 use Rattle.justfile_model.specs.Printing.{printable_body, printable_content, printable}
 use Rattle.justfile_model.proofs.Binds.{nothing_in}
@@ -37,7 +37,7 @@ use Rattle.justfile_round_trip.proofs.GoodItems as good
 use Rattle.justfile_round_trip.proofs.GoodItems.{follows_body, AtStart, AtEnd, After, AfterBody, past_newline}
 use Rattle.justfile_round_trip.proofs.Means.{ShapeWritten, entries_or_none, meant}
 use Rattle.justfile_round_trip.proofs.WrittenAttributes.{attributes_good}
-use Rattle.justfile_round_trip.proofs.Sound.{Around, around, outside, Known, Sound}
+use Rattle.justfile_round_trip.proofs.TokenFacts.{Around, around, outside, Known, Sound}
 use Rattle.justfile_round_trip.proofs.BodyTokens.{First}
 use Rattle.justfile_round_trip.proofs.BodyFacts.{outline_after, no_body, NextIs, BodySound}
 use Rattle.justfile_round_trip.proofs.BodyGood.{LineOf, LinesOf, PartsGood, AllPartsGood, inner, outside_first, indent_leads, Walked, body_read}
@@ -87,7 +87,7 @@ module _ (limit : ℕ) where
       record { parts = (h.0.utf8, m.parts); following = m.following }
   parts_good (g.interpolation {start = start} {end = stop} {tokens = tokens} {others = on} kind x kind2 r) h =
       let inside : Around = around kinds.InterpolationStart [] outside in
-      let v = value_at (Under limit) x inside false (past outside start tokens kinds.InterpolationStart kind h.2) in
+      let v = value_at (BelowLimit limit) x inside false (past outside start tokens kinds.InterpolationStart kind h.2) in
       let m = parts_good r (past inside stop on kinds.InterpolationEnd kind2 v.following.2) in
       record { parts = (good_expression limit x v, m.parts); following = m.following }
 
@@ -115,7 +115,7 @@ module _ (limit : ℕ) where
     following : Ahead outside false rest
 
   block_good : {fs ns : Shown} {h : ShapeHeader} {lines : List Row} {comment : Option (List ℕ)} {tokens next body rest : List SignificantToken}
-      → HeaderOf lexeme nothing nothing (Under limit) h fs tokens next → header_broken h ≡ [] → BeforeBody comment next body → LinesOf limit lines ns body rest
+      → HeaderOf lexeme nothing nothing (BelowLimit limit) h fs tokens next → header_broken h ≡ [] → BeforeBody comment next body → LinesOf limit lines ns body rest
       → NotEmpty (trimmed lines)
       → (c : Bool) → Ahead outside c tokens → printable_body (trimmed lines) ≡ true → BlockGood h comment (trimmed lines) rest
   block_good {lines = lines} head unbroken before read some c h p =
@@ -134,7 +134,7 @@ module _ (limit : ℕ) where
 
   -- an assignment, after the word before it
   assigned : (eager export : Bool) → (eager && export) ≡ false → {e : Value} {ns : Shown} (name operator : SignificantToken) (ts : List SignificantToken) {rest : List SignificantToken}
-      → IsKind kinds.Identifier name → IsKind kinds.ColonEquals operator → Expression lexeme nothing (Under limit) false 0 e ns ts rest
+      → IsKind kinds.Identifier name → IsKind kinds.ColonEquals operator → Expression lexeme nothing (BelowLimit limit) false 0 e ns ts rest
       → Ahead outside false (name ∷ operator ∷ ts) → Passed (GoodContent limit (tree.Assignment (assignment_of eager export name.tok.lexeme e))) rest
   assigned eager export one name operator ts kind kind2 x h =
       let v = value_good limit x (past_token operator ts kinds.ColonEquals kind2 refl (past_token name (operator ∷ ts) kinds.Identifier kind refl h)) in
@@ -179,19 +179,19 @@ module _ (limit : ℕ) where
 
   -- no item is before the end of the file: a construct begins with a bracket, or with what its content begins with
   no_construct : {P : Type 0} {ws : List Written} {ns : Shown} {ts rest : List SignificantToken}
-      → AttributeLines lexeme nothing (Under limit) ws ns ts rest → (NextIs (λ k. k ≡ kinds.Eof) rest → P) → NextIs (λ k. k ≡ kinds.Eof) ts → P
+      → AttributeLines lexeme nothing (BelowLimit limit) ws ns ts rest → (NextIs (λ k. k ≡ kinds.Eof) rest → P) → NextIs (λ k. k ≡ kinds.Eof) ts → P
   no_construct (attribute.none next) other e = other e
   no_construct (attribute.line kind2 inside end after) other e = let bad : kinds.BracketL ≡ kinds.Eof = sym kind2 ∙ e in cc
 
   no_name : {P : Type 0} (name : SignificantToken) → IsKind kinds.Identifier name → name.tok.kind ≡ kinds.Eof → P
   no_name name kind e = let bad : kinds.Identifier ≡ kinds.Eof = sym kind ∙ e in cc
 
-  no_header : {P : Type 0} {h : ShapeHeader} {fs : Shown} {ts rest : List SignificantToken} → HeaderOf lexeme nothing nothing (Under limit) h fs ts rest
+  no_header : {P : Type 0} {h : ShapeHeader} {fs : Shown} {ts rest : List SignificantToken} → HeaderOf lexeme nothing nothing (BelowLimit limit) h fs ts rest
       → NextIs (λ k. k ≡ kinds.Eof) ts → P
   no_header (header.quiet kind named) e = let bad : kinds.At ≡ kinds.Eof = sym kind ∙ e in cc
   no_header (header.loud (header.header {name = name} kind parameters all)) e = no_name name kind e
 
-  no_content : {P : Type 0} {c : ShapeContent} {fs : Shown} {ts rest : List SignificantToken} → OnLine keeps_lexemes (Under limit) c fs ts rest
+  no_content : {P : Type 0} {c : ShapeContent} {fs : Shown} {ts rest : List SignificantToken} → OnLine to_lexemes (BelowLimit limit) c fs ts rest
       → NextIs (λ k. k ≡ kinds.Eof) ts → P
   no_content (g.alias {word = word} is kind kind2 to) e = no_name word is.is_name e
   no_content (g.assignment {name = name} kind kind2 x) e = no_name name kind e
@@ -208,7 +208,7 @@ module _ (limit : ℕ) where
   no_content (g.unexport {word = word} is kind next) e = no_name word is.is_name e
   no_content (g.header head) e = no_header head e
 
-  file_ended : {items : WrittenShape} {ns : List (ConstructFeatures (Unit {0}))} {ts : List SignificantToken} → Items keeps_lexemes (Under limit) items ns ts → NextIs (λ k. k ≡ kinds.Eof) ts → items ≡ []
+  file_ended : {items : WrittenShape} {ns : List (ConstructFeatures (Unit {0}))} {ts : List SignificantToken} → Items to_lexemes (BelowLimit limit) items ns ts → NextIs (λ k. k ≡ kinds.Eof) ts → items ≡ []
   file_ended (g.end kind) e = refl
   file_ended (g.blank kind more) e = let bad : kinds.Eol ≡ kinds.Eof = sym kind ∙ e in cc
   file_ended (g.comment kind more) e = let bad : kinds.Comment ≡ kinds.Eof = sym kind ∙ e in cc
@@ -218,14 +218,14 @@ module _ (limit : ℕ) where
   -- ---- items
 
   -- where this is the running version
-  module _ (current : VersionNumbers) (sight : Sight (List ℕ) (Unit {0})) where
+  module _ (current : VersionNumbers) (view : LeafView (List ℕ) (Unit {0})) where
     -- what is printed of written items
     abbrev rest_of : WrittenShape → Shape
-    rest_of items = normal_rest (meant sight items)
+    rest_of items = normal_rest (meant view items)
 
     -- a construct on one line that breaks no rule whatever its attributes are
-    content_good : {content : ShapeContent} {ns : Shown} {ts rest : List SignificantToken} → OnLine keeps_lexemes (Under limit) content ns ts rest
-        → form_broken current sight content ≡ [] → Ahead outside false ts → Passed (GoodContent limit content) rest
+    content_good : {content : ShapeContent} {ns : Shown} {ts rest : List SignificantToken} → OnLine to_lexemes (BelowLimit limit) content ns ts rest
+        → form_broken current view content ≡ [] → Ahead outside false ts → Passed (GoodContent limit content) rest
     content_good (g.alias {word = word} {name = name} {operator = operator} {tokens = ts} is kind kind2 to) u h =
         let named = past_token word (name ∷ operator ∷ ts) kinds.Identifier is.is_name refl h in
         let x = path_good to (past_token operator ts kinds.ColonEquals kind2 refl (past_token name (operator ∷ ts) kinds.Identifier kind refl named)) in
@@ -272,16 +272,16 @@ module _ (limit : ℕ) where
 
     -- attributes before a construct, and what is known after them
     record AttributesAhead (ws : List Written) (rest : List SignificantToken) : Type 0 where
-      entries : GoodEntries limit (entries_or_none (entries_of sight ws))
+      entries : GoodEntries limit (entries_or_none (entries_of view ws))
       following : Ahead outside false rest
 
-    attributes_ahead : {ws : List Written} {ns : Shown} {ts rest : List SignificantToken} → AttributeLines lexeme nothing (Under limit) ws ns ts rest
+    attributes_ahead : {ws : List Written} {ns : Shown} {ts rest : List SignificantToken} → AttributeLines lexeme nothing (BelowLimit limit) ws ns ts rest
         → (c : Bool) → Ahead outside c ts → AttributesAhead ws rest
     attributes_ahead {ws} a c h =
-        let x = attributes_good limit sight a c h.facts h.bodies in
-        record { entries = by x.entries (entries_of sight ws) refl; following = record { facts = x.facts; bodies = x.bodies } }
+        let x = attributes_good limit view a c h.facts h.bodies in
+        record { entries = by x.entries (entries_of view ws) refl; following = record { facts = x.facts; bodies = x.bodies } }
       where
-        by : ((es : List ShapeEntry) → entries_of sight ws ≡ Some es → GoodEntries limit es) → (o : Option (List ShapeEntry)) → entries_of sight ws ≡ o
+        by : ((es : List ShapeEntry) → entries_of view ws ≡ Some es → GoodEntries limit es) → (o : Option (List ShapeEntry)) → entries_of view ws ≡ o
             → GoodEntries limit (entries_or_none o)
         by known None e = tt
         by known (Some es) e = known es e
@@ -292,20 +292,20 @@ module _ (limit : ℕ) where
     trailing_good t items false kind h e = good.trailing (lexed_comment t kind h) e
 
     -- what breaks no rule breaks none whatever its attributes are: a recipe has its stars where they may stand
-    form_unbroken : (ws : List Written) (content : ShapeContent) (items : WrittenShape) → broken current sight (tree.Construct ws content ∷ items) ≡ []
-        → form_broken current sight content ≡ []
+    form_unbroken : (ws : List Written) (content : ShapeContent) (items : WrittenShape) → broken current view (tree.Construct ws content ∷ items) ≡ []
+        → form_broken current view content ≡ []
     form_unbroken ws content items unbroken =
-        let here = nothing_in (construct_broken current sight ws content) (broken current sight items) unbroken in
-        let attributed = attributes_broken sight ws ++ of_some (meaning_broken sight content) (entries_of sight ws) in
-        (nothing_in attributed (form_broken current sight content) here.0).1
+        let here = nothing_in (construct_broken current view ws content) (broken current view items) unbroken in
+        let attributed = attributes_broken view ws ++ of_some (meaning_broken view content) (entries_of view ws) in
+        (nothing_in attributed (form_broken current view content) here.0).1
 
     -- others break no rule either
-    others_unbroken : (i : ShapeWritten) (items : WrittenShape) → broken current sight (i ∷ items) ≡ [] → broken current sight items ≡ []
-    others_unbroken i items unbroken = (nothing_in (item_broken current sight i) (broken current sight items) unbroken).1
+    others_unbroken : (i : ShapeWritten) (items : WrittenShape) → broken current view (i ∷ items) ≡ [] → broken current view items ≡ []
+    others_unbroken i items unbroken = (nothing_in (item_broken current view i) (broken current view items) unbroken).1
 
     mutual
-      items_good : {items : WrittenShape} {ns : List (ConstructFeatures (Unit {0}))} {ts : List SignificantToken} → Items keeps_lexemes (Under limit) items ns ts
-          → broken current sight items ≡ [] → (c : Bool) → Ahead outside c ts → printable (meant sight items) ≡ true → AtStart limit (rest_of items)
+      items_good : {items : WrittenShape} {ns : List (ConstructFeatures (Unit {0}))} {ts : List SignificantToken} → Items to_lexemes (BelowLimit limit) items ns ts
+          → broken current view items ≡ [] → (c : Bool) → Ahead outside c ts → printable (meant view items) ≡ true → AtStart limit (rest_of items)
       items_good (g.end kind) u c h p = good.newline good.end
       items_good (g.blank {items = items} {token = t} {rest = rest} kind more) u c h p = start_after_newline (rest_of items) (items_good more u false (past_token t rest kinds.Eol kind refl h) p)
       items_good (g.comment {token = t} {rest = rest} kind more) u c h p = good.comment (lexed_comment t kind h.facts.0) (after_good more u true (past_token t rest kinds.Comment kind refl h) p)
@@ -313,23 +313,23 @@ module _ (limit : ℕ) where
           let before = attributes_ahead a c h in
           let found = content_good x (form_unbroken ws content items u) before.following in
           good.on_line before.entries found.good
-          (after_good more (others_unbroken (tree.Construct ws content) items u) false found.following (and_parts (printable_content content) (printable (meant sight items)) p).1)
+          (after_good more (others_unbroken (tree.Construct ws content) items u) false found.following (and_parts (printable_content content) (printable (meant view items)) p).1)
       items_good (g.block {ws = ws} {items = items} {rest = rest} a (g.recipe {h = header} {lines = lines} {comment = comment} head before read some) more) u c h p =
-          let parts = and_parts (printable_body (trimmed lines)) (printable (meant sight items)) p in
+          let parts = and_parts (printable_body (trimmed lines)) (printable (meant view items)) p in
           let attributes = attributes_ahead a c h in
           let b = block_good head (form_unbroken ws (tree.Recipe (bare_recipe header comment (trimmed lines))) (tree.Newline ∷ items) u) before read some false attributes.following parts.0 in
-          let others : broken current sight items ≡ [] = others_unbroken (tree.Construct ws (tree.Recipe (bare_recipe header comment (trimmed lines)))) (tree.Newline ∷ items) u in
-          start_block (entries_or_none (entries_of sight ws)) header comment (trimmed lines) (after_newline (rest_of items)) b.some attributes.entries b.header b.commented
+          let others : broken current view items ≡ [] = others_unbroken (tree.Construct ws (tree.Recipe (bare_recipe header comment (trimmed lines)))) (tree.Newline ∷ items) u in
+          start_block (entries_or_none (entries_of view ws)) header comment (trimmed lines) (after_newline (rest_of items)) b.some attributes.entries b.header b.commented
           b.good
-          (optional_body_newline (trimmed lines) (meant sight items) (λ pale. ap (meant sight) (file_ended more (b.last pale))) (items_good more others false b.following parts.1))
+          (optional_body_newline (trimmed lines) (meant view items) (λ pale. ap (meant view) (file_ended more (b.last pale))) (items_good more others false b.following parts.1))
 
-      after_good : {items : WrittenShape} {ns : List (ConstructFeatures (Unit {0}))} {ts : List SignificantToken} → ItemRest keeps_lexemes (Under limit) items ns ts
-          → broken current sight items ≡ [] → (c : Bool) → Ahead outside c ts → printable (meant sight items) ≡ true → After limit c (rest_of items)
+      after_good : {items : WrittenShape} {ns : List (ConstructFeatures (Unit {0}))} {ts : List SignificantToken} → ItemRest to_lexemes (BelowLimit limit) items ns ts
+          → broken current view items ≡ [] → (c : Bool) → Ahead outside c ts → printable (meant view items) ≡ true → After limit c (rest_of items)
       after_good (g.trailing {items = items} {token = t} {rest = rest} kind e) u c h p = trailing_good t items c kind h.facts.0 (line_end_good e u true (past_token t rest kinds.Comment kind refl h) p)
       after_good (g.bare {items = items} e) u c h p = after_end c (rest_of items) (line_end_good e u c h p)
 
-      line_end_good : {items : WrittenShape} {ns : List (ConstructFeatures (Unit {0}))} {ts : List SignificantToken} → LineEnd keeps_lexemes (Under limit) items ns ts
-          → broken current sight items ≡ [] → (c : Bool) → Ahead outside c ts → printable (meant sight items) ≡ true → AtEnd limit (rest_of items)
+      line_end_good : {items : WrittenShape} {ns : List (ConstructFeatures (Unit {0}))} {ts : List SignificantToken} → LineEnd to_lexemes (BelowLimit limit) items ns ts
+          → broken current view items ≡ [] → (c : Bool) → Ahead outside c ts → printable (meant view items) ≡ true → AtEnd limit (rest_of items)
       line_end_good (g.line_end {items = items} {token = t} {rest = rest} kind more) u c h p = end_after_newline (rest_of items) (items_good more u false (past_token t rest kinds.Eol kind refl h) p)
       line_end_good (g.file_end kind) u c h p = good.line_end good.end
 
@@ -338,11 +338,11 @@ module _ (limit : ℕ) where
     normal_good (i ∷ shape) h = h
 
     -- the normal shape of a file that breaks no rule, before its docs are taken
-    pub file_good : {items : WrittenShape} {ns : List (ConstructFeatures (Unit {0}))} {ts : List SignificantToken} → File keeps_lexemes (Under limit) items ns ts
-        → broken current sight items ≡ [] → Sound outside false ts → BodySound no_body ts → printable (meant sight items) ≡ true → AtStart limit (normal (meant sight items))
-    file_good {items} {ts = ts} file u s b p = normal_good (meant sight items) (by file u (record { facts = s; bodies = record { outline = no_body; is = outside_first; sound = b } }) p)
+    pub file_good : {items : WrittenShape} {ns : List (ConstructFeatures (Unit {0}))} {ts : List SignificantToken} → File to_lexemes (BelowLimit limit) items ns ts
+        → broken current view items ≡ [] → Sound outside false ts → BodySound no_body ts → printable (meant view items) ≡ true → AtStart limit (normal (meant view items))
+    file_good {items} {ts = ts} file u s b p = normal_good (meant view items) (by file u (record { facts = s; bodies = record { outline = no_body; is = outside_first; sound = b } }) p)
       where
-        by : {items : WrittenShape} {ns : List (ConstructFeatures (Unit {0}))} {ts : List SignificantToken} → File keeps_lexemes (Under limit) items ns ts → broken current sight items ≡ []
-            → Ahead outside false ts → printable (meant sight items) ≡ true → AtStart limit (rest_of items)
+        by : {items : WrittenShape} {ns : List (ConstructFeatures (Unit {0}))} {ts : List SignificantToken} → File to_lexemes (BelowLimit limit) items ns ts → broken current view items ≡ []
+            → Ahead outside false ts → printable (meant view items) ≡ true → AtStart limit (rest_of items)
         by (g.marked {token = t} {rest = rest} kind more) u h p = items_good more u false (past_token t rest kinds.ByteOrderMark kind refl h) p
         by (g.unmarked more) u h p = items_good more u false h p

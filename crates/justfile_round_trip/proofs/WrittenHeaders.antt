@@ -2,10 +2,10 @@
 use Rattle.std.proofs.Common.{◌≡◌, ℕ, Bool, true, false, List, [], ◌∷◌, ◌++◌, Option, Some, None, refl}
 use Rattle.std.specs.Str.{IsUtf8}
 use Rattle.std.proofs.lemmas.Str.{IsUtf8-append}
-use Rattle.justfile_word.specs.declared.token_kind.TokenKind.TheVariants as kinds
+use Rattle.justfile_vocabulary.specs.declared.token_kind.TokenKind.TheVariants as kinds
 use Rattle.justfile_model.specs.declared.parameter_kind.ParameterKind.{ParameterKind}
 use Rattle.justfile_model.specs.declared.parameter_kind.ParameterKind.TheVariants.{Plus, Singular, Star}
-use Rattle.justfile_model.specs.Expressions.{Tokens, Under}
+use Rattle.justfile_model.specs.Expressions.{Tokens, BelowLimit}
 use Rattle.justfile_model.specs.Headers as g
 use Rattle.justfile_model.specs.Headers.{PathRest, PathOf, NamedParameter, ParameterOf, Parameters, DependencyArguments, DependencyOf, Dependencies, AllDependencies, NamedHeader, HeaderOf}
 use Rattle.justfile_model.specs.RecipeRules.{header_broken}
@@ -15,7 +15,7 @@ use Rattle.justfile_round_trip.proofs.Canon.{Shown}
 use Rattle.justfile_round_trip.proofs.CanonHeaders.{ShapeParameter, ShapeArgument, ShapeDependency, ShapeHeader, prefix_on, dollar_on, default_on, parameter_on, parameters_on, path_rest_on, path_on, star_on, dependency_arguments_on, dependency_parts_on, dependency_on, dependencies_on, subsequents_on, at_on, header_rest_on, header_on}
 use Rattle.justfile_round_trip.proofs.GoodHeaders.{GoodDefault, GoodParameters, AreNames, IsPath, GoodDependencyArguments, GoodDependencies, LexesHeader, GoodHeader}
 use Rattle.justfile_round_trip.proofs.Inline.{IsName}
-use Rattle.justfile_round_trip.proofs.Sound.{Around, outside, Sound}
+use Rattle.justfile_round_trip.proofs.TokenFacts.{Around, outside, Sound}
 use Rattle.justfile_round_trip.proofs.WrittenValues.{fact_as, on, one_at, past, plain, value_at, within}
 
 -- ---- UTF-8
@@ -60,7 +60,7 @@ pub record Found (s : Around) (Good : Type 0) (text : List ℕ → List ℕ) (re
 
 module _ (limit : ℕ) where
   named_at : {kind : ParameterKind} {export : Bool} {p : ShapeParameter} {fs : Shown} {ts rest : Tokens}
-      → NamedParameter lexeme nothing (Under limit) kind export p fs ts rest → (c : Bool) → Sound outside c ts
+      → NamedParameter lexeme nothing (BelowLimit limit) kind export p fs ts rest → (c : Bool) → Sound outside c ts
       → Found outside (IsName p.name × GoodDefault p.default) (λ more. p.name ++ default_on p.default more) rest
   named_at (g.required {name = t} {rest = rest} kind next) c h = record {
     good = (fact_as t kinds.Identifier kind h.0, tt);
@@ -68,14 +68,14 @@ module _ (limit : ℕ) where
     following = on outside c t rest kinds.Identifier kind (λ l. refl) refl h;
   }
   named_at (g.optional {name = t} {equals = q} {tokens = ts} kind kind2 v) c h =
-      let x = one_at (Under limit) v outside false (on outside false q ts kinds.Equals kind2 (λ l. refl) refl (on outside c t (q ∷ ts) kinds.Identifier kind (λ l. refl) refl h)) in
+      let x = one_at (BelowLimit limit) v outside false (on outside false q ts kinds.Equals kind2 (λ l. refl) refl (on outside c t (q ∷ ts) kinds.Identifier kind (λ l. refl) refl h)) in
       record {
         good = (fact_as t kinds.Identifier kind h.0, x.lexes);
         utf8 = λ more u. IsUtf8-append t.tok.lexeme _ h.0.utf8 (plain (61 ∷ []) _ refl (x.utf8 more u));
         following = x.following;
       }
 
-  parameter_at : {kind : ParameterKind} {p : ShapeParameter} {fs : Shown} {ts rest : Tokens} → ParameterOf lexeme nothing (Under limit) kind p fs ts rest
+  parameter_at : {kind : ParameterKind} {p : ShapeParameter} {fs : Shown} {ts rest : Tokens} → ParameterOf lexeme nothing (BelowLimit limit) kind p fs ts rest
       → (c : Bool) → Sound outside c ts → Found outside (IsName p.name × GoodDefault p.default) (parameter_on p) rest
   parameter_at {p = p} (g.exported {dollar = t} {tokens = ts} kind n) c h =
       let x = named_at n false (on outside c t ts kinds.Dollar kind (λ l. refl) refl h) in
@@ -85,7 +85,7 @@ module _ (limit : ℕ) where
       record { good = x.good; utf8 = λ more u. prefix_utf8 p.kind _ (dollar_utf8 p.export _ (x.utf8 more u)); following = x.following }
 
   -- up to the colon and with it
-  parameters_at : {ps : List ShapeParameter} {fs : Shown} {ts rest : Tokens} → Parameters lexeme nothing (Under limit) ps fs ts rest → (c : Bool) → Sound outside c ts
+  parameters_at : {ps : List ShapeParameter} {fs : Shown} {ts rest : Tokens} → Parameters lexeme nothing (BelowLimit limit) ps fs ts rest → (c : Bool) → Sound outside c ts
       → Found outside (GoodParameters ps) (parameters_on ps) rest
   parameters_at (g.none {colon = t} {rest = rest} kind) c h =
       record { good = tt; utf8 = λ more u. u; following = on outside c t rest kinds.Colon kind (λ l. refl) refl h }
@@ -126,20 +126,20 @@ module _ (limit : ℕ) where
       record { good = (fact_as t kinds.Identifier kind h.0, x.good); utf8 = λ more u. IsUtf8-append t.tok.lexeme _ h.0.utf8 (x.utf8 more u); following = x.following }
 
   -- inside parentheses, and past the closing one
-  arguments_at : {arguments : List ShapeArgument} {fs : Shown} {ts rest : Tokens} → DependencyArguments lexeme nothing nothing (Under limit) arguments fs ts rest
+  arguments_at : {arguments : List ShapeArgument} {fs : Shown} {ts rest : Tokens} → DependencyArguments lexeme nothing nothing (BelowLimit limit) arguments fs ts rest
       → Sound (within outside None) false ts → Found outside (GoodDependencyArguments arguments) (dependency_arguments_on arguments) rest
   arguments_at (g.none {closer = t} {rest = rest} kind) h =
       record { good = tt; utf8 = λ more u. u; following = past (within outside None) t rest kinds.ParenR kind h.2 }
   arguments_at (g.plain x r) h =
-      let v = value_at (Under limit) x (within outside None) false h in
+      let v = value_at (BelowLimit limit) x (within outside None) false h in
       let y = arguments_at r v.following in
       record { good = (v.lexes, y.good); utf8 = λ more u. plain (32 ∷ []) _ refl (v.utf8 _ (y.utf8 more u)); following = y.following }
   arguments_at (g.starred {mark = t} {tokens = ts} kind x r) h =
-      let v = one_at (Under limit) x (within outside None) false (on (within outside None) false t ts kinds.Asterisk kind (λ l. refl) refl h) in
+      let v = one_at (BelowLimit limit) x (within outside None) false (on (within outside None) false t ts kinds.Asterisk kind (λ l. refl) refl h) in
       let y = arguments_at r v.following in
       record { good = (v.lexes, y.good); utf8 = λ more u. plain (32 ∷ 42 ∷ []) _ refl (v.utf8 _ (y.utf8 more u)); following = y.following }
 
-  dependency_at : {d : ShapeDependency} {fs : Shown} {ts rest : Tokens} → DependencyOf lexeme nothing nothing (Under limit) d fs ts rest → Sound outside false ts
+  dependency_at : {d : ShapeDependency} {fs : Shown} {ts rest : Tokens} → DependencyOf lexeme nothing nothing (BelowLimit limit) d fs ts rest → Sound outside false ts
       → Found outside (IsPath d.path × GoodDependencyArguments d.arguments) (dependency_on d) rest
   dependency_at (g.bare p) h = let x = path_at p outside h in record { good = (x.good, tt); utf8 = x.utf8; following = x.following }
   dependency_at {d = d} (g.plain {opener = t} {tokens = ts} kind p r) h =
@@ -151,7 +151,7 @@ module _ (limit : ℕ) where
       let y = arguments_at r x.following in
       record { good = (x.good, y.good); utf8 = dependency_utf8 d.star d.path d.arguments x.utf8 y.utf8; following = y.following }
 
-  dependencies_at : {ds : List ShapeDependency} {fs : Shown} {ts rest : Tokens} → Dependencies lexeme nothing nothing (Under limit) ds fs ts rest → Sound outside false ts
+  dependencies_at : {ds : List ShapeDependency} {fs : Shown} {ts rest : Tokens} → Dependencies lexeme nothing nothing (BelowLimit limit) ds fs ts rest → Sound outside false ts
       → Found outside (GoodDependencies ds) (dependencies_on ds) rest
   dependencies_at (g.none a b c) h = record { good = tt; utf8 = λ more u. u; following = h }
   dependencies_at (g.more d r) h =
@@ -159,7 +159,7 @@ module _ (limit : ℕ) where
       let y = dependencies_at r x.following in
       record { good = (x.good.0, x.good.1, y.good); utf8 = λ more u. plain (32 ∷ []) _ refl (x.utf8 _ (y.utf8 more u)); following = y.following }
 
-  all_at : {ds ss : List ShapeDependency} {fs : Shown} {ts rest : Tokens} → AllDependencies lexeme nothing nothing (Under limit) ds ss fs ts rest → Sound outside false ts
+  all_at : {ds ss : List ShapeDependency} {fs : Shown} {ts rest : Tokens} → AllDependencies lexeme nothing nothing (BelowLimit limit) ds ss fs ts rest → Sound outside false ts
       → Found outside (GoodDependencies ds × GoodDependencies ss) (λ more. dependencies_on ds (subsequents_on ss more)) rest
   all_at (g.priors x next) h =
       let y = dependencies_at x h in record { good = (y.good, tt); utf8 = y.utf8; following = y.following }
@@ -168,7 +168,7 @@ module _ (limit : ℕ) where
       let w = dependencies_at z (on outside false t ts kinds.AmpersandAmpersand kind (λ l. refl) refl y.following) in
       record { good = (y.good, w.good); utf8 = λ more u. y.utf8 _ (subsequents_utf8 (d ∷ others) w.utf8 more u); following = w.following }
 
-  named_header_at : {quiet : Bool} {h : ShapeHeader} {fs : Shown} {ts rest : Tokens} → NamedHeader lexeme nothing nothing (Under limit) quiet h fs ts rest
+  named_header_at : {quiet : Bool} {h : ShapeHeader} {fs : Shown} {ts rest : Tokens} → NamedHeader lexeme nothing nothing (BelowLimit limit) quiet h fs ts rest
       → (c : Bool) → Sound outside c ts → Found outside (LexesHeader h) (λ more. h.name ++ header_rest_on h more) rest
   named_header_at (g.header {name = t} {tokens = ts} kind ps all) c s =
       let x = parameters_at ps false (on outside c t ts kinds.Identifier kind (λ l. refl) refl s) in
@@ -179,7 +179,7 @@ module _ (limit : ℕ) where
         following = y.following;
       }
 
-  header_found : {h : ShapeHeader} {fs : Shown} {ts rest : Tokens} → HeaderOf lexeme nothing nothing (Under limit) h fs ts rest → (c : Bool) → Sound outside c ts
+  header_found : {h : ShapeHeader} {fs : Shown} {ts rest : Tokens} → HeaderOf lexeme nothing nothing (BelowLimit limit) h fs ts rest → (c : Bool) → Sound outside c ts
       → Found outside (LexesHeader h) (header_on h) rest
   header_found {h} (g.quiet {at = t} {tokens = ts} kind n) c s =
       let x = named_header_at n false (on outside c t ts kinds.At kind (λ l. refl) refl s) in
@@ -193,7 +193,7 @@ module _ (limit : ℕ) where
     pub good : GoodHeader limit h
     pub following : Sound outside false rest
 
-  pub header_at : {h : ShapeHeader} {fs : Shown} {ts rest : Tokens} → HeaderOf lexeme nothing nothing (Under limit) h fs ts rest → header_broken h ≡ [] → (c : Bool)
+  pub header_at : {h : ShapeHeader} {fs : Shown} {ts rest : Tokens} → HeaderOf lexeme nothing nothing (BelowLimit limit) h fs ts rest → header_broken h ≡ [] → (c : Bool)
       → Sound outside c ts → HeaderAt h rest
   header_at {fs = fs} x unbroken c s =
       let found = header_found x c s in

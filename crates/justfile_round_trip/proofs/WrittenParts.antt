@@ -1,9 +1,9 @@
 -- What is known along the tokens of any text outside bodies, and what items are made of there, beside headers, is good.
 use Rattle.std.proofs.Common.{ℕ, Bool, false, List, ◌∷◌, None, ◌≡◌, refl}
 use Rattle.std.specs.Str.{trim_end}
-use Rattle.justfile_word.specs.declared.token_kind.TokenKind.{TokenKind}
-use Rattle.justfile_word.specs.declared.token_kind.TokenKind.TheVariants as kinds
-use Rattle.justfile_model.specs.Expressions.{Tokens, IsKind, Under, Expression, Sequence}
+use Rattle.justfile_vocabulary.specs.declared.token_kind.TokenKind.{TokenKind}
+use Rattle.justfile_vocabulary.specs.declared.token_kind.TokenKind.TheVariants as kinds
+use Rattle.justfile_model.specs.Expressions.{Tokens, IsKind, BelowLimit, Expression, Sequence}
 use Rattle.justfile_model.specs.Headers as h
 use Rattle.justfile_model.specs.Headers.{PathOf, PathRest}
 use Rattle.justfile_model.specs.ItemParts as g
@@ -17,7 +17,7 @@ use Rattle.justfile_round_trip.proofs.CanonParts.{ShapeQuoted, ShapeSetting}
 use Rattle.justfile_round_trip.proofs.Comments.{good_comment}
 use Rattle.justfile_round_trip.proofs.Good.{GoodComment, GoodExpression, GoodName}
 use Rattle.justfile_round_trip.proofs.GoodContents.{GoodFilePath, GoodNames, GoodPath, GoodSequence, GoodSettingValue}
-use Rattle.justfile_round_trip.proofs.Sound.{Around, Known, Sound, around, is_comment, outside}
+use Rattle.justfile_round_trip.proofs.TokenFacts.{Around, Known, Sound, around, is_comment, outside}
 use Rattle.justfile_round_trip.proofs.Walks.{walk_sequence}
 use Rattle.justfile_round_trip.proofs.WalksHeaders.{past_walked}
 use Rattle.justfile_round_trip.proofs.WrittenValues.{fact_as, good_expression, good_sequence, past, sequence_at, value_at, within}
@@ -83,27 +83,27 @@ names_good (g.more {name = t} {comma = u} {tokens = ts} kind kind2 r) a =
     record { good = (lexed_name t kind a.facts.0, x.good); following = x.following }
 
 module _ (limit : ℕ) where
-  pub value_good : {v : Value} {fs : Shown} {ts rest : Tokens} → Expression lexeme nothing (Under limit) false 0 v fs ts rest → Ahead outside false ts
+  pub value_good : {v : Value} {fs : Shown} {ts rest : Tokens} → Expression lexeme nothing (BelowLimit limit) false 0 v fs ts rest → Ahead outside false ts
       → Passed (GoodExpression limit v) rest
   value_good x a =
-      let v = value_at (Under limit) x outside false a.facts in
+      let v = value_at (BelowLimit limit) x outside false a.facts in
       record { good = good_expression limit x v; following = record { facts = v.following; bodies = walk_outside limit x a.bodies } }
 
   -- inside brackets, and past the closing one
-  pub sequence_good : {es : Values} {fs : Shown} {ts rest : Tokens} → Sequence lexeme nothing (Under limit) kinds.BracketR 0 es fs ts rest
+  pub sequence_good : {es : Values} {fs : Shown} {ts rest : Tokens} → Sequence lexeme nothing (BelowLimit limit) kinds.BracketR 0 es fs ts rest
       → Ahead (within outside None) false ts → Passed (GoodSequence limit es) rest
   sequence_good xs a =
-      let v = sequence_at (Under limit) xs outside (within outside None) (λ l. refl) refl false a.facts in
+      let v = sequence_at (BelowLimit limit) xs outside (within outside None) (λ l. refl) refl false a.facts in
       record {
         good = good_sequence limit xs v;
         following = record {
           facts = v.following;
-          bodies = walk_sequence lexeme nothing (Under limit) (Walked IsOutside) (λ k t rest e quiets w. past_walked IsOutside outside_after t rest k e (quiet_stays k quiets) w) xs refl a.bodies;
+          bodies = walk_sequence lexeme nothing (BelowLimit limit) (Walked IsOutside) (λ k t rest e quiets w. past_walked IsOutside outside_after t rest k e (quiet_stays k quiets) w) xs refl a.bodies;
         };
       }
 
   -- after the name of a setting
-  pub setting_value_good : {form : SettingForm} {v : ShapeSetting} {fs : Shown} {ts rest : Tokens} → ValueOf lexeme nothing (Under limit) form v fs ts rest
+  pub setting_value_good : {form : SettingForm} {v : ShapeSetting} {fs : Shown} {ts rest : Tokens} → ValueOf lexeme nothing (BelowLimit limit) form v fs ts rest
       → Ahead outside false ts → Passed (GoodSettingValue limit form v) rest
   setting_value_good (g.bare next) a = record { good = tt; following = a }
   setting_value_good (g.yes {operator = t} {word = u} {rest = rest} kind is) a =

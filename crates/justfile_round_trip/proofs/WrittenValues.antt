@@ -4,23 +4,23 @@ use Rattle.std.specs.Str.{IsUtf8}
 use Rattle.std.proofs.lemmas.Bool.{and_parts}
 use Rattle.std.proofs.lemmas.Bool.Decides.{nat_tests}
 use Rattle.std.proofs.lemmas.Str.{IsUtf8-append, IsUtf8-from_ascii}
-use Rattle.justfile_base.specs.declared.string_kind.StringKind.{StringKind}
-use Rattle.justfile_word.specs.declared.token_kind.TokenKind.{TokenKind}
-use Rattle.justfile_word.specs.declared.token_kind.TokenKind.TheVariants as kinds
-use Rattle.justfile_base.specs.StringKind.{kind_of}
+use Rattle.justfile_token.specs.declared.string_kind.StringKind.{StringKind}
+use Rattle.justfile_vocabulary.specs.declared.token_kind.TokenKind.{TokenKind}
+use Rattle.justfile_vocabulary.specs.declared.token_kind.TokenKind.TheVariants as kinds
+use Rattle.justfile_token.specs.StringKind.{kind_of}
 use Rattle.justfile_model.specs.declared.conditional_operator.ConditionalOperator.{ConditionalOperator}
 use Rattle.justfile_model.specs.declared.conditional_operator.ConditionalOperator.TheVariants.{Equality, Inequality, RegexMatch, RegexMismatch}
 use Rattle.justfile_model.specs.SignificantTokens.{SignificantToken}
 use Rattle.justfile_model.specs.Tree as tree
 use Rattle.justfile_model.specs.Tree.{lexeme, nothing}
 use Rattle.justfile_model.specs.Expressions as g
-use Rattle.justfile_model.specs.Expressions.{Tokens, IsKind, operator_kind, Under, Expression, Disjunct, Compared, Conjunct, Condition, Braced, Conditional, Value, Sequence, FormatParts}
+use Rattle.justfile_model.specs.Expressions.{Tokens, IsKind, operator_kind, BelowLimit, Expression, Disjunct, Compared, Conjunct, Condition, Braced, Conditional, Value, Sequence, FormatParts}
 use Rattle.justfile_model.specs.Printing.{is_conditional}
 use Rattle.justfile_round_trip.proofs.Canon as canon
 use Rattle.justfile_round_trip.proofs.Canon.{Shown, Values, Pieces, operator_codes, expr_on, exprs_on, others_on, parts_on}
 use Rattle.justfile_round_trip.proofs.Good.{GoodValue, GoodValues, GoodParts, GoodExpression, significant, ends_value}
 use Rattle.justfile_round_trip.proofs.GoodContents.{GoodSequence}
-use Rattle.justfile_round_trip.proofs.Sound.{Around, around, Known, LexemeFact, is_comment, Sound}
+use Rattle.justfile_round_trip.proofs.TokenFacts.{Around, around, Known, LexemeFact, is_comment, Sound}
 use Rattle.justfile_round_trip.proofs.Ends.{End, tail, EndsIn}
 use Rattle.justfile_round_trip.proofs.Back.{StopE, here_too, stop_before, ends_before, expression_back, sequence_back, lower}
 
@@ -96,30 +96,30 @@ record PartsAt (s : Around) (k : StringKind) (ps : Pieces) (rest : Tokens) : Typ
   utf8 : (more : List ℕ) → IsUtf8 more → IsUtf8 (parts_on ps more)
   following : Sound s false rest
 
-module _ (Open : ℕ → Option SignificantToken → Type 0) where
+module _ (MayEnter : ℕ → Option SignificantToken → Type 0) where
   mutual
-    pub value_at : {condition : Bool} {d : ℕ} {e : canon.Value} {fs : Shown} {ts rest : Tokens} → Expression lexeme nothing Open condition d e fs ts rest → (s : Around) (c : Bool) → Sound s c ts → ValueAt s e rest
+    pub value_at : {condition : Bool} {d : ℕ} {e : canon.Value} {fs : Shown} {ts rest : Tokens} → Expression lexeme nothing MayEnter condition d e fs ts rest → (s : Around) (c : Bool) → Sound s c ts → ValueAt s e rest
     value_at (g.or {operator = t} {following = ts} o l kind r) s c h =
         let x = disjunct_at l s c h in
         let y = value_at r s false (on s false t ts kinds.BarBar kind (λ l. refl) refl x.following) in
         record { lexes = (x.lexes, y.lexes); utf8 = λ more u. x.utf8 _ (plain (codes " || ") _ refl (y.utf8 more u)); following = y.following }
     value_at (g.disjunct o l next) s c h = disjunct_at l s c h
 
-    disjunct_at : {condition : Bool} {d : ℕ} {e : canon.Value} {fs : Shown} {ts rest : Tokens} → Disjunct lexeme nothing Open condition d e fs ts rest → (s : Around) (c : Bool) → Sound s c ts → ValueAt s e rest
+    disjunct_at : {condition : Bool} {d : ℕ} {e : canon.Value} {fs : Shown} {ts rest : Tokens} → Disjunct lexeme nothing MayEnter condition d e fs ts rest → (s : Around) (c : Bool) → Sound s c ts → ValueAt s e rest
     disjunct_at (g.and {operator = t} {following = ts} l kind r) s c h =
         let x = compared_at l s c h in
         let y = disjunct_at r s false (on s false t ts kinds.AmpersandAmpersand kind (λ l. refl) refl x.following) in
         record { lexes = (x.lexes, y.lexes); utf8 = λ more u. x.utf8 _ (plain (codes " && ") _ refl (y.utf8 more u)); following = y.following }
     disjunct_at (g.comparison l next) s c h = compared_at l s c h
 
-    compared_at : {condition : Bool} {d : ℕ} {e : canon.Value} {fs : Shown} {ts rest : Tokens} → Compared lexeme nothing Open condition d e fs ts rest → (s : Around) (c : Bool) → Sound s c ts → ValueAt s e rest
+    compared_at : {condition : Bool} {d : ℕ} {e : canon.Value} {fs : Shown} {ts rest : Tokens} → Compared lexeme nothing MayEnter condition d e fs ts rest → (s : Around) (c : Bool) → Sound s c ts → ValueAt s e rest
     compared_at (g.compare {operator = t} {following = ts} by l kind r) s c h =
         let x = conjunct_at l s c h in
         let y = conjunct_at r s false (on s false t ts (operator_kind by) kind (operator_around by s) (operator_no_comment by) x.following) in
         record { lexes = (x.lexes, y.lexes); utf8 = λ more u. x.utf8 _ (operator_utf8 by _ (y.utf8 more u)); following = y.following }
     compared_at (g.conjunct l next) s c h = conjunct_at l s c h
 
-    conjunct_at : {d : ℕ} {e : canon.Value} {fs : Shown} {ts rest : Tokens} → Conjunct lexeme nothing Open d e fs ts rest → (s : Around) (c : Bool) → Sound s c ts → ValueAt s e rest
+    conjunct_at : {d : ℕ} {e : canon.Value} {fs : Shown} {ts rest : Tokens} → Conjunct lexeme nothing MayEnter d e fs ts rest → (s : Around) (c : Bool) → Sound s c ts → ValueAt s e rest
     conjunct_at (g.conditional {word = t} {tokens = ts} i x) s c h = conditional_at x s false (on s c t ts kinds.Identifier i.is_name (λ l. refl) refl h)
     conjunct_at (g.root {operator = t} {tokens = ts} kind r) s c h =
         let y = conjunct_at r s false (on s c t ts kinds.Slash kind (λ l. refl) refl h) in
@@ -138,16 +138,16 @@ module _ (Open : ℕ → Option SignificantToken → Type 0) where
         record { lexes = (x.lexes, y.lexes); utf8 = λ more u. x.utf8 _ (plain (codes " + ") _ refl (y.utf8 more u)); following = y.following }
     conjunct_at (g.value next v unjoined) s c h = one_at v s c h
 
-    condition_at : {d : ℕ} {e : canon.Value} {fs : Shown} {ts rest : Tokens} → Condition lexeme nothing Open d e fs ts rest → (s : Around) (c : Bool) → Sound s c ts → ValueAt s e rest
+    condition_at : {d : ℕ} {e : canon.Value} {fs : Shown} {ts rest : Tokens} → Condition lexeme nothing MayEnter d e fs ts rest → (s : Around) (c : Bool) → Sound s c ts → ValueAt s e rest
     condition_at (g.condition x) s c h = value_at x s c h
 
-    braced_at : {d : ℕ} {e : canon.Value} {fs : Shown} {ts rest : Tokens} → Braced lexeme nothing Open d e fs ts rest → (s : Around) (c : Bool) → Sound s c ts → ValueAt s e rest
+    braced_at : {d : ℕ} {e : canon.Value} {fs : Shown} {ts rest : Tokens} → Braced lexeme nothing MayEnter d e fs ts rest → (s : Around) (c : Bool) → Sound s c ts → ValueAt s e rest
     braced_at (g.braces {opener = t} {closer = u} {following = ts} {rest = rest} kind x kind2) s c h =
         let y = value_at x (within s None) false (past s t ts kinds.BraceL kind h.2) in
         record { lexes = y.lexes; utf8 = y.utf8; following = past (within s None) u rest kinds.BraceR kind2 y.following.2 }
 
     -- after the `if`
-    conditional_at : {d : ℕ} {word : SignificantToken} {e : canon.Value} {fs : Shown} {ts rest : Tokens} → Conditional lexeme nothing Open d word e fs ts rest → (s : Around) (c : Bool) → Sound s c ts → ValueAt s e rest
+    conditional_at : {d : ℕ} {word : SignificantToken} {e : canon.Value} {fs : Shown} {ts rest : Tokens} → Conditional lexeme nothing MayEnter d word e fs ts rest → (s : Around) (c : Bool) → Sound s c ts → ValueAt s e rest
     conditional_at (g.if_only c b next) s c' h =
         let x = condition_at c s c' h in
         let y = braced_at b s false x.following in
@@ -171,7 +171,7 @@ module _ (Open : ℕ → Option SignificantToken → Type 0) where
           following = z.following;
         }
 
-    pub one_at : {d : ℕ} {e : canon.Value} {fs : Shown} {ts rest : Tokens} → Value lexeme nothing Open d e fs ts rest → (s : Around) (c : Bool) → Sound s c ts → ValueAt s e rest
+    pub one_at : {d : ℕ} {e : canon.Value} {fs : Shown} {ts rest : Tokens} → Value lexeme nothing MayEnter d e fs ts rest → (s : Around) (c : Bool) → Sound s c ts → ValueAt s e rest
     one_at (g.not {bang = t} {tokens = ts} kind v) s c h =
         let y = one_at v s false (on s c t ts kinds.Bang kind (λ l. refl) refl h) in
         record { lexes = y.lexes; utf8 = λ more u. plain (codes "!") _ refl (y.utf8 more u); following = y.following }
@@ -222,7 +222,7 @@ module _ (Open : ℕ → Option SignificantToken → Type 0) where
         record { lexes = y.lexes; utf8 = λ more u. plain (codes "[") _ refl (y.utf8 _ (plain (codes "]") _ refl u)); following = y.following }
 
     -- up to the closing delimiter, which closes what is inside
-    pub sequence_at : {closing : TokenKind} {d : ℕ} {es : Values} {fs : Shown} {ts rest : Tokens} → Sequence lexeme nothing Open closing d es fs ts rest → (s inside : Around) → ((l : List ℕ) → around closing l inside ≡ s) → is_comment closing ≡ false
+    pub sequence_at : {closing : TokenKind} {d : ℕ} {es : Values} {fs : Shown} {ts rest : Tokens} → Sequence lexeme nothing MayEnter closing d es fs ts rest → (s inside : Around) → ((l : List ℕ) → around closing l inside ≡ s) → is_comment closing ≡ false
         → (c : Bool) → Sound inside c ts → ValuesAt s es rest
     sequence_at {closing} (g.none {closer = t} {rest = rest} kind) s inside shut no_comment c h =
         record { lexes = tt; utf8 = λ more u. u; following = subst (λ b. Sound s b rest) no_comment (subst (λ x. Sound x (is_comment closing) rest) (shut t.tok.lexeme) (past inside t rest closing kind h.2)) }
@@ -235,7 +235,7 @@ module _ (Open : ℕ → Option SignificantToken → Type 0) where
         record { lexes = (y.lexes, z.lexes); utf8 = λ more u. y.utf8 _ (others_utf8 es more u (z.utf8 more u)); following = z.following }
 
     -- inside a format string of this kind, up to its end
-    parts_at : {d : ℕ} {ps : Pieces} {fs : Shown} {ts rest : Tokens} → FormatParts lexeme nothing Open d ps fs ts rest → (s : Around) (k : StringKind) (c : Bool) → Sound (within s (Some k)) c ts → PartsAt s k ps rest
+    parts_at : {d : ℕ} {ps : Pieces} {fs : Shown} {ts rest : Tokens} → FormatParts lexeme nothing MayEnter d ps fs ts rest → (s : Around) (k : StringKind) (c : Bool) → Sound (within s (Some k)) c ts → PartsAt s k ps rest
     parts_at (g.end {token = t} {rest = rest} kind) s k c h =
         record { lexes = fact_as t kinds.FormatStringEnd kind h.0; utf8 = λ more u. IsUtf8-append t.tok.lexeme more h.0.utf8 u; following = past (within s (Some k)) t rest kinds.FormatStringEnd kind h.2 }
     parts_at (g.next {token = t} {tokens = ts} kind x ps) s k c h =
@@ -253,18 +253,18 @@ pub stops : (x : End) (us : Tokens) → ends_value us ≡ true → EndsIn x us �
 stops x [] h = cc
 stops x (t ∷ ts) h = (ends_before x t ts (here_too t.tok.kind h), stop_before t ts h)
 
-pub good_expression : (limit : ℕ) {s : Around} {e : canon.Value} {fs : Shown} {ts rest : Tokens} → Expression lexeme nothing (Under limit) false 0 e fs ts rest → ValueAt s e rest → GoodExpression limit e
+pub good_expression : (limit : ℕ) {s : Around} {e : canon.Value} {fs : Shown} {ts rest : Tokens} → Expression lexeme nothing (BelowLimit limit) false 0 e fs ts rest → ValueAt s e rest → GoodExpression limit e
 good_expression limit {e = e} {fs} x v = record {
   lexes = v.lexes;
   features = fs;
-  derives = record { derives = λ glued on stop. let q = stops (tail e) (significant true on) stop in expression_back (Under limit) (Under limit) (lower limit) x 0 (omega arith) glued on q.0 q.1 };
+  derives = record { derives = λ glued on stop. let q = stops (tail e) (significant true on) stop in expression_back (BelowLimit limit) (BelowLimit limit) (lower limit) x 0 (omega arith) glued on q.0 q.1 };
   utf8 = v.utf8;
 }
 
-pub good_sequence : (limit : ℕ) {s : Around} {es : Values} {fs : Shown} {ts rest : Tokens} → Sequence lexeme nothing (Under limit) kinds.BracketR 0 es fs ts rest → ValuesAt s es rest → GoodSequence limit es
+pub good_sequence : (limit : ℕ) {s : Around} {es : Values} {fs : Shown} {ts rest : Tokens} → Sequence lexeme nothing (BelowLimit limit) kinds.BracketR 0 es fs ts rest → ValuesAt s es rest → GoodSequence limit es
 good_sequence limit {fs = fs} xs v = record {
   lexes = v.lexes;
   features = fs;
-  derives = record { derives = λ glued on. sequence_back (Under limit) (Under limit) (lower limit) false xs refl 0 (omega arith) glued on };
+  derives = record { derives = λ glued on. sequence_back (BelowLimit limit) (BelowLimit limit) (lower limit) false xs refl 0 (omega arith) glued on };
   utf8 = v.utf8;
 }

@@ -1,6 +1,6 @@
 -- What ends the inside of a literal in format mode alone.
 use Rattle.std.specs.Prelude.{ℕ, Bool, true, not, ◌&&◌, List, [], ◌∷◌}
-use Rattle.justfile_base.specs.declared.string_kind.StringKind.{StringKind}
+use Rattle.justfile_token.specs.declared.string_kind.StringKind.{StringKind}
 use Rattle.justfile_model.specs.declared.raw_text.RawText.TheVariants.{Literal}
 use Rattle.justfile_model.specs.Bytes.{is_interpolation_start}
 use Rattle.justfile_model.specs.LiteralText.{pieces_len, hides}

@@ -5,8 +5,8 @@ use Rattle.std.specs.Str.{IsUtf8}
 use Rattle.justfile_model.specs.Tok.{Tok}
 use Rattle.justfile_model.specs.Lexed.{Lexed}
 use Rattle.justfile_model.specs.SignificantTokens.{significant_tokens}
-use Rattle.justfile_word.specs.contracts.list_feature.ListFeature.{the_type}
-use Rattle.justfile_word.specs.declared.list_feature.ListFeature.{ListFeature}
+use Rattle.justfile_vocabulary.specs.contracts.list_feature.ListFeature.{the_type}
+use Rattle.justfile_vocabulary.specs.declared.list_feature.ListFeature.{ListFeature}
 use Rattle.justfile_model.specs.Tree.{Tree, Shape, lexeme, shape_of}
 use Rattle.justfile_model.specs.Features.{Noted}
 use Rattle.justfile_model.specs.NormalShape.{normal}

@@ -2,10 +2,10 @@
 #![tactic(auto)]
 
 ghost use Rattle.std.specs.Prelude.{◌≡◌, ℕ, ◌<◌, ◌≤◌, min, List, ◌++◌, length, take, drop, slice_index, Ok, true, false};
-ghost use Rattle.justfile_word.specs.Indentation.{IsIndentation};
-ghost use Rattle.justfile_base.specs.declared.string_kind.StringKind.{StringKind};
-ghost use Rattle.justfile_word.specs.declared.token_kind.TokenKind.TheVariants.{StringToken};
-ghost use Rattle.justfile_base.specs.StringKind.{is_quote};
+ghost use Rattle.justfile_vocabulary.specs.Indentation.{IsIndentation};
+ghost use Rattle.justfile_token.specs.declared.string_kind.StringKind.{StringKind};
+ghost use Rattle.justfile_vocabulary.specs.declared.token_kind.TokenKind.TheVariants.{StringToken};
+ghost use Rattle.justfile_token.specs.StringKind.{is_quote};
 ghost use Rattle.justfile_model.specs.Bytes.{is_interpolation_start};
 ghost use Rattle.justfile_model.specs.Conditions.{Conditions};
 ghost use Rattle.justfile_model.specs.Features.{Noted};

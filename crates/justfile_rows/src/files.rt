@@ -17,7 +17,7 @@ use crate::resolution::resolves;
 use crate::sets::sets;
 use crate::settings::settings;
 use crate::values::push_of_value;
-use crate::word::Word;
+use crate::word::RowWord;
 use justfile_syntax::ast::Ast;
 use justfile_syntax::fault::{CompileResult, Fault};
 use justfile_syntax::indentation::Indentation;
@@ -66,70 +66,70 @@ pub(crate) fn parse<'src>(
 }
 
 /// What a row's word asks of a file.
-fn push_file(ast: &mut Ast<'_>, answer: &mut Answer, word: Word, fields: &[String]) {
+fn push_file(ast: &mut Ast<'_>, answer: &mut Answer, word: RowWord, fields: &[String]) {
     match word {
-        Word::Expected | Word::Message | Word::Refused | Word::RefusedUnder => {
+        RowWord::Expected | RowWord::Message | RowWord::Refused | RowWord::RefusedUnder => {
             answer.push("taken");
         }
-        Word::Features => features(answer, &ast.list_features),
-        Word::Indented => indented(ast, answer),
-        Word::Items | Word::Numbers => file(ast, answer),
-        Word::Unstable => unstable(answer, &ast.unstable_features),
-        Word::Canonical
-        | Word::CanonicalUnder
-        | Word::Copies
-        | Word::ExpandsTo
-        | Word::Prints
-        | Word::PrintsAt
-        | Word::PrintsItem
-        | Word::PrintsUnder => push_printed(ast, answer, word, fields),
+        RowWord::Features => features(answer, &ast.list_features),
+        RowWord::Indented => indented(ast, answer),
+        RowWord::Items | RowWord::Numbers => file(ast, answer),
+        RowWord::Unstable => unstable(answer, &ast.unstable_features),
+        RowWord::Canonical
+        | RowWord::CanonicalUnder
+        | RowWord::Copies
+        | RowWord::ExpandsTo
+        | RowWord::Prints
+        | RowWord::PrintsAt
+        | RowWord::PrintsItem
+        | RowWord::PrintsUnder => push_printed(ast, answer, word, fields),
         _ => push_of_items(&ast.items, answer, word, fields),
     }
 }
 
 /// What a row's word asks of a file's items.
-fn push_of_items(items: &[Item<'_>], answer: &mut Answer, word: Word, fields: &[String]) {
+fn push_of_items(items: &[Item<'_>], answer: &mut Answer, word: RowWord, fields: &[String]) {
     match word {
-        Word::Attributes => attributes(items, answer),
-        Word::Docs => docs(items, answer),
-        Word::Enabled => enabled(items, answer),
-        Word::Keys => keys(items, answer),
-        Word::Expands | Word::Literal | Word::Value => push_of_value(items, answer, word),
-        Word::Orders => orders(items, answer),
-        Word::Sets => sets(items, answer),
-        Word::Settings => settings(items, answer),
+        RowWord::Attributes => attributes(items, answer),
+        RowWord::Docs => docs(items, answer),
+        RowWord::Enabled => enabled(items, answer),
+        RowWord::Keys => keys(items, answer),
+        RowWord::Expands | RowWord::Literal | RowWord::Value => push_of_value(items, answer, word),
+        RowWord::Orders => orders(items, answer),
+        RowWord::Sets => sets(items, answer),
+        RowWord::Settings => settings(items, answer),
         _ => push_of_recipe(items, answer, word, fields),
     }
 }
 
 /// What a row's word asks of a file that is printed.
-fn push_printed(ast: &Ast<'_>, answer: &mut Answer, word: Word, fields: &[String]) {
+fn push_printed(ast: &Ast<'_>, answer: &mut Answer, word: RowWord, fields: &[String]) {
     let indentation = indentation_for(word, fields);
     match word {
-        Word::Copies => copies(ast, answer, indentation),
-        Word::ExpandsTo => push_value_and_text(ast, answer),
-        Word::PrintsItem => prints_item(&ast.items, answer, indentation),
+        RowWord::Copies => copies(ast, answer, indentation),
+        RowWord::ExpandsTo => push_value_and_text(ast, answer),
+        RowWord::PrintsItem => prints_item(&ast.items, answer, indentation),
         _ => prints(ast, answer, indentation, limit_of(word, fields)),
     }
 }
 
 /// The indentation of a row.
-fn indentation_for(word: Word, fields: &[String]) -> Indentation {
+fn indentation_for(word: RowWord, fields: &[String]) -> Indentation {
     match word {
-        Word::PrintsAt | Word::PrintsItem => indentation_of(field_at(fields, 0)),
+        RowWord::PrintsAt | RowWord::PrintsItem => indentation_of(field_at(fields, 0)),
         _ => Indentation::default(),
     }
 }
 
 /// What the first value of a file is made of, and what the file is printed as.
 fn push_value_and_text(ast: &Ast<'_>, answer: &mut Answer) {
-    push_of_value(&ast.items, answer, Word::Value);
+    push_of_value(&ast.items, answer, RowWord::Value);
     copies(ast, answer, Indentation::default());
 }
 
 /// What a row's word asks of a file, and what it asks of a copy if that is something else. A file is
 /// printed and parsed again without a copy.
-fn push_file_and_copy(ast: &mut Ast<'_>, answer: &mut Answer, word: Word, fields: &[String]) {
+fn push_file_and_copy(ast: &mut Ast<'_>, answer: &mut Answer, word: RowWord, fields: &[String]) {
     let mut found = Answer::new(answer.alloc());
     push_file(ast, &mut found, word, fields);
     answer.push_all(&found);
@@ -141,15 +141,19 @@ fn push_file_and_copy(ast: &mut Ast<'_>, answer: &mut Answer, word: Word, fields
 }
 
 /// Whether a copy of the file is asked, too. What a file is printed as is asked of the file alone.
-fn is_copied(word: Word) -> bool {
+fn is_copied(word: RowWord) -> bool {
     !matches!(
         word,
-        Word::Canonical | Word::CanonicalUnder | Word::Prints | Word::PrintsAt | Word::PrintsUnder
+        RowWord::Canonical
+            | RowWord::CanonicalUnder
+            | RowWord::Prints
+            | RowWord::PrintsAt
+            | RowWord::PrintsUnder
     )
 }
 
 /// What a row's word asks of a copy of a file.
-fn push_copy(ast: &Ast<'_>, answer: &mut Answer, word: Word, fields: &[String]) {
+fn push_copy(ast: &Ast<'_>, answer: &mut Answer, word: RowWord, fields: &[String]) {
     match ast.clone(answer.alloc()) {
         Ok(mut copy) => push_file(&mut copy, answer, word, fields),
         Err(_) => answer.fail(),
@@ -158,7 +162,7 @@ fn push_copy(ast: &Ast<'_>, answer: &mut Answer, word: Word, fields: &[String]) 
 
 /// What a row's word asks of its text. For `numbers` it stands after the numbers that a binding and
 /// a recipe would get next.
-fn push_parsed(answer: &mut Answer, word: Word, fields: &[String]) {
+fn push_parsed(answer: &mut Answer, word: RowWord, fields: &[String]) {
     let mut numerator = numerator_of(word, fields);
     let text = text_of(word, fields);
     let expansion = expansion_of(word, fields);
@@ -168,7 +172,7 @@ fn push_parsed(answer: &mut Answer, word: Word, fields: &[String]) {
         Ok(mut ast) => push_file_and_copy(&mut ast, &mut found, word, fields),
         Err(fault) => push_why(&mut found, word, text, &fault),
     }
-    if word == Word::Numbers {
+    if word == RowWord::Numbers {
         push_number(answer, numerator.next_binding());
         push_number(answer, numerator.next_recipe());
     }
@@ -176,10 +180,10 @@ fn push_parsed(answer: &mut Answer, word: Word, fields: &[String]) {
 }
 
 /// Why there is no file, as a row's word asks for it.
-fn push_why(answer: &mut Answer, word: Word, text: &str, fault: &Fault<'_>) {
+fn push_why(answer: &mut Answer, word: RowWord, text: &str, fault: &Fault<'_>) {
     match word {
-        Word::Expected => push_expected(answer, text, fault),
-        Word::Message => push_message(answer, text, fault),
+        RowWord::Expected => push_expected(answer, text, fault),
+        RowWord::Message => push_message(answer, text, fault),
         _ => push_fault(answer, text, fault),
     }
 }
@@ -194,8 +198,8 @@ fn push_number(answer: &mut Answer, number: Option<Number>) {
 
 /// The numerator of a row: for `numbers` one that gave bindings the numbers below the first field,
 /// and recipes those below the second.
-fn numerator_of(word: Word, fields: &[String]) -> Numerator {
-    if word != Word::Numbers {
+fn numerator_of(word: RowWord, fields: &[String]) -> Numerator {
+    if word != RowWord::Numbers {
         return Numerator::new(0);
     }
     let mut numerator = Numerator::new(number_at(fields, 0));
@@ -215,18 +219,18 @@ fn join_fields(alloc: Global, fields: &[String]) -> Text {
 }
 
 /// The expander of a row.
-fn expansion_of(word: Word, fields: &[String]) -> Expansion<'_> {
+fn expansion_of(word: RowWord, fields: &[String]) -> Expansion<'_> {
     match word {
-        Word::Expands => Expansion::of(field_at(fields, 0)).unwrap_or(Expansion::Unchanged),
-        Word::ExpandsTo => Expansion::Constant(field_at(fields, 0)),
+        RowWord::Expands => Expansion::of(field_at(fields, 0)).unwrap_or(Expansion::Unchanged),
+        RowWord::ExpandsTo => Expansion::Constant(field_at(fields, 0)),
         _ => Expansion::Unchanged,
     }
 }
 
 /// The limit of depth of a row.
-fn limit_of(word: Word, fields: &[String]) -> usize {
+fn limit_of(word: RowWord, fields: &[String]) -> usize {
     match word {
-        Word::CanonicalUnder | Word::PrintsUnder | Word::RefusedUnder => {
+        RowWord::CanonicalUnder | RowWord::PrintsUnder | RowWord::RefusedUnder => {
             number_at(fields, 0) as usize
         }
         _ => RECURSION_LIMIT,
@@ -234,27 +238,27 @@ fn limit_of(word: Word, fields: &[String]) -> usize {
 }
 
 /// The text of a row.
-fn text_of(word: Word, fields: &[String]) -> &str {
+fn text_of(word: RowWord, fields: &[String]) -> &str {
     match word {
-        Word::CanonicalUnder
-        | Word::Expands
-        | Word::ExpandsTo
-        | Word::Line
-        | Word::PrintsAt
-        | Word::PrintsItem
-        | Word::PrintsUnder
-        | Word::RefusedUnder
-        | Word::Sigils => field_at(fields, 1),
-        Word::Numbers => field_at(fields, 2),
+        RowWord::CanonicalUnder
+        | RowWord::Expands
+        | RowWord::ExpandsTo
+        | RowWord::Line
+        | RowWord::PrintsAt
+        | RowWord::PrintsItem
+        | RowWord::PrintsUnder
+        | RowWord::RefusedUnder
+        | RowWord::Sigils => field_at(fields, 1),
+        RowWord::Numbers => field_at(fields, 2),
         _ => field_at(fields, 0),
     }
 }
 
 /// What a row's word asks of its fields.
-pub(crate) fn push_fields(answer: &mut Answer, word: Word, fields: &[String]) {
-    if word == Word::Beginnings {
+pub(crate) fn push_fields(answer: &mut Answer, word: RowWord, fields: &[String]) {
+    if word == RowWord::Beginnings {
         beginnings(answer, join_fields(answer.alloc(), fields).as_str());
-    } else if word == Word::Resolves {
+    } else if word == RowWord::Resolves {
         resolves(answer, fields);
     } else {
         push_parsed(answer, word, fields);

@@ -53,7 +53,7 @@ fn found(alloc: Global, word: Word, fields: &[String]) -> Answer {
         Word::BreaksEach => breaks_each(&mut answer, fields),
         Word::Class => class(&mut answer, text),
         Word::Cooks => cooks(&mut answer, text),
-        Word::Formats => formats(&mut answer, text),
+        Word::FormatStrings => formats(&mut answer, text),
         Word::Identifier => identifier(&mut answer, fields),
         Word::Indentation => indentation(&mut answer, text),
         Word::Keyword => keyword(&mut answer, text),

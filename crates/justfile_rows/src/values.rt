@@ -2,6 +2,7 @@
 
 use crate::lexing::push_string_kind;
 use crate::word::Word;
+use justfile_expression::child;
 use justfile_syntax::conditional_operator::ConditionalOperator;
 use justfile_syntax::expression::Expression;
 use justfile_syntax::item::Item;
@@ -9,7 +10,6 @@ use justfile_syntax::name::Name;
 use justfile_syntax::setting::Setting;
 use justfile_syntax::string_literal::StringLiteral;
 use justfile_syntax::token::Token;
-use justfile_tree::child;
 use row_notation::{Answer, Text};
 
 /// What a row's word asks of the first value of a file's items, or of the first path if there is no

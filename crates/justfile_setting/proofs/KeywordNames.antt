@@ -1,8 +1,8 @@
 -- The keyword that a text spells, as the code finds it and as the definitions do.
 use Rattle.std.proofs.Common.{◌≡◌, ℕ, List, Option, Some, None, MatchOption, refl, sym, ap, ◌∙◌}
-use Rattle.justfile_word.specs.Keyword.{keyword_named, keyword_text}
-use Rattle.justfile_word.specs.declared.keyword.Keyword.{Keyword}
-use Rattle.justfile_word.proofs.KeywordLaws.{spelled, spells}
+use Rattle.justfile_vocabulary.specs.Keyword.{keyword_named, keyword_text}
+use Rattle.justfile_vocabulary.specs.declared.keyword.Keyword.{Keyword}
+use Rattle.justfile_vocabulary.proofs.KeywordLaws.{spelled, spells}
 
 unnamed : (text : List ℕ) → ((k : Keyword) → ¬ (text ≡ keyword_text k)) → (named : Option Keyword) → keyword_named text ≡ named → None ≡ named
 unnamed text none None e = refl

@@ -1,13 +1,13 @@
 -- The text of a setting, by its parts.
 use Rattle.std.proofs.Common.{◌≡◌, ◌∙◌, ℕ, Bool, true, false, List, [], ◌∷◌, ◌++◌, codes, refl, sym, ap, append_assoc, append-nil, if◌then◌else◌}
-use Rattle.justfile_base.specs.StringLiteral.{format_mark}
-use Rattle.justfile_base.specs.Token.{lexeme_of}
+use Rattle.justfile_token.specs.StringLiteral.{format_mark}
+use Rattle.justfile_token.specs.Token.{lexeme_of}
 use Rattle.justfile_model.specs.Printing.{exprs_text, fixed_text, mark_text, setting_value_text}
 use Rattle.justfile_model.specs.Tree as tree
 use Rattle.justfile_model.specs.Tree.{SettingValue, lexeme, nothing, over_exprs, over_setting_value}
-use Rattle.justfile_tree.specs.Expression.{exprs_of}
-use Rattle.justfile_tree.specs.Text.{text_of}
-use Rattle.justfile_tree.specs.declared.expression.Expression.{Expression}
+use Rattle.justfile_expression.specs.Expression.{exprs_of}
+use Rattle.justfile_expression.specs.Text.{text_of}
+use Rattle.justfile_expression.specs.declared.expression.Expression.{Expression}
 use Rattle.justfile_setting.specs.Print.{later_texts, value_text, value_text_of}
 use Rattle.justfile_setting.specs.Setting.{is_default}
 use Rattle.justfile_setting.specs.Value.{value_seen}

@@ -3,15 +3,15 @@ use Rattle.std.specs.Prelude.{◌≡◌, ℕ, Bool, true, false, List, [], ◌�
 use Rattle.std.specs.Global.{Box}
 use Rattle.std.specs.List.{flat_map}
 use Rattle.justfile_attribute.specs.declared.interpreter.Interpreter.{Interpreter}
-use Rattle.justfile_word.specs.Indentation.{indentation_text}
-use Rattle.justfile_word.specs.declared.keyword.Keyword.{Keyword}
-use Rattle.justfile_word.specs.declared.keyword.Keyword.TheVariants as words
-use Rattle.justfile_base.specs.declared.string_literal.StringLiteral.{StringLiteral}
+use Rattle.justfile_vocabulary.specs.Indentation.{indentation_text}
+use Rattle.justfile_vocabulary.specs.declared.keyword.Keyword.{Keyword}
+use Rattle.justfile_vocabulary.specs.declared.keyword.Keyword.TheVariants as words
+use Rattle.justfile_token.specs.declared.string_literal.StringLiteral.{StringLiteral}
 use Rattle.justfile_model.specs.Tok.{Tok}
 use Rattle.justfile_model.specs.Tree as tree
 use Rattle.justfile_model.specs.Tree.{Expr, Exprs, SettingValue, lexeme, nothing, over_setting_value}
-use Rattle.justfile_tree.specs.Expression.{expr_of, exprs_of, expr_cooked, literal_tok}
-use Rattle.justfile_tree.specs.declared.expression.Expression.{Expression}
+use Rattle.justfile_expression.specs.Expression.{expr_of, exprs_of, expr_cooked, literal_tok}
+use Rattle.justfile_expression.specs.declared.expression.Expression.{Expression}
 use Rattle.justfile_setting.specs.declared.setting.Setting.{Setting}
 use Rattle.justfile_setting.specs.declared.setting.Setting.TheVariants as settings
 
@@ -117,9 +117,9 @@ setting_cooked (settings.WorkingDirectory value) = expr_cooked value.value
 setting_cooked _ = []
 
 -- what the tree doesn't show of a setting: an indentation is the text of its literal
-abbrev pub IsWholeSetting : Setting → Type 0
-IsWholeSetting (settings.Indentation literal indentation) = indentation_text indentation ≡ string_bytes literal.cooked
-IsWholeSetting _ = Unit {0}
+abbrev pub HasDerivedSettingFields : Setting → Type 0
+HasDerivedSettingFields (settings.Indentation literal indentation) = indentation_text indentation ≡ string_bytes literal.cooked
+HasDerivedSettingFields _ = Unit {0}
 
 -- a truth value that is true may be left out
 abbrev pub is_default : {A B : Type 0} → SettingValue A B → Bool

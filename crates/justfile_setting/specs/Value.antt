@@ -2,7 +2,7 @@
 use Rattle.justfile_model.specs.Tok.{Tok}
 use Rattle.justfile_model.specs.Tree as tree
 use Rattle.justfile_model.specs.Tree.{SettingValue}
-use Rattle.justfile_tree.specs.Expression.{expr_of, exprs_of, literal_tok}
+use Rattle.justfile_expression.specs.Expression.{expr_of, exprs_of, literal_tok}
 use Rattle.justfile_setting.specs.declared.value.Value.{Value}
 use Rattle.justfile_setting.specs.declared.value.Value.TheVariants as values
 

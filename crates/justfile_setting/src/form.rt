@@ -5,13 +5,13 @@ ghost use Rattle.justfile_model.specs.Settings as forms;
 ghost use Rattle.justfile_model.specs.Tree as tree;
 ghost use Rattle.justfile_setting.specs.Form.{form_of};
 ghost use Rattle.justfile_setting.specs.LeafSetting.{leaf_value_of};
-ghost use Rattle.justfile_setting.specs.Setting.{keyword_of, IsWholeSetting};
-ghost use Rattle.justfile_tree.specs.LeafTree.{leaf_tree_of, trees_of};
+ghost use Rattle.justfile_setting.specs.Setting.{keyword_of, HasDerivedSettingFields};
+ghost use Rattle.justfile_expression.specs.LeafTree.{leaf_tree_of, trees_of};
 
 use crate::setting::Setting;
 use justfile_attribute::Interpreter;
-use justfile_base::Keyword;
-use justfile_tree::Expression;
+use justfile_expression::Expression;
+use justfile_token::Keyword;
 
 /// What follows the name of a setting.
 #[derive(Clone, Copy, Debug, PartialEq, Eq)]
@@ -70,7 +70,7 @@ impl<'src> Setting<'src> {
         requires { forms.setting_form keyword ≡ Some forms.TruthForm }
         ensures keyword { keyword_of result ≡ keyword }
         ensures value { leaf_value_of result ≡ tree.Truth value }
-        ensures whole { IsWholeSetting result }
+        ensures whole { HasDerivedSettingFields result }
     {
         match keyword {
             Keyword::AllowDuplicateRecipes => Setting::AllowDuplicateRecipes(value),
@@ -101,7 +101,7 @@ impl<'src> Setting<'src> {
         requires { forms.setting_form keyword ≡ Some forms.ExpressionForm }
         ensures keyword { keyword_of result ≡ keyword }
         ensures value { leaf_value_of result ≡ tree.Value (leaf_tree_of value.entry.value) }
-        ensures whole { IsWholeSetting result }
+        ensures whole { HasDerivedSettingFields result }
     {
         match keyword {
             Keyword::DotenvCommand => Setting::DotenvCommand(value),
@@ -121,7 +121,7 @@ impl<'src> Setting<'src> {
         requires { forms.setting_form keyword ≡ Some forms.InterpreterForm }
         ensures keyword { keyword_of result ≡ keyword }
         ensures value { leaf_value_of result ≡ tree.Interpreter (leaf_tree_of interpreter.entry.value.command) (trees_of interpreter.entry.value.arguments.items) }
-        ensures whole { IsWholeSetting result }
+        ensures whole { HasDerivedSettingFields result }
     {
         match keyword {
             Keyword::ScriptInterpreter => Setting::ScriptInterpreter(interpreter),

@@ -1,7 +1,7 @@
 //! Settings: what they hold, what they conflict with, how they are made of keywords and values, and their text.
 #![tactic(auto)]
 
-mod copied;
+mod copy;
 mod form;
 mod print;
 mod resolve;

@@ -1,16 +1,16 @@
 //! The text of settings.
 ghost use Rattle.std.specs.Prelude.{◌≡◌, ◌++◌, OnOk, OnErr, codes};
 ghost use Rattle.std.specs.List.{flat_map};
-ghost use Rattle.justfile_base.specs.StringLiteral.{literal_text};
+ghost use Rattle.justfile_token.specs.StringLiteral.{literal_text};
 ghost use Rattle.justfile_model.specs.Printing.{fixed_text};
 ghost use Rattle.justfile_setting.specs.Print.{interpreter_text, later_texts, setting_output, truth_text, value_text_of};
-ghost use Rattle.justfile_tree.specs.Text.{text_of};
+ghost use Rattle.justfile_expression.specs.Text.{text_of};
 
 use crate::setting::Setting;
 use crate::value::Value;
 use justfile_attribute::Interpreter;
-use justfile_base::StringLiteral;
-use justfile_tree::{Expression, Sink, put_piece, write_expression};
+use justfile_expression::{Expression, Sink, put_piece, write_expression};
+use justfile_token::StringLiteral;
 use std::fmt;
 
 /// Puts a truth value.

@@ -1,11 +1,11 @@
 //! The numbers of the variables that settings hold.
 ghost use Rattle.justfile_setting.specs.Resolved.{IsResolvedCommand, IsResolvedSetting};
-ghost use Rattle.justfile_tree.specs.Resolved.{number_of};
+ghost use Rattle.justfile_expression.specs.Resolved.{number_of};
 
 use crate::setting::Setting;
 use justfile_attribute::Interpreter;
-use justfile_base::Number;
-use justfile_tree::{Expression, resolve_expressions};
+use justfile_expression::{Expression, resolve_expressions};
+use justfile_token::Number;
 use std::collections::HashMap;
 
 impl<'src> Setting<'src> {

@@ -4,8 +4,8 @@ ghost use Rattle.justfile_setting.specs.Value.{value_seen};
 
 use crate::value::Value;
 use justfile_attribute::Interpreter;
-use justfile_base::{Indentation, Keyword, StringLiteral};
-use justfile_tree::Expression;
+use justfile_expression::Expression;
+use justfile_token::{Indentation, Keyword, StringLiteral};
 
 /// What a justfile sets for all of its recipes.
 #[derive(Drop)]

@@ -1,6 +1,6 @@
 use justfile_attribute::Interpreter;
-use justfile_base::StringLiteral;
-use justfile_tree::Expression;
+use justfile_expression::Expression;
+use justfile_token::StringLiteral;
 
 /// What a setting is set to.
 #[derive(Clone, Copy)]

@@ -10,13 +10,13 @@ pub mod assignment {
 }
 
 pub mod ast {
-    pub use justfile_file::Ast;
+    pub use justfile_ast::Ast;
 }
 
 pub mod attribute {
     pub use justfile_attribute::{Attribute, attribute_content_cmp};
     pub use justfile_attribute_rules::KeywordArguments;
-    pub use justfile_base::AttributeKind;
+    pub use justfile_token::AttributeKind;
 }
 
 pub mod attribute_set {
@@ -28,15 +28,15 @@ pub mod binding {
 }
 
 pub mod byte_class {
-    pub use justfile_base::byte_class::{ByteClass, byte_class};
+    pub use justfile_token::byte_class::{ByteClass, byte_class};
 }
 
 pub mod compile_error {
-    pub use justfile_base::CompileError;
+    pub use justfile_token::CompileError;
 }
 
 pub mod compile_error_kind {
-    pub use justfile_base::CompileErrorKind;
+    pub use justfile_token::CompileErrorKind;
 }
 
 pub mod conditional_operator {
@@ -44,23 +44,23 @@ pub mod conditional_operator {
 }
 
 pub mod count {
-    pub use justfile_base::Count;
+    pub use justfile_token::Count;
 }
 
 pub mod delimiter {
-    pub use justfile_base::Delimiter;
+    pub use justfile_token::Delimiter;
 }
 
 pub mod expander {
-    pub use justfile_base::{ExpandFault, Expander};
+    pub use justfile_token::{ExpandFault, Expander};
 }
 
 pub mod expression {
-    pub use justfile_tree::Expression;
+    pub use justfile_expression::Expression;
 }
 
 pub mod fault {
-    pub use justfile_base::{CompileResult, Fault};
+    pub use justfile_token::{CompileResult, Fault};
 }
 
 pub mod fragment {
@@ -72,7 +72,7 @@ pub mod function_definition {
 }
 
 pub mod indentation {
-    pub use justfile_base::Indentation;
+    pub use justfile_token::Indentation;
 }
 
 pub mod interpreter {
@@ -80,26 +80,27 @@ pub mod interpreter {
 }
 
 pub mod item {
-    pub use justfile_base::ItemKind;
     pub use justfile_item::Item;
+    pub use justfile_token::ItemKind;
 }
 
 pub mod keyed {
-    pub use justfile_base::Keyed;
+    pub use justfile_token::Keyed;
 }
 
 pub mod keyword {
-    pub use justfile_base::Keyword;
+    pub use justfile_token::Keyword;
 }
 
 pub mod laws {
+    pub use justfile_ast::laws::same_numbers;
     pub use justfile_attribute::laws::{attributes_equal, interpreters_ordered, new_attributes};
     pub use justfile_attribute_set::laws::sets_in_order;
-    pub use justfile_base::laws::{
-        attribute_names, indentation_texts, one_spelling, signal_names, versions_ordered,
+    pub use justfile_expression::laws::{
+        cases_equal, cases_ordered, errors_equal, expression_contents_ordered, expressions_ordered,
+        literals_ordered, modulepaths_ordered, namepaths_ordered, names_ordered, numbers_ordered,
+        string_kinds_ordered, tokens_ordered, words_equal,
     };
-    pub use justfile_file::laws::same_numbers;
-    pub use justfile_header::laws::header_parts_equal;
     pub use justfile_item::laws::bindings_equal;
     pub use justfile_line::laws::{lines_equal, sigils_ordered};
     pub use justfile_literal::laws::{
@@ -119,11 +120,10 @@ pub mod laws {
         bodies_follow_colons, levels_close_before_blank_lines, literals_end_at_first_end,
         open_is_unclosed, reads_up_to_first_end,
     };
+    pub use justfile_recipe_header::laws::header_parts_equal;
     pub use justfile_round_trip::{least_need, modes_agree, reads_back};
-    pub use justfile_tree::laws::{
-        cases_equal, cases_ordered, errors_equal, expression_contents_ordered, expressions_ordered,
-        literals_ordered, modulepaths_ordered, namepaths_ordered, names_ordered, numbers_ordered,
-        string_kinds_ordered, tokens_ordered, words_equal,
+    pub use justfile_token::laws::{
+        attribute_names, indentation_texts, one_spelling, signal_names, versions_ordered,
     };
 }
 
@@ -136,39 +136,39 @@ pub mod line {
 }
 
 pub mod list {
-    pub use justfile_base::List;
+    pub use justfile_token::List;
 }
 
 pub mod list_feature {
-    pub use justfile_base::ListFeature;
+    pub use justfile_token::ListFeature;
 }
 
 pub mod list_operator {
-    pub use justfile_tree::ListOperator;
+    pub use justfile_expression::ListOperator;
 }
 
 pub mod modulepath {
-    pub use justfile_base::Modulepath;
+    pub use justfile_token::Modulepath;
 }
 
 pub mod name {
-    pub use justfile_base::Name;
+    pub use justfile_token::Name;
 }
 
 pub mod namepath {
-    pub use justfile_base::Namepath;
+    pub use justfile_token::Namepath;
 }
 
 pub mod numerator {
-    pub use justfile_base::{Number, Numerator};
+    pub use justfile_token::{Number, Numerator};
 }
 
 pub mod parameter {
-    pub use justfile_header::Parameter;
+    pub use justfile_recipe_header::Parameter;
 }
 
 pub mod parameter_kind {
-    pub use justfile_header::ParameterKind;
+    pub use justfile_recipe_header::ParameterKind;
 }
 
 pub mod parser {
@@ -194,31 +194,31 @@ pub mod sigil {
 }
 
 pub mod signal {
-    pub use justfile_base::Signal;
+    pub use justfile_token::Signal;
 }
 
 pub mod source {
-    pub use justfile_base::Source;
+    pub use justfile_token::Source;
 }
 
 pub mod string_kind {
-    pub use justfile_base::{StringDelimiter, StringKind};
+    pub use justfile_token::{StringDelimiter, StringKind};
 }
 
 pub mod string_literal {
-    pub use justfile_base::{FormatStringPart, StringLiteral};
+    pub use justfile_token::{FormatStringPart, StringLiteral};
 }
 
 pub mod switch {
-    pub use justfile_base::Switch;
+    pub use justfile_token::Switch;
 }
 
 pub mod token {
-    pub use justfile_base::Token;
+    pub use justfile_token::Token;
 }
 
 pub mod token_kind {
-    pub use justfile_base::TokenKind;
+    pub use justfile_token::TokenKind;
 }
 
 pub mod unindent {
@@ -226,19 +226,19 @@ pub mod unindent {
 }
 
 pub mod unresolved_dependency {
-    pub use justfile_header::{DependencyArgument, UnresolvedDependency};
+    pub use justfile_recipe_header::{DependencyArgument, UnresolvedDependency};
 }
 
 pub mod unstable_feature {
-    pub use justfile_base::UnstableFeature;
+    pub use justfile_token::UnstableFeature;
 }
 
 pub mod version {
-    pub use justfile_base::Version;
+    pub use justfile_token::Version;
 }
 
 pub mod write_fault {
-    pub use justfile_file::{WriteFault, write_whole};
+    pub use justfile_ast::{WriteFault, write_whole};
 }
 
 #[cfg(test)]

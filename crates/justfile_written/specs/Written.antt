@@ -1,7 +1,7 @@
 -- Where attributes were written: their names, and comments.
 use Rattle.std.specs.Prelude.{ℕ, List, [], ◌∷◌, Option, Some, None}
 use denote.Ref.{Bor}
-use Rattle.justfile_base.specs.declared.name.Name.{Name}
+use Rattle.justfile_token.specs.declared.name.Name.{Name}
 use Rattle.justfile_written.specs.declared.written.Written.{Written}
 
 -- a comment as it stands in the source

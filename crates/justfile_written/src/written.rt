@@ -1,7 +1,7 @@
 ghost use Rattle.std.specs.Prelude.{◌≡◌, IfOk, map};
 ghost use Rattle.justfile_written.specs.Written.{commented, line_commented, uncommented};
 
-use justfile_base::Name;
+use justfile_token::Name;
 use std::alloc::{AllocError, Global};
 
 /// Where an attribute was written.

@@ -2,7 +2,7 @@
 //! text is lexed to.
 ghost use Rattle.std.specs.Prelude.{◌≡◌, IsTrue};
 ghost use Rattle.std.specs.List.{All};
-ghost use Rattle.justfile_base.specs.Token.{lexeme_of};
+ghost use Rattle.justfile_token.specs.Token.{lexeme_of};
 ghost use Rattle.justfile_literal.specs.Literal.{is_part};
 
 use crate::string_kind::{StringDelimiter, StringKind};

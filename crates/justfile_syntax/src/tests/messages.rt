@@ -196,7 +196,7 @@ const THIRD: Token<'static> = Token {
 };
 
 /// A refusal of definitions that are repeated.
-fn repeated(place: usize) -> CompileErrorKind<'static> {
+fn repeated_error(place: usize) -> CompileErrorKind<'static> {
     match place {
         0 => CompileErrorKind::Redefinition {
             first: 0,
@@ -237,7 +237,7 @@ static REPEATED: &[&str] = &[
 #[test]
 fn definitions_that_are_repeated(rt: HostRuntime) {
     for (place, text) in REPEATED.iter().enumerate() {
-        says(&rt, rt.alloc(), &THIRD, repeated(place), text);
+        says(&rt, rt.alloc(), &THIRD, repeated_error(place), text);
     }
 }
 

@@ -1,4 +1,4 @@
-use Rattle.justfile_word.specs.declared.attribute_kind.AttributeKind.TheVariants as kinds
+use Rattle.justfile_vocabulary.specs.declared.attribute_kind.AttributeKind.TheVariants as kinds
 use Rattle.justfile_attribute.specs.Attribute.{leaf_attribute_of}
 use Rattle.justfile_attribute_rules.specs.Keys.{key_arguments}
 use Rattle.justfile_attribute_rules.specs.Made.{placed_leaves}

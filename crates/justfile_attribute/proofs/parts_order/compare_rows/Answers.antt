@@ -1,6 +1,6 @@
 use Rattle.std.proofs.Common.{rules}
 use Rattle.std.specs.Ordering.{on}
-use Rattle.justfile_tree.proofs.Compared.{at_end}
+use Rattle.justfile_expression.proofs.Compared.{at_end}
 use Rattle.justfile_attribute.specs.Order.{by_content, literal_key}
 use Rattle.justfile_attribute.proofs.parts_order.compare_rows.Goals as goal
 

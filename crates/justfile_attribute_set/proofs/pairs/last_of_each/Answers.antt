@@ -1,6 +1,6 @@
 use Rattle.std.proofs.Common.{rules}
 use Rattle.std.specs.Cmp.{on_per}
-use Rattle.justfile_attribute_set.proofs.Kept.{met_left, met_kept}
+use Rattle.justfile_attribute_set.proofs.LastKept.{met_left, met_kept}
 use Rattle.justfile_attribute_set.proofs.pairs.last_of_each.Goals as goal
 
 pub loop-pair-preserved-in-Continue-1 : goal.loop-pair-preserved-in-Continue-1

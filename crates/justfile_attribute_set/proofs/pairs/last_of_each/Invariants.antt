@@ -1,5 +1,5 @@
 use Rattle.std.proofs.Common.{vec_len}
-use Rattle.justfile_attribute_set.proofs.Kept.{HasMet}
+use Rattle.justfile_attribute_set.proofs.LastKept.{HasMet}
 use Rattle.justfile_attribute_set.proofs.pairs.last_of_each.Given as goal
 
 abbrev pub invariant-loop-pair : goal.invariant-loop-pair

@@ -1,7 +1,7 @@
 use Rattle.std.proofs.Common.{◌≡◌, ℕ, List, ◌++◌, codes, ap, ◌∙◌, subst}
-use Rattle.justfile_base.specs.Namepath.{namepath_text}
-use Rattle.justfile_base.specs.Token.{lexeme_of}
-use Rattle.justfile_base.specs.declared.namepath.Namepath.{Namepath}
+use Rattle.justfile_token.specs.Namepath.{namepath_text}
+use Rattle.justfile_token.specs.Token.{lexeme_of}
+use Rattle.justfile_token.specs.declared.namepath.Namepath.{Namepath}
 use Rattle.justfile_model.specs.Printing.{fixed_text}
 use Rattle.justfile_line.proofs.Loops.{at_err}
 use Rattle.justfile_item.specs.ItemText.{alias_text_of}

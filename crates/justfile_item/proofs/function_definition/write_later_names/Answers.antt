@@ -1,7 +1,7 @@
 use Rattle.std.proofs.Common.{◌++◌, codes, refl, arith}
-use Rattle.justfile_base.specs.Token.{lexeme_of}
-use Rattle.justfile_base.specs.declared.name.Name.{Name}
-use Rattle.justfile_word.specs.declared.number.Number.{Number}
+use Rattle.justfile_token.specs.Token.{lexeme_of}
+use Rattle.justfile_token.specs.declared.name.Name.{Name}
+use Rattle.justfile_vocabulary.specs.declared.number.Number.{Number}
 use Rattle.justfile_model.specs.Printing.{fixed_text}
 use Rattle.justfile_line.proofs.Loops.{at_err, took_next, failed_next}
 use Rattle.justfile_item.specs.ItemText.{later_names_text}

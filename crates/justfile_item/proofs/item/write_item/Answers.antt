@@ -1,5 +1,5 @@
 use Rattle.std.proofs.Common.{ℕ, List, subst}
-use Rattle.justfile_word.specs.Indentation.{indentation_text}
+use Rattle.justfile_vocabulary.specs.Indentation.{indentation_text}
 use Rattle.justfile_line.proofs.Loops.{at_err}
 use Rattle.justfile_item.proofs.ShownDocs.{item_parts}
 use Rattle.justfile_item.proofs.item.write_item.Goals as goal

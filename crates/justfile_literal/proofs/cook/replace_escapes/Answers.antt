@@ -1,6 +1,6 @@
 use Rattle.std.proofs.Common.{◌≡◌, ◌∙◌, true, string_bytes, sym}
 use Rattle.std.proofs.lemmas.Result.{IfErr-weaker, IfOk-weaker}
-use Rattle.justfile_base.specs.StringKind.{escapes}
+use Rattle.justfile_token.specs.StringKind.{escapes}
 use Rattle.justfile_literal.proofs.LiteralTexts.{cooked_string, refused_string}
 use Rattle.justfile_literal.proofs.cook.replace_escapes.Goals as goal
 

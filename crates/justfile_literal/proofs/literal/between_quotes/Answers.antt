@@ -1,5 +1,5 @@
 use Rattle.std.proofs.Common.{IsTrue, subst, sym}
-use Rattle.justfile_base.specs.StringKind.{delimiter_len}
+use Rattle.justfile_token.specs.StringKind.{delimiter_len}
 use Rattle.justfile_literal.specs.Literal.{is_framed}
 use Rattle.justfile_literal.proofs.LiteralTexts.{begins}
 use Rattle.justfile_literal.proofs.literal.between_quotes.Goals as goal

@@ -1,7 +1,7 @@
 use Rattle.std.proofs.Common.{◌∙◌, ap, sym, subst, take}
 use Rattle.std.specs.Str.{IsCharBoundary}
 use Rattle.std.specs.List.{list_all}
-use Rattle.justfile_word.specs.Indentation.{is_space_or_tab}
+use Rattle.justfile_vocabulary.specs.Indentation.{is_space_or_tab}
 use Rattle.justfile_literal.proofs.SharedFronts.{blanks_cut, leading_blank}
 use Rattle.justfile_literal.proofs.unindent.leading_blanks.Goals as goal
 

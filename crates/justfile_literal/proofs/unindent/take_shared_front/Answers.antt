@@ -1,7 +1,7 @@
 use Rattle.std.proofs.Common.{◌∙◌, ap, sym, take, [], ◌∷◌, nat_eq, arith}
 use Rattle.std.specs.List.{list_all}
 use Rattle.std.proofs.lemmas.List.Sums.{common_prefix_len-le}
-use Rattle.justfile_word.specs.Indentation.{is_space_or_tab}
+use Rattle.justfile_vocabulary.specs.Indentation.{is_space_or_tab}
 use Rattle.justfile_literal.proofs.SharedFronts.{run_cut, shared_blank, shared_two}
 use Rattle.justfile_literal.proofs.unindent.take_shared_front.Goals as goal
 

@@ -3,9 +3,9 @@ use Rattle.justfile_model.proofs.attribute_laws.attributes_made.Goals as goal
 
 pub returns : goal.returns
 returns g c = record {
-  made = λ sight at kind placed keys. attribute_made sight at kind placed keys;
-  refused = λ sight at kind placed keys. attribute_refused sight at kind placed keys;
-  unbroken = λ sight at kind placed keys none texts.
-      let m = attribute_unbroken sight at kind placed keys none texts in
+  made = λ view at kind placed keys. attribute_made view at kind placed keys;
+  refused = λ view at kind placed keys. attribute_refused view at kind placed keys;
+  unbroken = λ view at kind placed keys none texts.
+      let m = attribute_unbroken view at kind placed keys none texts in
       (m.attribute, m.made);
 }

@@ -1,7 +1,7 @@
 use Rattle.std.proofs.Common.{refl, codes}
 use Rattle.std.specs.Char.{encode_utf8}
 use Rattle.std.specs.Str.{chars, is_utf8}
-use Rattle.justfile_word.specs.ByteClass.{class_of}
+use Rattle.justfile_vocabulary.specs.ByteClass.{class_of}
 use Rattle.justfile_model.specs.Bytes.{closes_levels}
 use Rattle.justfile_model.specs.LiteralText.{pieces_len}
 use Rattle.justfile_model.specs.Next.{body_token, fixed_token, token_by_class, token_within_line, layout, literal_part, next}

@@ -1,7 +1,7 @@
 use Rattle.std.proofs.Common.{◌≡◌, ◌≤◌, [], length, map}
 use Rattle.justfile_parse.specs.Docs.{taken_docs, with_items}
 use Rattle.justfile_parse_item.specs.Tree.{item_tree}
-use Rattle.justfile_parse_item.specs.Whole.{AreWhole}
+use Rattle.justfile_parse_item.specs.DerivedFields.{HaveDerivedFields}
 use Rattle.justfile_parse.proofs.docs.set_docs.Given as goal
 
 abbrev pub invariant-loop-place : goal.invariant-loop-place
@@ -9,5 +9,5 @@ invariant-loop-place l = record {
   trees : taken_docs l.kept l.place l.items.items ≡ with_items [] (map item_tree l.initial.items.items);
   order : l.kept ≤ l.place;
   len : length l.items.items ≡ length l.initial.items.items;
-  whole : AreWhole l.items.items;
+  whole : HaveDerivedFields l.items.items;
 }

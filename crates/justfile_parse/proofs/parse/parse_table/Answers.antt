@@ -1,15 +1,15 @@
 use Rattle.std.proofs.Common.{◌≡◌, subst, map, Ok, Err, Option, arith}
-use Rattle.justfile_model.specs.Reading.{NoNumber}
+use Rattle.justfile_model.specs.ReaderState.{NoNumber}
 use Rattle.justfile_parse_expression.specs.Conditions.{conditions_of}
 use Rattle.justfile_parse_item.specs.ItemTable as reader
 use Rattle.justfile_parse_expression.specs.TableReader.{Run, State}
-use Rattle.justfile_parse_attribute.specs.Halting.{HaltsAt}
-use Rattle.justfile_parse.specs.Halting.{IsFaultOfHalt}
+use Rattle.justfile_parse_attribute.specs.ParseErrors.{IsParseError}
+use Rattle.justfile_parse.specs.ErrorFaults.{IsFaultOfError}
 use Rattle.justfile_parse_item.specs.Tree.{item_tree}
 use Rattle.justfile_parse_expression.specs.View.{state_of}
 use Rattle.justfile_parse_expression.specs.declared.significant.TableEntry.{TableEntry}
 use Rattle.justfile_parse_expression.proofs.Rest.{noted_is}
-use Rattle.justfile_parse.proofs.Whole.{read_of, unread}
+use Rattle.justfile_parse.proofs.FileResults.{read_of, unread}
 use Rattle.justfile_parse.proofs.parse.parse_table.Goals as goal
 use Rattle.justfile_parse_header.specs.Counting.{counters_of}
 
@@ -29,7 +29,7 @@ returns-clause-err g c =
     let n = counters_of c.args.numerator.now in
     let m = counters_of c.parse_file.new.numerator in
     let run : Run = record { conditions = conditions_of A c.args.expander.now c.args.current c.args.limit; table = c.args.tokens.now; file_depth = c.args.file_depth; import_offsets = c.args.import_offsets.now } in
-    let P : State → Type 0 = λ s. HaltsAt c.in-Err.halt (state_of A p) (reader.file n s ≡ Err (NoNumber m)) (reader.file n s) in
-    let Q : Option TableEntry → Type 0 = λ next. IsFaultOfHalt c.args.tokens.now next c.in-Err.halt c.make_fault.result in
-    unread run.conditions run.table run.file_depth run.import_offsets c.args.numerator.now c.parse_file.new.numerator (state_of A p) c.in-Err.halt c.make_fault.result
+    let P : State → Type 0 = λ s. IsParseError c.in-Err.error (state_of A p) (reader.file n s ≡ Err (NoNumber m)) (reader.file n s) in
+    let Q : Option TableEntry → Type 0 = λ next. IsFaultOfError c.args.tokens.now next c.in-Err.error c.make_fault.result in
+    unread run.conditions run.table run.file_depth run.import_offsets c.args.numerator.now c.parse_file.new.numerator (state_of A p) c.in-Err.error c.make_fault.result
     (subst P c.new-parser.ensures c.in-Err.ensures.reads) (subst Q c.peek_front.ensures c.make_fault.ensures)

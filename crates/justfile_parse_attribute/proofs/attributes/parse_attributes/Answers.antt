@@ -7,7 +7,7 @@ use Rattle.justfile_parse_attribute.specs.AttributeTable.{Entries}
 use Rattle.justfile_parse_expression.specs.TableReader.{Read}
 use Rattle.justfile_parse_expression.specs.View.{state_of}
 use Rattle.justfile_parse_attribute.proofs.AttributeLoops.{lines_are, lines_end, lines_stop}
-use Rattle.justfile_parse_attribute.proofs.StillWhole.{none_whole}
+use Rattle.justfile_parse_attribute.proofs.DerivedFieldsKept.{none_whole}
 use Rattle.justfile_parse_attribute.proofs.attributes.parse_attributes.Goals as goal
 
 pub lines-init : goal.lines-init

@@ -1,16 +1,16 @@
 use Rattle.std.proofs.Common.{◌≡◌, ◌≤◌, map}
 use Rattle.justfile_parse_attribute.specs.AttributeTable.{attribute_lines, attribute_lines_from}
 use Rattle.justfile_parse_attribute.specs.Attributes.{entry_of_pair}
-use Rattle.justfile_parse_attribute.specs.WholeAttributes.{AreWholePairs}
-use Rattle.justfile_parse_expression.specs.View.{left, state_of}
+use Rattle.justfile_parse_attribute.specs.DerivedAttributeFields.{HaveDerivedPairFields}
+use Rattle.justfile_parse_expression.specs.View.{tokens_left, state_of}
 use Rattle.justfile_parse_attribute.proofs.attributes.parse_attributes.Given as goal
 
 abbrev pub invariant-lines : goal.invariant-lines
 invariant-lines g l = record {
-  ahead : left l.parser ≤ left l.fn.parser;
+  ahead : tokens_left l.parser ≤ tokens_left l.fn.parser;
   value : attribute_lines_from (map entry_of_pair l.attributes.pairs.items, state_of g.X.Expander.answer l.parser) ≡ attribute_lines (state_of g.X.Expander.answer l.fn.parser);
-  whole : AreWholePairs l.attributes.pairs.items;
+  whole : HaveDerivedPairFields l.attributes.pairs.items;
 }
 
 abbrev pub decreases-lines : goal.decreases-lines
-decreases-lines g l = left l.parser
+decreases-lines g l = tokens_left l.parser

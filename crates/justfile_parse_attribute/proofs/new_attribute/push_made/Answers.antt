@@ -1,4 +1,4 @@
-use Rattle.justfile_parse_attribute.proofs.StillWhole.{added_whole}
+use Rattle.justfile_parse_attribute.proofs.DerivedFieldsKept.{added_whole}
 use Rattle.justfile_parse_attribute.proofs.new_attribute.push_made.Goals as goal
 
 pub returns-in-Ok-clause-whole : goal.returns-in-Ok-clause-whole

@@ -4,6 +4,6 @@ use Rattle.justfile_parse_attribute.proofs.repeated.find_label.Goals as goal
 
 pub returns-in-Some : goal.returns-in-Some
 returns-in-Some c =
-    subst (λ (line : Option ℕ). ChecksLine line (label_rule c.args.is_arg c.args.literal.now) c.args.name.token (Err c.repeated_label.result))
+    subst (λ (line : Option ℕ). ChecksLine line (label_rule c.args.is_arg c.args.literal.now) c.args.name.token (Err c.repeated_label_error.result))
     (c.in-Some.ensures ∙ ap (λ text. line_at c.args.is_arg text c.args.labels.now) c.as_str.ensures.value)
-    c.repeated_label.ensures
+    c.repeated_label_error.ensures

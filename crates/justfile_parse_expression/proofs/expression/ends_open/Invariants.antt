@@ -1,7 +1,7 @@
 use Rattle.std.proofs.Common.{◌≡◌}
 use Rattle.justfile_model.specs.Expressions.{ends_open}
-use Rattle.justfile_tree.specs.LeafTree.{leaf_tree_of}
-use Rattle.justfile_tree.specs.declared.expression.Expression.{size-Expression}
+use Rattle.justfile_expression.specs.LeafTree.{leaf_tree_of}
+use Rattle.justfile_expression.specs.declared.expression.Expression.{size-Expression}
 use Rattle.justfile_parse_expression.proofs.expression.ends_open.Given as goal
 
 abbrev pub invariant-branches : goal.invariant-branches

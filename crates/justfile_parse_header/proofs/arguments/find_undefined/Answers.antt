@@ -7,7 +7,7 @@ use Rattle.justfile_parse_header.specs.Arguments.{least_undefined, lesser_of}
 use Rattle.justfile_parse_header.specs.Tree.{parameter_tree, rules_of}
 use Rattle.justfile_parse_header.proofs.Least.{goes_on, least_in}
 use Rattle.justfile_parse_header.proofs.arguments.find_undefined.Goals as goal
-use Rattle.justfile_tree.specs.LeafTree.{Leaf}
+use Rattle.justfile_expression.specs.LeafTree.{Leaf}
 
 pub attributes-preserved : goal.attributes-preserved
 attributes-preserved c =
@@ -16,4 +16,4 @@ attributes-preserved c =
     let rest = keys_left c.next.new.self in
     goes_on ps (least_undefined ps (rules_of c.args.attributes.now)) found c.in-Some.attribute.now (keys_left c.attributes.left) rest c.in-Some.ensures.steps c.attributes.invariant
     ∙ ap (λ (f : Option (Quoted Leaf)). lesser_of f (least_in ps rest))
-    (ap (lesser_of found) (sym (c.undefined.ensures ps c.in_ok-names.ensures)) ∙ sym c.lesser-found.ensures)
+    (ap (lesser_of found) (sym (c.undefined_parameter.ensures ps c.in_ok-names.ensures)) ∙ sym c.min_by_text-found.ensures)

@@ -1,10 +1,10 @@
 use Rattle.std.proofs.Common.{◌≡◌, ◌++◌, ◌∷◌, [], false, List, map, Some, None}
-use Rattle.justfile_base.specs.declared.fault.Fault.TheVariants as faults
+use Rattle.justfile_token.specs.declared.fault.Fault.TheVariants as faults
 use Rattle.justfile_model.specs.RecipeRules.{stars}
 use Rattle.justfile_parse_expression.specs.declared.significant.TableEntry.{TableEntry}
 use Rattle.justfile_parse_header.specs.HeaderTable.{second_from}
 use Rattle.justfile_parse_header.specs.Tree.{read_argument}
-use Rattle.justfile_parse_header.proofs.Stars.{one_star, says_second, second_halts}
+use Rattle.justfile_parse_header.proofs.Stars.{one_star, says_second, second_fails}
 use Rattle.justfile_parse_header.proofs.dependency.check_first.Goals as goal
 
 pub returns-in-None : goal.returns-in-None
@@ -18,5 +18,5 @@ returns-in-Some c =
     let all : List TableEntry = stars (map read_argument c.args.before.now) ++ c.args.star ∷ [] in
     let second = c.in-Some.second in
     let found : second_from false all ≡ Some second = cc in
-    λ s. second_halts s (faults.Compile c.error.result) c.make_halt.result c.make_halt.ensures all second found
+    λ s. second_fails s (faults.Compile c.error.result) c.rule_error.result c.rule_error.ensures all second found
     (says_second second c.error.result c.error.ensures.token c.error.ensures.kind)

@@ -1,14 +1,14 @@
 use Rattle.std.proofs.Common.{◌≡◌, sym, subst, List, [], map, None}
 use Rattle.std.proofs.lemmas.Result.{err_from_is_err_and}
-use Rattle.justfile_word.specs.declared.token_kind.TokenKind.TheVariants as kinds
-use Rattle.justfile_parse_attribute.specs.Halting.{HaltsAt}
+use Rattle.justfile_vocabulary.specs.declared.token_kind.TokenKind.TheVariants as kinds
+use Rattle.justfile_parse_attribute.specs.ParseErrors.{IsParseError}
 use Rattle.justfile_parse_expression.specs.TableReader.{accept}
 use Rattle.justfile_parse_expression.specs.View.{state_of}
 use Rattle.justfile_parse_expression.specs.declared.parser.ExpressionParser.{ExpressionParser}
 use Rattle.justfile_parse_header.specs.HeaderTable.{dependency_argument, dependency_arguments}
 use Rattle.justfile_parse_header.specs.Tree.{read_argument}
 use Rattle.justfile_parse_header.specs.declared.dependency.ReadArgument.{ReadArgument}
-use Rattle.justfile_parse_header.proofs.Dependencies.{arguments_halt}
+use Rattle.justfile_parse_header.proofs.Dependencies.{arguments_fail}
 use Rattle.justfile_parse_header.proofs.dependency.parse_arguments.Goals as goal
 
 pub returns-in_err-argument-clause-reads : goal.returns-in_err-argument-clause-reads
@@ -17,13 +17,13 @@ returns-in_err-argument-clause-reads g c =
     let s = state_of A c.args.parser.now in
     let q = state_of A c.accept.new.self in
     let done = c.arguments.arguments.items in
-    let halt = c.in_err-argument.field-0.0 in
+    let error = c.in_err-argument.field-0.0 in
     let left = state_of A c.parse_argument.new.parser in
     let p = err_from_is_err_and c.from_residual.result c.from_residual.ensures.1 in
     let P : ExpressionParser _ → Type 0 = λ p. dependency_arguments (map read_argument done, state_of A p) ≡ dependency_arguments ([], s) in
     let Q : ExpressionParser _ → Type 0 = λ p. accept kinds.ParenR (state_of A p) ≡ None in
-    let R : List ReadArgument → Type 0 = λ l. HaltsAt halt left ⊥ (dependency_argument (map read_argument l) q) in
+    let R : List ReadArgument → Type 0 = λ l. IsParseError error left ⊥ (dependency_argument (map read_argument l) q) in
     let here = sym c.in_default.ensures.moves in
     rw (p.1, p.2)
-    (arguments_halt done s q (subst P here c.arguments.invariant.value) (subst Q here c.in_default.ensures.takes) halt left
+    (arguments_fail done s q (subst P here c.arguments.invariant.value) (subst Q here c.in_default.ensures.takes) error left
     (subst R c.as_slice.ensures.value c.in_err-argument.ensures.reads))

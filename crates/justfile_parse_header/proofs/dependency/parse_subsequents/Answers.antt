@@ -1,7 +1,7 @@
 use Rattle.std.proofs.Common.{arith}
 use Rattle.std.proofs.lemmas.Result.{err_from_is_err_and}
 use Rattle.justfile_parse_expression.specs.View.{state_of}
-use Rattle.justfile_parse_header.proofs.Dependencies.{subsequents_halt, subsequents_missing, subsequents_read}
+use Rattle.justfile_parse_header.proofs.Dependencies.{subsequents_fail, subsequents_missing, subsequents_read}
 use Rattle.justfile_parse_header.proofs.dependency.parse_subsequents.Goals as goal
 
 pub returns-in_err-parse_dependencies-clause-reads : goal.returns-in_err-parse_dependencies-clause-reads
@@ -9,7 +9,7 @@ returns-in_err-parse_dependencies-clause-reads g c =
     let A = g.X.Expander.answer in
     let p = err_from_is_err_and c.from_residual.result c.from_residual.ensures.1 in
     rw (p.1, p.2)
-    (subsequents_halt c.args.dependencies.now.items (state_of A c.args.parser.now) c.in-Some._operator (state_of A c.accept.new.self) c.in-Some.ensures.takes
+    (subsequents_fail c.args.dependencies.now.items (state_of A c.args.parser.now) c.in-Some._operator (state_of A c.accept.new.self) c.in-Some.ensures.takes
     c.in_err-parse_dependencies.field-0.0 (state_of A c.parse_dependencies.new.parser) c.in_err-parse_dependencies.ensures.reads)
 
 pub returns-then-len-priors-clause-reads : goal.returns-then-len-priors-clause-reads

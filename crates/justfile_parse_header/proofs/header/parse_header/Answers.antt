@@ -1,11 +1,11 @@
 use Rattle.std.proofs.Common.{◌≡◌, List, [], map, Ok, Err, subst, arith}
 use Rattle.std.proofs.lemmas.Result.{err_from_is_err_and}
-use Rattle.justfile_word.specs.declared.token_kind.TokenKind.TheVariants as kinds
-use Rattle.justfile_header.specs.declared.parameter.Parameter.{Parameter}
-use Rattle.justfile_header.specs.declared.unresolved_dependency.UnresolvedDependency.{UnresolvedDependency}
+use Rattle.justfile_vocabulary.specs.declared.token_kind.TokenKind.TheVariants as kinds
+use Rattle.justfile_recipe_header.specs.declared.parameter.Parameter.{Parameter}
+use Rattle.justfile_recipe_header.specs.declared.unresolved_dependency.UnresolvedDependency.{UnresolvedDependency}
 use Rattle.justfile_model.specs.HeaderReader.{obeying}
-use Rattle.justfile_model.specs.Reading.{NoNumber, prepend}
-use Rattle.justfile_parse_attribute.specs.Halting.{HaltsAt}
+use Rattle.justfile_model.specs.ReaderState.{NoNumber, prepend}
+use Rattle.justfile_parse_attribute.specs.ParseErrors.{IsParseError}
 use Rattle.justfile_parse_expression.specs.TableReader.{State, expect}
 use Rattle.justfile_parse_expression.specs.View.{state_of}
 use Rattle.justfile_parse_header.specs.Counting.{counters_of, names}
@@ -13,7 +13,7 @@ use Rattle.justfile_parse_header.specs.HeaderTable as reader
 use Rattle.justfile_parse_header.specs.Tree.{dependency_tree, parameter_tree, rules_of}
 use Rattle.justfile_parse_header.proofs.Draws.{header_drawn, none_drawn, within}
 use Rattle.justfile_parse_header.proofs.Fewer.{name_fewer, noted_names}
-use Rattle.justfile_parse_header.proofs.Halts.{halted, stopped}
+use Rattle.justfile_parse_header.proofs.HeaderErrors.{failed, stopped}
 use Rattle.justfile_parse_header.proofs.HeaderFewer.{others_fewer, priors_fewer}
 use Rattle.justfile_parse_header.proofs.Headers.{header_read, name_fails, options_fail, others_fail, parameters_fail, priors_fail, priors_within, read_after, ruled, undefined_fail}
 use Rattle.justfile_parse_header.proofs.header.parse_header.Goals as goal
@@ -58,10 +58,10 @@ returns-in_err-check_options-clause-reads g c =
     let named = c.in_ok-name.ensures.reads in
     let p = err_from_is_err_and c.from_residual-in_err-check_options.result c.from_residual-in_err-check_options.ensures.1 in
     let left = state_of A c.note_rules.new.parser in
-    let halt = c.in_err-check_options.field-0.0 in
-    let H : State → Type 0 = λ t. HaltsAt halt left ⊥ (obeying (reader.same_options name.token.now rules) t) in
+    let error = c.in_err-check_options.field-0.0 in
+    let H : State → Type 0 = λ t. IsParseError error left ⊥ (obeying (reader.same_options name.token.now rules) t) in
     rw (p.1, p.2)
-    (halted (obeying (reader.same_options name.token.now rules) (ruled rules s1)) found (options_fail rules n s name s1 named) halt left ⊥ _ (λ k. absurd k)
+    (failed (obeying (reader.same_options name.token.now rules) (ruled rules s1)) found (options_fail rules n s name s1 named) error left ⊥ _ (λ k. absurd k)
     (subst H c.in_ok-note_rules.ensures.notes (c.in_err-check_options.ensures left)))
 
 pub returns-in_err-check_options-clause-drawn : goal.returns-in_err-check_options-clause-drawn
@@ -83,12 +83,12 @@ returns-in_err-parameters-clause-reads g c =
     let distinct = c.in_ok-check_options.ensures (ruled rules s1) in
     let p = err_from_is_err_and c.from_residual-in_err-parameters.result c.from_residual-in_err-parameters.ensures.1 in
     let left = state_of A c.parse_parameters.new.parser in
-    let halt = c.in_err-parameters.field-0.0 in
+    let error = c.in_err-parameters.field-0.0 in
     let wanting = NoNumber (counters_of c.parse_parameters.new.numerator) in
-    let H : State → Type 0 = λ t. HaltsAt halt left (reader.parameters rules n t ≡ Err wanting) (reader.parameters rules n t) in
+    let H : State → Type 0 = λ t. IsParseError error left (reader.parameters rules n t ≡ Err wanting) (reader.parameters rules n t) in
     let fails = parameters_fail rules n s name s1 named distinct in
     rw (p.1, p.2)
-    (halted (reader.parameters rules n (ruled rules s1)) found fails halt left _ _ (fails wanting) (subst H c.in_ok-note_rules.ensures.notes c.in_err-parameters.ensures.reads))
+    (failed (reader.parameters rules n (ruled rules s1)) found fails error left _ _ (fails wanting) (subst H c.in_ok-note_rules.ensures.notes c.in_err-parameters.ensures.reads))
 
 pub returns-in_err-parameters-clause-drawn : goal.returns-in_err-parameters-clause-drawn
 returns-in_err-parameters-clause-drawn g c =
@@ -119,11 +119,11 @@ returns-in_err-check_defined-clause-reads g c =
     let R : State → Type 0 = λ s. reader.parameters rules n s ≡ Ok ((map parameter_tree parameters, counters_of next), s2) in
     let taken = subst R c.in_ok-note_rules.ensures.notes c.in_ok-parameters.ensures.reads in
     let p = err_from_is_err_and c.from_residual-in_err-check_defined.result c.from_residual-in_err-check_defined.ensures.1 in
-    let halt = c.in_err-check_defined.field-0.0 in
-    let H : List Parameter → Type 0 = λ ps. HaltsAt halt s2 ⊥ (obeying (reader.undefined (map parameter_tree ps) rules) s2) in
+    let error = c.in_err-check_defined.field-0.0 in
+    let H : List Parameter → Type 0 = λ ps. IsParseError error s2 ⊥ (obeying (reader.undefined_parameter (map parameter_tree ps) rules) s2) in
     rw (p.1, p.2)
-    (halted (obeying (reader.undefined (map parameter_tree parameters) rules) s2) found
-    (undefined_fail rules n s name s1 named distinct (map parameter_tree parameters) (counters_of next) s2 taken) halt s2 ⊥ _ (λ k. absurd k)
+    (failed (obeying (reader.undefined_parameter (map parameter_tree parameters) rules) s2) found
+    (undefined_fail rules n s name s1 named distinct (map parameter_tree parameters) (counters_of next) s2 taken) error s2 ⊥ _ (λ k. absurd k)
     (subst H c.as_slice.ensures.value (c.in_err-check_defined.ensures s2)))
 
 pub returns-in_err-check_defined-clause-drawn : goal.returns-in_err-check_defined-clause-drawn
@@ -156,15 +156,15 @@ returns-in_err-parse_dependencies-clause-reads g c =
     let s2 = state_of A c.parse_parameters.new.parser in
     let R : State → Type 0 = λ s. reader.parameters rules n s ≡ Ok ((map parameter_tree parameters, counters_of next), s2) in
     let taken = subst R c.in_ok-note_rules.ensures.notes c.in_ok-parameters.ensures.reads in
-    let U : List Parameter → Type 0 = λ ps. obeying (reader.undefined (map parameter_tree ps) rules) s2 ≡ Ok (tt, s2) in
+    let U : List Parameter → Type 0 = λ ps. obeying (reader.undefined_parameter (map parameter_tree ps) rules) s2 ≡ Ok (tt, s2) in
     let defined = subst U c.as_slice.ensures.value (c.in_ok-check_defined.ensures s2) in
     let p = err_from_is_err_and c.from_residual-in_err-parse_dependencies.result c.from_residual-in_err-parse_dependencies.ensures.1 in
     let left = state_of A c.parse_dependencies.new.parser in
-    let halt = c.in_err-parse_dependencies.field-0.0 in
-    let H : List UnresolvedDependency → Type 0 = λ ds. HaltsAt halt left ⊥ (prepend (map dependency_tree ds) (reader.dependencies s2)) in
+    let error = c.in_err-parse_dependencies.field-0.0 in
+    let H : List UnresolvedDependency → Type 0 = λ ds. IsParseError error left ⊥ (prepend (map dependency_tree ds) (reader.dependencies s2)) in
     rw (p.1, p.2)
-    (halted (prepend [] (reader.dependencies s2)) found
-    (priors_fail rules n s name s1 named distinct (map parameter_tree parameters) (counters_of next) s2 taken defined) halt left ⊥ _ (λ k. absurd k)
+    (failed (prepend [] (reader.dependencies s2)) found
+    (priors_fail rules n s name s1 named distinct (map parameter_tree parameters) (counters_of next) s2 taken defined) error left ⊥ _ (λ k. absurd k)
     (subst H c.new-dependencies.ensures.items c.in_err-parse_dependencies.ensures.reads))
 
 pub returns-in_err-parse_dependencies-clause-drawn : goal.returns-in_err-parse_dependencies-clause-drawn
@@ -197,7 +197,7 @@ returns-in_err-parse_subsequents-clause-reads g c =
     let s2 = state_of A c.parse_parameters.new.parser in
     let R : State → Type 0 = λ s. reader.parameters rules n s ≡ Ok ((map parameter_tree parameters, counters_of next), s2) in
     let taken = subst R c.in_ok-note_rules.ensures.notes c.in_ok-parameters.ensures.reads in
-    let U : List Parameter → Type 0 = λ ps. obeying (reader.undefined (map parameter_tree ps) rules) s2 ≡ Ok (tt, s2) in
+    let U : List Parameter → Type 0 = λ ps. obeying (reader.undefined_parameter (map parameter_tree ps) rules) s2 ≡ Ok (tt, s2) in
     let defined = subst U c.as_slice.ensures.value (c.in_ok-check_defined.ensures s2) in
     let s3 = state_of A c.parse_dependencies.new.parser in
     let priors = c.parse_dependencies.new.dependencies.items in
@@ -205,7 +205,7 @@ returns-in_err-parse_subsequents-clause-reads g c =
     let before = subst V c.new-dependencies.ensures.items c.in_ok-parse_dependencies.ensures.reads in
     let p = err_from_is_err_and c.from_residual-in_err-parse_subsequents.result c.from_residual-in_err-parse_subsequents.ensures.1 in
     rw (p.1, p.2)
-    (halted (prepend (map dependency_tree priors) (reader.subsequents s3)) found
+    (failed (prepend (map dependency_tree priors) (reader.subsequents s3)) found
     (others_fail rules n s name s1 named distinct (map parameter_tree parameters) (counters_of next) s2 taken defined priors s3 before (map dependency_tree priors))
     c.in_err-parse_subsequents.field-0.0 (state_of A c.parse_subsequents.new.parser) ⊥ _ (λ k. absurd k) c.in_err-parse_subsequents.ensures.reads)
 
@@ -239,7 +239,7 @@ returns-clause-reads g c =
     let s2 = state_of A c.parse_parameters.new.parser in
     let R : State → Type 0 = λ s. reader.parameters rules n s ≡ Ok ((map parameter_tree parameters, counters_of next), s2) in
     let taken = subst R c.in_ok-note_rules.ensures.notes c.in_ok-parameters.ensures.reads in
-    let U : List Parameter → Type 0 = λ ps. obeying (reader.undefined (map parameter_tree ps) rules) s2 ≡ Ok (tt, s2) in
+    let U : List Parameter → Type 0 = λ ps. obeying (reader.undefined_parameter (map parameter_tree ps) rules) s2 ≡ Ok (tt, s2) in
     let defined = subst U c.as_slice.ensures.value (c.in_ok-check_defined.ensures s2) in
     let s3 = state_of A c.parse_dependencies.new.parser in
     let priors = c.parse_dependencies.new.dependencies.items in

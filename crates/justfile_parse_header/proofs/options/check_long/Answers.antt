@@ -8,7 +8,7 @@ use Rattle.justfile_parse_header.proofs.options.check_long.Goals as goal
 pub returns-then-is_among-clause-step : goal.returns-then-is_among-clause-step
 returns-then-is_among-clause-step c s =
     long_same c.args.recipe (texts_in c.args.before.now) (leaf_attribute_of c.args.attribute.now) s c.in-Some.option.now c.in-Some.place c.in-Some.ensures
-    (sym c.is_among.ensures ∙ c.if-is_among.true) c.same_long.result c.make_halt.result c.make_halt.ensures c.same_long.ensures
+    (sym c.is_among.ensures ∙ c.if-is_among.true) c.same_long_error.result c.rule_error.result c.rule_error.ensures c.same_long_error.ensures
 
 pub returns : goal.returns
 returns c =

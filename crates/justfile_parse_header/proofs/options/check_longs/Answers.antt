@@ -7,7 +7,7 @@ use Rattle.justfile_parse_attribute.specs.TextSets.{texts_in}
 use Rattle.justfile_parse_header.specs.OptionRules.{then_option}
 use Rattle.justfile_parse_header.specs.Options.{long_in}
 use Rattle.justfile_parse_header.specs.Tree.{rules_of}
-use Rattle.justfile_parse_header.proofs.SameOptions.{LongsAhead, longs_begin, longs_go_on, longs_halt, longs_same}
+use Rattle.justfile_parse_header.proofs.SameOptions.{LongsAhead, longs_begin, longs_go_on, longs_fail, longs_same}
 use Rattle.justfile_parse_header.proofs.options.check_longs.Goals as goal
 
 pub attributes-init : goal.attributes-init
@@ -31,5 +31,5 @@ pub returns-in_err-check_long : goal.returns-in_err-check_long
 returns-in_err-check_long c s =
     let p = err_from_is_err_and c.from_residual.result c.from_residual.ensures.1 in
     rw (p.1, p.2)
-    (longs_halt c.args.recipe (rules_of c.args.attributes.now) (texts_in c.attributes.before) (keys_left c.attributes.left) c.attributes.invariant
+    (longs_fail c.args.recipe (rules_of c.args.attributes.now) (texts_in c.attributes.before) (keys_left c.attributes.left) c.attributes.invariant
     c.in-Some.attribute.now (keys_left c.next.new.self) c.in-Some.ensures.steps c.in_err-check_long.field-0.0 s (c.in_err-check_long.ensures.step s))

@@ -3,7 +3,7 @@ use Rattle.std.proofs.lemmas.Result.{err_from_is_err_and}
 use Rattle.justfile_attribute_set.specs.AttributeSet.{written_of}
 use Rattle.justfile_attribute_set.specs.Keys.{keys_left}
 use Rattle.justfile_parse_header.specs.Tree.{rules_of}
-use Rattle.justfile_parse_header.proofs.SameOptions.{ShortsAhead, shorts_begin, shorts_go_on, shorts_halt}
+use Rattle.justfile_parse_header.proofs.SameOptions.{ShortsAhead, shorts_begin, shorts_go_on, shorts_fail}
 use Rattle.justfile_parse_header.proofs.options.check_shorts.Goals as goal
 
 pub attributes-init : goal.attributes-init
@@ -22,5 +22,5 @@ pub returns-in_err-check_short : goal.returns-in_err-check_short
 returns-in_err-check_short c s =
     let p = err_from_is_err_and c.from_residual.result c.from_residual.ensures.1 in
     rw (p.1, p.2)
-    (shorts_halt c.args.recipe (rules_of c.args.attributes.now) c.attributes.before.items (keys_left c.attributes.left) c.attributes.invariant
+    (shorts_fail c.args.recipe (rules_of c.args.attributes.now) c.attributes.before.items (keys_left c.attributes.left) c.attributes.invariant
     c.in-Some.attribute.now (keys_left c.next.new.self) c.in-Some.ensures.steps c.in_err-check_short.field-0.0 s (c.in_err-check_short.ensures s))

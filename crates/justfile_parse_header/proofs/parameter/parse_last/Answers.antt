@@ -1,8 +1,8 @@
 use Rattle.std.proofs.Common.{subst}
-use Rattle.justfile_word.specs.declared.token_kind.TokenKind.TheVariants as kinds
+use Rattle.justfile_vocabulary.specs.declared.token_kind.TokenKind.TheVariants as kinds
 use Rattle.justfile_parse_expression.specs.View.{state_of}
 use Rattle.justfile_parse_expression.specs.declared.parser.ExpressionParser.{ExpressionParser}
-use Rattle.justfile_parse_header.specs.Counting.{HasDrawn, names, names_after}
+use Rattle.justfile_parse_header.specs.Counting.{TookBindingNumbers, names, names_after}
 use Rattle.justfile_parse_header.specs.Tree.{rules_of}
 use Rattle.justfile_parse_header.proofs.Draws.{taken_drawn}
 use Rattle.justfile_parse_header.proofs.Parameters.{same_whole}
@@ -19,7 +19,7 @@ returns-in-Some-accept-clause-drawn g c =
     let A = g.X.Expander.answer in
     let call = c.parse_variadic-in-Some-accept in
     let following = names_after call.result (state_of A call.new.parser) in
-    let P : ExpressionParser _ → Type 0 = λ p. HasDrawn c.args.numerator.now call.new.numerator (names (state_of A p)) following in
+    let P : ExpressionParser _ → Type 0 = λ p. TookBindingNumbers c.args.numerator.now call.new.numerator (names (state_of A p)) following in
     subst P c.in_default.ensures.moves
     (taken_drawn c.args.numerator.now call.new.numerator kinds.Asterisk (state_of A c.accept.new.self) (c.in-Some-accept._star, state_of A c.accept-2.new.self) following
     c.in-Some-accept.ensures.takes call.ensures.drawn)

@@ -1,24 +1,24 @@
 use Rattle.std.proofs.Common.{◌≡◌, map, None, refl, arith}
 use Rattle.std.proofs.lemmas.Result.{err_from_is_err_and}
-use Rattle.justfile_word.specs.declared.token_kind.TokenKind.TheVariants as kinds
+use Rattle.justfile_vocabulary.specs.declared.token_kind.TokenKind.TheVariants as kinds
 use Rattle.justfile_model.specs.HeaderReader.{obeying}
-use Rattle.justfile_model.specs.Reading.{NoNumber}
+use Rattle.justfile_model.specs.ReaderState.{NoNumber}
 use Rattle.justfile_model.specs.RecipeRules.{rules_for}
 use Rattle.justfile_parse_expression.specs.TableReader.{expect}
 use Rattle.justfile_parse_expression.specs.View.{state_of}
 use Rattle.justfile_parse_header.specs.Arguments.{said_by}
 use Rattle.justfile_parse_header.specs.Counting.{counters_of, names}
 use Rattle.justfile_parse_header.specs.HeaderTable as reader
-use Rattle.justfile_parse_header.specs.Said.{said_broken}
+use Rattle.justfile_parse_header.specs.ArgAttribute.{arg_attribute_broken}
 use Rattle.justfile_parse_header.specs.Tree.{parameter_tree, rules_of, value_tree}
 use Rattle.justfile_parse_header.proofs.Draws.{named_drawn, none_drawn, unmoved}
 use Rattle.justfile_parse_header.proofs.Fewer.{fewer_at, name_fewer}
-use Rattle.justfile_parse_header.proofs.Halts.{halted, stopped}
+use Rattle.justfile_parse_header.proofs.HeaderErrors.{failed, stopped}
 use Rattle.justfile_parse_header.proofs.HeaderFewer.{default_fewer}
 use Rattle.justfile_parse_header.proofs.Parameters.{Found, default_fails, name_fails, named_whole, number_fails, parameter_read, pushed_whole, said_fails}
 use Rattle.justfile_parse_header.proofs.parameter.parse_named.Goals as goal
-use Rattle.justfile_tree.specs.LeafSight.{sees_leaves}
-use Rattle.justfile_tree.specs.LeafTree.{Named}
+use Rattle.justfile_expression.specs.LeafViews.{views_leaves}
+use Rattle.justfile_expression.specs.LeafTree.{Named}
 
 pub returns-in_err-name-clause-reads : goal.returns-in_err-name-clause-reads
 returns-in_err-name-clause-reads g c =
@@ -61,8 +61,8 @@ returns-in_err-default-clause-drawn g c =
     let p = err_from_is_err_and c.from_residual-in_err-default.result c.from_residual-in_err-default.ensures.1 in
     rw p.1 (none_drawn c.args.numerator.now (names (state_of A c.args.parser.now)) 0 (omega arith))
 
-pub returns-in_err-check_said-clause-reads : goal.returns-in_err-check_said-clause-reads
-returns-in_err-check_said-clause-reads g c =
+pub returns-in_err-check_arg_attribute-clause-reads : goal.returns-in_err-check_arg_attribute-clause-reads
+returns-in_err-check_arg_attribute-clause-reads g c =
     let A = g.X.Expander.answer in
     let rules = rules_of c.args.spoken.now.attributes.now in
     let before = c.args.parameters.now.list.items in
@@ -75,29 +75,29 @@ returns-in_err-check_said-clause-reads g c =
     let s2 = state_of A c.parse_default.new.parser in
     let valued = c.in_ok-default.ensures.reads in
     let has = c.is_some.result in
-    let said = said_by c.find_rules-rules.result in
-    let is : said ≡ rules_for sees_leaves rules (map parameter_tree before) (Named name.token.now None) = c.find_rules-rules.ensures.rules in
-    let broken = said_broken name.token.now has c.args.kind said in
-    let p = err_from_is_err_and c.from_residual-in_err-check_said.result c.from_residual-in_err-check_said.ensures.1 in
+    let arg_attribute = said_by c.find_rules-rules.result in
+    let is : arg_attribute ≡ rules_for views_leaves rules (map parameter_tree before) (Named name.token.now None) = c.find_rules-rules.ensures.rules in
+    let broken = arg_attribute_broken name.token.now has c.args.kind arg_attribute in
+    let p = err_from_is_err_and c.from_residual-in_err-check_arg_attribute.result c.from_residual-in_err-check_arg_attribute.ensures.1 in
     rw (p.1, p.2)
-    (halted (obeying broken s2) found (said_fails rules c.args.kind c.args.export before first s name s1 named c.in_ok-default.default s2 valued has c.is_some.ensures said is)
-    c.in_err-check_said.field-0.0 s2 ⊥ _ (λ k. absurd k) (c.in_err-check_said.ensures s2))
+    (failed (obeying broken s2) found (said_fails rules c.args.kind c.args.export before first s name s1 named c.in_ok-default.default s2 valued has c.is_some.ensures arg_attribute is)
+    c.in_err-check_arg_attribute.field-0.0 s2 ⊥ _ (λ k. absurd k) (c.in_err-check_arg_attribute.ensures s2))
 
-pub returns-in_err-check_said-clause-drawn : goal.returns-in_err-check_said-clause-drawn
-returns-in_err-check_said-clause-drawn g c =
+pub returns-in_err-check_arg_attribute-clause-drawn : goal.returns-in_err-check_arg_attribute-clause-drawn
+returns-in_err-check_arg_attribute-clause-drawn g c =
     let A = g.X.Expander.answer in
-    let p = err_from_is_err_and c.from_residual-in_err-check_said.result c.from_residual-in_err-check_said.ensures.1 in
+    let p = err_from_is_err_and c.from_residual-in_err-check_arg_attribute.result c.from_residual-in_err-check_arg_attribute.ensures.1 in
     rw p.1 (none_drawn c.args.numerator.now (names (state_of A c.args.parser.now)) 0 (omega arith))
 
-pub returns-in_err-said-clause-reads : goal.returns-in_err-said-clause-reads
-returns-in_err-said-clause-reads g c =
-    let p = err_from_is_err_and c.from_residual-in_err-said.result c.from_residual-in_err-said.ensures.1 in
+pub returns-in_err-arg_attribute-clause-reads : goal.returns-in_err-arg_attribute-clause-reads
+returns-in_err-arg_attribute-clause-reads g c =
+    let p = err_from_is_err_and c.from_residual-in_err-arg_attribute.result c.from_residual-in_err-arg_attribute.ensures.1 in
     rw (p.1, p.2) tt
 
-pub returns-in_err-said-clause-drawn : goal.returns-in_err-said-clause-drawn
-returns-in_err-said-clause-drawn g c =
+pub returns-in_err-arg_attribute-clause-drawn : goal.returns-in_err-arg_attribute-clause-drawn
+returns-in_err-arg_attribute-clause-drawn g c =
     let A = g.X.Expander.answer in
-    let p = err_from_is_err_and c.from_residual-in_err-said.result c.from_residual-in_err-said.ensures.1 in
+    let p = err_from_is_err_and c.from_residual-in_err-arg_attribute.result c.from_residual-in_err-arg_attribute.ensures.1 in
     rw p.1 (none_drawn c.args.numerator.now (names (state_of A c.args.parser.now)) 0 (omega arith))
 
 pub returns-in_err-number-clause-reads : goal.returns-in_err-number-clause-reads
@@ -114,20 +114,20 @@ returns-in_err-number-clause-reads g c =
     let s2 = state_of A c.parse_default.new.parser in
     let valued = c.in_ok-default.ensures.reads in
     let has = c.is_some.result in
-    let said = said_by c.find_rules-rules.result in
-    let is : said ≡ rules_for sees_leaves rules (map parameter_tree before) (Named name.token.now None) = c.find_rules-rules.ensures.rules in
-    let broken = said_broken name.token.now has c.args.kind said in
+    let arg_attribute = said_by c.find_rules-rules.result in
+    let is : arg_attribute ≡ rules_for views_leaves rules (map parameter_tree before) (Named name.token.now None) = c.find_rules-rules.ensures.rules in
+    let broken = arg_attribute_broken name.token.now has c.args.kind arg_attribute in
     let p = err_from_is_err_and c.from_residual-in_err-number.result c.from_residual-in_err-number.ensures.1 in
-    let fails = number_fails rules c.args.kind c.args.export before first s name s1 named c.in_ok-default.default s2 valued has c.is_some.ensures said is (c.in_ok-check_said.ensures s2) in
+    let fails = number_fails rules c.args.kind c.args.export before first s name s1 named c.in_ok-default.default s2 valued has c.is_some.ensures arg_attribute is (c.in_ok-check_arg_attribute.ensures s2) in
     rw (p.1, p.2)
-    (stopped (reader.draw_binding (counters_of first) s2) found fails c.in_err-number.field-0.0 s2 _ _ (fails (NoNumber (counters_of c.draw_binding.new.numerator)))
+    (stopped (reader.next_binding_number (counters_of first) s2) found fails c.in_err-number.field-0.0 s2 _ _ (fails (NoNumber (counters_of c.next_binding_number.new.numerator)))
     (c.in_err-number.ensures.reads s2))
 
 pub returns-in_err-number-clause-drawn : goal.returns-in_err-number-clause-drawn
 returns-in_err-number-clause-drawn g c =
     let A = g.X.Expander.answer in
     let p = err_from_is_err_and c.from_residual-in_err-number.result c.from_residual-in_err-number.ensures.1 in
-    rw p.1 (unmoved c.args.numerator.now c.draw_binding.new.numerator (names (state_of A c.args.parser.now)) 0 c.in_err-number.ensures.unmoved (omega arith))
+    rw p.1 (unmoved c.args.numerator.now c.next_binding_number.new.numerator (names (state_of A c.args.parser.now)) 0 c.in_err-number.ensures.unmoved (omega arith))
 
 pub returns-in_err-push-clause-reads : goal.returns-in_err-push-clause-reads
 returns-in_err-push-clause-reads g c =
@@ -148,19 +148,19 @@ returns-in_err-push-clause-drawn g c =
     let s2 = state_of A c.parse_default.new.parser in
     let valued = c.in_ok-default.ensures.reads in
     let has = c.is_some.result in
-    let said = said_by c.find_rules-rules.result in
-    let is : said ≡ rules_for sees_leaves rules (map parameter_tree before) (Named name.token.now None) = c.find_rules-rules.ensures.rules in
-    let broken = said_broken name.token.now has c.args.kind said in
+    let arg_attribute = said_by c.find_rules-rules.result in
+    let is : arg_attribute ≡ rules_for views_leaves rules (map parameter_tree before) (Named name.token.now None) = c.find_rules-rules.ensures.rules in
+    let broken = arg_attribute_broken name.token.now has c.args.kind arg_attribute in
     let fewer = fewer_at s1 (reader.default_value s1) (value_tree c.in_ok-default.default, s2) (default_fewer s1) c.in_ok-default.ensures.reads in
     let one = name_fewer s (name, s1) c.in_ok-name.ensures.reads in
     let p = err_from_is_err_and c.from_residual-in_err-push.result c.from_residual-in_err-push.ensures.1 in
-    rw p.1 (named_drawn first c.draw_binding.new.numerator _ s s2 0 (c.in_ok-number.ensures.reads s2) (omega (arith, fewer, one)) (omega arith))
+    rw p.1 (named_drawn first c.next_binding_number.new.numerator _ s s2 0 (c.in_ok-number.ensures.reads s2) (omega (arith, fewer, one)) (omega arith))
 
 pub find_rules-rules-requires : goal.find_rules-rules-requires
 find_rules-rules-requires g c = c.requires
 
-pub check_said-requires : goal.check_said-requires
-check_said-requires g c = c.find_rules-rules.ensures.keyed
+pub check_arg_attribute-requires : goal.check_arg_attribute-requires
+check_arg_attribute-requires g c = c.find_rules-rules.ensures.keyed
 
 pub from_identifier-requires : goal.from_identifier-requires
 from_identifier-requires g c = c.in_ok-name.ensures.kind
@@ -179,11 +179,11 @@ returns-clause-reads g c =
     let s2 = state_of A c.parse_default.new.parser in
     let valued = c.in_ok-default.ensures.reads in
     let has = c.is_some.result in
-    let said = said_by c.find_rules-rules.result in
-    let is : said ≡ rules_for sees_leaves rules (map parameter_tree before) (Named name.token.now None) = c.find_rules-rules.ensures.rules in
-    let broken = said_broken name.token.now has c.args.kind said in
-    parameter_read rules c.args.kind c.args.export before first s name s1 named c.in_ok-default.default s2 valued has c.is_some.ensures said is (c.in_ok-check_said.ensures s2) _
-    c.draw_binding.new.numerator (c.in_ok-number.ensures.reads s2) c.push.new.self.list.items _ c.in_ok-push.ensures c.from_identifier.ensures refl
+    let arg_attribute = said_by c.find_rules-rules.result in
+    let is : arg_attribute ≡ rules_for views_leaves rules (map parameter_tree before) (Named name.token.now None) = c.find_rules-rules.ensures.rules in
+    let broken = arg_attribute_broken name.token.now has c.args.kind arg_attribute in
+    parameter_read rules c.args.kind c.args.export before first s name s1 named c.in_ok-default.default s2 valued has c.is_some.ensures arg_attribute is (c.in_ok-check_arg_attribute.ensures s2) _
+    c.next_binding_number.new.numerator (c.in_ok-number.ensures.reads s2) c.push.new.self.list.items _ c.in_ok-push.ensures c.from_identifier.ensures refl
 
 pub returns-clause-drawn : goal.returns-clause-drawn
 returns-clause-drawn g c =
@@ -199,12 +199,12 @@ returns-clause-drawn g c =
     let s2 = state_of A c.parse_default.new.parser in
     let valued = c.in_ok-default.ensures.reads in
     let has = c.is_some.result in
-    let said = said_by c.find_rules-rules.result in
-    let is : said ≡ rules_for sees_leaves rules (map parameter_tree before) (Named name.token.now None) = c.find_rules-rules.ensures.rules in
-    let broken = said_broken name.token.now has c.args.kind said in
+    let arg_attribute = said_by c.find_rules-rules.result in
+    let is : arg_attribute ≡ rules_for views_leaves rules (map parameter_tree before) (Named name.token.now None) = c.find_rules-rules.ensures.rules in
+    let broken = arg_attribute_broken name.token.now has c.args.kind arg_attribute in
     let fewer = fewer_at s1 (reader.default_value s1) (value_tree c.in_ok-default.default, s2) (default_fewer s1) c.in_ok-default.ensures.reads in
     let one = name_fewer s (name, s1) c.in_ok-name.ensures.reads in
-    named_drawn first c.draw_binding.new.numerator _ s s2 (names s2) (c.in_ok-number.ensures.reads s2) (omega (arith, fewer, one)) (omega arith)
+    named_drawn first c.next_binding_number.new.numerator _ s s2 (names s2) (c.in_ok-number.ensures.reads s2) (omega (arith, fewer, one)) (omega arith)
 
 pub returns-clause-whole : goal.returns-clause-whole
 returns-clause-whole g c =
@@ -220,10 +220,10 @@ returns-clause-whole g c =
     let s2 = state_of A c.parse_default.new.parser in
     let valued = c.in_ok-default.ensures.reads in
     let has = c.is_some.result in
-    let said = said_by c.find_rules-rules.result in
-    let is : said ≡ rules_for sees_leaves rules (map parameter_tree before) (Named name.token.now None) = c.find_rules-rules.ensures.rules in
-    let broken = said_broken name.token.now has c.args.kind said in
-    let h = c.in_ok-said.ensures in
+    let arg_attribute = said_by c.find_rules-rules.result in
+    let is : arg_attribute ≡ rules_for views_leaves rules (map parameter_tree before) (Named name.token.now None) = c.find_rules-rules.ensures.rules in
+    let broken = arg_attribute_broken name.token.now has c.args.kind arg_attribute in
+    let h = c.in_ok-arg_attribute.ensures in
     pushed_whole rules before c.push.new.self.list.items _ c.in_ok-push.ensures
-    (named_whole rules (map parameter_tree before) _ said name.token.now is c.from_identifier.ensures
+    (named_whole rules (map parameter_tree before) _ arg_attribute name.token.now is c.from_identifier.ensures
     (record { flag = h.flag; help = refl; long = h.long; max = h.max; min = h.min; multiple = h.multiple; short = h.short; value = h.value }))

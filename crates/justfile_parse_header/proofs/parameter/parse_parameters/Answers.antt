@@ -1,15 +1,15 @@
 use Rattle.std.proofs.Common.{◌≡◌, List, map, Ok, arith, subst, sym}
 use Rattle.std.proofs.lemmas.Result.{err_from_is_err_and}
-use Rattle.justfile_word.specs.declared.token_kind.TokenKind.TheVariants as kinds
-use Rattle.justfile_header.specs.declared.parameter.Parameter.{Parameter}
-use Rattle.justfile_model.specs.Reading.{NoNumber}
+use Rattle.justfile_vocabulary.specs.declared.token_kind.TokenKind.TheVariants as kinds
+use Rattle.justfile_recipe_header.specs.declared.parameter.Parameter.{Parameter}
+use Rattle.justfile_model.specs.ReaderState.{NoNumber}
 use Rattle.justfile_parse_expression.specs.View.{state_of}
 use Rattle.justfile_parse_header.specs.Counting.{counters_of, names}
 use Rattle.justfile_parse_header.specs.HeaderTable as reader
-use Rattle.justfile_parse_header.specs.Said.{AreWholeParameters, KeepsWholeParameters}
+use Rattle.justfile_parse_header.specs.ArgAttribute.{HaveDerivedParameterFields, KeepsDerivedParameterFields}
 use Rattle.justfile_parse_header.specs.Tree.{parameter_tree, rules_of}
 use Rattle.justfile_parse_header.proofs.Draws.{both_drawn, drawn_before, none_drawn}
-use Rattle.justfile_parse_header.proofs.Halts.{halted}
+use Rattle.justfile_parse_header.proofs.HeaderErrors.{failed}
 use Rattle.justfile_parse_header.proofs.Parameters.{both_whole, last_fails, none_whole, then_whole}
 use Rattle.justfile_parse_header.proofs.parameter.parse_parameters.Goals as goal
 
@@ -29,8 +29,8 @@ returns-clause-whole g c =
     let rules = rules_of c.args.attributes.now in
     let singulars = c.parse_singulars.new.parameters.list.items in
     let all = c.parse_last.new.parameters.list.items in
-    let P : List Parameter → Type 0 = λ ps. KeepsWholeParameters rules ps singulars in
-    subst (AreWholeParameters rules) (sym c.into_list.ensures)
+    let P : List Parameter → Type 0 = λ ps. KeepsDerivedParameterFields rules ps singulars in
+    subst (HaveDerivedParameterFields rules) (sym c.into_list.ensures)
     (then_whole rules _ all (none_whole rules)
     (both_whole rules _ singulars all (subst P c.new-parameters.ensures c.in_ok-parse_singulars.ensures.whole) c.in_ok-parse_last.ensures.whole))
 
@@ -56,5 +56,5 @@ returns-in_err-parse_last-clause-reads g c =
     let fails = last_fails rules first s x (subst P c.new-parameters.ensures c.in_ok-parse_singulars.ensures.reads) in
     let p = err_from_is_err_and c.from_residual-in_err-parse_last.result c.from_residual-in_err-parse_last.ensures.1 in
     rw (p.1, p.2)
-    (halted (reader.last_parameter rules x) (reader.parameters rules first s) fails c.in_err-parse_last.field-0.0 (state_of A c.parse_last.new.parser) _ _
+    (failed (reader.last_parameter rules x) (reader.parameters rules first s) fails c.in_err-parse_last.field-0.0 (state_of A c.parse_last.new.parser) _ _
     (fails (NoNumber (counters_of c.parse_last.new.numerator))) c.in_err-parse_last.ensures.reads)

@@ -1,10 +1,10 @@
 use Rattle.std.proofs.Common.{◌∙◌, sym, arith}
 use Rattle.std.proofs.lemmas.Result.{err_from_is_err_and}
-use Rattle.justfile_model.specs.Reading.{NoNumber}
+use Rattle.justfile_model.specs.ReaderState.{NoNumber}
 use Rattle.justfile_parse_expression.specs.View.{state_of}
 use Rattle.justfile_parse_header.specs.Counting.{counters_of}
 use Rattle.justfile_parse_header.specs.Tree.{rules_of}
-use Rattle.justfile_parse_header.proofs.Parameters.{begins, ends, goes_on, halts}
+use Rattle.justfile_parse_header.proofs.Parameters.{begins, ends, goes_on, fails}
 use Rattle.justfile_parse_header.proofs.parameter.parse_singulars.Goals as goal
 
 pub parameters-init : goal.parameters-init
@@ -36,6 +36,6 @@ returns-in_err-parse_parameter-clause-reads g c =
     let A = g.X.Expander.answer in
     let p = err_from_is_err_and c.from_residual.result c.from_residual.ensures.1 in
     rw (p.1, p.2)
-    (halts (rules_of c.args.spoken.now.attributes.now) (state_of A c.args.parser.now) (state_of A c.parameters.parser) c.args.numerator.now c.parameters.numerator
+    (fails (rules_of c.args.spoken.now.attributes.now) (state_of A c.args.parser.now) (state_of A c.parameters.parser) c.args.numerator.now c.parameters.numerator
     c.args.parameters.now.list.items c.parameters.parameters.list.items c.parameters.invariant.so_far (sym c.begins_parameter.ensures ∙ c.if-not-begins_parameter.false)
     c.in_err-parse_parameter.field-0.0 (state_of A c.parse_parameter.new.parser) (NoNumber (counters_of c.parse_parameter.new.numerator)) c.in_err-parse_parameter.ensures.reads)

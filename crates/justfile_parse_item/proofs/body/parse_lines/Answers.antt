@@ -1,11 +1,11 @@
 use Rattle.std.proofs.Common.{◌≡◌, ap, sym, subst, map, None, arith}
 use Rattle.std.proofs.lemmas.Result.{err_from_is_err_and}
-use Rattle.justfile_word.specs.declared.token_kind.TokenKind.TheVariants as kinds
-use Rattle.justfile_model.specs.Reading.{prepend}
+use Rattle.justfile_vocabulary.specs.declared.token_kind.TokenKind.TheVariants as kinds
+use Rattle.justfile_model.specs.ReaderState.{prepend}
 use Rattle.justfile_parse_expression.specs.TableReader.{accept}
 use Rattle.justfile_parse_item.specs.ItemTable.{lines}
 use Rattle.justfile_parse_item.specs.Tree.{line_tree}
-use Rattle.justfile_parse_expression.specs.View.{left, state_of}
+use Rattle.justfile_parse_expression.specs.View.{tokens_left, state_of}
 use Rattle.justfile_parse_expression.specs.declared.parser.ExpressionParser.{ExpressionParser}
 use Rattle.justfile_parse_item.proofs.Bodies.{begins, line_shrinks, lines_stop}
 use Rattle.justfile_parse_expression.proofs.Rest.{left_is}
@@ -27,7 +27,7 @@ lines-smaller g c =
       line_shrinks (state_of A q) c.in_ok-line.line (state_of A b) (subst Q (sym c.in_default.ensures.moves) c.in_default.ensures.takes) c.in_ok-line.ensures.reads,
       left_is A q,
       left_is A b,
-      ap (λ (p : ExpressionParser _). left p) c.in_default.ensures.moves,
+      ap (λ (p : ExpressionParser _). tokens_left p) c.in_default.ensures.moves,
     )
 
 pub returns-in_err-line-clause-reads : goal.returns-in_err-line-clause-reads

@@ -1,11 +1,11 @@
 use Rattle.std.proofs.Common.{map}
 use Rattle.std.proofs.lemmas.Result.{err_from_is_err_and}
-use Rattle.justfile_model.specs.Reading as reading
+use Rattle.justfile_model.specs.ReaderState as reading
 use Rattle.justfile_parse_attribute.specs.Attributes.{entry_of_pair}
 use Rattle.justfile_parse_expression.specs.View.{state_of}
 use Rattle.justfile_parse_header.specs.Counting.{counters_of, names}
-use Rattle.justfile_parse_item.proofs.ItemHalts.{function_attributes_halt, function_halts}
-use Rattle.justfile_parse_item.proofs.Moved.{function_moved}
+use Rattle.justfile_parse_item.proofs.ItemErrors.{function_attributes_fail, function_fails}
+use Rattle.justfile_parse_item.proofs.CounterSteps.{function_moved}
 use Rattle.justfile_parse_item.proofs.function.parse_function.Goals as goal
 
 pub returns-in_err-attributes-clause-reads : goal.returns-in_err-attributes-clause-reads
@@ -14,7 +14,7 @@ returns-in_err-attributes-clause-reads g c =
     let named = state_of A c.expect.new.self in
     let p = err_from_is_err_and c.from_residual-in_err-attributes.result c.from_residual-in_err-attributes.ensures.1 in
     rw (p.1, p.2)
-    (function_attributes_halt (map entry_of_pair c.args.attributes.items) (counters_of c.args.numerator.now) (state_of A c.args.parser.now) c.in_ok-name.name named c.in_ok-name.ensures.reads
+    (function_attributes_fail (map entry_of_pair c.args.attributes.items) (counters_of c.args.numerator.now) (state_of A c.args.parser.now) c.in_ok-name.name named c.in_ok-name.ensures.reads
     c.in_err-attributes.field-0.0 named _ (c.in_err-attributes.ensures.reads named))
 
 pub returns-in_err-parameters-clause-reads : goal.returns-in_err-parameters-clause-reads
@@ -23,7 +23,7 @@ returns-in_err-parameters-clause-reads g c =
     let named = state_of A c.expect.new.self in
     let p = err_from_is_err_and c.from_residual-in_err-parameters.result c.from_residual-in_err-parameters.ensures.1 in
     rw (p.1, p.2)
-    (function_halts (map entry_of_pair c.args.attributes.items) (counters_of c.args.numerator.now) (state_of A c.args.parser.now) c.in_ok-name.name named c.in_ok-name.ensures.reads
+    (function_fails (map entry_of_pair c.args.attributes.items) (counters_of c.args.numerator.now) (state_of A c.args.parser.now) c.in_ok-name.name named c.in_ok-name.ensures.reads
     c.in_ok-expect.field-0 (state_of A c.expect-2.new.self) (c.in_ok-attributes.ensures.reads named) c.in_ok-expect.ensures.reads
     c.in_err-parameters.field-0.0 (state_of A c.parse_parameter_names.new.parser) (reading.NoNumber (counters_of c.parse_parameter_names.new.numerator)) c.in_err-parameters.ensures.reads)
 

@@ -3,7 +3,7 @@ use Rattle.std.proofs.lemmas.Result.{err_from_is_err_and}
 use Rattle.justfile_parse_item.specs.MethodResults.{ReadsUncounted}
 use Rattle.justfile_parse_attribute.specs.Attributes.{entry_of_pair}
 use Rattle.justfile_parse_expression.specs.View.{state_of}
-use Rattle.justfile_parse_item.proofs.ItemHalts.{imported_halts}
+use Rattle.justfile_parse_item.proofs.ItemErrors.{imported_fails}
 use Rattle.justfile_parse_item.proofs.import.parse_imported.Goals as goal
 
 pub returns-in_err-attributes-clause-reads : goal.returns-in_err-attributes-clause-reads
@@ -13,5 +13,5 @@ returns-in_err-attributes-clause-reads g c =
     let p = err_from_is_err_and c.from_residual-in_err-attributes.result c.from_residual-in_err-attributes.ensures.1 in
     let there = state_of A c.parse_file_path.new.parser in
     rw (p.1, p.2)
-    (λ n. imported_halts (map entry_of_pair c.args.attributes.items) n (state_of A c.args.parser.now) c.args.optional _ there c.in_ok-literal.ensures.reads
+    (λ n. imported_fails (map entry_of_pair c.args.attributes.items) n (state_of A c.args.parser.now) c.args.optional _ there c.in_ok-literal.ensures.reads
     c.in_err-attributes.field-0.0 there (c.in_err-attributes.ensures.reads there))

@@ -1,6 +1,6 @@
 use Rattle.std.proofs.Common.{ap, ◌∙◌}
 use Rattle.std.specs.Str.{trim_end}
-use Rattle.justfile_base.specs.Token.{lexeme_of}
+use Rattle.justfile_token.specs.Token.{lexeme_of}
 use Rattle.justfile_parse_item.proofs.Hashes.{still_hash}
 use Rattle.justfile_parse_item.proofs.items.make_comment.Goals as goal
 

@@ -1,16 +1,16 @@
 use Rattle.std.proofs.Common.{ℕ, ◌≡◌, ap, sym, ◌∙◌, List, [], ◌∷◌, ◌++◌, map}
-use Rattle.justfile_base.specs.declared.token.Token.{Token}
+use Rattle.justfile_token.specs.declared.token.Token.{Token}
 use Rattle.justfile_model.specs.Tree.{OrderedItem}
-use Rattle.justfile_model.specs.Reading.{prepend}
+use Rattle.justfile_model.specs.ReaderState.{prepend}
 use Rattle.justfile_parse_expression.specs.TableReader.{leaves}
 use Rattle.justfile_parse_item.specs.ItemTable.{line_end}
 use Rattle.justfile_parse_item.specs.Tree.{item_tree}
-use Rattle.justfile_tree.specs.LeafTree.{Leaf}
+use Rattle.justfile_expression.specs.LeafTree.{Leaf}
 use Rattle.justfile_parse_expression.specs.View.{state_of}
 use Rattle.justfile_parse_item.proofs.Hashes.{begins_hash}
 use Rattle.justfile_parse_item.proofs.Lines.{after_comment}
-use Rattle.justfile_parse_item.proofs.Readings.{reads_alike}
-use Rattle.justfile_parse_item.proofs.Wholes.{after_ok, pushed_whole}
+use Rattle.justfile_parse_item.proofs.ReadEquations.{reads_alike}
+use Rattle.justfile_parse_item.proofs.DerivedItemFields.{after_ok, pushed_whole}
 use Rattle.justfile_parse_item.proofs.items.parse_after_item.Goals as goal
 
 pub make_comment-requires : goal.make_comment-requires

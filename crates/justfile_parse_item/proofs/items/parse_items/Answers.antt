@@ -1,11 +1,11 @@
 use Rattle.std.proofs.Common.{◌≡◌, sym, subst, None}
 use Rattle.std.proofs.lemmas.Result.{err_from_is_err_and}
-use Rattle.justfile_word.specs.declared.token_kind.TokenKind.TheVariants as kinds
-use Rattle.justfile_model.specs.Reading as reading
+use Rattle.justfile_vocabulary.specs.declared.token_kind.TokenKind.TheVariants as kinds
+use Rattle.justfile_model.specs.ReaderState as reading
 use Rattle.justfile_parse_expression.specs.TableReader.{accept}
 use Rattle.justfile_parse_expression.specs.View.{state_of}
 use Rattle.justfile_parse_expression.specs.declared.parser.ExpressionParser.{ExpressionParser}
-use Rattle.justfile_parse_item.proofs.Loop.{IsReadTo, begins, ends, goes_on, goes_past, halts}
+use Rattle.justfile_parse_item.proofs.Loop.{IsReadTo, begins, ends, goes_on, goes_past, fails}
 use Rattle.justfile_parse_item.proofs.items.parse_items.Goals as goal
 use Rattle.justfile_parse_header.specs.Counting.{counters_of}
 
@@ -43,7 +43,7 @@ returns-in_err-parse_line-clause-reads g c =
     let P : ExpressionParser _ → Type 0 = λ q. IsReadTo (state_of A c.args.parser.now) (state_of A q) c.args.numerator.now c.lines.numerator c.lines.items.items in
     let Q : ExpressionParser _ → Type 0 = λ q. accept kinds.Eof (state_of A q) ≡ None in
     rw (p.1, p.2)
-    (halts (state_of A c.args.parser.now) (state_of A c.accept.new.self) c.args.numerator.now c.lines.numerator c.lines.items.items (subst P here c.lines.invariant)
+    (fails (state_of A c.args.parser.now) (state_of A c.accept.new.self) c.args.numerator.now c.lines.numerator c.lines.items.items (subst P here c.lines.invariant)
     (subst Q here c.in_default.ensures.takes) c.in_err-parse_line.field-0.0 (state_of A c.parse_line.new.parser) (reading.NoNumber (counters_of c.parse_line.new.numerator)) c.in_err-parse_line.ensures.reads)
 
 pub parse_line-requires : goal.parse_line-requires

@@ -1,19 +1,19 @@
 use Rattle.std.proofs.Common.{ℕ, ◌≡◌, ap, sym, ◌∙◌, subst, List, map, Ok, Err, Bool}
 use Rattle.std.proofs.lemmas.Result.{err_from_is_err_and}
-use Rattle.justfile_base.specs.declared.token.Token.{Token}
+use Rattle.justfile_token.specs.declared.token.Token.{Token}
 use Rattle.justfile_model.specs.Tree.{OrderedItem}
 use Rattle.justfile_model.specs.Reader.{has_body}
-use Rattle.justfile_model.specs.Reading as reading
-use Rattle.justfile_model.specs.Reading.{prepend}
+use Rattle.justfile_model.specs.ReaderState as reading
+use Rattle.justfile_model.specs.ReaderState.{prepend}
 use Rattle.justfile_parse_expression.specs.TableReader.{Read}
 use Rattle.justfile_parse_item.specs.ItemTable.{ended, on_line}
-use Rattle.justfile_parse_attribute.specs.Halting.{HaltsAt}
+use Rattle.justfile_parse_attribute.specs.ParseErrors.{IsParseError}
 use Rattle.justfile_parse_item.specs.Tree.{item_tree}
-use Rattle.justfile_tree.specs.LeafTree.{Leaf}
+use Rattle.justfile_expression.specs.LeafTree.{Leaf}
 use Rattle.justfile_parse_expression.specs.View.{state_of}
 use Rattle.justfile_parse_expression.specs.declared.parser.ExpressionParser.{ExpressionParser}
-use Rattle.justfile_parse_item.proofs.Lines.{end_stops, line_goes_on, line_halts}
-use Rattle.justfile_parse_item.proofs.Wholes.{both_whole, pushed_whole}
+use Rattle.justfile_parse_item.proofs.Lines.{end_stops, line_goes_on, line_fails}
+use Rattle.justfile_parse_item.proofs.DerivedItemFields.{both_whole, pushed_whole}
 use Rattle.justfile_parse_item.proofs.items.parse_line.Goals as goal
 use Rattle.justfile_parse_item.specs.MethodResults.{IsMoved}
 use Rattle.justfile_parse_header.specs.Counting.{counters_of, names}
@@ -80,9 +80,9 @@ returns-in_err-item-clause-reads g c =
     let p = err_from_is_err_and c.from_residual-in_err-item.result c.from_residual-in_err-item.ensures.1 in
     let wanting = reading.NoNumber (counters_of c.parse_item.new.numerator) in
     let left = state_of A c.parse_item.new.parser in
-    let halt = c.in_err-item.field-0.0 in
-    let P : ExpressionParser _ → Type 0 = λ q. HaltsAt halt left (on_line (counters_of c.args.numerator.now) (state_of A q) ≡ Err wanting) (on_line (counters_of c.args.numerator.now) (state_of A q)) in
-    rw (p.1, p.2) (line_halts done (state_of A c.args.parser.now) (counters_of c.args.numerator.now) halt left wanting c.in_default.ensures.takes (subst P c.in_default.ensures.moves c.in_err-item.ensures.reads))
+    let error = c.in_err-item.field-0.0 in
+    let P : ExpressionParser _ → Type 0 = λ q. IsParseError error left (on_line (counters_of c.args.numerator.now) (state_of A q) ≡ Err wanting) (on_line (counters_of c.args.numerator.now) (state_of A q)) in
+    rw (p.1, p.2) (line_fails done (state_of A c.args.parser.now) (counters_of c.args.numerator.now) error left wanting c.in_default.ensures.takes (subst P c.in_default.ensures.moves c.in_err-item.ensures.reads))
 
 pub returns-clause-whole : goal.returns-clause-whole
 returns-clause-whole g c =

@@ -1,11 +1,11 @@
 use Rattle.std.proofs.Common.{subst}
-use Rattle.justfile_word.specs.declared.token_kind.TokenKind.TheVariants as kinds
+use Rattle.justfile_vocabulary.specs.declared.token_kind.TokenKind.TheVariants as kinds
 use Rattle.justfile_parse_expression.specs.View.{state_of}
 use Rattle.justfile_parse_expression.specs.declared.parser.ExpressionParser.{ExpressionParser}
 use Rattle.justfile_parse_item.specs.MethodResults.{IsMoved}
 use Rattle.justfile_parse_header.specs.Counting.{names}
 use Rattle.justfile_parse_header.proofs.Fewer.{accept_fewer}
-use Rattle.justfile_parse_item.proofs.Moved.{more_moved}
+use Rattle.justfile_parse_item.proofs.CounterSteps.{more_moved}
 use Rattle.justfile_parse_item.proofs.recipe.parse_any_recipe.Goals as goal
 
 pub returns-in-Some-clause-moved : goal.returns-in-Some-clause-moved

@@ -1,25 +1,25 @@
 use Rattle.std.proofs.Common.{◌+◌, ◌≡◌, ◌∙◌, ◌||◌, List, ap, map, refl, rules, subst, sym}
 use Rattle.std.proofs.lemmas.Result.{err_from_is_err_and}
-use Rattle.justfile_base.specs.declared.token.Token.{Token}
+use Rattle.justfile_token.specs.declared.token.Token.{Token}
 use Rattle.justfile_attribute_set.specs.AttributeSet.{attributes_of, leaf_entries_of, written_of}
 use Rattle.justfile_attribute_set.specs.Attributes.{has_kind}
 use Rattle.justfile_line.specs.declared.line.Line.{Line}
-use Rattle.justfile_word.specs.declared.attribute_kind.AttributeKind.TheVariants as kinds
-use Rattle.justfile_word.specs.declared.numerator.Numerator.{Numerator}
-use Rattle.justfile_model.specs.Reading as reading
+use Rattle.justfile_vocabulary.specs.declared.attribute_kind.AttributeKind.TheVariants as kinds
+use Rattle.justfile_vocabulary.specs.declared.numerator.Numerator.{Numerator}
+use Rattle.justfile_model.specs.ReaderState as reading
 use Rattle.justfile_parse_item.specs.ItemTable.{has_shebang}
 use Rattle.justfile_parse_item.specs.MethodResults.{IsMoved}
 use Rattle.justfile_parse_item.specs.Tree.{line_tree}
-use Rattle.justfile_parse_item.specs.Whole.{is_hidden}
+use Rattle.justfile_parse_item.specs.DerivedFields.{is_private_item}
 use Rattle.justfile_parse_attribute.specs.Attributes.{entry_of_pair}
-use Rattle.justfile_parse_attribute.proofs.StillWhole.{all_keyed}
+use Rattle.justfile_parse_attribute.proofs.DerivedFieldsKept.{all_keyed}
 use Rattle.justfile_parse_expression.specs.View.{state_of}
 use Rattle.justfile_parse_expression.proofs.Rest.{file_depth_is, import_offsets_are}
 use Rattle.justfile_parse_header.specs.Counting.{counters_of, names}
 use Rattle.justfile_parse_header.specs.Tree.{header_tree}
 use Rattle.justfile_parse_item.proofs.Constructs.{set_whole, whole_pairs}
-use Rattle.justfile_parse_item.proofs.Moved.{drawn_moved, recipe_moved}
-use Rattle.justfile_parse_item.proofs.Recipes.{body_stops, exclusion_halts, header_halts, number_stops, recipe_named, recipe_read}
+use Rattle.justfile_parse_item.proofs.CounterSteps.{drawn_moved, recipe_moved}
+use Rattle.justfile_parse_item.proofs.Recipes.{body_stops, exclusion_fails, header_fails, number_stops, recipe_named, recipe_read}
 use Rattle.justfile_parse_item.proofs.recipe.parse_recipe.Goals as goal
 
 pub parse_header-requires : goal.parse_header-requires
@@ -31,7 +31,7 @@ returns-in_err-header-clause-reads g c =
     let A = g.X.Expander.answer in
     let p = err_from_is_err_and c.from_residual-in_err-header.result c.from_residual-in_err-header.ensures.1 in
     rw (p.1, p.2)
-    (header_halts c.args.quiet (map entry_of_pair c.args.attributes.items) (counters_of c.args.numerator.now) (state_of A c.args.parser.now) (leaf_entries_of c.in_ok-attributes.attributes) (c.in_ok-attributes.ensures.entries (whole_pairs c.args.attributes.items c.requires))
+    (header_fails c.args.quiet (map entry_of_pair c.args.attributes.items) (counters_of c.args.numerator.now) (state_of A c.args.parser.now) (leaf_entries_of c.in_ok-attributes.attributes) (c.in_ok-attributes.ensures.entries (whole_pairs c.args.attributes.items c.requires))
     c.in_err-header.field-0.0 (state_of A c.parse_header.new.parser) (reading.NoNumber (counters_of c.parse_header.new.numerator)) c.in_err-header.ensures.reads)
 
 pub returns-in_err-body-clause-reads : goal.returns-in_err-body-clause-reads
@@ -49,7 +49,7 @@ returns-in_err-check_exclusions-clause-reads g c =
     let u = state_of A c.parse_body_after_header.new.parser in
     let p = err_from_is_err_and c.from_residual-in_err-check_exclusions.result c.from_residual-in_err-check_exclusions.ensures.1 in
     rw (p.1, p.2)
-    (exclusion_halts c.args.quiet (map entry_of_pair c.args.attributes.items) (counters_of c.args.numerator.now) (state_of A c.args.parser.now) (leaf_entries_of c.in_ok-attributes.attributes) (c.in_ok-attributes.ensures.entries (whole_pairs c.args.attributes.items c.requires))
+    (exclusion_fails c.args.quiet (map entry_of_pair c.args.attributes.items) (counters_of c.args.numerator.now) (state_of A c.args.parser.now) (leaf_entries_of c.in_ok-attributes.attributes) (c.in_ok-attributes.ensures.entries (whole_pairs c.args.attributes.items c.requires))
     (header_tree c.in_ok-header.header) (counters_of c.parse_header.new.numerator) (state_of A c.parse_header.new.parser) c.in_ok-header.ensures.reads
     (c.in_ok-body.body.0, map line_tree c.in_ok-body.body.1.items) u c.in_ok-body.ensures.reads c.in_err-check_exclusions.field-0.0 u _ (c.in_err-check_exclusions.ensures u))
 
@@ -62,7 +62,7 @@ returns-in_err-number-clause-reads g c =
     (number_stops c.args.quiet (map entry_of_pair c.args.attributes.items) (counters_of c.args.numerator.now) (state_of A c.args.parser.now) (leaf_entries_of c.in_ok-attributes.attributes) (c.in_ok-attributes.ensures.entries (whole_pairs c.args.attributes.items c.requires))
     (header_tree c.in_ok-header.header) (counters_of c.parse_header.new.numerator) (state_of A c.parse_header.new.parser) c.in_ok-header.ensures.reads
     (c.in_ok-body.body.0, map line_tree c.in_ok-body.body.1.items) u c.in_ok-body.ensures.reads (c.in_ok-check_exclusions.ensures u)
-    c.in_err-number.field-0.0 u (reading.NoNumber (counters_of c.draw_recipe.new.numerator)) (c.in_err-number.ensures.reads u))
+    c.in_err-number.field-0.0 u (reading.NoNumber (counters_of c.next_recipe_number.new.numerator)) (c.in_err-number.ensures.reads u))
 
 pub returns-clause-reads : goal.returns-clause-reads
 returns-clause-reads g c =
@@ -73,7 +73,7 @@ returns-clause-reads g c =
     recipe_read c.args.quiet (map entry_of_pair c.args.attributes.items) (counters_of c.args.numerator.now) (state_of A c.args.parser.now) (leaf_entries_of c.in_ok-attributes.attributes) (c.in_ok-attributes.ensures.entries (whole_pairs c.args.attributes.items c.requires))
     (header_tree c.in_ok-header.header) (counters_of c.parse_header.new.numerator) (state_of A c.parse_header.new.parser) c.in_ok-header.ensures.reads
     (c.in_ok-body.body.0, map line_tree c.in_ok-body.body.1.items) u c.in_ok-body.ensures.reads (c.in_ok-check_exclusions.ensures u)
-    c.in_ok-number.number.0 (counters_of c.draw_recipe.new.numerator) (c.in_ok-number.ensures.reads u)
+    c.in_ok-number.number.0 (counters_of c.next_recipe_number.new.numerator) (c.in_ok-number.ensures.reads u)
     (record { file_depth = q.file_depth; import_offsets = c.in_ok-import_offsets.import_offsets.items; name = c.from_identifier.result.token; number = c.in_ok-number.number })
     _ _
     (recipe_named q.file_depth u.run.file_depth c.in_ok-import_offsets.import_offsets.items u.run.import_offsets c.from_identifier.result.token c.in_ok-header.header.name.token.now c.in_ok-number.number
@@ -87,7 +87,7 @@ returns-clause-whole g c =
       attributes = set_whole c.args.attributes.items (written_of set) c.in_ok-attributes.ensures.pairs c.requires;
       parameters = c.in_ok-header.ensures.whole;
       priors = c.in_ok-header.ensures.priors;
-      private = c.is_hidden-private.ensures ∙ ap (λ (name : Token). is_hidden name set) (sym c.from_identifier.ensures);
+      private = c.is_private_item-private.ensures ∙ ap (λ (name : Token). is_private_item name set) (sym c.from_identifier.ensures);
       shebang =
           c.is_script-shebang.ensures
           ∙ ap (λ (lines : List Line). has_kind kinds.Script (attributes_of set) || has_shebang (map line_tree lines)) c.as_slice.ensures.value;
@@ -96,7 +96,7 @@ returns-clause-whole g c =
 pub returns-clause-moved : goal.returns-clause-moved
 returns-clause-moved g c =
     let A = g.X.Expander.answer in
-    recipe_moved c.args.numerator.now c.parse_header.new.numerator c.draw_recipe.new.numerator c.in_ok-number.number.0 (state_of A c.parse_body_after_header.new.parser) (names (state_of A c.args.parser.now)) (names (state_of A c.parse_header.new.parser))
+    recipe_moved c.args.numerator.now c.parse_header.new.numerator c.next_recipe_number.new.numerator c.in_ok-number.number.0 (state_of A c.parse_body_after_header.new.parser) (names (state_of A c.args.parser.now)) (names (state_of A c.parse_header.new.parser))
     c.in_ok-header.ensures.drawn (c.in_ok-number.ensures.reads (state_of A c.parse_body_after_header.new.parser))
 
 pub returns-in_err-header-clause-moved : goal.returns-in_err-header-clause-moved

@@ -1,6 +1,6 @@
 use Rattle.std.proofs.Common.{arith, codes, ◌++◌}
 use Rattle.justfile_model.specs.Printing.{fixed_text}
-use Rattle.justfile_tree.specs.Text.{text_of}
+use Rattle.justfile_expression.specs.Text.{text_of}
 use Rattle.justfile_setting.proofs.Loops.{at_err, took_next, failed_next}
 use Rattle.justfile_setting.proofs.print.write_arguments.Goals as goal
 

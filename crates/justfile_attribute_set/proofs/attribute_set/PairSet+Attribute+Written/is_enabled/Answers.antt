@@ -1,6 +1,6 @@
 use Rattle.std.proofs.Common.{◌≡◌, ◌∙◌, ◌||◌, ap, not}
 use Rattle.std.specs.List.{list_any}
-use Rattle.justfile_word.specs.AttributeKind.{is_enabler_kind}
+use Rattle.justfile_vocabulary.specs.AttributeKind.{is_enabler_kind}
 use Rattle.justfile_attribute_set.proofs.Firsts.{any_firsts}
 use Rattle.justfile_attribute_set.specs.AttributeSet.{attributes_of}
 use Rattle.justfile_attribute_set.specs.Attributes.{kind_of}

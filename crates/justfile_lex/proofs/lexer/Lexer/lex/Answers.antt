@@ -1,11 +1,11 @@
 use Rattle.std.proofs.Common.{◌≢◌, sym, ap, subst, ◌∙◌, rules, drop, drop-drop}
 use Rattle.std.specs.Str.{IsUtf8}
 use Rattle.std.proofs.lemmas.Str.{IsCharBoundary-from_rest}
-use Rattle.justfile_word.specs.declared.token_kind.TokenKind.TheVariants.{Eof}
+use Rattle.justfile_vocabulary.specs.declared.token_kind.TokenKind.TheVariants.{Eof}
 use Rattle.justfile_model.specs.Next.{next}
 use Rattle.justfile_model.proofs.NextLaws.{token_cut}
 use Rattle.justfile_lex.specs.Modes.{mode_of}
-use Rattle.justfile_model.specs.Answers.{IsLexerFault}
+use Rattle.justfile_model.specs.LexResult.{IsLexerFault}
 use Rattle.justfile_lex.specs.WhiteRun.{IsRunOf}
 use Rattle.justfile_lex.proofs.WhiteRunLemmas.{run_on}
 use Rattle.justfile_lex.proofs.LexerLemmas.{goes_down, lexes_on}

@@ -6,7 +6,7 @@ use Rattle.justfile_model.specs.Tok.{tok_of}
 use Rattle.justfile_model.specs.LexicalFault.{lexical_fault_of}
 use Rattle.justfile_model.specs.Lexed.{IsFault}
 use Rattle.justfile_model.proofs.NextLaws.{fault_cut}
-use Rattle.justfile_model.specs.Answers.{IsFrom}
+use Rattle.justfile_model.specs.LexResult.{IsFrom}
 use Rattle.justfile_lex.specs.Modes.{mode_of}
 use Rattle.justfile_lex.specs.Scanned.{scan_fault, scan_refusal}
 use Rattle.justfile_lex.specs.Lexing.{earlier}

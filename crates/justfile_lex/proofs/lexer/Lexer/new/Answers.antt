@@ -4,7 +4,7 @@ use Rattle.std.proofs.lemmas.Str.{IsCharBoundary-start}
 use Rattle.justfile_model.specs.Tok.{tok_of}
 use Rattle.justfile_model.specs.Modes.{mode}
 use Rattle.justfile_model.specs.Lexed.{end_of, Begins}
-use Rattle.justfile_model.specs.Answers.{IsFrom}
+use Rattle.justfile_model.specs.LexResult.{IsFrom}
 use Rattle.justfile_lex.proofs.PlaceLemmas.{place_start}
 use Rattle.justfile_lex.proofs.lexer.Lexer.new.Goals as goal
 

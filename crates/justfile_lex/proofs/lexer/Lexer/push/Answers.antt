@@ -6,7 +6,7 @@ use Rattle.std.proofs.lemmas.Str.{IsCharBoundary-from_rest}
 use Rattle.justfile_model.specs.Tok.{tok_of}
 use Rattle.justfile_model.specs.Lexed.{end_of}
 use Rattle.justfile_model.specs.Places.{IsPlace}
-use Rattle.justfile_model.specs.Answers.{IsFrom}
+use Rattle.justfile_model.specs.LexResult.{IsFrom}
 use Rattle.justfile_lex.proofs.LexerLemmas.{earlier_push, lexeme_len, stands_at, next_is, interpolation_from}
 use Rattle.justfile_lex.proofs.lexer.Lexer.push.Goals as goal
 

@@ -1,6 +1,6 @@
 use Rattle.std.proofs.Common.{sym, ap, subst}
 use Rattle.justfile_model.specs.Tok.{tok_of}
-use Rattle.justfile_model.specs.Answers.{IsFrom}
+use Rattle.justfile_model.specs.LexResult.{IsFrom}
 use Rattle.justfile_model.specs.LexicalFault.{UnterminatedInterpolation, lexical_fault_of}
 use Rattle.justfile_model.specs.Lexed.{IsFault}
 use Rattle.justfile_lex.proofs.LexerLemmas.{unclosed_fault, from_open}

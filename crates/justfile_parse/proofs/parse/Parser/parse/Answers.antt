@@ -2,12 +2,12 @@ use Rattle.std.proofs.Common.{ap, ◌∙◌, sym, subst, List, map, All, Contain
 use Rattle.std.proofs.lemmas.Result.{err_from_is_err_and}
 use Rattle.justfile_item.specs.declared.item.Item.{Item}
 use Rattle.justfile_model.specs.Tok.{tok_of}
-use Rattle.justfile_parse_expression.specs.Formats.{IsTable}
+use Rattle.justfile_parse_expression.specs.FormatStrings.{IsTable}
 use Rattle.justfile_parse.specs.MethodResults.{IsRead}
 use Rattle.justfile_parse_expression.specs.Significant.{significant_of}
 use Rattle.justfile_parse_expression.specs.declared.significant.TableEntry.{TableEntry}
 use Rattle.justfile_parse_expression.specs.Conditions.{conditions_of}
-use Rattle.justfile_parse.proofs.Formats.{ended_lex}
+use Rattle.justfile_parse.proofs.FormatStrings.{ended_lex}
 use Rattle.justfile_parse.proofs.Parsed.{nonempty, parsed_of, sound_lex, unparsed_of}
 use Rattle.justfile_parse_expression.proofs.SignificantLemmas.{entries_among}
 use Rattle.justfile_parse.proofs.parse.Parser.parse.Goals as goal

@@ -1,7 +1,7 @@
 use Rattle.std.proofs.Common.{sym, subst, List, map, All}
 use Rattle.std.proofs.lemmas.Result.{err_from_is_err_and, IfErr-weaker, IfOk-weaker}
-use Rattle.justfile_base.specs.declared.token.Token.{Token}
-use Rattle.justfile_model.specs.Answers.{IsFrom}
+use Rattle.justfile_token.specs.declared.token.Token.{Token}
+use Rattle.justfile_model.specs.LexResult.{IsFrom}
 use Rattle.justfile_model.specs.Lexed.{Lexed}
 use Rattle.justfile_model.specs.SignificantTokens.{identifiers, significant_tokens}
 use Rattle.justfile_model.specs.Tok.{Tok, tok_of}

@@ -1,22 +1,22 @@
 use Rattle.std.proofs.Common.{rules, ◌≡◌, ◌∙◌, Bool, true, false, List, [], ◌∷◌, ◌++◌, None, Ok, sym, ap, subst, arith}
 use Rattle.std.proofs.lemmas.Grind.{common_steps}
-use Rattle.justfile_base.specs.declared.token.Token.{Token}
+use Rattle.justfile_token.specs.declared.token.Token.{Token}
 use Rattle.justfile_model.specs.Tree.{Expr, Exprs}
-use Rattle.justfile_tree.specs.declared.expression.Expression.{Expression}
+use Rattle.justfile_expression.specs.declared.expression.Expression.{Expression}
 use Rattle.std.proofs.lemmas.Result.{err_from_is_err_and}
 use Rattle.justfile_parse_expression.specs.TableReader.{Read, Sequence, accept, element, format_parts, pair, read}
-use Rattle.justfile_base.specs.StringKind.{kind_of}
-use Rattle.justfile_base.specs.Token.{lexeme_of}
-use Rattle.justfile_base.specs.declared.string_literal.StringLiteral.{StringLiteral}
-use Rattle.justfile_parse_expression.specs.MethodResults.{StopsAt}
-use Rattle.justfile_tree.specs.LeafTree.{Leaf, Literal, format_string_tree, literal_of, leaf_tree_of, trees_of}
+use Rattle.justfile_token.specs.StringKind.{kind_of}
+use Rattle.justfile_token.specs.Token.{lexeme_of}
+use Rattle.justfile_token.specs.declared.string_literal.StringLiteral.{StringLiteral}
+use Rattle.justfile_parse_expression.specs.MethodResults.{IsExpressionError}
+use Rattle.justfile_expression.specs.LeafTree.{Leaf, Literal, format_string_tree, literal_of, leaf_tree_of, trees_of}
 use Rattle.justfile_parse_expression.specs.View.{state_of}
 use Rattle.justfile_parse_expression.specs.declared.parser.ExpressionParser.{ExpressionParser}
 use Rattle.justfile_parse_expression.proofs.Branches as branching
 use Rattle.justfile_parse_expression.proofs.Chains as chains
 use Rattle.justfile_parse_expression.specs.Chains.{branches, link_of, row}
 use Rattle.justfile_parse_expression.proofs.Elements as elements
-use Rattle.justfile_parse_expression.proofs.Formats.{after_expression, after_pair, after_start}
+use Rattle.justfile_parse_expression.proofs.FormatStrings.{after_expression, after_pair, after_start}
 use Rattle.justfile_parse_expression.proofs.Parts as parts
 use Rattle.justfile_parse_expression.proofs.parser.ExpressionParser.+expression.Goals as goal
 
@@ -36,7 +36,7 @@ parse_sequence-returns-in_err-element-clause-reads g t c =
     let A = g.X.Expander.answer in
     let left = state_of A c.parse_element.new.self in
     let stop = c.in_err-element.field-0.0 in
-    let P : ExpressionParser _ → Type 0 = λ q. StopsAt stop left ⊥ (element c.args.closing (state_of A q)) in
+    let P : ExpressionParser _ → Type 0 = λ q. IsExpressionError stop left ⊥ (element c.args.closing (state_of A q)) in
     let p = err_from_is_err_and c.from_residual-in_err-element.result c.from_residual-in_err-element.ensures.1 in
     rw (p.1, p.2)
     (elements.stops c.args.closing (state_of A c.elements.self) c.elements.elements.items stop left (read (Sequence c.args.closing (state_of A c.args.self.now)))

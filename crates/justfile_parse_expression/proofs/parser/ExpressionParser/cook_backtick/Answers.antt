@@ -1,14 +1,14 @@
 use Rattle.std.proofs.Common.{◌∙◌, sym, ap, Ok}
 use Rattle.justfile_literal.specs.Literal.{answers_by}
-use Rattle.justfile_tree.specs.declared.expression.Expression.{Expression}
+use Rattle.justfile_expression.specs.declared.expression.Expression.{Expression}
 use Rattle.justfile_parse_expression.specs.TableReader.{ReadExpr}
-use Rattle.justfile_tree.specs.LeafTree.{leaf_tree_of}
+use Rattle.justfile_expression.specs.LeafTree.{leaf_tree_of}
 use Rattle.justfile_parse_expression.specs.View.{state_of}
 use Rattle.justfile_parse_expression.proofs.Cooked.{command_given, command_is_literal, command_refused}
 use Rattle.justfile_parse_expression.proofs.parser.ExpressionParser.cook_backtick.Goals as goal
 
-pub make_stop-requires : goal.make_stop-requires
-make_stop-requires g c = command_is_literal (answers_by g.X.Expander.answer c.args.self.now.expander.now) c.args.entry.token.now c.in-Err.fault c.in-Err.ensures.err
+pub literal_error-requires : goal.literal_error-requires
+literal_error-requires g c = command_is_literal (answers_by g.X.Expander.answer c.args.self.now.expander.now) c.args.entry.token.now c.in-Err.fault c.in-Err.ensures.err
 
 pub returns-in_ok-box_expression-in-Ok : goal.returns-in_ok-box_expression-in-Ok
 returns-in_ok-box_expression-in-Ok g c =
@@ -17,4 +17,4 @@ returns-in_ok-box_expression-in-Ok g c =
     record { reads = command_given g.X.Expander.answer p c.args.entry _ c.in-Ok.ensures.ok ∙ ap P (sym c.in_ok-box_expression-in-Ok.ensures) }
 
 pub returns-in-Err : goal.returns-in-Err
-returns-in-Err g c = record { reads = command_refused g.X.Expander.answer c.args.self.now c.args.entry c.in-Err.fault c.make_stop.result c.in-Err.ensures.err c.make_stop.ensures }
+returns-in-Err g c = record { reads = command_refused g.X.Expander.answer c.args.self.now c.args.entry c.in-Err.fault c.literal_error.result c.in-Err.ensures.err c.literal_error.ensures }

@@ -5,4 +5,4 @@ pub returns-in-Ok-clause-reads : goal.returns-in-Ok-clause-reads
 returns-in-Ok-clause-reads g c = string_given g.X.Expander.answer c.args.self.now c.args.entry c.args.expand c.in-Ok.literal c.in-Ok.ensures.ok
 
 pub returns-in-Err-clause-reads : goal.returns-in-Err-clause-reads
-returns-in-Err-clause-reads g c = string_refused g.X.Expander.answer c.args.self.now c.args.entry c.args.expand c.in-Err.fault c.make_stop.result c.in-Err.ensures.err c.make_stop.ensures
+returns-in-Err-clause-reads g c = string_refused g.X.Expander.answer c.args.self.now c.args.entry c.args.expand c.in-Err.fault c.literal_error.result c.in-Err.ensures.err c.literal_error.ensures

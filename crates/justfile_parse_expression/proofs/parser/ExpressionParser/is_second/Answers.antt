@@ -1,7 +1,7 @@
 use Rattle.std.proofs.Common.{◌∙◌, sym, arith}
-use Rattle.justfile_model.specs.Reading.{same_kind}
+use Rattle.justfile_model.specs.ReaderState.{same_kind}
 use Rattle.justfile_parse_expression.specs.View.{run_of, state_of}
-use Rattle.justfile_parse_expression.proofs.QuickTests.{unmarked}
+use Rattle.justfile_parse_expression.proofs.Lengths.{unmarked}
 use Rattle.justfile_parse_expression.proofs.parser.ExpressionParser.is_second.Goals as goal
 
 pub returns : goal.returns

@@ -1,6 +1,6 @@
 use Rattle.std.proofs.Common.{◌≡◌}
 use Rattle.justfile_parse_expression.specs.Chains.{negated}
-use Rattle.justfile_tree.specs.LeafTree.{leaf_tree_of}
+use Rattle.justfile_expression.specs.LeafTree.{leaf_tree_of}
 use Rattle.justfile_parse_expression.proofs.parser.ExpressionParser.negate.Given as goal
 
 abbrev pub invariant-loop-bang : goal.invariant-loop-bang

@@ -1,0 +1,36 @@
+ghost use Rattle.std.specs.Prelude.{IfOk};
+ghost use Rattle.bench_lex.specs.Counted.{IsAnswer};
+
+use justfile_lex::Lexer;
+use justfile_token::Fault;
+use std::alloc::{AllocError, Global};
+use std::fmt;
+
+/// What the lexer says of a text.
+#[derive(Clone, Copy, Debug)]
+pub enum Answer {
+    /// The number of its tokens.
+    Tokens(usize),
+    /// The offset of the token at which it is refused.
+    Refused(usize),
+}
+
+impl fmt::Display for Answer {
+    fn fmt<W: fmt::Write>(&self, f: &mut fmt::Formatter<W>) -> fmt::Result {
+        match self {
+            Answer::Tokens(count) => write!(f, "tokens: {count}"),
+            Answer::Refused(offset) => write!(f, "refused at offset {offset}"),
+        }
+    }
+}
+
+/// What the lexer says of the text.
+pub fn answer_to(alloc: Global, text: &str) -> Result<Answer, AllocError>
+    ensures { IfOk result (IsAnswer text.now) }
+{
+    match Lexer::lex(alloc, "justfile", text) {
+        Ok(tokens) => Ok(Answer::Tokens(tokens.len())),
+        Err(Fault::Compile(error)) => Ok(Answer::Refused(error.token.offset)),
+        Err(Fault::Memory | Fault::Numbers) => Err(AllocError),
+    }
+}

@@ -1,0 +1,5 @@
+pub mod Separators
+pub mod Indented
+pub mod Numbered
+pub mod Printable
+pub mod PrintedBack

@@ -1,0 +1,194 @@
+ghost use Rattle.std.specs.Prelude.{◌≡◌, All, OnOk, OnErr, IfOk, IfSome, map, string_bytes};
+ghost use Rattle.std.specs.Io.KnownBytes.{Appends};
+ghost use Rattle.std.specs.List.{AllZip, list_all};
+ghost use Rattle.std.specs.Option.{option_map};
+ghost use Rattle.justfile_vocabulary.specs.Indentation.{indentation_text};
+ghost use Rattle.justfile_model.specs.Enabled.{indentation_of};
+ghost use Rattle.justfile_model.specs.NormalShape.{normal};
+ghost use Rattle.justfile_model.specs.Printing.{printable, printable_item, text};
+ghost use Rattle.justfile_model.specs.Uncommented.{HasNoComments, uncommented_text};
+ghost use Rattle.justfile_expression.specs.Expression.{literal_tok};
+ghost use Rattle.justfile_item.specs.Copies.{IsSameItem};
+ghost use Rattle.justfile_item.specs.Indented.{HasDerivedItemFields, items_indentation};
+ghost use Rattle.justfile_item.specs.Item.{item_shape};
+ghost use Rattle.justfile_ast.specs.Ast.{ast_shape, tree_of};
+ghost use Rattle.justfile_ast.specs.Separator.{front_text, end_text};
+ghost use Rattle.justfile_ast.specs.PrintsBack.{PrintsBack};
+ghost use Rattle.justfile_ast.specs.Written.{AppendsPart};
+ghost use Rattle.justfile_ast.specs.declared.separator.Separator.TheVariants.{Start};
+
+use crate::copy::put_made;
+use crate::separator::{Separator, write_after};
+use crate::write_fault::WriteFault;
+use crate::writer::WriterSink;
+use justfile_expression::{ListFeature, Sink};
+use justfile_item::{Item, is_printable, item_indentation};
+use justfile_token::{Indentation, Modulepath, Token, UnstableFeature};
+use std::alloc::{AllocError, Global};
+use std::collections::BTreeSet;
+use std::io::Write;
+
+/// A file that was parsed.
+#[derive(Drop)]
+pub struct Ast<'src> {
+    /// The items, in the order of the file.
+    pub items: Vec<Item<'src>>,
+    /// What the file uses that only a justfile with lists may, each with its token, in order.
+    pub list_features: Vec<(ListFeature, Token<'src>)>,
+    /// The names of the modules that the file lies in.
+    pub module_path: Modulepath,
+    /// What the file uses that only an unstable justfile may.
+    pub unstable_features: BTreeSet<UnstableFeature>,
+    /// Where the file's recipes run.
+    pub working_directory: String,
+}
+
+impl<'src> Ast<'src> {
+    ghost use Rattle.justfile_ast.specs.Copies.{IsSameAst};
+
+    /// The indentation that the file sets for itself: that of the first setting `indentation` that
+    /// is there on this system.
+    #[tactic(auto, using(crate::proofs::Indented::indented_tree, crate::proofs::Indented::indented_text))]
+    pub fn indentation(&self) -> Option<Indentation>
+        ensures first { result ≡ option_map (λ p. p.1) (items_indentation self.now.items.items) }
+        // The literal of that setting is the one that the definitions take of the file's tree.
+        ensures literal { indentation_of (tree_of self.now) ≡ option_map (λ p. literal_tok p.0) (items_indentation self.now.items.items) }
+        // Its text is the indentation.
+        ensures text { All HasDerivedItemFields self.now.items.items
+            → IfSome (items_indentation self.now.items.items) (λ p. indentation_text p.1 ≡ string_bytes p.0.cooked) }
+    {
+        first_indentation(&self.items)
+    }
+
+    /// Whether the printed text parses back: no line of a body ends in a carriage return.
+    #[tactic(auto, using(crate::proofs::Printable::printable_items))]
+    pub fn printable(&self) -> bool
+        ensures { result ≡ printable (ast_shape self.now) }
+    {
+        are_printable(&self.items)
+    }
+
+    /// A copy of the file.
+    pub fn clone(&self, alloc: Global) -> Result<Self, AllocError>
+        ensures { IfOk result (λ copy. IsSameAst copy self.now) }
+    {
+        let list_features = self.list_features.as_slice().to_vec(alloc)?;
+        let module_path = self.module_path.clone(alloc)?;
+        let unstable_features = self.unstable_features.clone()?;
+        let working_directory = self.working_directory.as_str().to_string(alloc)?;
+        match copy_items(&self.items, alloc) {
+            Ok(items) => Ok(Ast {
+                items,
+                list_features,
+                module_path,
+                unstable_features,
+                working_directory,
+            }),
+            Err(fault) => Err(fault),
+        }
+    }
+
+    /// The canonical text of the file, with this indentation of the lines of bodies.
+    pub fn print(&self, alloc: Global, indentation: Indentation) -> Result<String, AllocError>
+        ensures text { IfOk result (λ printed. string_bytes printed ≡ text (normal (ast_shape self.now)) (indentation_text indentation)) }
+        ensures reads_back { IfOk result (λ printed. PrintsBack (ast_shape self.now) (indentation_text indentation)
+            (string_bytes printed)) }
+        // Where no attribute and no recipe has a comment, none is printed of them.
+        ensures uncommented { IfOk result (λ printed. HasNoComments (ast_shape self.now)
+            → string_bytes printed ≡ uncommented_text (normal (ast_shape self.now)) (indentation_text indentation)) }
+    {
+        let mut printed = String::new(alloc);
+        write_ast(self, indentation, &mut printed)?;
+        Ok(printed)
+    }
+
+    /// Writes the canonical text of the file, piece by piece as it is made. At a fault the writer
+    /// was given a beginning of the text, and nothing after that. It is not flushed.
+    pub fn print_to<W: Write>(
+        &self,
+        indentation: Indentation,
+        writer: &mut W,
+    ) -> Result<(), WriteFault>
+        ensures ok { OnOk result (Appends (W.contents writer.old) (W.contents writer.new)
+            (text (normal (ast_shape self.now)) (indentation_text indentation))) }
+        ensures err { OnErr result (AppendsPart (W.contents writer.old) (W.contents writer.new)
+            (text (normal (ast_shape self.now)) (indentation_text indentation))) }
+    {
+        let mut sink = WriterSink { writer };
+        write_ast(self, indentation, &mut sink)
+    }
+}
+
+/// The indentation that the first of the items sets that sets one.
+#[tactic(auto, using(crate::proofs::Indented::none_here, crate::proofs::Indented::found_here, crate::proofs::Indented::none_left))]
+fn first_indentation(items: &[Item<'_>]) -> Option<Indentation>
+    ensures { result ≡ option_map (λ p. p.1) (items_indentation items.now) }
+{
+    for item in items {
+        if let Some(indentation) = item_indentation(item) {
+            return Some(indentation);
+        }
+    }
+    None
+}
+
+/// Whether each of the items, printed, reads back.
+#[tactic(auto, using(crate::proofs::Printable::one_more, crate::proofs::Printable::one_fails, crate::proofs::Printable::none_left))]
+fn are_printable(items: &[Item<'_>]) -> bool
+    ensures { result ≡ list_all (λ item. printable_item (item_shape item)) items.now }
+{
+    for item in items {
+        if !is_printable(item) {
+            return false;
+        }
+    }
+    true
+}
+
+/// Copies of the items.
+fn copy_items<'src>(items: &[Item<'src>], alloc: Global) -> Result<Vec<Item<'src>>, AllocError>
+    ensures { IfOk result (λ copies. AllZip IsSameItem copies.items items.now) }
+{
+    let mut copies = Vec::new(alloc);
+    for item in items {
+        put_made(&mut copies, item.clone(alloc))?;
+    }
+    Ok(copies)
+}
+
+/// Puts the items of a file, but for the line ends at the end.
+fn write_items<S: Sink>(
+    items: &[Item<'_>],
+    indentation: Indentation,
+    sink: &mut S,
+) -> Result<(), S::Fault>
+    ensures ok { OnOk result (S.took sink.old (front_text (indentation_text indentation) Start (map item_shape items.now)) sink.new) }
+    ensures err { OnErr result (S.failed sink.old (front_text (indentation_text indentation) Start (map item_shape items.now)) sink.new) }
+{
+    let mut separator = Separator::Start;
+    for item in items {
+        separator = write_after(item, indentation, separator, sink)?;
+    }
+    Ok(())
+}
+
+/// Puts the newline at the end of a file that has an item.
+fn write_end<S: Sink>(items: &[Item<'_>], sink: &mut S) -> Result<(), S::Fault>
+    ensures ok { OnOk result (S.took sink.old (end_text (map item_shape items.now)) sink.new) }
+    ensures err { OnErr result (S.failed sink.old (end_text (map item_shape items.now)) sink.new) }
+{
+    if items.is_empty() {
+        return Ok(());
+    }
+    sink.put("\n")
+}
+
+/// The walk over a file.
+fn write_ast<S: Sink>(ast: &Ast<'_>, indentation: Indentation, sink: &mut S) -> Result<(), S::Fault>
+    ensures ok { OnOk result (S.took sink.old (text (normal (ast_shape ast.now)) (indentation_text indentation)) sink.new) }
+    ensures err { OnErr result (S.failed sink.old (text (normal (ast_shape ast.now)) (indentation_text indentation)) sink.new) }
+{
+    write_items(&ast.items, indentation, sink)?;
+    write_end(&ast.items, sink)?;
+    Ok(())
+}

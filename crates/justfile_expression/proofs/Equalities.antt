@@ -1,0 +1,136 @@
+-- Values that no order compares are equal where their cases and their fields are.
+use Rattle.std.proofs.Common.{◌≡◌, Bool, true, false, List, [], ◌∷◌, inl, inr, refl, sym, ap, suc, true≢false}
+use denote.Enum.Compared.{Each, by}
+use denote.Enum.Declared.{Choice, intoss, rowss}
+use denote.Enum.Enum.{tag}
+use denote.Signature.{static_lft}
+use denote.Struct.Field.{Field}
+use Rattle.justfile_vocabulary.specs.contracts.switch.SwitchPartialEq.TheImpl as switch_equality
+use Rattle.justfile_vocabulary.specs.declared.switch.Switch.{Switch}
+use Rattle.justfile_vocabulary.specs.declared.switch.Switch.TheVariants.{Long, Short}
+use Rattle.justfile_token.specs.contracts.compile_error_kind.CompileErrorKind as error_kinds
+use Rattle.justfile_token.specs.contracts.compile_error_kind.CompileErrorKindPartialEq.TheImpl as error_kind_equality
+use Rattle.justfile_token.specs.contracts.delimiter.DelimiterPartialEq.TheImpl as delimiter_equality
+use Rattle.justfile_token.specs.declared.compile_error_kind.CompileErrorKind.{CompileErrorKind}
+use Rattle.justfile_token.specs.declared.delimiter.Delimiter.{Delimiter}
+use Rattle.justfile_token.specs.declared.delimiter.Delimiter.TheVariants.{Brace, Bracket, FormatString, Paren}
+use Rattle.justfile_expression.specs.Equal as compared
+use Rattle.justfile_expression.specs.Equal.{AreCompared, case_place, delimiter_eq, switch_eq}
+
+pub switches_are : (s t : Switch) → switch_equality.eq-value.it s t ≡ switch_eq s t
+switches_are (Long name) (Long other) = refl
+switches_are (Short character) (Short other) = refl
+switches_are s t = refl
+
+pub delimiters_are : (a b : Delimiter) → delimiter_equality.eq-value.it a b ≡ delimiter_eq a b
+delimiters_are Brace Brace = refl
+delimiters_are Bracket Bracket = refl
+delimiters_are (FormatString kind) (FormatString other) = refl
+delimiters_are Paren Paren = refl
+delimiters_are a b = refl
+
+-- ---- kinds of errors
+
+-- values that are compared case by case are equal in one case alone
+one_case : (Fss : List (List Field)) (each : Each Bool Fss) (c d : Choice Fss) → by false false Fss each c d ≡ true
+    → tag (rowss Fss) (intoss Fss c) ≡ tag (rowss Fss) (intoss Fss d)
+one_case [] each c d e = absurd c
+one_case (Fs ∷ Fss) each (inl x) (inl y) e = refl
+one_case (Fs ∷ Fss) each (inl x) (inr y) e = absurd (true≢false (sym e))
+one_case (Fs ∷ Fss) each (inr x) (inl y) e = absurd (true≢false (sym e))
+one_case (Fs ∷ Fss) each (inr x) (inr y) e = ap suc (one_case Fss each.1 x y e)
+
+pub same_case : (a b : CompileErrorKind) → error_kind_equality.eq-value.it a b ≡ true → case_place a ≡ case_place b
+same_case a b e =
+    one_case (error_kinds.the_parts static_lft) _ (error_kinds.as_values static_lft a) (error_kinds.as_values static_lft b) e
+
+pub fields_are : (a b : CompileErrorKind) (equal : Bool) → AreCompared a b equal → error_kind_equality.eq-value.it a b ≡ equal
+fields_are _ _ _ compared.ArgAttributeMinExceedsMax = refl
+fields_are _ _ _ compared.ArgAttributeRequiresMultipleOrVariadic = refl
+fields_are _ _ _ compared.ArgAttributeRequiresOption = refl
+fields_are _ _ _ compared.ArgumentCountParse = refl
+fields_are _ _ _ compared.ArgumentCountValue = refl
+fields_are _ _ _ compared.AttributeArgumentCountMismatch = refl
+fields_are _ _ _ compared.AttributeArgumentExpression = refl
+fields_are _ _ _ compared.AttributeKeyMissingValue = refl
+fields_are _ _ _ compared.AttributeKeyTakesNoValue = refl
+fields_are _ _ _ compared.AttributePositionalFollowsKeyword = refl
+fields_are _ _ _ compared.BacktickShebang = refl
+fields_are _ _ _ compared.CircularRecipeDependency = refl
+fields_are _ _ _ compared.CircularVariableDependency = refl
+fields_are _ _ _ compared.DependencyArgumentCountMismatch = refl
+fields_are _ _ _ compared.DuplicateArgAttribute = refl
+fields_are _ _ _ compared.DuplicateAttribute = refl
+fields_are _ _ _ compared.DuplicateAttributeKey = refl
+fields_are _ _ _ compared.DuplicateDefault = refl
+fields_are _ _ _ compared.DuplicateFunctionParameter = refl
+fields_are _ _ _ compared.DuplicateGroupAttribute = refl
+fields_are _ _ _ compared.DuplicateOption = refl
+fields_are _ _ _ compared.DuplicateParameter = refl
+fields_are _ _ _ compared.DuplicateSet = refl
+fields_are _ _ _ compared.DuplicateUnexport = refl
+fields_are _ _ _ compared.DuplicateVariable = refl
+fields_are _ _ _ compared.EscapeEndOfFile = refl
+fields_are _ _ _ compared.ExitMessageAndNoExitMessageAttribute = refl
+fields_are _ _ _ compared.ExpectedKeyword = refl
+fields_are _ _ _ compared.ExportUnexported = refl
+fields_are _ _ _ compared.ExtraLeadingWhitespace = refl
+fields_are _ _ _ compared.ExtraneousAttributes = refl
+fields_are _ _ _ compared.FlagAndPatternArgAttribute = refl
+fields_are _ _ _ compared.FlagAndValueArgAttribute = refl
+fields_are _ _ _ compared.FlagAttributeTakesNoValue = refl
+fields_are _ _ _ compared.FlagWithDefault = refl
+fields_are _ _ _ compared.FunctionArgumentCountMismatch = refl
+fields_are _ _ _ compared.GuardAndInfallibleSigil = refl
+fields_are _ _ _ compared.IncompatibleSettings = refl
+fields_are _ _ _ compared.InconsistentLeadingWhitespace = refl
+fields_are _ _ _ compared.Internal = refl
+fields_are _ _ _ compared.InvalidAttribute = refl
+fields_are _ _ _ compared.InvalidEscapeSequence = refl
+fields_are _ _ _ compared.InvalidIndentation = refl
+fields_are _ _ _ compared.InvalidMinimumVersion = refl
+fields_are _ _ _ compared.InvalidShellRecipeAttribute = refl
+fields_are _ _ _ compared.InvalidSignal = refl
+fields_are _ _ _ compared.ListFeature = refl
+fields_are _ _ _ compared.MappedDependencyMultipleStarredArguments = refl
+fields_are _ _ _ compared.MappedDependencyWithoutListsSetting = refl
+fields_are _ _ _ compared.MappedDependencyWithoutStarredArgument = refl
+fields_are _ _ _ compared.MinimumVersion = refl
+fields_are _ _ _ compared.MismatchedClosingDelimiter = refl
+fields_are _ _ _ compared.MixedLeadingWhitespace = refl
+fields_are _ _ _ compared.NoCdAndWorkingDirectoryAttribute = refl
+fields_are _ _ _ compared.OptionNameContainsEqualSign = refl
+fields_are _ _ _ compared.OptionNameEmpty = refl
+fields_are _ _ _ compared.OptionNameStartsWithDash = refl
+fields_are _ _ _ compared.ParameterFollowsVariadicParameter = refl
+fields_are _ _ _ compared.ParsingRecursionDepthExceeded = refl
+fields_are _ _ _ compared.Redefinition = refl
+fields_are _ _ _ compared.RequiredParameterFollowsDefaultParameter = refl
+fields_are _ _ _ compared.ScriptAndShellAttribute = refl
+fields_are _ _ _ compared.SettingExpression = refl
+fields_are _ _ _ compared.ShellExpansion = refl
+fields_are _ _ _ compared.ShortOptionWithMultipleCharacters = refl
+fields_are _ _ _ compared.StarredArgumentOutsideMappedDependency = refl
+fields_are _ _ _ compared.UndefinedArgAttribute = refl
+fields_are _ _ _ compared.UndefinedFunction = refl
+fields_are _ _ _ compared.UndefinedVariable = refl
+fields_are _ _ _ compared.UnexpectedCharacter = refl
+fields_are _ _ _ compared.UnexpectedClosingDelimiter = refl
+fields_are _ _ _ compared.UnexpectedEndOfToken = refl
+fields_are _ _ _ compared.UnexpectedToken = refl
+fields_are _ _ _ compared.UnicodeEscapeCharacter = refl
+fields_are _ _ _ compared.UnicodeEscapeDelimiter = refl
+fields_are _ _ _ compared.UnicodeEscapeEmpty = refl
+fields_are _ _ _ compared.UnicodeEscapeLength = refl
+fields_are _ _ _ compared.UnicodeEscapeRange = refl
+fields_are _ _ _ compared.UnicodeEscapeUnterminated = refl
+fields_are _ _ _ compared.UnknownAliasTarget = refl
+fields_are _ _ _ compared.UnknownAttribute = refl
+fields_are _ _ _ compared.UnknownAttributeKey = refl
+fields_are _ _ _ compared.UnknownDependency = refl
+fields_are _ _ _ compared.UnknownSetting = refl
+fields_are _ _ _ compared.UnknownStartOfToken = refl
+fields_are _ _ _ compared.UnpairedCarriageReturn = refl
+fields_are _ _ _ compared.UnterminatedBacktick = refl
+fields_are _ _ _ compared.UnterminatedInterpolation = refl
+fields_are _ _ _ compared.UnterminatedString = refl

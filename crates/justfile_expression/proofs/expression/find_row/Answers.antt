@@ -1,0 +1,37 @@
+use Rattle.std.proofs.Common.{Option, ap, subst, reverse, rules, arith}
+use Rattle.std.specs.Borrow.{Bor}
+use Rattle.std.specs.Option.{option_map}
+use Rattle.justfile_expression.specs.RightSides.{IsRow}
+use Rattle.justfile_expression.specs.declared.expression.Expression.{Expression}
+use Rattle.justfile_expression.proofs.RightSides.{begun, row_left, falls, pushed, none_deep, pushed_deep, next_deep}
+use Rattle.justfile_expression.proofs.expression.find_row.Goals as goal
+
+pub loop-rest-init : goal.loop-rest-init
+loop-rest-init c = record {
+  in_row = begun c.new-row.result.items c.args.expression.now _ (search rules) c.right_side-rest.ensures.is;
+  smaller = none_deep c.new-row.result.items c.args.expression.now (search rules);
+  next_smaller = c.right_side-rest.ensures.smaller;
+}
+
+pub loop-rest-smaller : goal.loop-rest-smaller
+loop-rest-smaller c = omega (arith, falls c.in-Some.next.now c.right_side-rest-in-Some.result c.right_side-rest-in-Some.ensures.smaller, ap row_left c.in-Some.is)
+
+pub loop-rest-preserved : goal.loop-rest-preserved
+loop-rest-preserved c = record {
+  in_row =
+      pushed c.loop-rest.row.items c.push.new.self.items c.in-Some.next c.args.expression.now _ c.in_ok-push.ensures.items c.right_side-rest-in-Some.ensures.is
+      (subst (λ (r : Option (Bor Expression)). IsRow (reverse c.loop-rest.row.items) c.args.expression.now (option_map (λ (e : Bor Expression). e.now) r)) c.in-Some.is c.loop-rest.invariant.in_row);
+  smaller =
+      pushed_deep c.loop-rest.row.items c.push.new.self.items c.in-Some.next c.loop-rest.rest c.args.expression.now c.in_ok-push.ensures.items c.in-Some.is
+      c.loop-rest.invariant.smaller c.loop-rest.invariant.next_smaller;
+  next_smaller =
+      next_deep c.in-Some.next c.loop-rest.rest c.right_side-rest-in-Some.result c.args.expression.now c.in-Some.is
+      c.right_side-rest-in-Some.ensures.smaller c.loop-rest.invariant.next_smaller;
+}
+
+pub returns : goal.returns
+returns c = record {
+  in_row =
+      subst (λ (r : Option (Bor Expression)). IsRow (reverse c.loop-rest.row.items) c.args.expression.now (option_map (λ (e : Bor Expression). e.now) r)) c.in_default.is c.loop-rest.invariant.in_row;
+  smaller = c.loop-rest.invariant.smaller;
+}

@@ -1,0 +1,47 @@
+-- What the leaves of keys hold wherever they stand, and how expressions compare by that.
+use Rattle.std.specs.Prelude.{string_bytes}
+use Rattle.std.specs.declared.cmp.Ordering.{Ordering}
+use Rattle.justfile_token.specs.declared.string_literal.StringLiteral.{StringLiteral}
+use Rattle.justfile_token.specs.declared.token.Token.{Token}
+use Rattle.justfile_token.specs.Token.{lexeme_of}
+use Rattle.justfile_model.specs.ContentLeaf as contents
+use Rattle.justfile_model.specs.ContentLeaf.{ContentLeaf, LiteralContent, TokenContent, content_cmp}
+use Rattle.justfile_model.specs.Key.{Key, key_cmp, map_key}
+use Rattle.justfile_expression.specs.Leaf.{KeyLeaf, token, literal, operator, number, text, leaf_cmp}
+use Rattle.justfile_expression.specs.Order.{key}
+use Rattle.justfile_expression.specs.declared.expression.Expression.{Expression}
+use Rattle.justfile_expression.specs.declared.leaf_order.LeafOrder.{LeafOrder}
+use Rattle.justfile_expression.specs.declared.leaf_order.LeafOrder.TheVariants.{Whole, Content}
+
+abbrev pub token_content : Token → TokenContent
+token_content t = record { kind = t.kind; lexeme = lexeme_of t }
+
+abbrev pub literal_content : StringLiteral → LiteralContent
+literal_content l = record { cooked = string_bytes l.cooked; expand = l.expand; kind = l.kind; part = l.part; token = token_content l.token }
+
+-- numbers of variables are not looked at
+abbrev pub content_of : KeyLeaf → ContentLeaf
+content_of (token t) = contents.token (token_content t)
+content_of (literal l) = contents.literal (literal_content l)
+content_of (operator o) = contents.operator o
+content_of (number n) = contents.unseen
+content_of (text bytes) = contents.text bytes
+
+abbrev pub leaf_content_cmp : KeyLeaf → KeyLeaf → Ordering
+leaf_content_cmp a b = content_cmp (content_of a) (content_of b)
+
+abbrev pub content_order : Key KeyLeaf → Key KeyLeaf → Ordering
+content_order = key_cmp leaf_content_cmp
+
+-- what an expression holds, wherever it stands
+abbrev pub content_key : Expression → Key ContentLeaf
+content_key e = map_key content_of (key e)
+
+-- how two expressions compare by content
+abbrev pub expression_content_cmp : Expression → Expression → Ordering
+expression_content_cmp a b = content_order (key a) (key b)
+
+-- how leaves compare: whole, or by content
+unfoldable pub leaf_order : LeafOrder → KeyLeaf → KeyLeaf → Ordering
+leaf_order Whole = leaf_cmp
+leaf_order Content = leaf_content_cmp

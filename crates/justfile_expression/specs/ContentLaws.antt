@@ -1,0 +1,19 @@
+-- By content, expressions are in a total order, which is that of the keys of what they hold.
+use Rattle.std.specs.Prelude.{◌≡◌}
+use Rattle.std.specs.Cmp.{IsTotalOrder, on_total}
+use Rattle.justfile_model.specs.ContentLeaf.{content_cmp}
+use Rattle.justfile_model.specs.ContentLeafLaws.{content_total}
+use Rattle.justfile_model.specs.Key.{key_cmp}
+use Rattle.justfile_model.specs.KeyLaws.{key_total, mapped_key_cmp}
+use Rattle.justfile_expression.specs.Content.{content_key, content_of, content_order, expression_content_cmp}
+use Rattle.justfile_expression.specs.Order.{key}
+use Rattle.justfile_expression.specs.declared.expression.Expression.{Expression}
+
+pub content_order_total : IsTotalOrder content_order
+content_order_total = key_total (on_total content_of content_total)
+
+pub expression_content_total : IsTotalOrder expression_content_cmp
+expression_content_total = on_total key content_order_total
+
+pub content_key_cmp : (a b : Expression) → key_cmp content_cmp (content_key a) (content_key b) ≡ expression_content_cmp a b
+content_key_cmp a b = mapped_key_cmp content_cmp content_of (key a) (key b)

@@ -1,0 +1,58 @@
+-- The keys of expressions: the cases in the order in which they are declared, and then the fields in the order in which they are declared.
+use Rattle.std.specs.Prelude.{Option, Some, None, string_bytes}
+use Rattle.std.specs.Global.{Box}
+use Rattle.std.specs.declared.cmp.Ordering.{Ordering}
+use Rattle.justfile_token.specs.declared.string_literal.StringLiteral as literals
+use Rattle.justfile_token.specs.declared.token.Token.{Token}
+use Rattle.justfile_model.specs.Key.{Key, Keys, node, end, next, row, absent_key, present_key, key_cmp}
+use Rattle.justfile_expression.specs.Leaf.{KeyLeaf, leaf_cmp, token_key, literal_key, operator_key, number_key, text_key}
+use Rattle.justfile_expression.specs.declared.expression.Expression.{Expression, And', Assert', Backtick, Call', Comparison', Concatenation', Conditional', FormatString', Group', Join', List', ListConcatenation', Not', Or', StringLiteral, Variable, Held-Expression-Assert-1 as OptionalExpression, None', Some', Row_of-Expression as ExpressionRow, end_of-Expression as row_end, more_of-Expression as row_more, Row_of-Expression-FormatString-1-2 as FormatRow, end_of-Expression-FormatString-1-2 as format_row_end, more_of-Expression-FormatString-1-2 as format_row_more}
+
+abbrev mutual
+  pub key : Expression → Key KeyLeaf
+  key (And' p lhs q rhs) = node 0 (next (key lhs) (next (key rhs) end))
+  key (Assert' p condition message name) = node 1 (next (key condition) (next (optional_key message) (next (token_key name.token) end)))
+  key (Backtick contents t) = node 2 (next (text_key (string_bytes contents)) (next (token_key t) end))
+  key (Call' name m arguments) = node 3 (next (token_key name.token) (next (row (row_keys arguments)) end))
+  key (Comparison' p lhs o q rhs t) = node 4 (next (key lhs) (next (operator_key o) (next (key rhs) (next (token_key t) end))))
+  key (Concatenation' p lhs t q rhs) = node 5 (next (key lhs) (next (token_key t) (next (key rhs) end)))
+  key (Conditional' p condition q branch otherwise) = node 6 (next (key condition) (next (key branch) (next (optional_key otherwise) end)))
+  key (FormatString' start m expressions) = node 7 (next (literal_key start) (next (row (row_parts expressions)) end))
+  key (Group' p contents) = node 8 (next (key contents) end)
+  key (Join' lhs t q rhs) = node 9 (next (optional_key lhs) (next (token_key t) (next (key rhs) end)))
+  key (List' m elements opener) = node 10 (next (row (row_keys elements)) (next (token_key opener) end))
+  key (ListConcatenation' p lhs t q rhs) = node 11 (next (key lhs) (next (token_key t) (next (key rhs) end)))
+  key (Not' p operand) = node 12 (next (key operand) end)
+  key (Or' p lhs q rhs) = node 13 (next (key lhs) (next (key rhs) end))
+  key (StringLiteral l) = node 14 (next (literal_key l) end)
+  key (Variable name n) = node 15 (next (token_key name.token) (next (number_key n) end))
+
+  -- an expression that may be absent
+  pub optional_key : OptionalExpression → Key KeyLeaf
+  optional_key None' = absent_key
+  optional_key (Some' p e) = present_key (key e)
+
+  pub row_keys : {m : _} → ExpressionRow m → Keys KeyLeaf
+  row_keys row_end = end
+  row_keys (row_more e others) = next (key e) (row_keys others)
+
+  pub row_parts : {m : _} → FormatRow m → Keys KeyLeaf
+  row_parts format_row_end = end
+  row_parts (format_row_more e l others) = next (row (next (key e) (next (literal_key l) end))) (row_parts others)
+
+-- the fields of an operation
+abbrev pub operation_keys : (lhs : Expression) (operator : Token) (rhs : Expression) → Keys KeyLeaf
+operation_keys lhs operator rhs = next (key lhs) (next (token_key operator) (next (key rhs) end))
+
+-- an expression of a format string, and the part after it
+abbrev pub part_key : Expression × literals.StringLiteral → Key KeyLeaf
+part_key x = row (next (key x.0) (next (literal_key x.1) end))
+
+-- the key of an expression that may be absent
+abbrev pub option_key : Option (Box Expression) → Key KeyLeaf
+option_key None = absent_key
+option_key (Some e) = present_key (key e.value)
+
+-- how two expressions compare
+abbrev pub expression_cmp : Expression → Expression → Ordering
+expression_cmp a b = key_cmp leaf_cmp (key a) (key b)

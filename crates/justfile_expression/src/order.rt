@@ -1,0 +1,595 @@
+//! How expressions compare: by their cases in declared order, and within a case by its fields in
+//! declared order, places included.
+ghost use Rattle.std.specs.Prelude.{◌≡◌, Some, string_bytes};
+ghost use Rattle.std.proofs.Common.{refl};
+ghost use Rattle.std.specs.Cmp.{eq_by_cmp_equiv, on_total, partial_equiv_from_equiv, partial_order_from_total};
+ghost use Rattle.std.specs.Cmp.Lexicographic.{slice_cmp};
+ghost use Rattle.std.specs.Ordering.{eq_by_cmp, on};
+ghost use Rattle.justfile_model.specs.Key.{label, node, end, next, row, keys_of, key_cmp, keys_cmp};
+ghost use Rattle.justfile_model.specs.KeyLaws.{key_total};
+ghost use Rattle.justfile_expression.specs.Content.{expression_content_cmp, leaf_order};
+ghost use Rattle.justfile_expression.specs.Leaf.{token_key, literal_key, operator_key, number_key, text_key};
+ghost use Rattle.justfile_expression.specs.LeafLaws.{leaf_total};
+ghost use Rattle.justfile_expression.specs.Order.{expression_cmp, key, operation_keys, option_key, part_key};
+
+use crate::expression::Expression;
+use crate::leaf_order::LeafOrder;
+use justfile_model::ConditionalOperator;
+use justfile_token::{Name, Number, StringLiteral, Token};
+use std::cmp::Ordering;
+
+/// The index of an expression's case among the cases of the type.
+fn case_index(expression: &Expression<'_>) -> u8
+    ensures { result ≡ label (key expression.now) }
+{
+    match expression {
+        Expression::And { .. } => 0,
+        Expression::Assert { .. } => 1,
+        Expression::Backtick { .. } => 2,
+        Expression::Call { .. } => 3,
+        Expression::Comparison { .. } => 4,
+        Expression::Concatenation { .. } => 5,
+        Expression::Conditional { .. } => 6,
+        Expression::FormatString { .. } => 7,
+        Expression::Group { .. } => 8,
+        Expression::Join { .. } => 9,
+        Expression::List { .. } => 10,
+        Expression::ListConcatenation { .. } => 11,
+        Expression::Not { .. } => 12,
+        Expression::Or { .. } => 13,
+        Expression::StringLiteral { .. } => 14,
+        Expression::Variable { .. } => 15,
+    }
+}
+
+/// Compares two expressions: by their cases in declared order, and within a case by its fields in
+/// declared order.
+#[cycle(order)]
+fn compare<'src>(
+    leaves: LeafOrder,
+    expression: &Expression<'src>,
+    other: &Expression<'src>,
+) -> Ordering
+    ensures { result ≡ key_cmp (leaf_order leaves) (key expression.now) (key other.now) }
+{
+    match expression {
+        Expression::And { lhs, rhs } => compare_and(leaves, lhs, rhs, other),
+        Expression::Assert {
+            condition,
+            message,
+            name,
+        } => compare_assert(leaves, condition, message, name, other),
+        Expression::Backtick { contents, token } => compare_backtick(
+            leaves, contents, token, other,
+        ),
+        Expression::Call { name, arguments } => compare_call(leaves, name, arguments, other),
+        Expression::Comparison {
+            lhs,
+            operator,
+            rhs,
+            token,
+        } => compare_comparison(leaves, lhs, operator, rhs, token, other),
+        Expression::Concatenation { lhs, operator, rhs } => compare_concatenation(
+            leaves, lhs, operator, rhs, other,
+        ),
+        Expression::Conditional {
+            condition,
+            then: branch,
+            otherwise,
+        } => compare_conditional(leaves, condition, branch, otherwise, other),
+        Expression::FormatString { start, expressions } => compare_format_string(
+            leaves,
+            start,
+            expressions,
+            other,
+        ),
+        Expression::Group { contents } => compare_group(leaves, contents, other),
+        Expression::Join { lhs, operator, rhs } => compare_join(leaves, lhs, operator, rhs, other),
+        Expression::List { elements, opener } => compare_list(leaves, elements, opener, other),
+        Expression::ListConcatenation { lhs, operator, rhs } => compare_list_concatenation(
+            leaves, lhs, operator, rhs, other,
+        ),
+        Expression::Not { operand } => compare_not(leaves, operand, other),
+        Expression::Or { lhs, rhs } => compare_or(leaves, lhs, rhs, other),
+        Expression::StringLiteral { string_literal } => compare_string_literal(
+            leaves,
+            string_literal,
+            other,
+        ),
+        Expression::Variable { name, number } => compare_variable(leaves, name, number, other),
+    }
+}
+
+/// Compares two expressions that may be absent: an absent one comes first.
+#[cycle(order)]
+fn compare_options<'src>(
+    leaves: LeafOrder,
+    expression: &Option<Box<Expression<'src>>>,
+    other: &Option<Box<Expression<'src>>>,
+) -> Ordering
+    ensures { result ≡ key_cmp (leaf_order leaves) (option_key expression.now) (option_key other.now) }
+{
+    match expression {
+        None => match other {
+            None => Ordering::Equal,
+            Some(_) => Ordering::Less,
+        },
+        Some(expression) => match other {
+            None => Ordering::Greater,
+            Some(other) => compare(leaves, expression, other),
+        },
+    }
+}
+
+/// Compares two rows of expressions from the left: one that ends comes before a longer one.
+#[cycle(order)]
+fn compare_all<'src>(
+    leaves: LeafOrder,
+    expressions: &Vec<Expression<'src>>,
+    others: &Vec<Expression<'src>>,
+) -> Ordering
+    ensures { result ≡ slice_cmp (on key (key_cmp (leaf_order leaves))) expressions.now.items others.now.items }
+{
+    for (i, expression) in expressions.iter().enumerate() {
+        if others.len() <= i {
+            return Ordering::Greater;
+        }
+        let order = compare(leaves, expression, &others[i]);
+        if order.is_ne() {
+            return order;
+        }
+    }
+    expressions.len().cmp(&others.len())
+}
+
+/// Compares what follows the starts of two format strings, from the left: each expression, and then
+/// the part after it.
+#[cycle(order)]
+fn compare_parts<'src>(
+    leaves: LeafOrder,
+    expressions: &Vec<(Expression<'src>, StringLiteral<'src>)>,
+    others: &Vec<(Expression<'src>, StringLiteral<'src>)>,
+) -> Ordering
+    ensures { result ≡ slice_cmp (on part_key (key_cmp (leaf_order leaves))) expressions.now.items others.now.items }
+{
+    for (i, (expression, part)) in expressions.iter().enumerate() {
+        if others.len() <= i {
+            return Ordering::Greater;
+        }
+        let (other, other_part) = &others[i];
+        let order = compare(leaves, expression, other).then(leaves.literals(part, other_part));
+        if order.is_ne() {
+            return order;
+        }
+    }
+    expressions.len().cmp(&others.len())
+}
+
+/// Compares two operations of one case: their left sides, then their operators, then their right
+/// sides.
+#[cycle(order)]
+fn compare_operations<'src>(
+    leaves: LeafOrder,
+    lhs: &Expression<'src>,
+    operator: &Token<'src>,
+    rhs: &Expression<'src>,
+    other_lhs: &Expression<'src>,
+    other_operator: &Token<'src>,
+    other_rhs: &Expression<'src>,
+) -> Ordering
+    ensures { result ≡ keys_cmp (leaf_order leaves) (operation_keys lhs.now operator.now rhs.now)
+        (operation_keys other_lhs.now other_operator.now other_rhs.now) }
+{
+    compare(leaves, lhs, other_lhs)
+        .then(leaves.tokens(operator, other_operator))
+        .then(compare(leaves, rhs, other_rhs))
+}
+
+/// Compares a conjunction with these fields to another expression.
+#[cycle(order)]
+fn compare_and<'src>(
+    leaves: LeafOrder,
+    lhs: &Expression<'src>,
+    rhs: &Expression<'src>,
+    other: &Expression<'src>,
+) -> Ordering
+    ensures { result ≡ key_cmp (leaf_order leaves) (node 0 (next (key lhs.now) (next (key rhs.now) end))) (key other.now) }
+{
+    match other {
+        Expression::And {
+            lhs: other_lhs,
+            rhs: other_rhs,
+        } => compare(leaves, lhs, other_lhs).then(compare(leaves, rhs, other_rhs)),
+        _ => 0.cmp(&case_index(other)),
+    }
+}
+
+/// Compares an assertion with these fields to another expression.
+#[cycle(order)]
+fn compare_assert<'src>(
+    leaves: LeafOrder,
+    condition: &Expression<'src>,
+    message: &Option<Box<Expression<'src>>>,
+    name: &Name<'src>,
+    other: &Expression<'src>,
+) -> Ordering
+    ensures { result ≡ key_cmp (leaf_order leaves) (node 1 (next (key condition.now) (next (option_key message.now) (next (token_key name.now.token) end))))
+        (key other.now) }
+{
+    match other {
+        Expression::Assert {
+            condition: other_condition,
+            message: other_message,
+            name: other_name,
+        } => compare(leaves, condition, other_condition)
+            .then(compare_options(leaves, message, other_message))
+            .then(leaves.tokens(&name.token, &other_name.token)),
+        _ => 1.cmp(&case_index(other)),
+    }
+}
+
+/// Compares a command with these fields to another expression.
+fn compare_backtick<'src>(
+    leaves: LeafOrder,
+    contents: &String,
+    token: &Token<'src>,
+    other: &Expression<'src>,
+) -> Ordering
+    ensures { result ≡ key_cmp (leaf_order leaves) (node 2 (next (text_key (string_bytes contents.now)) (next (token_key token.now) end))) (key other.now) }
+{
+    match other {
+        Expression::Backtick {
+            contents: other_contents,
+            token: other_token,
+        } => leaves
+            .texts(contents.as_str(), other_contents.as_str())
+            .then(leaves.tokens(token, other_token)),
+        _ => 2.cmp(&case_index(other)),
+    }
+}
+
+/// Compares a call with these fields to another expression.
+#[cycle(order)]
+fn compare_call<'src>(
+    leaves: LeafOrder,
+    name: &Name<'src>,
+    arguments: &Vec<Expression<'src>>,
+    other: &Expression<'src>,
+) -> Ordering
+    ensures { result ≡ key_cmp (leaf_order leaves) (node 3 (next (token_key name.now.token) (next (row (keys_of key arguments.now.items)) end)))
+        (key other.now) }
+{
+    match other {
+        Expression::Call {
+            name: other_name,
+            arguments: other_arguments,
+        } => leaves
+            .tokens(&name.token, &other_name.token)
+            .then(compare_all(leaves, arguments, other_arguments)),
+        _ => 3.cmp(&case_index(other)),
+    }
+}
+
+/// Compares a comparison with these fields to another expression.
+#[cycle(order)]
+fn compare_comparison<'src>(
+    leaves: LeafOrder,
+    lhs: &Expression<'src>,
+    operator: &ConditionalOperator,
+    rhs: &Expression<'src>,
+    token: &Token<'src>,
+    other: &Expression<'src>,
+) -> Ordering
+    ensures { result ≡ key_cmp (leaf_order leaves) (node 4 (next (key lhs.now) (next (operator_key operator.now)
+        (next (key rhs.now) (next (token_key token.now) end))))) (key other.now) }
+{
+    match other {
+        Expression::Comparison {
+            lhs: other_lhs,
+            operator: other_operator,
+            rhs: other_rhs,
+            token: other_token,
+        } => compare(leaves, lhs, other_lhs)
+            .then(leaves.operators(operator, other_operator))
+            .then(compare(leaves, rhs, other_rhs))
+            .then(leaves.tokens(token, other_token)),
+        _ => 4.cmp(&case_index(other)),
+    }
+}
+
+/// Compares a concatenation with these fields to another expression.
+#[cycle(order)]
+fn compare_concatenation<'src>(
+    leaves: LeafOrder,
+    lhs: &Expression<'src>,
+    operator: &Token<'src>,
+    rhs: &Expression<'src>,
+    other: &Expression<'src>,
+) -> Ordering
+    ensures { result ≡ key_cmp (leaf_order leaves) (node 5 (operation_keys lhs.now operator.now rhs.now)) (key other.now) }
+{
+    match other {
+        Expression::Concatenation {
+            lhs: other_lhs,
+            operator: other_operator,
+            rhs: other_rhs,
+        } => compare_operations(
+            leaves,
+            lhs,
+            operator,
+            rhs,
+            other_lhs,
+            other_operator,
+            other_rhs,
+        ),
+        _ => 5.cmp(&case_index(other)),
+    }
+}
+
+/// Compares a conditional with these fields to another expression.
+#[cycle(order)]
+fn compare_conditional<'src>(
+    leaves: LeafOrder,
+    condition: &Expression<'src>,
+    branch: &Expression<'src>,
+    otherwise: &Option<Box<Expression<'src>>>,
+    other: &Expression<'src>,
+) -> Ordering
+    ensures { result ≡ key_cmp (leaf_order leaves) (node 6 (next (key condition.now) (next (key branch.now) (next (option_key otherwise.now) end))))
+        (key other.now) }
+{
+    match other {
+        Expression::Conditional {
+            condition: other_condition,
+            then: other_branch,
+            otherwise: other_otherwise,
+        } => compare(leaves, condition, other_condition)
+            .then(compare(leaves, branch, other_branch))
+            .then(compare_options(leaves, otherwise, other_otherwise)),
+        _ => 6.cmp(&case_index(other)),
+    }
+}
+
+/// Compares a format string with these fields to another expression.
+#[cycle(order)]
+fn compare_format_string<'src>(
+    leaves: LeafOrder,
+    start: &StringLiteral<'src>,
+    expressions: &Vec<(Expression<'src>, StringLiteral<'src>)>,
+    other: &Expression<'src>,
+) -> Ordering
+    ensures { result ≡ key_cmp (leaf_order leaves) (node 7 (next (literal_key start.now) (next (row (keys_of part_key expressions.now.items)) end)))
+        (key other.now) }
+{
+    match other {
+        Expression::FormatString {
+            start: other_start,
+            expressions: other_expressions,
+        } => leaves
+            .literals(start, other_start)
+            .then(compare_parts(leaves, expressions, other_expressions)),
+        _ => 7.cmp(&case_index(other)),
+    }
+}
+
+/// Compares a group with this field to another expression.
+#[cycle(order)]
+fn compare_group<'src>(
+    leaves: LeafOrder,
+    contents: &Expression<'src>,
+    other: &Expression<'src>,
+) -> Ordering
+    ensures { result ≡ key_cmp (leaf_order leaves) (node 8 (next (key contents.now) end)) (key other.now) }
+{
+    match other {
+        Expression::Group {
+            contents: other_contents,
+        } => compare(leaves, contents, other_contents),
+        _ => 8.cmp(&case_index(other)),
+    }
+}
+
+/// Compares a join with these fields to another expression.
+#[cycle(order)]
+fn compare_join<'src>(
+    leaves: LeafOrder,
+    lhs: &Option<Box<Expression<'src>>>,
+    operator: &Token<'src>,
+    rhs: &Expression<'src>,
+    other: &Expression<'src>,
+) -> Ordering
+    ensures { result ≡ key_cmp (leaf_order leaves) (node 9 (next (option_key lhs.now) (next (token_key operator.now) (next (key rhs.now) end))))
+        (key other.now) }
+{
+    match other {
+        Expression::Join {
+            lhs: other_lhs,
+            operator: other_operator,
+            rhs: other_rhs,
+        } => compare_options(leaves, lhs, other_lhs)
+            .then(leaves.tokens(operator, other_operator))
+            .then(compare(leaves, rhs, other_rhs)),
+        _ => 9.cmp(&case_index(other)),
+    }
+}
+
+/// Compares a list with these fields to another expression.
+#[cycle(order)]
+fn compare_list<'src>(
+    leaves: LeafOrder,
+    elements: &Vec<Expression<'src>>,
+    opener: &Token<'src>,
+    other: &Expression<'src>,
+) -> Ordering
+    ensures { result ≡ key_cmp (leaf_order leaves) (node 10 (next (row (keys_of key elements.now.items)) (next (token_key opener.now) end))) (key other.now) }
+{
+    match other {
+        Expression::List {
+            elements: other_elements,
+            opener: other_opener,
+        } => compare_all(leaves, elements, other_elements).then(leaves.tokens(
+            opener,
+            other_opener,
+        )),
+        _ => 10.cmp(&case_index(other)),
+    }
+}
+
+/// Compares a concatenation of lists with these fields to another expression.
+#[cycle(order)]
+fn compare_list_concatenation<'src>(
+    leaves: LeafOrder,
+    lhs: &Expression<'src>,
+    operator: &Token<'src>,
+    rhs: &Expression<'src>,
+    other: &Expression<'src>,
+) -> Ordering
+    ensures { result ≡ key_cmp (leaf_order leaves) (node 11 (operation_keys lhs.now operator.now rhs.now)) (key other.now) }
+{
+    match other {
+        Expression::ListConcatenation {
+            lhs: other_lhs,
+            operator: other_operator,
+            rhs: other_rhs,
+        } => compare_operations(
+            leaves,
+            lhs,
+            operator,
+            rhs,
+            other_lhs,
+            other_operator,
+            other_rhs,
+        ),
+        _ => 11.cmp(&case_index(other)),
+    }
+}
+
+/// Compares a negation with this field to another expression.
+#[cycle(order)]
+fn compare_not<'src>(
+    leaves: LeafOrder,
+    operand: &Expression<'src>,
+    other: &Expression<'src>,
+) -> Ordering
+    ensures { result ≡ key_cmp (leaf_order leaves) (node 12 (next (key operand.now) end)) (key other.now) }
+{
+    match other {
+        Expression::Not {
+            operand: other_operand,
+        } => compare(leaves, operand, other_operand),
+        _ => 12.cmp(&case_index(other)),
+    }
+}
+
+/// Compares a disjunction with these fields to another expression.
+#[cycle(order)]
+fn compare_or<'src>(
+    leaves: LeafOrder,
+    lhs: &Expression<'src>,
+    rhs: &Expression<'src>,
+    other: &Expression<'src>,
+) -> Ordering
+    ensures { result ≡ key_cmp (leaf_order leaves) (node 13 (next (key lhs.now) (next (key rhs.now) end))) (key other.now) }
+{
+    match other {
+        Expression::Or {
+            lhs: other_lhs,
+            rhs: other_rhs,
+        } => compare(leaves, lhs, other_lhs).then(compare(leaves, rhs, other_rhs)),
+        _ => 13.cmp(&case_index(other)),
+    }
+}
+
+/// Compares a literal with this field to another expression.
+fn compare_string_literal<'src>(
+    leaves: LeafOrder,
+    string_literal: &StringLiteral<'src>,
+    other: &Expression<'src>,
+) -> Ordering
+    ensures { result ≡ key_cmp (leaf_order leaves) (node 14 (next (literal_key string_literal.now) end)) (key other.now) }
+{
+    match other {
+        Expression::StringLiteral {
+            string_literal: other_string_literal,
+        } => leaves.literals(string_literal, other_string_literal),
+        _ => 14.cmp(&case_index(other)),
+    }
+}
+
+/// Compares a variable with these fields to another expression.
+fn compare_variable<'src>(
+    leaves: LeafOrder,
+    name: &Name<'src>,
+    number: &Option<Number>,
+    other: &Expression<'src>,
+) -> Ordering
+    ensures { result ≡ key_cmp (leaf_order leaves) (node 15 (next (token_key name.now.token) (next (number_key number.now) end))) (key other.now) }
+{
+    match other {
+        Expression::Variable {
+            name: other_name,
+            number: other_number,
+        } => leaves
+            .tokens(&name.token, &other_name.token)
+            .then(leaves.numbers(number, other_number)),
+        _ => 15.cmp(&case_index(other)),
+    }
+}
+
+/// Compares two expressions by all that they hold, places included.
+#[tactic(auto, unfolding(crate::specs::Content::leaf_order))]
+fn compare_whole<'src>(expression: &Expression<'src>, other: &Expression<'src>) -> Ordering
+    ensures { result ≡ expression_cmp expression.now other.now }
+{
+    compare(LeafOrder::Whole, expression, other)
+}
+
+impl Expression<'_> {
+    /// Compares two expressions by what they hold, wherever they stand: as `cmp`, but tokens by their
+    /// kinds and texts alone, and without the numbers of variables.
+    #[tactic(auto, unfolding(crate::specs::Content::leaf_order))]
+    pub fn content_cmp(&self, other: &Self) -> Ordering
+        ensures { result ≡ expression_content_cmp self.now other.now }
+    {
+        compare(LeafOrder::Content, self, other)
+    }
+}
+
+/// Two expressions are equal if neither comes before the other.
+impl PartialEq for Expression<'_> {
+    ghost eq = { eq_by_cmp expression_cmp };
+
+    ghost laws = { partial_equiv_from_equiv (eq_by_cmp_equiv (on_total key (key_total leaf_total))) };
+
+    fn eq(&self, other: &Self) -> bool {
+        compare_whole(self, other).is_eq()
+    }
+}
+
+impl Eq for Expression<'_> {
+    ghost laws = { eq_by_cmp_equiv (on_total key (key_total leaf_total)) };
+}
+
+impl PartialOrd for Expression<'_> {
+    ghost partial_cmp = { λ a b. Some (expression_cmp a b) };
+
+    ghost laws = { partial_order_from_total (on_total key (key_total leaf_total)) };
+
+    fn partial_cmp(&self, other: &Self) -> Option<Ordering> {
+        Some(compare_whole(self, other))
+    }
+}
+
+impl Ord for Expression<'_> {
+    ghost cmp = { expression_cmp };
+
+    ghost total = { on_total key (key_total leaf_total) };
+
+    ghost matches_partial_cmp = { λ a b. refl };
+
+    ghost matches_eq = { λ a b. refl };
+
+    fn cmp(&self, other: &Self) -> Ordering {
+        compare_whole(self, other)
+    }
+}

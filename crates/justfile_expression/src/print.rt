@@ -1,0 +1,74 @@
+//! The walk that prints an expression.
+ghost use Rattle.std.specs.Prelude.{◌≡◌, ℕ, List, IfOk, OnOk, OnErr};
+ghost use Rattle.justfile_model.specs.Printing.{fixed_text};
+ghost use Rattle.justfile_expression.specs.Ends.{IsCompleted};
+ghost use Rattle.justfile_expression.specs.Text.{text_of};
+
+use crate::children::{child, start};
+use crate::expression::Expression;
+use crate::sink::Sink;
+use crate::words::write_words;
+use std::fmt;
+
+/// Puts a piece that is the same in every text.
+#[tactic(auto, unfolding(justfile_model::specs::Printing::fixed_text))]
+pub fn put_piece<S: Sink>(bytes: &str, sink: &mut S) -> Result<(), S::Fault>
+    ensures ok { OnOk result (S.took sink.old (fixed_text bytes.now) sink.new) }
+    ensures err { OnErr result (S.failed sink.old (fixed_text bytes.now) sink.new) }
+{
+    sink.put(bytes)
+}
+
+/// Puts the text of an expression. Expressions nest to the right without a limit, so that a loop goes along
+/// those that end one another.
+#[cycle(write)]
+pub fn write_expression<S: Sink>(expression: &Expression<'_>, sink: &mut S) -> Result<(), S::Fault>
+    ensures ok { OnOk result (S.took sink.old (text_of expression.now) sink.new) }
+    ensures err { OnErr result (S.failed sink.old (text_of expression.now) sink.new) }
+{
+    let mut rest = Some(expression);
+    while let Some(next) = rest {
+        rest = write_to_last(next, sink)?;
+    }
+    Ok(())
+}
+
+/// Puts the text of an expression up to a child that ends it, which is the answer, or all of it where no
+/// child does.
+#[cycle(write)]
+fn write_to_last<'a, 'src, S: Sink>(
+    expression: &'a Expression<'src>,
+    sink: &mut S,
+) -> Result<Option<&'a Expression<'src>>, S::Fault>
+    ensures ok { IfOk result (λ last. (text : List ℕ) × S.took sink.old text sink.new × IsCompleted text last expression.now) }
+    ensures err { OnErr result (S.failed sink.old (text_of expression.now) sink.new) }
+{
+    write_words(&start(expression), sink)?;
+    let mut place = 0;
+    while let Some((part, words)) = child(expression, place) {
+        if words.is_empty() {
+            return Ok(Some(part));
+        }
+        write_expression(part, sink)?;
+        write_words(&words, sink)?;
+        place += 1;
+    }
+    Ok(None)
+}
+
+impl fmt::Display for Expression<'_> {
+    ghost use Rattle.std.specs.Prelude.{Some};
+
+    ghost output = { λ e. Some (text_of e) };
+
+    fn fmt<W: fmt::Write>(&self, f: &mut fmt::Formatter<W>) -> fmt::Result {
+        write_expression(self, f)
+    }
+}
+
+/// The text, as `Display` puts it.
+impl fmt::Debug for Expression<'_> {
+    fn fmt<W: fmt::Write>(&self, f: &mut fmt::Formatter<W>) -> fmt::Result {
+        write_expression(self, f)
+    }
+}

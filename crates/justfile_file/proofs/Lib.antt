@@ -1,5 +1,0 @@
-pub mod Gaps
-pub mod Indented
-pub mod Numbered
-pub mod Printable
-pub mod PrintedBack

@@ -1,8 +1,0 @@
-use Rattle.std.proofs.Common.{arith}
-use Rattle.justfile_model.proofs.CopiedLists.{one_more}
-use Rattle.justfile_header.proofs.copied.all_copied.Goals as goal
-
-pub loop-original-preserved : goal.loop-original-preserved
-loop-original-preserved g c =
-    one_more g.T.Copied.is_copy c.loop-original.copies.items c.args.originals.now c.push.new.self.items c.loop-original.original-index c.in_ok-copied.field-0 c.original-item.result
-    (omega arith) c.original-item.is c.loop-original.invariant c.in_ok-copied.ensures c.in_ok-push.ensures.items

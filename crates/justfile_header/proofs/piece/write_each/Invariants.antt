@@ -1,7 +1,0 @@
-use Rattle.std.proofs.Common.{◌++◌, take}
-use Rattle.std.specs.List.{flat_map}
-use Rattle.justfile_model.specs.Printing.{fixed_text}
-use Rattle.justfile_header.proofs.piece.write_each.Given as goal
-
-abbrev pub invariant-loop-piece : goal.invariant-loop-piece
-invariant-loop-piece g l = g.S.Sink.took l.initial.sink (flat_map (λ p. fixed_text l.before ++ g.P.Piece.piece_text p) (take l.piece-index l.pieces)) l.sink

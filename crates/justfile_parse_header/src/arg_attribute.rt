@@ -1,0 +1,221 @@
+//! What an `arg` attribute says of a parameter.
+ghost use Rattle.std.specs.Prelude.{◌≡◌, IfOk, IsTrue, None, string_bytes};
+ghost use Rattle.std.specs.Option.{is_some, option_map};
+ghost use Rattle.justfile_attribute.specs.Attribute.{leaf_attribute_of};
+ghost use Rattle.justfile_parse_header.specs.Arguments.{IsKeyed, said_by};
+ghost use Rattle.justfile_parse_header.specs.Options.{bound_token, bound_key_of, long_in, says_flag, says_multiple, short_in, option_in};
+ghost use Rattle.justfile_parse_header.specs.ArgAttribute.{IsArgAttribute};
+ghost use Rattle.justfile_parse_header.specs.Tree.{value_tree};
+ghost use Rattle.justfile_expression.specs.LeafTree.{leaf_tree_of};
+
+use justfile_attribute::Attribute;
+use justfile_expression::Expression;
+use justfile_token::{Name, StringLiteral, Token};
+use std::alloc::{AllocError, Global};
+
+/// What is said of a parameter.
+#[derive(Drop)]
+pub(crate) struct ArgAttribute<'src> {
+    pub(crate) flag: bool,
+    pub(crate) long: Option<String>,
+    pub(crate) max: Option<u64>,
+    pub(crate) min: Option<u64>,
+    pub(crate) multiple: bool,
+    pub(crate) short: Option<char>,
+    pub(crate) value: Option<Box<Expression<'src>>>,
+}
+
+/// What an attribute says of its parameter; nothing where none speaks of it.
+pub(crate) fn copy_arg_attribute<'src>(
+    alloc: Global,
+    attribute: Option<&Attribute<'src>>,
+) -> Result<ArgAttribute<'src>, AllocError>
+    ensures { IfOk result (λ arg_attribute. IsArgAttribute (said_by attribute.entry) arg_attribute) }
+{
+    let Some(attribute) = attribute else {
+        return Ok(no_arg_attribute());
+    };
+    match attribute {
+        Attribute::Arg {
+            max,
+            min,
+            value,
+            ..
+        } => {
+            let long = copy_long(alloc, attribute)?;
+            let value = copy_value(alloc, value)?;
+            Ok(ArgAttribute {
+                flag: is_flag(attribute),
+                long,
+                max: *max,
+                min: *min,
+                multiple: is_multiple(attribute),
+                short: find_short(attribute),
+                value,
+            })
+        }
+        _ => Ok(no_arg_attribute()),
+    }
+}
+
+/// Nothing is said.
+fn no_arg_attribute<'src>() -> ArgAttribute<'src>
+    ensures { IsArgAttribute None result }
+{
+    ArgAttribute {
+        flag: false,
+        long: None,
+        max: None,
+        min: None,
+        multiple: false,
+        short: None,
+        value: None,
+    }
+}
+
+/// Whether the attribute says that the parameter is an option without a value.
+pub(crate) fn is_flag(attribute: &Attribute<'_>) -> bool
+    ensures { result ≡ says_flag (leaf_attribute_of attribute.now) }
+{
+    match attribute {
+        Attribute::Arg { flag, .. } => flag.is_some(),
+        _ => false,
+    }
+}
+
+/// Whether the attribute says that the option may be given several times.
+pub(crate) fn is_multiple(attribute: &Attribute<'_>) -> bool
+    ensures { result ≡ says_multiple (leaf_attribute_of attribute.now) }
+{
+    match attribute {
+        Attribute::Arg { multiple, .. } => multiple.is_some(),
+        _ => false,
+    }
+}
+
+/// The key of `max`, or else that of `min`, where the attribute has one of them.
+pub(crate) fn find_bound_key<'src>(attribute: &Attribute<'src>) -> Option<Name<'src>>
+    requires { IsKeyed attribute.now }
+    ensures { option_map (λ key. key.token) result ≡ bound_key_of (leaf_attribute_of attribute.now) }
+{
+    match attribute {
+        Attribute::Arg {
+            max,
+            max_key,
+            min,
+            min_key,
+            ..
+        } => match find_key(*max, *max_key) {
+            Some(key) => Some(key),
+            None => find_key(*min, *min_key),
+        },
+        _ => None,
+    }
+}
+
+/// The key of a number that is there.
+fn find_key<'src>(number: Option<u64>, key: Option<Name<'src>>) -> Option<Name<'src>>
+    requires { IsTrue (is_some number) → IsTrue (is_some key) }
+    ensures { option_map (λ key. key.token) result ≡ bound_token number (option_map (λ key. key.token) key.entry) }
+{
+    match number {
+        Some(_) => key,
+        None => None,
+    }
+}
+
+/// What the long option of the parameter is called, and where that stands.
+pub(crate) fn find_long<'run, 'src>(
+    attribute: &'run Attribute<'src>,
+) -> Option<(&'run str, Token<'src>)>
+    ensures { option_map (λ option. (option.0.now, option.1)) result ≡ long_in (leaf_attribute_of attribute.now) }
+{
+    match attribute {
+        Attribute::Arg {
+            long,
+            long_key,
+            name,
+            ..
+        } => find_option(name, long, *long_key),
+        _ => None,
+    }
+}
+
+/// What the short option of the parameter is called: the first character of its name.
+pub(crate) fn find_short_option<'src>(attribute: &Attribute<'src>) -> Option<(char, Token<'src>)>
+    ensures { result ≡ short_in (leaf_attribute_of attribute.now) }
+{
+    match attribute {
+        Attribute::Arg {
+            name,
+            short,
+            short_key,
+            ..
+        } => {
+            let (text, place) = find_option(name, short, *short_key)?;
+            let character = text.chars().next()?;
+            Some((character, place))
+        }
+        _ => None,
+    }
+}
+
+/// The name of an option, and where it is refused: the argument's own at a key that stands alone, or
+/// that of a literal.
+fn find_option<'run, 'src>(
+    name: &'run StringLiteral<'src>,
+    literal: &'run Option<StringLiteral<'src>>,
+    key: Option<Name<'src>>,
+) -> Option<(&'run str, Token<'src>)>
+    ensures { option_map (λ option. (option.0.now, option.1)) result ≡ option_in name.now literal.now key.entry }
+{
+    if let Some(key) = key {
+        return Some((name.cooked.as_str(), key.token));
+    }
+    match literal {
+        Some(literal) => Some((literal.cooked.as_str(), literal.token)),
+        None => None,
+    }
+}
+
+/// The first character of the name of the short option.
+fn find_short(attribute: &Attribute<'_>) -> Option<char>
+    ensures { result ≡ option_map (λ option. option.0) (short_in (leaf_attribute_of attribute.now)) }
+{
+    let (character, _place) = find_short_option(attribute)?;
+    Some(character)
+}
+
+/// A copy of what the long option is called.
+fn copy_long(alloc: Global, attribute: &Attribute<'_>) -> Result<Option<String>, AllocError>
+    ensures { IfOk result (λ copy. option_map string_bytes copy ≡ option_map (λ option. option.0) (long_in (leaf_attribute_of attribute.now))) }
+{
+    match find_long(attribute) {
+        Some((text, _place)) => Ok(Some(text.to_string(alloc)?)),
+        None => Ok(None),
+    }
+}
+
+/// A copy of a value that may be absent.
+fn copy_value<'src>(
+    alloc: Global,
+    value: &Option<Box<Expression<'src>>>,
+) -> Result<Option<Box<Expression<'src>>>, AllocError>
+    ensures { IfOk result (λ copy. value_tree copy ≡ value_tree value.now) }
+{
+    match value {
+        Some(value) => Ok(Some(copy_expression(alloc, value)?)),
+        None => Ok(None),
+    }
+}
+
+/// A copy of an expression, in a box of its own.
+fn copy_expression<'src>(
+    alloc: Global,
+    expression: &Expression<'src>,
+) -> Result<Box<Expression<'src>>, AllocError>
+    ensures { IfOk result (λ copy. leaf_tree_of copy.value ≡ leaf_tree_of expression.now) }
+{
+    let copy = expression.clone(alloc)?;
+    Ok(Box::new(alloc, copy)?)
+}

@@ -1,0 +1,112 @@
+//! The attributes of a construct, once it is known which construct it is.
+ghost use Rattle.std.specs.Prelude.{◌≡◌, ◌&&◌, IfOk, map};
+ghost use Rattle.justfile_attribute_set.specs.AttributeSet.{IsConstruct, leaf_entries_of};
+ghost use Rattle.justfile_model.specs.ContentKeys.{has_attribute};
+ghost use Rattle.justfile_model.specs.HeaderReader.{obeying};
+ghost use Rattle.justfile_model.specs.RecipeRules.{exclusions_broken};
+ghost use Rattle.justfile_parse_item.specs.Exclusions.{IsExclusion};
+ghost use Rattle.justfile_parse_item.specs.ExtraneousFault.{IsExtraneousFault};
+ghost use Rattle.justfile_parse_item.specs.ItemTable as reader;
+ghost use Rattle.justfile_parse_item.specs.DerivedFields.{HaveDerivedPairFields, HasDerivedSetAttributes, is_private_item, is_private_name};
+ghost use Rattle.justfile_parse_attribute.specs.Attributes.{entry_of_pair};
+ghost use Rattle.justfile_parse_attribute.specs.ParseErrors.{ReadsRuled};
+ghost use Rattle.justfile_parse_expression.specs.TableReader.{State};
+ghost use Rattle.justfile_expression.specs.LeafViews.{views_leaves};
+
+use justfile_attribute::Attribute;
+use justfile_attribute_set::AttributeSet;
+use justfile_parse_attribute::{ParseError, rule_error};
+use justfile_parse_expression::significant::TableEntry;
+use justfile_token::{AttributeKind, CompileErrorKind, Fault, ItemKind, Token};
+use justfile_written::Written;
+use std::alloc::Global;
+
+/// The attributes of an item of this kind, whose name or path is at this token, if it may have them.
+#[tactic(auto, using(crate::proofs::Constructs::is_allowed, crate::proofs::Constructs::is_disallowed, crate::proofs::Constructs::set_whole, crate::proofs::Constructs::whole_pairs))]
+pub(crate) fn check_allowed<'src>(
+    alloc: Global,
+    item: ItemKind,
+    attributes: Vec<(Attribute<'src>, Written<'src>)>,
+    name: TableEntry<'_, 'src>,
+) -> Result<AttributeSet<'src>, ParseError<'src>>
+    requires construct { IsConstruct item }
+    requires whole { HaveDerivedPairFields attributes.items }
+    ensures reads { (s : State) → ReadsRuled (λ _. tt) result s (reader.check_allowed item (map entry_of_pair attributes.entry.items) name.entry s) }
+    ensures entries { IfOk result (λ set. leaf_entries_of set ≡ reader.in_content_order (map entry_of_pair attributes.entry.items)) }
+    ensures whole { IfOk result HasDerivedSetAttributes }
+{
+    let set = AttributeSet::from_parsed(attributes)?;
+    match set.ensure_valid_attributes(item, *name.token) {
+        Ok(()) => Ok(set),
+        Err(error) => Err(rule_error(alloc, Fault::Compile(error))),
+    }
+}
+
+/// Refuses attributes of the recipe with this name that exclude each other.
+pub(crate) fn check_exclusions<'src>(
+    attributes: &AttributeSet<'src>,
+    alloc: Global,
+    recipe: Token<'src>,
+) -> Result<(), ParseError<'src>>
+    ensures { (s : State) → ReadsRuled (λ _. tt) result s (obeying (exclusions_broken views_leaves recipe.entry (leaf_entries_of attributes.now)) s) }
+{
+    match find_exclusion(attributes, recipe) {
+        None => Ok(()),
+        Some(kind) => Err(rule_error(alloc, Fault::Compile(recipe.error(kind)))),
+    }
+}
+
+/// The refusal of the first two kinds of attributes that exclude each other.
+fn find_exclusion<'src>(
+    attributes: &AttributeSet<'src>,
+    recipe: Token<'src>,
+) -> Option<CompileErrorKind<'src>>
+    ensures { IsExclusion recipe.entry (leaf_entries_of attributes.now) result }
+{
+    let recipe = recipe.lexeme();
+    if has_both(
+        attributes,
+        AttributeKind::NoCd,
+        AttributeKind::WorkingDirectory,
+    ) {
+        Some(CompileErrorKind::NoCdAndWorkingDirectoryAttribute { recipe })
+    } else if has_both(
+        attributes,
+        AttributeKind::ExitMessage,
+        AttributeKind::NoExitMessage,
+    ) {
+        Some(CompileErrorKind::ExitMessageAndNoExitMessageAttribute { recipe })
+    } else if has_both(attributes, AttributeKind::Script, AttributeKind::Shell) {
+        Some(CompileErrorKind::ScriptAndShellAttribute { recipe })
+    } else {
+        None
+    }
+}
+
+/// Whether there are attributes of both kinds.
+fn has_both(attributes: &AttributeSet<'_>, first: AttributeKind, second: AttributeKind) -> bool
+    ensures { result ≡ has_attribute first (leaf_entries_of attributes.now) && has_attribute second (leaf_entries_of attributes.now) }
+{
+    attributes.contains(first) && attributes.contains(second)
+}
+
+/// The refusal of so many attributes before a blank line or a comment.
+pub(crate) fn extraneous_error<'src>(count: usize, opener: Token<'src>) -> Fault<'src>
+    ensures { IsExtraneousFault count opener.entry result }
+{
+    Fault::Compile(opener.error(CompileErrorKind::ExtraneousAttributes { count }))
+}
+
+/// Whether what has this name and these attributes is private.
+pub(crate) fn is_private_item(name: Token<'_>, attributes: &AttributeSet<'_>) -> bool
+    ensures { result ≡ is_private_item name.entry attributes.now }
+{
+    is_private_name(name.lexeme().as_bytes()) || attributes.private()
+}
+
+/// Whether a name is private: whether it begins with `_`.
+fn is_private_name(name: &[u8]) -> bool
+    ensures { result ≡ is_private_name name.now }
+{
+    name.first() == Some(&b'_')
+}

@@ -1,0 +1,67 @@
+//! The parameters of functions.
+ghost use Rattle.std.specs.Prelude.{◌≡◌, ◌<◌, ◌≤◌, false, IfOk, OnOk};
+ghost use Rattle.justfile_parse_expression.specs.View.{tokens_left, state_of};
+ghost use Rattle.justfile_parse_header.specs.Counting.{TookBindingNumbers, ReadsCounted, counters_of, names, names_after};
+ghost use Rattle.justfile_parse_item_parts.specs.PartTable as reader;
+ghost use Rattle.justfile_parse_item_parts.specs.Parts.{numbered_leaves};
+
+use justfile_parse_attribute::{ParseError, parse_separator};
+use justfile_parse_expression::ExpressionParser;
+use justfile_parse_header::next_binding_number;
+use justfile_token::{Expander, Name, Number, Numerator, TokenKind};
+
+/// The names of parameters with their numbers, up to the closing parenthesis and with it.
+pub fn parse_parameter_names<'src, X: Expander>(
+    parser: &mut ExpressionParser<'_, 'src, X>,
+    numerator: &mut Numerator,
+) -> Result<Vec<(Name<'src>, Number)>, ParseError<'src>>
+    ensures reads { ReadsCounted (λ parameters. numbered_leaves parameters.items) result numerator.new (state_of X.answer parser.new)
+        (reader.names (counters_of numerator.old, state_of X.answer parser.old)) }
+    ensures drawn { TookBindingNumbers numerator.old numerator.new (names (state_of X.answer parser.old)) (names_after result (state_of X.answer parser.new)) }
+    ensures progress { OnOk result (tokens_left parser.new < tokens_left parser.old) }
+{
+    let mut parameters = Vec::new(parser.alloc);
+    'names: loop {
+        if parse_next_name(parser, numerator, &mut parameters)? {
+            return Ok(parameters);
+        }
+    }
+}
+
+/// The closing parenthesis, or a name and what stands after it. Whether the names are at their
+/// end.
+#[tactic(auto, using(justfile_parse_attribute::proofs::AttributeSteps::broken_first), unfolding(crate::specs::PartTable::names_step))]
+fn parse_next_name<'src, X: Expander>(
+    parser: &mut ExpressionParser<'_, 'src, X>,
+    numerator: &mut Numerator,
+    parameters: &mut Vec<(Name<'src>, Number)>,
+) -> Result<bool, ParseError<'src>>
+    ensures reads { ReadsCounted (λ is_last. (numbered_leaves parameters.new.items, is_last)) result numerator.new (state_of X.answer parser.new)
+        (reader.names_step (numbered_leaves parameters.old.items) (counters_of numerator.old) (state_of X.answer parser.old)) }
+    ensures drawn { TookBindingNumbers numerator.old numerator.new (names (state_of X.answer parser.old)) (names_after result (state_of X.answer parser.new)) }
+    ensures progress { OnOk result (tokens_left parser.new < tokens_left parser.old) }
+{
+    if let Some(_closer) = parser.accept(TokenKind::ParenR) {
+        return Ok(true);
+    }
+    parse_numbered_name(parser, numerator, parameters)?;
+    Ok(parse_separator(parser, TokenKind::ParenR)?)
+}
+
+/// A name with its number, after others.
+#[tactic(auto, unfolding(crate::specs::PartTable::one_name, justfile_model::specs::PartReader::numbered_name))]
+fn parse_numbered_name<'src, X: Expander>(
+    parser: &mut ExpressionParser<'_, 'src, X>,
+    numerator: &mut Numerator,
+    parameters: &mut Vec<(Name<'src>, Number)>,
+) -> Result<(), ParseError<'src>>
+    ensures reads { ReadsCounted (λ _. numbered_leaves parameters.new.items) result numerator.new (state_of X.answer parser.new)
+        (reader.one_name (numbered_leaves parameters.old.items) (counters_of numerator.old) (state_of X.answer parser.old)) }
+    ensures drawn { TookBindingNumbers numerator.old numerator.new (names (state_of X.answer parser.old)) (names_after result (state_of X.answer parser.new)) }
+    ensures progress { OnOk result (tokens_left parser.new < tokens_left parser.old) }
+{
+    let name = parser.expect(TokenKind::Identifier)?;
+    let number = next_binding_number(numerator)?;
+    parameters.push((Name::from_identifier(*name.token), number))?;
+    Ok(())
+}

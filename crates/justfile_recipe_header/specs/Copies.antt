@@ -1,0 +1,41 @@
+-- Copies.
+use Rattle.std.specs.Prelude.{◌≡◌, Option, None, Some, String, string_bytes}
+use Rattle.std.specs.Global.{Global}
+use Rattle.std.specs.List.{AllZip}
+use Rattle.justfile_token.specs.Namepath.{names_in}
+use Rattle.justfile_expression.specs.Copies.{IsSameExpression, IsSameOption}
+use Rattle.justfile_recipe_header.specs.declared.parameter.Parameter.{Parameter}
+use Rattle.justfile_recipe_header.specs.declared.unresolved_dependency.DependencyArgument.{DependencyArgument}
+use Rattle.justfile_recipe_header.specs.declared.unresolved_dependency.UnresolvedDependency.{UnresolvedDependency}
+
+-- a copy of a text that may be absent
+abbrev pub IsSameText : (copy original : Option (String Global)) → Type 0
+IsSameText None None = Unit {0}
+IsSameText (Some copy) (Some original) = string_bytes copy ≡ string_bytes original
+IsSameText _ _ = ⊥
+
+-- the copy of a parameter has its fields
+pub record IsSameParameter (copy original : Parameter) : Type 0 where
+  pub default : IsSameOption copy.default original.default
+  pub export : copy.export ≡ original.export
+  pub flag : copy.flag ≡ original.flag
+  pub help : IsSameText copy.help original.help
+  pub kind : copy.kind ≡ original.kind
+  pub long : IsSameText copy.long original.long
+  pub max : copy.max ≡ original.max
+  pub min : copy.min ≡ original.min
+  pub multiple : copy.multiple ≡ original.multiple
+  pub name : copy.name ≡ original.name
+  pub number : copy.number ≡ original.number
+  pub short : copy.short ≡ original.short
+  pub value : IsSameOption copy.value original.value
+
+-- the copy of an argument has its fields
+pub record IsSameArgument (copy original : DependencyArgument) : Type 0 where
+  pub expression : IsSameExpression copy.expression.value original.expression.value
+  pub starred : copy.starred ≡ original.starred
+
+-- the copy of a dependency has its arguments and its path
+pub record IsSameDependency (copy original : UnresolvedDependency) : Type 0 where
+  pub arguments : AllZip IsSameArgument copy.arguments.items original.arguments.items
+  pub recipe : names_in copy.recipe ≡ names_in original.recipe

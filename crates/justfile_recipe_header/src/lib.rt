@@ -1,0 +1,18 @@
+//! Parameters and dependencies of recipes, and how they print.
+#![tactic(auto)]
+
+pub mod laws;
+pub mod parameter;
+mod parameter_kind;
+mod path;
+pub mod try_clone;
+pub mod unresolved_dependency;
+mod write_to;
+
+pub use crate::parameter::{Parameter, write_parameter, write_parameters};
+pub use crate::path::write_namepath;
+pub use crate::unresolved_dependency::{
+    DependencyArgument, UnresolvedDependency, write_dependencies, write_dependency,
+    write_subsequents,
+};
+pub use justfile_model::ParameterKind;

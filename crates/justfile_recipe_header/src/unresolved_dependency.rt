@@ -1,0 +1,207 @@
+ghost use Rattle.std.specs.Prelude.{◌≡◌, ◌++◌, OnOk, OnErr, IfOk};
+ghost use Rattle.std.specs.List.{list_any};
+ghost use Rattle.justfile_recipe_header.specs.Copies.{IsSameArgument, IsSameDependency};
+ghost use Rattle.justfile_recipe_header.specs.Header.{argument_text, call_text, dependencies_text, dependency_text_of, is_starred, star_text, subsequents_text_of};
+
+use crate::path::write_namepath;
+use crate::try_clone::{TryClone, clone_all, copy_boxed};
+use crate::write_to::{WriteTo, write_each};
+use justfile_expression::{Expression, Sink, put_piece, write_expression};
+use justfile_token::Namepath;
+use std::alloc::{AllocError, Global};
+use std::fmt;
+
+/// An argument of a dependency.
+#[derive(Drop, PartialEq)]
+pub struct DependencyArgument<'src> {
+    /// Its value.
+    pub expression: Box<Expression<'src>>,
+    /// Whether the recipe is run once for each element of the value: `*` stands before it.
+    pub starred: bool,
+}
+
+/// A dependency of a recipe as it was read.
+#[derive(Drop, PartialEq)]
+pub struct UnresolvedDependency<'src> {
+    /// What is passed to the recipe.
+    pub arguments: Vec<DependencyArgument<'src>>,
+    /// The path of the recipe.
+    pub recipe: Namepath<'src>,
+}
+
+impl<'src> DependencyArgument<'src> {
+    /// A copy of the argument.
+    pub fn clone(&self, alloc: Global) -> Result<Self, AllocError>
+        ensures { IfOk result (λ copy. IsSameArgument copy self.now) }
+    {
+        Ok(DependencyArgument {
+            expression: copy_boxed(alloc, &self.expression)?,
+            starred: self.starred,
+        })
+    }
+}
+
+impl TryClone for DependencyArgument<'_> {
+    ghost is_copy = { IsSameArgument };
+
+    fn try_clone(&self, alloc: Global) -> Result<Self, AllocError> {
+        self.clone(alloc)
+    }
+}
+
+impl<'src> UnresolvedDependency<'src> {
+    /// A copy of the dependency.
+    pub fn clone(&self, alloc: Global) -> Result<Self, AllocError>
+        ensures { IfOk result (λ copy. IsSameDependency copy self.now) }
+    {
+        let recipe = self.recipe.clone(alloc)?;
+        Ok(UnresolvedDependency {
+            arguments: clone_all(alloc, &self.arguments)?,
+            recipe,
+        })
+    }
+
+    /// Whether one of the arguments is starred.
+    pub fn starred(&self) -> bool
+        ensures { result ≡ is_starred self.now }
+    {
+        is_one_starred(&self.arguments)
+    }
+}
+
+/// Whether one of the arguments is starred.
+fn is_one_starred(arguments: &[DependencyArgument<'_>]) -> bool
+    ensures { result ≡ list_any (λ argument. argument.starred) arguments.now }
+{
+    arguments.iter().any(|argument| argument.starred)
+}
+
+impl TryClone for UnresolvedDependency<'_> {
+    ghost is_copy = { IsSameDependency };
+
+    fn try_clone(&self, alloc: Global) -> Result<Self, AllocError> {
+        self.clone(alloc)
+    }
+}
+
+/// Puts the sign of what is starred.
+fn write_star<S: Sink>(starred: bool, sink: &mut S) -> Result<(), S::Fault>
+    ensures ok { OnOk result (S.took sink.old (star_text starred) sink.new) }
+    ensures err { OnErr result (S.failed sink.old (star_text starred) sink.new) }
+{
+    if starred {
+        put_piece("*", sink)
+    } else {
+        Ok(())
+    }
+}
+
+impl WriteTo for DependencyArgument<'_> {
+    ghost piece_text = { argument_text };
+
+    fn write<S: Sink>(&self, sink: &mut S) -> Result<(), S::Fault> {
+        write_star(self.starred, sink)?;
+        write_expression(&self.expression, sink)
+    }
+}
+
+/// Puts the text of a dependency with its arguments, in parentheses.
+fn write_call<S: Sink>(dependency: &UnresolvedDependency<'_>, sink: &mut S) -> Result<(), S::Fault>
+    ensures ok { OnOk result (S.took sink.old (call_text dependency.now) sink.new) }
+    ensures err { OnErr result (S.failed sink.old (call_text dependency.now) sink.new) }
+{
+    write_star(dependency.starred(), sink)?;
+    put_piece("(", sink)?;
+    write_namepath(&dependency.recipe, sink)?;
+    write_each(" ", &dependency.arguments, sink)?;
+    put_piece(")", sink)
+}
+
+/// Puts the text of a dependency.
+#[tactic(auto, using(crate::proofs::Parts::bare_parts, crate::proofs::Parts::call_parts))]
+pub fn write_dependency<S: Sink>(
+    dependency: &UnresolvedDependency<'_>,
+    sink: &mut S,
+) -> Result<(), S::Fault>
+    ensures ok { OnOk result (S.took sink.old (dependency_text_of dependency.now) sink.new) }
+    ensures err { OnErr result (S.failed sink.old (dependency_text_of dependency.now) sink.new) }
+{
+    if dependency.arguments.is_empty() {
+        write_namepath(&dependency.recipe, sink)
+    } else {
+        write_call(dependency, sink)
+    }
+}
+
+impl WriteTo for UnresolvedDependency<'_> {
+    ghost piece_text = { dependency_text_of };
+
+    fn write<S: Sink>(&self, sink: &mut S) -> Result<(), S::Fault> {
+        write_dependency(self, sink)
+    }
+}
+
+/// Puts dependencies, each after a space.
+#[tactic(auto, using(crate::proofs::Parts::dependencies_parts))]
+pub fn write_dependencies<S: Sink>(
+    dependencies: &[UnresolvedDependency<'_>],
+    sink: &mut S,
+) -> Result<(), S::Fault>
+    ensures ok { OnOk result (S.took sink.old (dependencies_text dependencies.now) sink.new) }
+    ensures err { OnErr result (S.failed sink.old (dependencies_text dependencies.now) sink.new) }
+{
+    write_each(" ", dependencies, sink)?;
+    Ok(())
+}
+
+/// Puts the dependencies that run after a recipe, each after a space, and `&&` before them. Where
+/// there are none, puts nothing.
+#[tactic(auto, using(crate::proofs::Parts::subsequents_some, crate::proofs::Parts::subsequents_none))]
+pub fn write_subsequents<S: Sink>(
+    subsequents: &[UnresolvedDependency<'_>],
+    sink: &mut S,
+) -> Result<(), S::Fault>
+    ensures ok { OnOk result (S.took sink.old (subsequents_text_of subsequents.now) sink.new) }
+    ensures err { OnErr result (S.failed sink.old (subsequents_text_of subsequents.now) sink.new) }
+{
+    if subsequents.is_empty() {
+        return Ok(());
+    }
+    put_piece(" &&", sink)?;
+    write_dependencies(subsequents, sink)?;
+    Ok(())
+}
+
+impl fmt::Display for DependencyArgument<'_> {
+    ghost use Rattle.std.specs.Prelude.{Some};
+
+    ghost output = { λ argument. Some (argument_text argument) };
+
+    fn fmt<W: fmt::Write>(&self, f: &mut fmt::Formatter<W>) -> fmt::Result {
+        self.write(f)
+    }
+}
+
+impl fmt::Display for UnresolvedDependency<'_> {
+    ghost use Rattle.std.specs.Prelude.{Some};
+
+    ghost output = { λ dependency. Some (dependency_text_of dependency) };
+
+    fn fmt<W: fmt::Write>(&self, f: &mut fmt::Formatter<W>) -> fmt::Result {
+        write_dependency(self, f)
+    }
+}
+
+/// The text, as `Display` writes it.
+impl fmt::Debug for DependencyArgument<'_> {
+    fn fmt<W: fmt::Write>(&self, f: &mut fmt::Formatter<W>) -> fmt::Result {
+        self.write(f)
+    }
+}
+
+/// The text, as `Display` writes it.
+impl fmt::Debug for UnresolvedDependency<'_> {
+    fn fmt<W: fmt::Write>(&self, f: &mut fmt::Formatter<W>) -> fmt::Result {
+        write_dependency(self, f)
+    }
+}

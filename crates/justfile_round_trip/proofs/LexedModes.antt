@@ -1,0 +1,87 @@
+-- Lexing over modes, where what is printed leaves the mode known but for places.
+use Rattle.std.proofs.Common.{◌≡◌, ◌≢◌, ℕ, ◌+◌, List, [], ◌∷◌, ◌++◌, length, take, drop, Ok, refl, sym, ap, ◌∙◌, arith}
+use Rattle.justfile_vocabulary.specs.declared.token_kind.TokenKind.{TokenKind}
+use Rattle.justfile_vocabulary.specs.declared.token_kind.TokenKind.TheVariants.{Eof}
+use Rattle.justfile_model.specs.Tok.{Tok}
+use Rattle.justfile_model.specs.Places.{line_of_offset, column_at}
+use Rattle.justfile_model.specs.Modes.{Mode, mode, start_mode, mode_after}
+use Rattle.justfile_model.specs.Next.{next}
+use Rattle.std.proofs.lemmas.List.{drop-drop}
+use Rattle.justfile_model.specs.Lexed.{end_of, IsNext, Follows, Lexed}
+use Rattle.justfile_model.proofs.LexedLaws.{from_follows}
+
+-- a token without its place
+pub record Mark : Type 0 where
+  pub kind : TokenKind
+  pub lexeme : List ℕ
+
+abbrev pub mark : TokenKind → List ℕ → Mark
+mark k l = record { kind = k; lexeme = l }
+
+abbrev pub placed : Mark → (offset line column : ℕ) → Tok
+placed t o l c = record { kind = t.kind; lexeme = t.lexeme; offset = o; line = l; column = c }
+
+abbrev pub tok_at : List ℕ → ℕ → Mark → Tok
+tok_at text offset t = placed t offset (line_of_offset text offset) (column_at text offset)
+
+-- these tokens, from the offset on, are the tokens of the rest
+abbrev pub LexesIn : List ℕ → ℕ → Mode → List ℕ → List Mark → Type 0
+LexesIn text offset m rest [] = (rest ≡ []) × (next m [] ≡ Ok (Eof, 0))
+LexesIn text offset m rest (t ∷ ts) =
+    (following : List ℕ) × (rest ≡ t.lexeme ++ following) × (next m rest ≡ Ok (t.kind, length t.lexeme)) × (t.kind ≢ Eof)
+    × LexesIn text (offset + length t.lexeme) (mode_after t.kind (tok_at text offset t) m) following ts
+
+-- wherever the rest stands
+pub record LexesTo (m : Mode) (rest : List ℕ) (ts : List Mark) : Type 0 where
+  pub is : (text : List ℕ) (offset : ℕ) → LexesIn text offset m rest ts
+
+-- one token, and the rest wherever the token stands
+pub step : (m : Mode) (k : TokenKind) (l following : List ℕ) (ts : List Mark) → next m (l ++ following) ≡ Ok (k, length l) → k ≢ Eof → ((o n c : ℕ) → LexesTo (mode_after k (placed (mark k l) o n c) m) following ts) → LexesTo m (l ++ following) (mark k l ∷ ts)
+step m k l following ts found goes_on more = record { is = λ text offset. (following, refl, found, goes_on, (more offset (line_of_offset text offset) (column_at text offset)).is text (offset + length l)) }
+
+pub end : (m : Mode) → next m [] ≡ Ok (Eof, 0) → LexesTo m [] []
+end m e = record { is = λ text offset. (refl, e) }
+
+-- the tokens with their places
+abbrev pub toks : List ℕ → ℕ → List Mark → List Tok
+toks text offset [] = tok_at text offset (mark Eof []) ∷ []
+toks text offset (t ∷ ts) = tok_at text offset t ∷ toks text (offset + length t.lexeme) ts
+
+pub take_front : (xs ys : List ℕ) → take (length xs) (xs ++ ys) ≡ xs
+take_front [] ys = refl
+take_front (x ∷ xs) ys = ap (λ l. x ∷ l) (take_front xs ys)
+
+pub drop_front : (xs ys : List ℕ) → drop (length xs) (xs ++ ys) ≡ ys
+drop_front [] ys = refl
+drop_front (x ∷ xs) ys = drop_front xs ys
+
+pub drop_drop : (m n : ℕ) (xs : List ℕ) → drop (m + n) xs ≡ drop n (drop m xs)
+drop_drop m n xs = ap (λ k. drop k xs) (omega arith) ∙ sym (drop-drop n m xs)
+
+cons_follows : (text : List ℕ) (e : List Tok) (t : Tok) (us : List Tok) → IsNext text e t → t.kind ≢ Eof → Follows text (t ∷ e) us → Follows text e (t ∷ us)
+cons_follows text e t [] n g f = absurd f
+cons_follows text e t (u ∷ us) n g f = (n, g, f)
+
+module _ (text : List ℕ) where
+  is_next : (e : List Tok) (t : Mark) (m : Mode) (offset : ℕ) (rest following : List ℕ) → mode e ≡ m → end_of e ≡ offset → drop offset text ≡ rest → rest ≡ t.lexeme ++ following → next m rest ≡ Ok (t.kind, length t.lexeme) → IsNext text e (tok_at text offset t)
+  is_next e t m offset rest following em eo er split found = record {
+    stands = record {
+      offset_is = sym eo;
+      lexeme_is = sym (ap (take (length t.lexeme)) (er ∙ split) ∙ take_front t.lexeme following);
+      line_is = refl;
+      column_is = refl;
+    };
+    found = (λ i. next (em i) ((ap (λ n. drop n text) eo ∙ er) i)) ∙ found;
+  }
+
+  pub follows : (ts : List Mark) (e : List Tok) (m : Mode) (offset : ℕ) (rest : List ℕ) → mode e ≡ m → end_of e ≡ offset → drop offset text ≡ rest → LexesIn text offset m rest ts → Follows text e (toks text offset ts)
+  follows [] e m offset rest em eo er h = (is_next e (mark Eof []) m offset rest [] em eo er h.0 (ap (next m) h.0 ∙ h.1), refl)
+  follows (t ∷ ts) e m offset rest em eo er h =
+      let following = h.0 in
+      let moved : drop (offset + length t.lexeme) text ≡ following = drop_drop offset (length t.lexeme) text ∙ ap (drop (length t.lexeme)) (er ∙ h.1) ∙ drop_front t.lexeme following in
+      cons_follows text e (tok_at text offset t) _ (is_next e t m offset rest following em eo er h.1 h.2) h.3
+      (follows ts (tok_at text offset t ∷ e) (mode_after t.kind (tok_at text offset t) m) (offset + length t.lexeme) following (ap (mode_after t.kind (tok_at text offset t)) em) refl moved h.4)
+
+-- what reads from the start is the text's tokens
+pub lexed : (text : List ℕ) (ts : List Mark) → LexesTo start_mode text ts → Lexed text (toks text 0 ts)
+lexed text ts r = from_follows text [] (toks text 0 ts) tt (follows text ts [] start_mode 0 text refl refl refl (r.is text 0))

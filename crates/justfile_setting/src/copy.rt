@@ -1,0 +1,100 @@
+//! Copies of settings.
+ghost use Rattle.std.specs.Prelude.{IfOk};
+ghost use Rattle.justfile_token.specs.StringLiteral.{IsSameLiteral};
+ghost use Rattle.justfile_attribute.specs.Interpreters.{IsSameCommand};
+ghost use Rattle.justfile_setting.specs.Copies.{IsSameSetting};
+ghost use Rattle.justfile_setting.specs.declared.setting.Setting.TheVariants as settings;
+ghost use Rattle.justfile_expression.specs.Copies.{IsSameExpression};
+
+use crate::setting::Setting;
+use justfile_attribute::Interpreter;
+use justfile_expression::Expression;
+use justfile_token::{Indentation, StringLiteral};
+use std::alloc::{AllocError, Global};
+
+impl<'src> Setting<'src> {
+    /// A copy of the setting.
+    pub fn clone(&self, alloc: Global) -> Result<Self, AllocError>
+        ensures { IfOk result (λ copy. IsSameSetting copy self.now) }
+    {
+        match self {
+            Setting::AllowDuplicateRecipes(value) => Ok(Setting::AllowDuplicateRecipes(*value)),
+            Setting::AllowDuplicateVariables(value) => Ok(Setting::AllowDuplicateVariables(*value)),
+            Setting::DefaultList(value) => Ok(Setting::DefaultList(*value)),
+            Setting::DefaultScript(value) => Ok(Setting::DefaultScript(*value)),
+            Setting::DotenvCommand(value) => Ok(Setting::DotenvCommand(copy_boxed(alloc, value)?)),
+            Setting::DotenvFilename(value) => Ok(Setting::DotenvFilename(copy_boxed(
+                alloc, value,
+            )?)),
+            Setting::DotenvLoad(value) => Ok(Setting::DotenvLoad(*value)),
+            Setting::DotenvOverride(value) => Ok(Setting::DotenvOverride(*value)),
+            Setting::DotenvPath(value) => Ok(Setting::DotenvPath(copy_boxed(alloc, value)?)),
+            Setting::DotenvRequired(value) => Ok(Setting::DotenvRequired(*value)),
+            Setting::Export(value) => Ok(Setting::Export(*value)),
+            Setting::Fallback(value) => Ok(Setting::Fallback(*value)),
+            Setting::Guards(value) => Ok(Setting::Guards(*value)),
+            Setting::IgnoreComments(value) => Ok(Setting::IgnoreComments(*value)),
+            Setting::Indentation(literal, indentation) => copy_indentation(
+                alloc,
+                literal,
+                *indentation,
+            ),
+            Setting::Lazy(value) => Ok(Setting::Lazy(*value)),
+            Setting::Lists(value) => Ok(Setting::Lists(*value)),
+            Setting::MinimumVersion(literal) => Ok(Setting::MinimumVersion(literal.clone(alloc)?)),
+            Setting::NoCd(value) => Ok(Setting::NoCd(*value)),
+            Setting::NoExitMessage(value) => Ok(Setting::NoExitMessage(*value)),
+            Setting::PositionalArguments(value) => Ok(Setting::PositionalArguments(*value)),
+            Setting::Quiet(value) => Ok(Setting::Quiet(*value)),
+            Setting::ScriptInterpreter(interpreter) => Ok(Setting::ScriptInterpreter(copy_command(
+                alloc,
+                interpreter,
+            )?)),
+            Setting::Shell(interpreter) => Ok(Setting::Shell(copy_command(alloc, interpreter)?)),
+            Setting::Tempdir(value) => Ok(Setting::Tempdir(copy_boxed(alloc, value)?)),
+            Setting::Unstable(value) => Ok(Setting::Unstable(*value)),
+            Setting::WindowsPowerShell(value) => Ok(Setting::WindowsPowerShell(*value)),
+            Setting::WindowsShell(interpreter) => Ok(Setting::WindowsShell(copy_command(
+                alloc,
+                interpreter,
+            )?)),
+            Setting::WorkingDirectory(value) => Ok(Setting::WorkingDirectory(copy_boxed(
+                alloc, value,
+            )?)),
+        }
+    }
+}
+
+/// A copy of an expression, in a box of its own.
+fn copy_boxed<'src>(
+    alloc: Global,
+    expression: &Expression<'src>,
+) -> Result<Box<Expression<'src>>, AllocError>
+    ensures { IfOk result (λ copy. IsSameExpression copy.value expression.now) }
+{
+    let copy = expression.clone(alloc)?;
+    Ok(Box::new(alloc, copy)?)
+}
+
+/// A copy of an interpreter, in a box of its own.
+fn copy_command<'src>(
+    alloc: Global,
+    interpreter: &Interpreter<Expression<'src>>,
+) -> Result<Box<Interpreter<Expression<'src>>>, AllocError>
+    ensures { IfOk result (λ copy. IsSameCommand copy.value interpreter.now) }
+{
+    let copy = interpreter.clone(alloc)?;
+    Ok(Box::new(alloc, copy)?)
+}
+
+/// A copy of a literal, and the indentation that its text is.
+fn copy_indentation<'src>(
+    alloc: Global,
+    literal: &StringLiteral<'src>,
+    indentation: Indentation,
+) -> Result<Setting<'src>, AllocError>
+    ensures { IfOk result (λ copy. IsSameSetting copy (settings.Indentation literal.now indentation)) }
+{
+    let copy = literal.clone(alloc)?;
+    Ok(Setting::Indentation(copy, indentation))
+}

@@ -1,0 +1,43 @@
+-- The excerpt of a token: its place, and its line with carets under it. Places are counted in bytes, columns are those of a screen.
+use Rattle.std.specs.Prelude.{ℕ, ◌+◌, max, List, ◌++◌, length, codes, decimal, encode_utf8_all}
+use Rattle.std.specs.List.{repeat}
+use Rattle.justfile_message.specs.Columns.{line_at, shown_line, width_in}
+use Rattle.justfile_token.specs.declared.token.Token.{Token}
+
+-- the number of its line, from 1
+abbrev pub number_text : Token → List ℕ
+number_text token = decimal (token.line + 1)
+
+-- as many spaces as the number has digits
+abbrev pub indent : Token → List ℕ
+indent token = repeat (length (number_text token)) (codes " ")
+
+-- it stands before a line as it is shown
+abbrev pub bar : List ℕ
+bar = encode_utf8_all (codes " │")
+
+abbrev pub arrow : List ℕ
+arrow = encode_utf8_all (codes "——▶ ")
+
+-- the path, and the numbers of the line and of the byte in it, from 1
+abbrev pub place_line : Token → List ℕ
+place_line token = indent token ++ arrow ++ token.path.now ++ codes ":" ++ number_text token ++ codes ":" ++ decimal (token.column + 1)
+
+abbrev pub bar_line : Token → List ℕ
+bar_line token = indent token ++ bar
+
+-- the line that the token begins on, after its number
+abbrev pub source_line : Token → List ℕ
+source_line token = number_text token ++ bar ++ codes " " ++ shown_line (line_at token.src.now token.line)
+
+-- a caret under each column of the token, and under one at least; an empty token is taken as one byte
+abbrev pub caret_line : Token → List ℕ
+caret_line token =
+    let line = line_at token.src.now token.line in
+    indent token ++ bar ++ codes " "
+    ++ repeat (width_in line 0 token.column) (codes " ")
+    ++ repeat (max 1 (width_in line token.column (max token.length 1))) (codes "^")
+
+abbrev pub excerpt_text : Token → List ℕ
+excerpt_text token =
+    place_line token ++ codes "\n" ++ bar_line token ++ codes "\n" ++ source_line token ++ codes "\n" ++ caret_line token

@@ -1,0 +1,71 @@
+//! How the line of a token is shown, with carets under the token.
+ghost use Rattle.std.specs.Prelude.{Some};
+ghost use Rattle.std.specs.Fmt.{DisplaysOnOk};
+ghost use Rattle.justfile_token.specs.Excerpt.{bar_line, caret_line, excerpt_text, indent, place_line, source_line};
+
+use crate::token::Token;
+use justfile_message::columns::{
+    digit_count, line_at, ordinal, write_carets, write_columns, write_line,
+};
+use std::fmt;
+
+/// Writes as many spaces as the number of the token's line has digits.
+fn write_indent<W: fmt::Write>(token: &Token<'_>, f: &mut fmt::Formatter<W>) -> fmt::Result
+    ensures { DisplaysOnOk W.write_str_gives f.old result (Some (indent token.now)) f.new }
+{
+    f.write_repeated(" ", digit_count(ordinal(token.line)))
+}
+
+/// Writes the path, and where the token stands in it.
+fn write_place<W: fmt::Write>(token: &Token<'_>, f: &mut fmt::Formatter<W>) -> fmt::Result
+    ensures { DisplaysOnOk W.write_str_gives f.old result (Some (place_line token.now)) f.new }
+{
+    let line = ordinal(token.line);
+    let column = ordinal(token.column);
+    write_indent(token, f)?;
+    write!(f, "——▶ {}:{line}:{column}", token.path)
+}
+
+/// Writes what stands before a line that has no number.
+fn write_bar<W: fmt::Write>(token: &Token<'_>, f: &mut fmt::Formatter<W>) -> fmt::Result
+    ensures { DisplaysOnOk W.write_str_gives f.old result (Some (bar_line token.now)) f.new }
+{
+    write_indent(token, f)?;
+    f.write_str(" │")
+}
+
+/// Writes the line that the token begins on, after its number.
+fn write_source<W: fmt::Write>(token: &Token<'_>, f: &mut fmt::Formatter<W>) -> fmt::Result
+    ensures { DisplaysOnOk W.write_str_gives f.old result (Some (source_line token.now)) f.new }
+{
+    let number = ordinal(token.line);
+    write!(f, "{number} │ ")?;
+    write_line(line_at(token.src, token.line), f)
+}
+
+/// Writes the carets under the token.
+fn write_caret_line<W: fmt::Write>(token: &Token<'_>, f: &mut fmt::Formatter<W>) -> fmt::Result
+    ensures { DisplaysOnOk W.write_str_gives f.old result (Some (caret_line token.now)) f.new }
+{
+    let line = line_at(token.src, token.line);
+    write_bar(token, f)?;
+    f.write_str(" ")?;
+    write_columns(line, 0, token.column, " ", f)?;
+    write_carets(line, token.column, token.length.max(1), f)
+}
+
+/// Writes the place of a token, and its line with carets under the token.
+pub(crate) fn write_excerpt<W: fmt::Write>(
+    token: &Token<'_>,
+    f: &mut fmt::Formatter<W>,
+) -> fmt::Result
+    ensures { DisplaysOnOk W.write_str_gives f.old result (Some (excerpt_text token.now)) f.new }
+{
+    write_place(token, f)?;
+    f.write_str("\n")?;
+    write_bar(token, f)?;
+    f.write_str("\n")?;
+    write_source(token, f)?;
+    f.write_str("\n")?;
+    write_caret_line(token, f)
+}

@@ -1,0 +1,81 @@
+ghost use Rattle.std.specs.Prelude.{◌≡◌, [], ◌∷◌, ◌++◌, IfOk, OnOk, OnErr, Some, string_bytes};
+
+use crate::namepath::Namepath;
+use crate::path::write_path;
+use std::alloc::{AllocError, Global};
+use std::fmt;
+
+/// The names of a module and of those that it lies in, the outermost first. The root has none.
+#[derive(Drop, PartialEq, Eq, PartialOrd, Ord)]
+pub struct Modulepath {
+    names: Vec<String>,
+}
+
+impl Modulepath {
+    ghost use Rattle.justfile_token.specs.Modulepath.{module_names, names_of};
+
+    /// The path of the root.
+    pub fn new(alloc: Global) -> Self
+        ensures { names_of result ≡ [] }
+    {
+        Modulepath {
+            names: Vec::new(alloc),
+        }
+    }
+
+    /// The path with the names of a namepath, or that of the root where there is none.
+    pub fn from_namepath(alloc: Global, namepath: Option<&Namepath<'_>>) -> Result<Self, AllocError>
+        ensures { IfOk result (λ path. names_of path ≡ module_names namepath.entry) }
+    {
+        let mut path = Modulepath::new(alloc);
+        let Some(namepath) = namepath else {
+            return Ok(path);
+        };
+        for name in namepath.iter().as_slice() {
+            path.push(name.token.lexeme().to_string(alloc)?)?;
+        }
+        Ok(path)
+    }
+
+    /// Goes on to the module of this name.
+    pub fn push(&mut self, name: String) -> Result<(), AllocError>
+        ensures ok { OnOk result (names_of self.new ≡ names_of self.old ++ string_bytes name ∷ []) }
+        ensures err { OnErr result (names_of self.new ≡ names_of self.old) }
+    {
+        self.names.push(name)?;
+        Ok(())
+    }
+
+    /// A copy of the path.
+    ///
+    /// # Errors
+    ///
+    /// `AllocError` if the program is out of memory.
+    pub fn clone(&self, alloc: Global) -> Result<Self, AllocError>
+        ensures { IfOk result (λ copy. names_of copy ≡ names_of self.now) }
+    {
+        let mut names = Vec::new(alloc);
+        for name in &self.names {
+            names.push(name.as_str().to_string(alloc)?)?;
+        }
+        Ok(Modulepath { names })
+    }
+}
+
+impl fmt::Display for Modulepath {
+    ghost use Rattle.justfile_token.specs.Modulepath.{names_of};
+    ghost use Rattle.justfile_token.specs.Path.{path_text};
+
+    ghost output = { λ path. Some (path_text (names_of path)) };
+
+    fn fmt<W: fmt::Write>(&self, f: &mut fmt::Formatter<W>) -> fmt::Result {
+        write_path(&self.names, f)
+    }
+}
+
+/// The path, as `Display` writes it.
+impl fmt::Debug for Modulepath {
+    fn fmt<W: fmt::Write>(&self, f: &mut fmt::Formatter<W>) -> fmt::Result {
+        write_path(&self.names, f)
+    }
+}

@@ -1,0 +1,103 @@
+ghost use Rattle.std.specs.Prelude.{◌≡◌, ◌<◌, ◌-◌, [], ◌∷◌, ◌++◌, length, slice_get, IfOk, OnOk, OnErr, Some};
+ghost use Rattle.std.specs.Slice.Iter.{iter_rest};
+
+use crate::name::Name;
+use crate::path::write_path;
+use std::alloc::{AllocError, Global};
+use std::{fmt, slice};
+
+/// A name with the modules that it lies in before it, the outermost first.
+#[derive(Drop, PartialEq, Eq, PartialOrd, Ord)]
+pub struct Namepath<'src> {
+    names: Vec<Name<'src>>,
+    ghost is_nonempty: { 0 < length names.items },
+}
+
+impl<'src> Namepath<'src> {
+    ghost use Rattle.justfile_token.specs.Namepath.{names_in};
+
+    /// The path of a single name.
+    pub fn from_name(alloc: Global, name: Name<'src>) -> Result<Self, AllocError>
+        ensures { IfOk result (λ path. names_in path ≡ name.entry ∷ []) }
+    {
+        let mut names = Vec::new(alloc);
+        names.push(name)?;
+        Ok(Namepath { names })
+    }
+
+    /// The path that goes on to this name.
+    pub fn join(&self, alloc: Global, name: Name<'src>) -> Result<Self, AllocError>
+        ensures { IfOk result (λ path. names_in path ≡ names_in self.now ++ name.entry ∷ []) }
+    {
+        let mut path = self.clone(alloc)?;
+        path.push(name)?;
+        Ok(path)
+    }
+
+    /// Goes on to this name.
+    pub fn push(&mut self, name: Name<'src>) -> Result<(), AllocError>
+        ensures ok { OnOk result (names_in self.new ≡ names_in self.old ++ name.entry ∷ []) }
+        ensures err { OnErr result (names_in self.new ≡ names_in self.old) }
+    {
+        self.names.push(name)?;
+        Ok(())
+    }
+
+    /// The name that the path leads to.
+    pub fn last(&self) -> &Name<'src>
+        ensures { slice_get (names_in self.now) (length (names_in self.now) - 1) ≡ Some result.now }
+    {
+        &self.names[self.names.len() - 1]
+    }
+
+    /// The name that the path leads to, and the modules before it.
+    pub fn split_last(&self) -> (&Name<'src>, &[Name<'src>])
+        ensures { names_in self.now ≡ result.1.now ++ result.0.now ∷ [] }
+    {
+        let last = self.names.len() - 1;
+        (&self.names[last], &self.names[..last])
+    }
+
+    /// The names in order.
+    pub fn iter(&self) -> slice::Iter<'_, Name<'src>>
+        ensures { iter_rest result ≡ names_in self.now }
+    {
+        self.names.iter()
+    }
+
+    /// How many names there are.
+    pub fn components(&self) -> usize
+        ensures { result ≡ length (names_in self.now) }
+    {
+        self.names.len()
+    }
+
+    /// A copy of the path.
+    ///
+    /// # Errors
+    ///
+    /// `AllocError` if the program is out of memory.
+    pub fn clone(&self, alloc: Global) -> Result<Self, AllocError>
+        ensures { IfOk result (λ copy. names_in copy ≡ names_in self.now) }
+    {
+        let names = self.names.as_slice().to_vec(alloc)?;
+        Ok(Namepath { names })
+    }
+}
+
+impl fmt::Display for Namepath<'_> {
+    ghost use Rattle.justfile_token.specs.Namepath.{namepath_text};
+
+    ghost output = { λ path. Some (namepath_text path) };
+
+    fn fmt<W: fmt::Write>(&self, f: &mut fmt::Formatter<W>) -> fmt::Result {
+        write_path(&self.names, f)
+    }
+}
+
+/// The path, as `Display` writes it.
+impl fmt::Debug for Namepath<'_> {
+    fn fmt<W: fmt::Write>(&self, f: &mut fmt::Formatter<W>) -> fmt::Result {
+        write_path(&self.names, f)
+    }
+}

@@ -1,0 +1,149 @@
+ghost use Rattle.std.specs.Prelude.{◌≡◌, IfErr, IfSome, slice_index, take, if◌then◌else◌};
+ghost use Rattle.std.specs.Result.{result_ok};
+ghost use Rattle.justfile_token.specs.CompileErrorKind.{internal_message};
+ghost use Rattle.justfile_token.specs.StringKind.{delimiter_at, delimiter_len, delimiter_text, escapes, is_quote, kind_at_start, kind_of, no_literal_message, token_kind_of, unterminated_kind_of};
+ghost use Rattle.justfile_token.specs.Token.{lexeme_of};
+
+use crate::compile_error::CompileError;
+use crate::compile_error_kind::CompileErrorKind;
+use crate::token::Token;
+use justfile_vocabulary::bytes::byte_at;
+use justfile_vocabulary::token_kind::TokenKind;
+
+/// The quote that delimits a literal.
+#[derive(Clone, Copy, Debug, PartialEq, Eq, PartialOrd, Ord)]
+pub enum StringDelimiter {
+    /// `` ` ``, of a command.
+    Backtick,
+    /// `"`, between which escapes are replaced.
+    QuoteDouble,
+    /// `'`, between which the text stands for itself.
+    QuoteSingle,
+}
+
+/// How a literal is delimited: by which quote, and whether it is tripled.
+#[derive(Clone, Copy, Debug, PartialEq, Eq, PartialOrd, Ord)]
+pub struct StringKind {
+    /// The quote.
+    pub delimiter: StringDelimiter,
+    /// Whether the delimiter is tripled.
+    pub indented: bool,
+}
+
+impl StringKind {
+    /// The text that opens and closes the literal.
+    pub fn delimiter(self) -> &'static str
+        ensures { result.now ≡ delimiter_text self }
+    {
+        match (self.delimiter, self.indented) {
+            (StringDelimiter::Backtick, false) => "`",
+            (StringDelimiter::Backtick, true) => "```",
+            (StringDelimiter::QuoteDouble, false) => "\"",
+            (StringDelimiter::QuoteDouble, true) => "\"\"\"",
+            (StringDelimiter::QuoteSingle, false) => "'",
+            (StringDelimiter::QuoteSingle, true) => "'''",
+        }
+    }
+
+    /// The number of bytes of the delimiter.
+    pub fn delimiter_len(self) -> usize
+        ensures { result ≡ delimiter_len self }
+    {
+        if self.indented { 3 } else { 1 }
+    }
+
+    /// What a token of the literal is.
+    pub fn token_kind(self) -> TokenKind
+        ensures { result ≡ token_kind_of self.delimiter }
+    {
+        match self.delimiter {
+            StringDelimiter::Backtick => TokenKind::Backtick,
+            StringDelimiter::QuoteDouble | StringDelimiter::QuoteSingle => TokenKind::StringToken,
+        }
+    }
+
+    /// The fault of a literal that doesn't end.
+    pub fn unterminated_error_kind(self) -> CompileErrorKind<'static>
+        ensures { result ≡ unterminated_kind_of self.delimiter }
+    {
+        match self.delimiter {
+            StringDelimiter::Backtick => CompileErrorKind::UnterminatedBacktick,
+            StringDelimiter::QuoteDouble | StringDelimiter::QuoteSingle => {
+                CompileErrorKind::UnterminatedString
+            }
+        }
+    }
+
+    /// Whether `\` begins an escape in the literal.
+    pub fn processes_escape_sequences(self) -> bool
+        ensures { result ≡ escapes self.delimiter }
+    {
+        matches!(self.delimiter, StringDelimiter::QuoteDouble)
+    }
+
+    /// Whether the delimiter is tripled, and the literal's indentation taken off.
+    pub fn indented(self) -> bool
+        ensures { result ≡ self.indented }
+    {
+        self.indented
+    }
+
+    /// The kind of the literal that begins with these bytes. A byte past their end counts as 0, and
+    /// one that is no quote as `'`.
+    pub fn of_opening(bytes: &[u8]) -> Self
+        ensures { result ≡ kind_of bytes.now }
+    {
+        StringKind {
+            delimiter: delimiter_of(byte_at(bytes, 0)).unwrap_or(StringDelimiter::QuoteSingle),
+            indented: is_tripled(bytes),
+        }
+    }
+
+    /// The kind of the literal that a text begins with: tripled wherever three quotes stand.
+    #[tactic(auto, using(crate::proofs::TokenStart::begins_with_delimiter))]
+    pub fn from_token_start(token_start: &str) -> Option<Self>
+        ensures kind { result ≡ kind_at_start token_start.now }
+        ensures begins { IfSome result (λ kind. take (delimiter_len kind) token_start.now ≡ delimiter_text kind) }
+    {
+        let bytes = token_start.as_bytes();
+        let delimiter = delimiter_of(*bytes.first()?)?;
+        Some(StringKind {
+            delimiter,
+            indented: is_tripled(bytes),
+        })
+    }
+
+    /// The kind of a token that is a string or a backtick. An error says that it is neither.
+    pub fn from_string_or_backtick(token: Token<'_>) -> Result<Self, CompileError<'_>>
+        ensures ok { result_ok result ≡ kind_at_start (lexeme_of token.entry) }
+        ensures token { IfErr result (λ error. error.token ≡ token.entry) }
+        ensures kind { IfErr result (λ error. internal_message error.kind ≡ Some no_literal_message) }
+    {
+        match StringKind::from_token_start(token.lexeme()) {
+            Some(kind) => Ok(kind),
+            None => Err(token.error(CompileErrorKind::Internal {
+                message: "StringKind::from_token: expected string or backtick",
+            })),
+        }
+    }
+}
+
+/// Whether the first byte stands three times. A byte past the end counts as 0.
+fn is_tripled(bytes: &[u8]) -> bool
+    ensures { result ≡ (kind_of bytes.now).indented }
+{
+    let quote = byte_at(bytes, 0);
+    byte_at(bytes, 1) == quote && byte_at(bytes, 2) == quote
+}
+
+/// The delimiter that is made of this byte.
+fn delimiter_of(byte: u8) -> Option<StringDelimiter>
+    ensures { result ≡ (if is_quote byte then Some (delimiter_at byte) else None) }
+{
+    match byte {
+        b'`' => Some(StringDelimiter::Backtick),
+        b'"' => Some(StringDelimiter::QuoteDouble),
+        b'\'' => Some(StringDelimiter::QuoteSingle),
+        _ => None,
+    }
+}

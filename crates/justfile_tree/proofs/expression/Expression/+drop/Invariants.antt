@@ -1,6 +1,0 @@
-use Rattle.std.proofs.Common.{◌≤◌}
-use Rattle.justfile_tree.specs.declared.expression.Expression.TheViews.{size-Expression}
-use Rattle.justfile_tree.proofs.expression.Expression.+drop.Given as goal
-
-abbrev pub invariant-loop-self : goal.invariant-loop-self
-invariant-loop-self l = size-Expression l.self ≤ size-Expression l.initial.self

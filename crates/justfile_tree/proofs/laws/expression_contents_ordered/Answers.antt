@@ -1,6 +1,0 @@
-use Rattle.justfile_tree.specs.ContentLaws.{expression_content_total}
-use Rattle.justfile_tree.proofs.ContentTies.{expression_content_ties}
-use Rattle.justfile_tree.proofs.laws.expression_contents_ordered.Goals as goal
-
-pub returns : goal.returns
-returns c = record { total = expression_content_total; ties = expression_content_ties }

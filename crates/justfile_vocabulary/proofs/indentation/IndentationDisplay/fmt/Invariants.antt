@@ -1,0 +1,7 @@
+use Rattle.std.proofs.Common.{replicate}
+use Rattle.std.specs.Fmt.{HasWritten, IsPlainFormatter}
+use Rattle.justfile_vocabulary.proofs.indentation.IndentationDisplay.fmt.Given as goal
+
+abbrev pub invariant-loop-blank : goal.invariant-loop-blank
+invariant-loop-blank g l =
+    IsPlainFormatter l.initial.f → HasWritten g.W.Write.write_str_gives l.initial.f (replicate l._blank l.self.character) l.f

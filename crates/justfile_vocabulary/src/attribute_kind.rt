@@ -1,0 +1,144 @@
+ghost use Rattle.std.specs.Prelude.{◌≡◌};
+
+/// What an attribute is. The order is that in which attributes are printed.
+#[derive(Clone, Copy, Debug, PartialEq, Eq, PartialOrd, Ord)]
+pub enum AttributeKind {
+    Android,
+    Arg,
+    Cache,
+    Confirm,
+    Continue,
+    Default,
+    Doc,
+    Dragonfly,
+    Env,
+    ExitMessage,
+    Extension,
+    Freebsd,
+    Group,
+    Linux,
+    Macos,
+    Metadata,
+    Netbsd,
+    NoCd,
+    NoExitMessage,
+    NoQuiet,
+    Openbsd,
+    Parallel,
+    PositionalArguments,
+    Private,
+    Script,
+    Shell,
+    Timestamp,
+    Unix,
+    Windows,
+    WorkingDirectory,
+}
+
+/// All kinds, in their order.
+static KINDS: [AttributeKind; 30] = [
+    AttributeKind::Android,
+    AttributeKind::Arg,
+    AttributeKind::Cache,
+    AttributeKind::Confirm,
+    AttributeKind::Continue,
+    AttributeKind::Default,
+    AttributeKind::Doc,
+    AttributeKind::Dragonfly,
+    AttributeKind::Env,
+    AttributeKind::ExitMessage,
+    AttributeKind::Extension,
+    AttributeKind::Freebsd,
+    AttributeKind::Group,
+    AttributeKind::Linux,
+    AttributeKind::Macos,
+    AttributeKind::Metadata,
+    AttributeKind::Netbsd,
+    AttributeKind::NoCd,
+    AttributeKind::NoExitMessage,
+    AttributeKind::NoQuiet,
+    AttributeKind::Openbsd,
+    AttributeKind::Parallel,
+    AttributeKind::PositionalArguments,
+    AttributeKind::Private,
+    AttributeKind::Script,
+    AttributeKind::Shell,
+    AttributeKind::Timestamp,
+    AttributeKind::Unix,
+    AttributeKind::Windows,
+    AttributeKind::WorkingDirectory,
+];
+
+impl AttributeKind {
+    ghost use Rattle.justfile_vocabulary.specs.AttributeKind.{attribute_name, is_enabler_kind, kind_named, takes_keys};
+
+    /// The kind of this name.
+    pub fn from_name(name: &str) -> Option<Self>
+        ensures { result ≡ kind_named name.now }
+    {
+        KINDS.iter().copied().find(|kind| kind.name() == name)
+    }
+
+    /// The kind's name.
+    pub fn name(self) -> &'static str
+        ensures { result.now ≡ attribute_name self }
+    {
+        match self {
+            AttributeKind::Android => "android",
+            AttributeKind::Arg => "arg",
+            AttributeKind::Cache => "cache",
+            AttributeKind::Confirm => "confirm",
+            AttributeKind::Continue => "continue",
+            AttributeKind::Default => "default",
+            AttributeKind::Doc => "doc",
+            AttributeKind::Dragonfly => "dragonfly",
+            AttributeKind::Env => "env",
+            AttributeKind::ExitMessage => "exit-message",
+            AttributeKind::Extension => "extension",
+            AttributeKind::Freebsd => "freebsd",
+            AttributeKind::Group => "group",
+            AttributeKind::Linux => "linux",
+            AttributeKind::Macos => "macos",
+            AttributeKind::Metadata => "metadata",
+            AttributeKind::Netbsd => "netbsd",
+            AttributeKind::NoCd => "no-cd",
+            AttributeKind::NoExitMessage => "no-exit-message",
+            AttributeKind::NoQuiet => "no-quiet",
+            AttributeKind::Openbsd => "openbsd",
+            AttributeKind::Parallel => "parallel",
+            AttributeKind::PositionalArguments => "positional-arguments",
+            AttributeKind::Private => "private",
+            AttributeKind::Script => "script",
+            AttributeKind::Shell => "shell",
+            AttributeKind::Timestamp => "timestamp",
+            AttributeKind::Unix => "unix",
+            AttributeKind::Windows => "windows",
+            AttributeKind::WorkingDirectory => "working-directory",
+        }
+    }
+
+    /// Whether it says on which systems an item is there.
+    pub fn is_enabler(self) -> bool
+        ensures { result ≡ is_enabler_kind self }
+    {
+        matches!(
+            self,
+            AttributeKind::Android
+                | AttributeKind::Dragonfly
+                | AttributeKind::Freebsd
+                | AttributeKind::Linux
+                | AttributeKind::Macos
+                | AttributeKind::Netbsd
+                | AttributeKind::Openbsd
+                | AttributeKind::Unix
+                | AttributeKind::Windows
+        )
+    }
+
+    /// Whether its attributes take arguments by key.
+    pub fn accepts_keyword_arguments(self) -> bool
+        ensures { result ≡ takes_keys self }
+    {
+        matches!(self, AttributeKind::Arg | AttributeKind::Cache)
+    }
+}

@@ -1,0 +1,99 @@
+ghost use Rattle.std.specs.Prelude.{◌≡◌, ◌<◌, ◌||◌, ◌==◌, IsTrue};
+ghost use Rattle.std.specs.List.{list_all};
+
+use std::fmt;
+use std::str::FromStr;
+
+/// What stands before each line of a body: one or more equal blanks.
+#[derive(Clone, Copy, Debug, PartialEq, Eq)]
+pub struct Indentation {
+    character: char,
+    count: usize,
+    ghost is_blank: { IsTrue (character == 32 || character == 9) },
+    ghost is_positive: { 0 < count },
+}
+
+impl Indentation {
+    ghost use Rattle.std.specs.Prelude.{◌∷◌, []};
+
+    /// The blank that it repeats.
+    pub fn blank(self) -> &'static str
+        ensures { result.now ≡ self.character ∷ [] }
+    {
+        if self.character == '\t' { "\t" } else { " " }
+    }
+
+    /// How many blanks it is.
+    pub fn count(self) -> usize
+        ensures { result ≡ self.count }
+    {
+        self.count
+    }
+}
+
+impl Default for Indentation {
+    ghost use Rattle.std.specs.Prelude.{codes};
+    ghost use Rattle.justfile_vocabulary.specs.Indentation.{indentation_text};
+
+    ghost is_default = { λ indentation. indentation_text indentation ≡ codes "    " };
+
+    /// Four spaces.
+    fn default() -> Self {
+        Indentation {
+            character: ' ',
+            count: 4,
+        }
+    }
+}
+
+fn all_equal(bytes: &[u8], first: u8) -> bool
+    ensures { result ≡ list_all (λ byte. byte == first) bytes.now }
+{
+    bytes.iter().all(|byte| *byte == first)
+}
+
+/// Reads the indentation that a text is.
+///
+/// # Errors
+///
+/// A message, if the text is empty, or is not spaces alone or tabs alone.
+impl FromStr for Indentation {
+    ghost use Rattle.justfile_vocabulary.specs.Indentation.{ReadsIndentation};
+
+    type Err = &'static str;
+
+    ghost from_str_gives = { ReadsIndentation };
+
+    #[tactic(auto, using(crate::proofs::IndentationLemmas::replicate_all))]
+    fn from_str(text: &str) -> Result<Self, &'static str> {
+        let bytes = text.as_bytes();
+        let Some(first) = bytes.first().copied() else {
+            return Err("indentation must not be empty");
+        };
+        if first != b' ' && first != b'\t' {
+            return Err("indentation must be spaces or tabs");
+        }
+        if !all_equal(bytes, first) {
+            return Err("indentation may not be mixed");
+        }
+        Ok(Indentation {
+            character: first as char,
+            count: bytes.len(),
+        })
+    }
+}
+
+impl fmt::Display for Indentation {
+    ghost use Rattle.std.specs.Prelude.{Some};
+    ghost use Rattle.justfile_vocabulary.specs.Indentation.{indentation_text};
+
+    ghost output = { λ indentation. Some (indentation_text indentation) };
+
+    fn fmt<W: fmt::Write>(&self, f: &mut fmt::Formatter<W>) -> fmt::Result {
+        let blank = self.blank();
+        for _blank in 0..self.count {
+            f.write_str(blank)?;
+        }
+        Ok(())
+    }
+}

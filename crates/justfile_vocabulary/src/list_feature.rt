@@ -1,0 +1,102 @@
+ghost use Rattle.std.specs.Prelude.{◌≡◌};
+ghost use Rattle.justfile_vocabulary.specs.ListFeature.{feature_text, is_function};
+
+use std::fmt;
+
+/// What a file uses that only a justfile with lists may.
+#[derive(Clone, Copy, Debug, PartialEq, Eq)]
+pub enum ListFeature {
+    /// `max` of an `arg` attribute.
+    ArgMax,
+    /// `min` of an `arg` attribute.
+    ArgMin,
+    /// The function `bool`.
+    BoolFunction,
+    /// A comparison that is no condition of a conditional.
+    ComparisonOperator,
+    /// `flag` of an `arg` attribute.
+    Flag,
+    /// A conditional without an `else`.
+    IfWithoutElse,
+    /// The function `join_list`.
+    JoinListFunction,
+    /// `++`
+    ListConcatenationOperator,
+    /// Elements between brackets.
+    ListLiteral,
+    /// `&&` or `||`.
+    LogicalOperator,
+    /// `multiple` of an `arg` attribute.
+    Multiple,
+    /// `!`
+    NegationOperator,
+    /// A condition that is no comparison.
+    NonComparisonCondition,
+    /// The function `num_jobs`.
+    NumJobsFunction,
+    /// The function `show`.
+    ShowFunction,
+    /// The function `split`.
+    SplitFunction,
+    /// The function `which`.
+    WhichFunction,
+}
+
+impl ListFeature {
+    /// Whether it is the call of a function.
+    pub fn function(self) -> bool
+        ensures { result ≡ is_function self }
+    {
+        matches!(
+            self,
+            ListFeature::BoolFunction
+                | ListFeature::JoinListFunction
+                | ListFeature::NumJobsFunction
+                | ListFeature::ShowFunction
+                | ListFeature::SplitFunction
+                | ListFeature::WhichFunction
+        )
+    }
+
+    /// The message to a file that uses it without the setting.
+    fn text(self) -> &'static str
+        ensures { result.now ≡ feature_text self }
+    {
+        match self {
+            ListFeature::ArgMax => "`[arg(max)]` requires `set lists`",
+            ListFeature::ArgMin => "`[arg(min)]` requires `set lists`",
+            ListFeature::BoolFunction => "the `bool()` function requires `set lists`",
+            ListFeature::ComparisonOperator => "comparison operators require `set lists`",
+            ListFeature::Flag => "`flag` arguments require `set lists`",
+            ListFeature::IfWithoutElse => "`if` without `else` requires `set lists`",
+            ListFeature::JoinListFunction => "the `join_list()` function requires `set lists`",
+            ListFeature::ListConcatenationOperator => {
+                "list concatenation operator `++` requires `set lists`"
+            }
+            ListFeature::ListLiteral => "list literals require `set lists`",
+            ListFeature::LogicalOperator => "logical operators require `set lists`",
+            ListFeature::Multiple => "`[arg(multiple)]` requires `set lists`",
+            ListFeature::NegationOperator => "negation operator requires `set lists`",
+            ListFeature::NonComparisonCondition => {
+                "`if` and `assert` conditions other than comparisons require `set lists`"
+            }
+            ListFeature::NumJobsFunction => "the `num_jobs()` function requires `set lists`",
+            ListFeature::ShowFunction => "the `show()` function requires `set lists`",
+            ListFeature::SplitFunction => "the `split()` function requires `set lists`",
+            ListFeature::WhichFunction => "the `which()` function requires `set lists`",
+        }
+    }
+}
+
+/// Width and alignment are left aside, as the text is written whole.
+impl fmt::Display for ListFeature {
+    ghost use Rattle.std.specs.Prelude.{Some};
+
+    ghost output = { λ feature. Some (feature_text feature) };
+
+    ghost styled_output = { λ feature spec. Some (feature_text feature) };
+
+    fn fmt<W: fmt::Write>(&self, f: &mut fmt::Formatter<W>) -> fmt::Result {
+        f.write_str(self.text())
+    }
+}

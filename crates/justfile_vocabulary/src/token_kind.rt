@@ -1,0 +1,116 @@
+ghost use Rattle.std.specs.Prelude.{◌≡◌};
+ghost use Rattle.justfile_vocabulary.specs.TokenKind.{kind_text};
+
+use std::fmt;
+
+/// What a token is.
+#[derive(Clone, Copy, Debug, PartialEq, Eq, PartialOrd, Ord)]
+pub enum TokenKind {
+    AmpersandAmpersand,
+    Asterisk,
+    At,
+    Backtick,
+    Bang,
+    BangEquals,
+    BangTilde,
+    BarBar,
+    BraceL,
+    BraceR,
+    BracketL,
+    BracketR,
+    ByteOrderMark,
+    Colon,
+    ColonColon,
+    ColonEquals,
+    Comma,
+    Comment,
+    Dedent,
+    Dollar,
+    Eof,
+    Eol,
+    Equals,
+    EqualsEquals,
+    EqualsTilde,
+    FormatStringContinue,
+    FormatStringEnd,
+    FormatStringStart,
+    Identifier,
+    Indent,
+    InterpolationEnd,
+    InterpolationStart,
+    ParenL,
+    ParenR,
+    Plus,
+    PlusPlus,
+    QuestionMark,
+    Slash,
+    StringToken,
+    Text,
+    Unspecified,
+    Whitespace,
+}
+
+impl TokenKind {
+    /// What the kind is called in a message.
+    fn text(self) -> &'static str
+        ensures { result.now ≡ kind_text self }
+    {
+        match self {
+            TokenKind::AmpersandAmpersand => "'&&'",
+            TokenKind::Asterisk => "'*'",
+            TokenKind::At => "'@'",
+            TokenKind::Backtick => "backtick",
+            TokenKind::Bang => "'!'",
+            TokenKind::BangEquals => "'!='",
+            TokenKind::BangTilde => "'!~'",
+            TokenKind::BarBar => "'||'",
+            TokenKind::BraceL => "'{'",
+            TokenKind::BraceR => "'}'",
+            TokenKind::BracketL => "'['",
+            TokenKind::BracketR => "']'",
+            TokenKind::ByteOrderMark => "byte order mark",
+            TokenKind::Colon => "':'",
+            TokenKind::ColonColon => "'::'",
+            TokenKind::ColonEquals => "':='",
+            TokenKind::Comma => "','",
+            TokenKind::Comment => "comment",
+            TokenKind::Dedent => "dedent",
+            TokenKind::Dollar => "'$'",
+            TokenKind::Eof => "end of file",
+            TokenKind::Eol => "end of line",
+            TokenKind::Equals => "'='",
+            TokenKind::EqualsEquals => "'=='",
+            TokenKind::EqualsTilde => "'=~'",
+            TokenKind::FormatStringContinue => "format string continue",
+            TokenKind::FormatStringEnd => "format string end",
+            TokenKind::FormatStringStart => "format string",
+            TokenKind::Identifier => "identifier",
+            TokenKind::Indent => "indent",
+            TokenKind::InterpolationEnd => "'}}'",
+            TokenKind::InterpolationStart => "'{{'",
+            TokenKind::ParenL => "'('",
+            TokenKind::ParenR => "')'",
+            TokenKind::Plus => "'+'",
+            TokenKind::PlusPlus => "'++'",
+            TokenKind::QuestionMark => "?",
+            TokenKind::Slash => "'/'",
+            TokenKind::StringToken => "string",
+            TokenKind::Text => "command text",
+            TokenKind::Unspecified => "unspecified",
+            TokenKind::Whitespace => "whitespace",
+        }
+    }
+}
+
+/// Width and alignment are left aside, as the text is written whole.
+impl fmt::Display for TokenKind {
+    ghost use Rattle.std.specs.Prelude.{Some};
+
+    ghost output = { λ kind. Some (kind_text kind) };
+
+    ghost styled_output = { λ kind spec. Some (kind_text kind) };
+
+    fn fmt<W: fmt::Write>(&self, f: &mut fmt::Formatter<W>) -> fmt::Result {
+        f.write_str(self.text())
+    }
+}

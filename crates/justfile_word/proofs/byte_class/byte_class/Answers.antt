@@ -1,6 +1,0 @@
-use Rattle.std.proofs.Common.{arith}
-use Rattle.justfile_word.proofs.ByteTable.{class_in_table}
-use Rattle.justfile_word.proofs.byte_class.byte_class.Goals as goal
-
-pub returns : goal.returns
-returns c = class_in_table c.args.byte _ (omega arith)
