@@ -8,6 +8,7 @@ ghost use Rattle.justfile_model.specs.NormalShape.{normal};
 ghost use Rattle.justfile_model.specs.Printing.{printable, printable_item, text};
 ghost use Rattle.justfile_model.specs.Uncommented.{HasNoComments, uncommented_text};
 ghost use Rattle.justfile_expression.specs.Expression.{literal_tok};
+ghost use Rattle.justfile_expression.specs.Sink.{Puts};
 ghost use Rattle.justfile_item.specs.Copies.{IsSameItem};
 ghost use Rattle.justfile_item.specs.Indented.{HasDerivedItemFields, items_indentation};
 ghost use Rattle.justfile_item.specs.Item.{item_shape};
@@ -162,8 +163,8 @@ fn write_items<S: Sink>(
     indentation: Indentation,
     sink: &mut S,
 ) -> Result<(), S::Fault>
-    ensures ok { OnOk result (S.took sink.old (front_text (indentation_text indentation) Start (map item_shape items.now)) sink.new) }
-    ensures err { OnErr result (S.failed sink.old (front_text (indentation_text indentation) Start (map item_shape items.now)) sink.new) }
+    ensures { Puts S.took S.failed sink.old result
+        (front_text (indentation_text indentation) Start (map item_shape items.now)) sink.new }
 {
     let mut separator = Separator::Start;
     for item in items {
@@ -174,8 +175,7 @@ fn write_items<S: Sink>(
 
 /// Puts the newline at the end of a file that has an item.
 fn write_end<S: Sink>(items: &[Item<'_>], sink: &mut S) -> Result<(), S::Fault>
-    ensures ok { OnOk result (S.took sink.old (end_text (map item_shape items.now)) sink.new) }
-    ensures err { OnErr result (S.failed sink.old (end_text (map item_shape items.now)) sink.new) }
+    ensures { Puts S.took S.failed sink.old result (end_text (map item_shape items.now)) sink.new }
 {
     if items.is_empty() {
         return Ok(());
@@ -185,8 +185,8 @@ fn write_end<S: Sink>(items: &[Item<'_>], sink: &mut S) -> Result<(), S::Fault>
 
 /// The walk over a file.
 fn write_ast<S: Sink>(ast: &Ast<'_>, indentation: Indentation, sink: &mut S) -> Result<(), S::Fault>
-    ensures ok { OnOk result (S.took sink.old (text (normal (ast_shape ast.now)) (indentation_text indentation)) sink.new) }
-    ensures err { OnErr result (S.failed sink.old (text (normal (ast_shape ast.now)) (indentation_text indentation)) sink.new) }
+    ensures { Puts S.took S.failed sink.old result
+        (text (normal (ast_shape ast.now)) (indentation_text indentation)) sink.new }
 {
     write_items(&ast.items, indentation, sink)?;
     write_end(&ast.items, sink)?;

@@ -1,6 +1,7 @@
 //! What stands between items where they are printed from left to right.
-ghost use Rattle.std.specs.Prelude.{◌≡◌, OnOk, OnErr, IfOk};
+ghost use Rattle.std.specs.Prelude.{◌≡◌, IfOk};
 ghost use Rattle.justfile_vocabulary.specs.Indentation.{indentation_text};
+ghost use Rattle.justfile_expression.specs.Sink.{Puts};
 ghost use Rattle.justfile_item.specs.Item.{item_shape};
 ghost use Rattle.justfile_ast.specs.Separator.{separator_text, is_line_end, next_separator, step_text, with_line_end};
 
@@ -73,8 +74,8 @@ pub(crate) fn write_after<S: Sink>(
     sink: &mut S,
 ) -> Result<Separator, S::Fault>
     ensures separator { IfOk result (λ following. following ≡ next_separator separator (item_shape item.now)) }
-    ensures ok { OnOk result (S.took sink.old (step_text (indentation_text indentation) separator (item_shape item.now)) sink.new) }
-    ensures err { OnErr result (S.failed sink.old (step_text (indentation_text indentation) separator (item_shape item.now)) sink.new) }
+    ensures puts { Puts S.took S.failed sink.old result
+        (step_text (indentation_text indentation) separator (item_shape item.now)) sink.new }
 {
     if is_line_end(item) {
         return Ok(separator.with_line_end());

@@ -1,8 +1,9 @@
 //! The text of attributes.
-ghost use Rattle.std.specs.Prelude.{◌≡◌, ◌∷◌, ◌++◌, ◌+◌, ◌<◌, [], OnOk, OnErr, false};
+ghost use Rattle.std.specs.Prelude.{◌≡◌, ◌∷◌, ◌++◌, ◌+◌, ◌<◌, [], false};
 ghost use Rattle.std.specs.Fmt.{decimal};
 ghost use Rattle.justfile_token.specs.StringLiteral.{literal_text};
 ghost use Rattle.justfile_model.specs.Printing.{attribute_text};
+ghost use Rattle.justfile_expression.specs.Sink.{Puts};
 ghost use Rattle.justfile_attribute.specs.Attribute.{attribute_shape};
 ghost use Rattle.justfile_attribute.specs.Print.{closing, opening, part_text, quoted_number, slot_piece, slot_text, slots, slots_text, value_text};
 
@@ -18,16 +19,14 @@ static DIGITS: [&str; 10] = ["0", "1", "2", "3", "4", "5", "6", "7", "8", "9"];
 /// Puts one digit.
 fn write_digit<S: Sink>(digit: u64, sink: &mut S) -> Result<(), S::Fault>
     requires { digit < 10 }
-    ensures ok { OnOk result (S.took sink.old ((48 + digit) ∷ []) sink.new) }
-    ensures err { OnErr result (S.failed sink.old ((48 + digit) ∷ []) sink.new) }
+    ensures { Puts S.took S.failed sink.old result ((48 + digit) ∷ []) sink.new }
 {
     sink.put(DIGITS[digit as usize])
 }
 
 /// Puts the digits of a number.
 fn write_decimal<S: Sink>(number: u64, sink: &mut S) -> Result<(), S::Fault>
-    ensures ok { OnOk result (S.took sink.old (decimal number) sink.new) }
-    ensures err { OnErr result (S.failed sink.old (decimal number) sink.new) }
+    ensures { Puts S.took S.failed sink.old result (decimal number) sink.new }
 {
     if number < 10 {
         return write_digit(number, sink);
@@ -38,8 +37,7 @@ fn write_decimal<S: Sink>(number: u64, sink: &mut S) -> Result<(), S::Fault>
 
 /// Puts a literal with its marks.
 fn write_literal<S: Sink>(literal: &StringLiteral<'_>, sink: &mut S) -> Result<(), S::Fault>
-    ensures ok { OnOk result (S.took sink.old (literal_text literal.now) sink.new) }
-    ensures err { OnErr result (S.failed sink.old (literal_text literal.now) sink.new) }
+    ensures { Puts S.took S.failed sink.old result (literal_text literal.now) sink.new }
 {
     sink.put(literal.marks())?;
     sink.put(literal.token.lexeme())
@@ -47,8 +45,7 @@ fn write_literal<S: Sink>(literal: &StringLiteral<'_>, sink: &mut S) -> Result<(
 
 /// Puts a number in single quotes.
 fn write_number<S: Sink>(number: u64, sink: &mut S) -> Result<(), S::Fault>
-    ensures ok { OnOk result (S.took sink.old (quoted_number number) sink.new) }
-    ensures err { OnErr result (S.failed sink.old (quoted_number number) sink.new) }
+    ensures { Puts S.took S.failed sink.old result (quoted_number number) sink.new }
 {
     put_piece("'", sink)?;
     write_decimal(number, sink)?;
@@ -57,8 +54,7 @@ fn write_number<S: Sink>(number: u64, sink: &mut S) -> Result<(), S::Fault>
 
 /// Puts what an argument is worth.
 fn write_value<S: Sink>(value: &Value<'_, '_>, sink: &mut S) -> Result<(), S::Fault>
-    ensures ok { OnOk result (S.took sink.old (value_text value.now) sink.new) }
-    ensures err { OnErr result (S.failed sink.old (value_text value.now) sink.new) }
+    ensures { Puts S.took S.failed sink.old result (value_text value.now) sink.new }
 {
     match value {
         Value::Nothing => Ok(()),
@@ -70,8 +66,7 @@ fn write_value<S: Sink>(value: &Value<'_, '_>, sink: &mut S) -> Result<(), S::Fa
 
 /// Puts an argument.
 fn write_part<S: Sink>(part: &Part<'_, '_>, sink: &mut S) -> Result<(), S::Fault>
-    ensures ok { OnOk result (S.took sink.old (part_text part.now) sink.new) }
-    ensures err { OnErr result (S.failed sink.old (part_text part.now) sink.new) }
+    ensures { Puts S.took S.failed sink.old result (part_text part.now) sink.new }
 {
     sink.put(part.piece)?;
     write_value(&part.value, sink)
@@ -79,8 +74,7 @@ fn write_part<S: Sink>(part: &Part<'_, '_>, sink: &mut S) -> Result<(), S::Fault
 
 /// Puts what stands before an argument.
 fn write_opening<S: Sink>(begun: bool, sink: &mut S) -> Result<(), S::Fault>
-    ensures ok { OnOk result (S.took sink.old (opening begun) sink.new) }
-    ensures err { OnErr result (S.failed sink.old (opening begun) sink.new) }
+    ensures { Puts S.took S.failed sink.old result (opening begun) sink.new }
 {
     if begun {
         put_piece(", ", sink)
@@ -91,8 +85,7 @@ fn write_opening<S: Sink>(begun: bool, sink: &mut S) -> Result<(), S::Fault>
 
 /// Puts what stands after the last argument.
 fn write_closing<S: Sink>(begun: bool, sink: &mut S) -> Result<(), S::Fault>
-    ensures ok { OnOk result (S.took sink.old (closing begun) sink.new) }
-    ensures err { OnErr result (S.failed sink.old (closing begun) sink.new) }
+    ensures { Puts S.took S.failed sink.old result (closing begun) sink.new }
 {
     if begun { put_piece(")", sink) } else { Ok(()) }
 }
@@ -103,8 +96,8 @@ fn write_slot<S: Sink>(
     slot: &Option<Part<'_, '_>>,
     sink: &mut S,
 ) -> Result<(), S::Fault>
-    ensures ok { OnOk result (S.took sink.old (slot_piece begun (slot_text slot.now)) sink.new) }
-    ensures err { OnErr result (S.failed sink.old (slot_piece begun (slot_text slot.now)) sink.new) }
+    ensures { Puts S.took S.failed sink.old result
+        (slot_piece begun (slot_text slot.now)) sink.new }
 {
     match slot {
         None => Ok(()),
@@ -117,8 +110,8 @@ fn write_slot<S: Sink>(
 
 /// Puts the arguments in parentheses, if there are any.
 fn write_arguments<S: Sink>(attribute: &Attribute<'_>, sink: &mut S) -> Result<(), S::Fault>
-    ensures ok { OnOk result (S.took sink.old (slots_text false (slots attribute.now)) sink.new) }
-    ensures err { OnErr result (S.failed sink.old (slots_text false (slots attribute.now)) sink.new) }
+    ensures { Puts S.took S.failed sink.old result
+        (slots_text false (slots attribute.now)) sink.new }
 {
     let mut begun = false;
     let mut place = 0;
@@ -132,8 +125,8 @@ fn write_arguments<S: Sink>(attribute: &Attribute<'_>, sink: &mut S) -> Result<(
 
 /// Puts the text of an attribute.
 pub fn write_attribute<S: Sink>(attribute: &Attribute<'_>, sink: &mut S) -> Result<(), S::Fault>
-    ensures ok { OnOk result (S.took sink.old (attribute_text (attribute_shape attribute.now)) sink.new) }
-    ensures err { OnErr result (S.failed sink.old (attribute_text (attribute_shape attribute.now)) sink.new) }
+    ensures { Puts S.took S.failed sink.old result
+        (attribute_text (attribute_shape attribute.now)) sink.new }
 {
     sink.put(attribute.name())?;
     write_arguments(attribute, sink)

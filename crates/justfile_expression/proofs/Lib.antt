@@ -9,6 +9,7 @@ mod ExpressionRows
 mod Joined
 mod Loops
 mod Nodes
+pub mod PutLemmas
 mod Resolved
 mod RightSides
 mod Rows

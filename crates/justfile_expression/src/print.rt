@@ -1,7 +1,8 @@
 //! The walk that prints an expression.
-ghost use Rattle.std.specs.Prelude.{◌≡◌, ℕ, List, IfOk, OnOk, OnErr};
+ghost use Rattle.std.specs.Prelude.{◌≡◌, ℕ, List, IfOk, OnErr};
 ghost use Rattle.justfile_model.specs.Printing.{fixed_text};
 ghost use Rattle.justfile_expression.specs.Ends.{IsCompleted};
+ghost use Rattle.justfile_expression.specs.Sink.{Puts};
 ghost use Rattle.justfile_expression.specs.Text.{text_of};
 
 use crate::children::{child, start};
@@ -13,8 +14,7 @@ use std::fmt;
 /// Puts a piece that is the same in every text.
 #[tactic(auto, unfolding(justfile_model::specs::Printing::fixed_text))]
 pub fn put_piece<S: Sink>(bytes: &str, sink: &mut S) -> Result<(), S::Fault>
-    ensures ok { OnOk result (S.took sink.old (fixed_text bytes.now) sink.new) }
-    ensures err { OnErr result (S.failed sink.old (fixed_text bytes.now) sink.new) }
+    ensures { Puts S.took S.failed sink.old result (fixed_text bytes.now) sink.new }
 {
     sink.put(bytes)
 }
@@ -23,8 +23,7 @@ pub fn put_piece<S: Sink>(bytes: &str, sink: &mut S) -> Result<(), S::Fault>
 /// those that end one another.
 #[cycle(write)]
 pub fn write_expression<S: Sink>(expression: &Expression<'_>, sink: &mut S) -> Result<(), S::Fault>
-    ensures ok { OnOk result (S.took sink.old (text_of expression.now) sink.new) }
-    ensures err { OnErr result (S.failed sink.old (text_of expression.now) sink.new) }
+    ensures { Puts S.took S.failed sink.old result (text_of expression.now) sink.new }
 {
     let mut rest = Some(expression);
     while let Some(next) = rest {

@@ -1,9 +1,10 @@
-ghost use Rattle.std.specs.Prelude.{◌≡◌, ◌&&◌, OnOk, OnErr, IfOk};
+ghost use Rattle.std.specs.Prelude.{◌≡◌, ◌&&◌, IfOk};
 ghost use Rattle.std.specs.Cmp.{and_per, on_per};
 ghost use Rattle.justfile_attribute_set.specs.contracts.attribute_set.PairSetAttributeWrittenPartialEq.TheImpl as sets;
 ghost use Rattle.justfile_attribute_set.specs.contracts.attribute_set.PairSetAttributeWrittenPartialEq.TheImpl.Laws.{laws-law as set_per};
 ghost use Rattle.justfile_token.specs.contracts.name.NamePartialEq.TheImpl as names;
 ghost use Rattle.justfile_token.specs.contracts.name.NamePartialEq.TheImpl.Laws.{laws-law as name_per};
+ghost use Rattle.justfile_expression.specs.Sink.{Puts};
 ghost use Rattle.justfile_item.specs.Copies.{IsSameAlias};
 ghost use Rattle.justfile_item.specs.ItemText.{alias_text_of};
 
@@ -72,8 +73,7 @@ pub(crate) fn write_alias<S: Sink>(
     alias: &Alias<'_, Namepath<'_>>,
     sink: &mut S,
 ) -> Result<(), S::Fault>
-    ensures ok { OnOk result (S.took sink.old (alias_text_of alias.now) sink.new) }
-    ensures err { OnErr result (S.failed sink.old (alias_text_of alias.now) sink.new) }
+    ensures { Puts S.took S.failed sink.old result (alias_text_of alias.now) sink.new }
 {
     put_piece("alias ", sink)?;
     sink.put(alias.name.lexeme())?;

@@ -1,5 +1,6 @@
-ghost use Rattle.std.specs.Prelude.{OnOk, OnErr, IfOk};
+ghost use Rattle.std.specs.Prelude.{IfOk};
 ghost use Rattle.justfile_model.specs.Printing.{fixed_text, if_true};
+ghost use Rattle.justfile_expression.specs.Sink.{Puts};
 ghost use Rattle.justfile_item.specs.Assignment.{binding_text};
 ghost use Rattle.justfile_item.specs.Copies.{IsSameAssignment};
 
@@ -36,8 +37,7 @@ impl<'src> Binding<'src, Expression<'src>> {
 
 /// Puts a word and a space before a name, if it is said.
 fn write_word<S: Sink>(said: bool, word: &str, sink: &mut S) -> Result<(), S::Fault>
-    ensures ok { OnOk result (S.took sink.old (if_true said (fixed_text word.now)) sink.new) }
-    ensures err { OnErr result (S.failed sink.old (if_true said (fixed_text word.now)) sink.new) }
+    ensures { Puts S.took S.failed sink.old result (if_true said (fixed_text word.now)) sink.new }
 {
     if said { put_piece(word, sink) } else { Ok(()) }
 }
@@ -47,8 +47,7 @@ pub(crate) fn write_assignment<S: Sink>(
     assignment: &Assignment<'_>,
     sink: &mut S,
 ) -> Result<(), S::Fault>
-    ensures ok { OnOk result (S.took sink.old (binding_text assignment.now) sink.new) }
-    ensures err { OnErr result (S.failed sink.old (binding_text assignment.now) sink.new) }
+    ensures { Puts S.took S.failed sink.old result (binding_text assignment.now) sink.new }
 {
     write_word(assignment.eager, "eager ", sink)?;
     write_word(assignment.export, "export ", sink)?;

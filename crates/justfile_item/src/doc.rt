@@ -1,8 +1,9 @@
 //! Docs, and the comments that they are printed as.
-ghost use Rattle.std.specs.Prelude.{◌≡◌, OnOk, OnErr, string_bytes};
+ghost use Rattle.std.specs.Prelude.{◌≡◌, string_bytes};
 ghost use Rattle.std.specs.Option.{option_copied, option_map};
 ghost use Rattle.justfile_item.specs.Doc.{doc_text_of, shown_doc_of};
 ghost use Rattle.justfile_model.specs.Printing.{doc_comment, doc_line};
+ghost use Rattle.justfile_expression.specs.Sink.{Puts};
 
 use justfile_attribute_set::AttributeSet;
 use justfile_expression::{Sink, put_piece};
@@ -20,8 +21,7 @@ fn text_of(doc: &Option<String>) -> Option<&str>
 
 /// Puts the comment that a doc is printed as.
 fn write_doc_comment<S: Sink>(doc: &str, sink: &mut S) -> Result<(), S::Fault>
-    ensures ok { OnOk result (S.took sink.old (doc_comment doc.now) sink.new) }
-    ensures err { OnErr result (S.failed sink.old (doc_comment doc.now) sink.new) }
+    ensures { Puts S.took S.failed sink.old result (doc_comment doc.now) sink.new }
 {
     if doc.is_empty() {
         return put_piece("#", sink);
@@ -32,8 +32,7 @@ fn write_doc_comment<S: Sink>(doc: &str, sink: &mut S) -> Result<(), S::Fault>
 
 /// Puts a doc on a line of its own.
 fn write_doc_line<S: Sink>(doc: &str, sink: &mut S) -> Result<(), S::Fault>
-    ensures ok { OnOk result (S.took sink.old (doc_line doc.now) sink.new) }
-    ensures err { OnErr result (S.failed sink.old (doc_line doc.now) sink.new) }
+    ensures { Puts S.took S.failed sink.old result (doc_line doc.now) sink.new }
 {
     write_doc_comment(doc, sink)?;
     put_piece("\n", sink)
@@ -60,8 +59,7 @@ pub(crate) fn write_doc<S: Sink>(
     doc: &Option<String>,
     sink: &mut S,
 ) -> Result<(), S::Fault>
-    ensures ok { OnOk result (S.took sink.old (doc_text_of attributes.now doc.now) sink.new) }
-    ensures err { OnErr result (S.failed sink.old (doc_text_of attributes.now doc.now) sink.new) }
+    ensures { Puts S.took S.failed sink.old result (doc_text_of attributes.now doc.now) sink.new }
 {
     match shown_doc(attributes, doc) {
         Some(doc) => write_doc_line(doc, sink),

@@ -1,4 +1,4 @@
-ghost use Rattle.std.specs.Prelude.{◌≡◌, ◌++◌, ◌&&◌, OnOk, OnErr, IfOk, codes};
+ghost use Rattle.std.specs.Prelude.{◌≡◌, ◌++◌, ◌&&◌, IfOk, codes};
 ghost use Rattle.std.specs.Cmp.{and_per, on_per};
 ghost use Rattle.std.specs.Cmp.Lexicographic.{lists_per, pointwise};
 ghost use Rattle.justfile_attribute_set.specs.contracts.attribute_set.PairSetAttributeWrittenPartialEq.TheImpl as sets;
@@ -8,6 +8,7 @@ ghost use Rattle.justfile_token.specs.contracts.name.NamePartialEq.TheImpl.Laws.
 ghost use Rattle.justfile_token.specs.Token.{lexeme_of};
 ghost use Rattle.justfile_model.specs.Printing.{fixed_text};
 ghost use Rattle.justfile_expression.specs.Copies.{IsSameExpression};
+ghost use Rattle.justfile_expression.specs.Sink.{Puts};
 ghost use Rattle.justfile_expression.specs.contracts.order.ExpressionPartialEq.TheImpl as expressions;
 ghost use Rattle.justfile_expression.specs.contracts.order.ExpressionPartialEq.TheImpl.Laws.{laws-law as expression_per};
 ghost use Rattle.justfile_item.specs.Copies.{IsSameFunction};
@@ -104,8 +105,8 @@ impl<'src> PartialEq for FunctionDefinition<'src> {
 
 /// Puts the name of a parameter after a comma and a space.
 fn write_later_name<S: Sink>(name: &Name<'_>, sink: &mut S) -> Result<(), S::Fault>
-    ensures ok { OnOk result (S.took sink.old (fixed_text (codes ", ") ++ lexeme_of name.now.token) sink.new) }
-    ensures err { OnErr result (S.failed sink.old (fixed_text (codes ", ") ++ lexeme_of name.now.token) sink.new) }
+    ensures { Puts S.took S.failed sink.old result
+        (fixed_text (codes ", ") ++ lexeme_of name.now.token) sink.new }
 {
     put_piece(", ", sink)?;
     sink.put(name.lexeme())
@@ -116,8 +117,7 @@ fn write_later_names<S: Sink>(
     parameters: &[(Name<'_>, Number)],
     sink: &mut S,
 ) -> Result<(), S::Fault>
-    ensures ok { OnOk result (S.took sink.old (later_names_text parameters.now) sink.new) }
-    ensures err { OnErr result (S.failed sink.old (later_names_text parameters.now) sink.new) }
+    ensures { Puts S.took S.failed sink.old result (later_names_text parameters.now) sink.new }
 {
     for parameter in parameters {
         write_later_name(&parameter.0, sink)?;
@@ -128,8 +128,7 @@ fn write_later_names<S: Sink>(
 /// Puts the names of parameters, with a comma and a space between each two.
 #[tactic(auto, using(crate::proofs::ItemTexts::names_none))]
 fn write_names<S: Sink>(parameters: &[(Name<'_>, Number)], sink: &mut S) -> Result<(), S::Fault>
-    ensures ok { OnOk result (S.took sink.old (parameter_names_text parameters.now) sink.new) }
-    ensures err { OnErr result (S.failed sink.old (parameter_names_text parameters.now) sink.new) }
+    ensures { Puts S.took S.failed sink.old result (parameter_names_text parameters.now) sink.new }
 {
     let Some((first, rest)) = parameters.split_first() else {
         return Ok(());
@@ -144,8 +143,7 @@ pub(crate) fn write_function<S: Sink>(
     function: &FunctionDefinition<'_>,
     sink: &mut S,
 ) -> Result<(), S::Fault>
-    ensures ok { OnOk result (S.took sink.old (function_text_of function.now) sink.new) }
-    ensures err { OnErr result (S.failed sink.old (function_text_of function.now) sink.new) }
+    ensures { Puts S.took S.failed sink.old result (function_text_of function.now) sink.new }
 {
     sink.put(function.name.lexeme())?;
     put_piece("(", sink)?;

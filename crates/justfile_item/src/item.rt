@@ -1,7 +1,8 @@
-ghost use Rattle.std.specs.Prelude.{◌≡◌, OnOk, OnErr, IfOk, string_bytes};
+ghost use Rattle.std.specs.Prelude.{◌≡◌, IfOk, string_bytes};
 ghost use Rattle.std.specs.Option.{option_map};
 ghost use Rattle.justfile_vocabulary.specs.Indentation.{indentation_text};
 ghost use Rattle.justfile_model.specs.Printing.{if_some, item_text, printable_item};
+ghost use Rattle.justfile_expression.specs.Sink.{Puts};
 ghost use Rattle.justfile_item.specs.Attributes.{attributes_text};
 ghost use Rattle.justfile_item.specs.Copies.{IsSameItem};
 ghost use Rattle.justfile_item.specs.Indented.{item_indentation};
@@ -246,8 +247,7 @@ fn copy_unexport<'src>(
 
 /// Puts the doc of an item that has one, on a line of its own, where no attribute says it.
 fn write_item_doc<S: Sink>(item: &Item<'_>, sink: &mut S) -> Result<(), S::Fault>
-    ensures ok { OnOk result (S.took sink.old (item_doc_text item.now) sink.new) }
-    ensures err { OnErr result (S.failed sink.old (item_doc_text item.now) sink.new) }
+    ensures { Puts S.took S.failed sink.old result (item_doc_text item.now) sink.new }
 {
     match item {
         Item::Module {
@@ -269,8 +269,8 @@ fn write_item_doc<S: Sink>(item: &Item<'_>, sink: &mut S) -> Result<(), S::Fault
 
 /// Puts the attributes of an item, each on a line of its own.
 fn write_item_attributes<S: Sink>(item: &Item<'_>, sink: &mut S) -> Result<(), S::Fault>
-    ensures ok { OnOk result (S.took sink.old (if_some attributes_text (item_attributes item.now)) sink.new) }
-    ensures err { OnErr result (S.failed sink.old (if_some attributes_text (item_attributes item.now)) sink.new) }
+    ensures { Puts S.took S.failed sink.old result
+        (if_some attributes_text (item_attributes item.now)) sink.new }
 {
     match item {
         Item::Alias(alias) => write_attributes(&alias.attributes, sink),
@@ -291,8 +291,8 @@ fn write_bare<S: Sink>(
     indentation: Indentation,
     sink: &mut S,
 ) -> Result<(), S::Fault>
-    ensures ok { OnOk result (S.took sink.old (bare_text item.now (indentation_text indentation)) sink.new) }
-    ensures err { OnErr result (S.failed sink.old (bare_text item.now (indentation_text indentation)) sink.new) }
+    ensures { Puts S.took S.failed sink.old result
+        (bare_text item.now (indentation_text indentation)) sink.new }
 {
     match item {
         Item::Alias(alias) => write_alias(alias, sink),
@@ -323,8 +323,8 @@ pub fn write_item<S: Sink>(
     indentation: Indentation,
     sink: &mut S,
 ) -> Result<(), S::Fault>
-    ensures ok { OnOk result (S.took sink.old (item_text (item_shape item.now) (indentation_text indentation)) sink.new) }
-    ensures err { OnErr result (S.failed sink.old (item_text (item_shape item.now) (indentation_text indentation)) sink.new) }
+    ensures { Puts S.took S.failed sink.old result
+        (item_text (item_shape item.now) (indentation_text indentation)) sink.new }
 {
     write_item_doc(item, sink)?;
     write_item_attributes(item, sink)?;

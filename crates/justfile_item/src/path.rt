@@ -1,7 +1,8 @@
 //! How imports and modules name files.
-ghost use Rattle.std.specs.Prelude.{◌++◌, OnOk, OnErr, IfOk, codes};
+ghost use Rattle.std.specs.Prelude.{◌++◌, IfOk, codes};
 ghost use Rattle.justfile_token.specs.StringLiteral.{IsSameLiteral};
 ghost use Rattle.justfile_model.specs.Printing.{fixed_text, if_true, mark_text};
+ghost use Rattle.justfile_expression.specs.Sink.{Puts};
 ghost use Rattle.justfile_attribute.specs.Copies.{IsSameIfPresent};
 ghost use Rattle.justfile_item.specs.ItemText.{import_text_of, later_path_text, module_text_of, path_text_of, unexport_text_of};
 
@@ -24,8 +25,7 @@ pub(crate) fn copy_path<'src>(
 
 /// Puts the mark of a literal that is expanded.
 fn write_mark<S: Sink>(expanded: bool, sink: &mut S) -> Result<(), S::Fault>
-    ensures ok { OnOk result (S.took sink.old (mark_text expanded) sink.new) }
-    ensures err { OnErr result (S.failed sink.old (mark_text expanded) sink.new) }
+    ensures { Puts S.took S.failed sink.old result (mark_text expanded) sink.new }
 {
     if expanded {
         put_piece("x", sink)
@@ -37,8 +37,7 @@ fn write_mark<S: Sink>(expanded: bool, sink: &mut S) -> Result<(), S::Fault>
 /// Puts the path of a file.
 #[tactic(auto, using(crate::proofs::ItemTexts::path_parts))]
 fn write_path<S: Sink>(path: &StringLiteral<'_>, sink: &mut S) -> Result<(), S::Fault>
-    ensures ok { OnOk result (S.took sink.old (path_text_of path.now) sink.new) }
-    ensures err { OnErr result (S.failed sink.old (path_text_of path.now) sink.new) }
+    ensures { Puts S.took S.failed sink.old result (path_text_of path.now) sink.new }
 {
     write_mark(path.expand, sink)?;
     sink.put(path.format_mark())?;
@@ -47,8 +46,7 @@ fn write_path<S: Sink>(path: &StringLiteral<'_>, sink: &mut S) -> Result<(), S::
 
 /// Puts a path after a space, if there is one.
 fn write_later_path<S: Sink>(path: &Option<StringLiteral<'_>>, sink: &mut S) -> Result<(), S::Fault>
-    ensures ok { OnOk result (S.took sink.old (later_path_text path.now) sink.new) }
-    ensures err { OnErr result (S.failed sink.old (later_path_text path.now) sink.new) }
+    ensures { Puts S.took S.failed sink.old result (later_path_text path.now) sink.new }
 {
     match path {
         None => Ok(()),
@@ -61,8 +59,8 @@ fn write_later_path<S: Sink>(path: &Option<StringLiteral<'_>>, sink: &mut S) -> 
 
 /// Puts the sign of what asks for no file.
 fn write_optional<S: Sink>(optional: bool, sink: &mut S) -> Result<(), S::Fault>
-    ensures ok { OnOk result (S.took sink.old (if_true optional (fixed_text (codes "?"))) sink.new) }
-    ensures err { OnErr result (S.failed sink.old (if_true optional (fixed_text (codes "?"))) sink.new) }
+    ensures { Puts S.took S.failed sink.old result
+        (if_true optional (fixed_text (codes "?"))) sink.new }
 {
     if optional {
         put_piece("?", sink)
@@ -77,8 +75,7 @@ pub(crate) fn write_import<S: Sink>(
     relative: &StringLiteral<'_>,
     sink: &mut S,
 ) -> Result<(), S::Fault>
-    ensures ok { OnOk result (S.took sink.old (import_text_of optional relative.now) sink.new) }
-    ensures err { OnErr result (S.failed sink.old (import_text_of optional relative.now) sink.new) }
+    ensures { Puts S.took S.failed sink.old result (import_text_of optional relative.now) sink.new }
 {
     put_piece("import", sink)?;
     write_optional(optional, sink)?;
@@ -94,8 +91,8 @@ pub(crate) fn write_module<S: Sink>(
     relative: &Option<StringLiteral<'_>>,
     sink: &mut S,
 ) -> Result<(), S::Fault>
-    ensures ok { OnOk result (S.took sink.old (module_text_of name.now optional relative.now) sink.new) }
-    ensures err { OnErr result (S.failed sink.old (module_text_of name.now optional relative.now) sink.new) }
+    ensures { Puts S.took S.failed sink.old result
+        (module_text_of name.now optional relative.now) sink.new }
 {
     put_piece("mod", sink)?;
     write_optional(optional, sink)?;
@@ -106,8 +103,7 @@ pub(crate) fn write_module<S: Sink>(
 
 /// Puts the text of a variable that is not exported, without its attributes.
 pub(crate) fn write_unexport<S: Sink>(name: &Name<'_>, sink: &mut S) -> Result<(), S::Fault>
-    ensures ok { OnOk result (S.took sink.old (unexport_text_of name.now) sink.new) }
-    ensures err { OnErr result (S.failed sink.old (unexport_text_of name.now) sink.new) }
+    ensures { Puts S.took S.failed sink.old result (unexport_text_of name.now) sink.new }
 {
     put_piece("unexport ", sink)?;
     sink.put(name.lexeme())

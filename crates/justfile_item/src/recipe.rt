@@ -1,7 +1,8 @@
-ghost use Rattle.std.specs.Prelude.{◌≡◌, ◌++◌, OnOk, OnErr, IfOk, codes};
+ghost use Rattle.std.specs.Prelude.{◌≡◌, ◌++◌, IfOk, codes};
 ghost use Rattle.std.specs.List.{list_all};
 ghost use Rattle.justfile_vocabulary.specs.Indentation.{indentation_text};
 ghost use Rattle.justfile_model.specs.Printing.{fixed_text, header_text, if_true, line_text, body_text, printable_fragments, printable_body};
+ghost use Rattle.justfile_expression.specs.Sink.{Puts};
 ghost use Rattle.justfile_line.specs.Body.{fragment_shapes, line_shape, line_shapes};
 ghost use Rattle.justfile_item.specs.Copies.{IsSameRecipe};
 ghost use Rattle.justfile_item.specs.Item.{header_shape, priors_of, subsequents_of};
@@ -114,10 +115,8 @@ fn write_next_line<S: Sink>(
     indentation: Indentation,
     sink: &mut S,
 ) -> Result<(), S::Fault>
-    ensures ok { OnOk result (S.took sink.old (fixed_text (codes "\n")
-        ++ line_text (indentation_text indentation) (line_shape line.now)) sink.new) }
-    ensures err { OnErr result (S.failed sink.old (fixed_text (codes "\n")
-        ++ line_text (indentation_text indentation) (line_shape line.now)) sink.new) }
+    ensures { Puts S.took S.failed sink.old result (fixed_text (codes "\n")
+        ++ line_text (indentation_text indentation) (line_shape line.now)) sink.new }
 {
     put_piece("\n", sink)?;
     write_line(line, indentation, sink)?;
@@ -130,8 +129,8 @@ fn write_body<S: Sink>(
     indentation: Indentation,
     sink: &mut S,
 ) -> Result<(), S::Fault>
-    ensures ok { OnOk result (S.took sink.old (body_text (indentation_text indentation) (line_shapes lines.now)) sink.new) }
-    ensures err { OnErr result (S.failed sink.old (body_text (indentation_text indentation) (line_shapes lines.now)) sink.new) }
+    ensures { Puts S.took S.failed sink.old result
+        (body_text (indentation_text indentation) (line_shapes lines.now)) sink.new }
 {
     for line in lines {
         write_next_line(line, indentation, sink)?;
@@ -141,16 +140,16 @@ fn write_body<S: Sink>(
 
 /// Puts what stands before the name of a recipe that is quiet.
 fn write_quiet<S: Sink>(quiet: bool, sink: &mut S) -> Result<(), S::Fault>
-    ensures ok { OnOk result (S.took sink.old (if_true quiet (fixed_text (codes "@"))) sink.new) }
-    ensures err { OnErr result (S.failed sink.old (if_true quiet (fixed_text (codes "@"))) sink.new) }
+    ensures { Puts S.took S.failed sink.old result
+        (if_true quiet (fixed_text (codes "@"))) sink.new }
 {
     if quiet { put_piece("@", sink) } else { Ok(()) }
 }
 
 /// Puts the header of a recipe.
 fn write_header<S: Sink>(recipe: &UnresolvedRecipe<'_>, sink: &mut S) -> Result<(), S::Fault>
-    ensures ok { OnOk result (S.took sink.old (header_text (header_shape recipe.now)) sink.new) }
-    ensures err { OnErr result (S.failed sink.old (header_text (header_shape recipe.now)) sink.new) }
+    ensures { Puts S.took S.failed sink.old result
+        (header_text (header_shape recipe.now)) sink.new }
 {
     let (priors, subsequents) = recipe.split_dependencies();
     write_quiet(recipe.quiet, sink)?;
@@ -167,8 +166,8 @@ pub(crate) fn write_recipe<S: Sink>(
     indentation: Indentation,
     sink: &mut S,
 ) -> Result<(), S::Fault>
-    ensures ok { OnOk result (S.took sink.old (unresolved_recipe_text recipe.now (indentation_text indentation)) sink.new) }
-    ensures err { OnErr result (S.failed sink.old (unresolved_recipe_text recipe.now (indentation_text indentation)) sink.new) }
+    ensures { Puts S.took S.failed sink.old result
+        (unresolved_recipe_text recipe.now (indentation_text indentation)) sink.new }
 {
     write_header(recipe, sink)?;
     write_comment(recipe.comment, sink)?;

@@ -1,5 +1,6 @@
-ghost use Rattle.std.specs.Prelude.{◌≡◌, OnOk, OnErr, IfOk};
+ghost use Rattle.std.specs.Prelude.{◌≡◌, IfOk};
 ghost use Rattle.std.specs.Option.{option_map};
+ghost use Rattle.justfile_expression.specs.Sink.{Puts};
 ghost use Rattle.justfile_setting.specs.Copies.{IsSameSetting};
 ghost use Rattle.justfile_item.specs.Copies.{IsSameAssigned};
 ghost use Rattle.justfile_item.specs.Indented.{indentation_set, set_indentation};
@@ -86,8 +87,7 @@ impl<'src> Keyed<'src> for Set<'src> {
 /// Puts the value of a setting after `:=`, unless it is the default.
 #[tactic(auto, using(crate::proofs::ItemTexts::value_default))]
 fn write_value<S: Sink>(setting: &Setting<'_>, sink: &mut S) -> Result<(), S::Fault>
-    ensures ok { OnOk result (S.took sink.old (later_value_text setting.now) sink.new) }
-    ensures err { OnErr result (S.failed sink.old (later_value_text setting.now) sink.new) }
+    ensures { Puts S.took S.failed sink.old result (later_value_text setting.now) sink.new }
 {
     if setting.is_default() {
         return Ok(());
@@ -99,8 +99,7 @@ fn write_value<S: Sink>(setting: &Setting<'_>, sink: &mut S) -> Result<(), S::Fa
 
 /// Puts the text of a setting, without its attributes.
 pub(crate) fn write_set<S: Sink>(set: &Set<'_>, sink: &mut S) -> Result<(), S::Fault>
-    ensures ok { OnOk result (S.took sink.old (setting_text_of set.now) sink.new) }
-    ensures err { OnErr result (S.failed sink.old (setting_text_of set.now) sink.new) }
+    ensures { Puts S.took S.failed sink.old result (setting_text_of set.now) sink.new }
 {
     put_piece("set ", sink)?;
     sink.put(set.name.lexeme())?;

@@ -1,13 +1,8 @@
 -- Loops that put the elements of a list, one after another.
-use Rattle.std.proofs.Common.{◌≡◌, ℕ, Result, Ok, Err, OnErr, ◌+◌, ◌<◌, zero, suc, List, [], ◌∷◌, ◌++◌, length, take, drop, get_or, replicate, refl, sym, ap, ◌∙◌, subst, arith}
+use Rattle.std.proofs.Common.{◌≡◌, ℕ, ◌+◌, ◌<◌, zero, suc, List, [], ◌∷◌, ◌++◌, length, take, drop, get_or, replicate, refl, sym, ap, ◌∙◌, subst, arith}
 use Rattle.std.specs.List.{flat_map}
 use Rattle.std.proofs.lemmas.List.{take_more, flat_map_more, take-append-drop, replicate_more}
 use Rattle.std.proofs.lemmas.Grind.{flat_map-append}
-
--- what holds where a call failed holds at its `Err`
-pub at_err : {T E P : Type 0} (r : Result T E) → P → OnErr r P
-at_err (Ok x) p = tt
-at_err (Err e) p = p
 
 replicate_split : (u n i : ℕ) → i < n → (rest : List ℕ) × ((replicate i u ++ u ∷ []) ++ rest ≡ replicate n u)
 replicate_split u zero i h = absurd (omega arith)

@@ -1,5 +1,6 @@
-ghost use Rattle.std.specs.Prelude.{OnOk, OnErr, ◌++◌, codes};
+ghost use Rattle.std.specs.Prelude.{◌++◌, codes};
 ghost use Rattle.justfile_model.specs.Printing.{fixed_text, fragment_text};
+ghost use Rattle.justfile_expression.specs.Sink.{Puts};
 ghost use Rattle.justfile_line.specs.Body.{fragment_shape};
 
 use justfile_expression::{Expression, Sink, put_piece, write_expression};
@@ -61,8 +62,7 @@ impl TryClone for Fragment<'_> {
 /// Puts the braces before an expression, and a space.
 #[tactic(auto, unfolding(justfile_model::specs::Printing::fixed_text))]
 fn write_interpolation_start<S: Sink>(sink: &mut S) -> Result<(), S::Fault>
-    ensures ok { OnOk result (S.took sink.old (fixed_text (codes "{{ ")) sink.new) }
-    ensures err { OnErr result (S.failed sink.old (fixed_text (codes "{{ ")) sink.new) }
+    ensures { Puts S.took S.failed sink.old result (fixed_text (codes "{{ ")) sink.new }
 {
     put_piece("{{ ", sink)
 }
@@ -70,16 +70,15 @@ fn write_interpolation_start<S: Sink>(sink: &mut S) -> Result<(), S::Fault>
 /// Puts a space, and the braces after an expression.
 #[tactic(auto, unfolding(justfile_model::specs::Printing::fixed_text))]
 fn write_interpolation_end<S: Sink>(sink: &mut S) -> Result<(), S::Fault>
-    ensures ok { OnOk result (S.took sink.old (fixed_text (codes " }}")) sink.new) }
-    ensures err { OnErr result (S.failed sink.old (fixed_text (codes " }}")) sink.new) }
+    ensures { Puts S.took S.failed sink.old result (fixed_text (codes " }}")) sink.new }
 {
     put_piece(" }}", sink)
 }
 
 /// Puts the text of a fragment.
 pub(crate) fn write_fragment<S: Sink>(fragment: &Fragment<'_>, sink: &mut S) -> Result<(), S::Fault>
-    ensures ok { OnOk result (S.took sink.old (fragment_text (fragment_shape fragment.now)) sink.new) }
-    ensures err { OnErr result (S.failed sink.old (fragment_text (fragment_shape fragment.now)) sink.new) }
+    ensures { Puts S.took S.failed sink.old result
+        (fragment_text (fragment_shape fragment.now)) sink.new }
 {
     match fragment {
         Fragment::Interpolation { expression } => {

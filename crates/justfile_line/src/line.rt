@@ -1,8 +1,9 @@
-ghost use Rattle.std.specs.Prelude.{◌≡◌, ◌↔◌, OnOk, OnErr, IfOk, IsTrue};
+ghost use Rattle.std.specs.Prelude.{◌≡◌, ◌↔◌, IfOk, IsTrue};
 ghost use Rattle.std.specs.List.{Contains};
 ghost use Rattle.std.specs.Option.{option_copied};
 ghost use Rattle.justfile_vocabulary.specs.Indentation.{indentation_text};
 ghost use Rattle.justfile_model.specs.Printing.{ends_in_return, line_text, printable_fragments};
+ghost use Rattle.justfile_expression.specs.Sink.{Puts};
 ghost use Rattle.justfile_line.specs.Copies.{IsSameLine};
 ghost use Rattle.justfile_line.specs.Body.{fragment_shapes, fragments_text, line_shape};
 ghost use Rattle.justfile_line.specs.Line.{IsComment, IsContinuation, IsEmpty, IsShebang, HasSigil, first_text, last_text};
@@ -136,8 +137,7 @@ fn ends_in_return(text: &str) -> bool
 
 /// Puts an indentation, the usual one at once.
 fn write_indentation<S: Sink>(indentation: Indentation, sink: &mut S) -> Result<(), S::Fault>
-    ensures ok { OnOk result (S.took sink.old (indentation_text indentation) sink.new) }
-    ensures err { OnErr result (S.failed sink.old (indentation_text indentation) sink.new) }
+    ensures { Puts S.took S.failed sink.old result (indentation_text indentation) sink.new }
 {
     if indentation == Indentation::default() {
         return sink.put("    ");
@@ -147,8 +147,7 @@ fn write_indentation<S: Sink>(indentation: Indentation, sink: &mut S) -> Result<
 
 /// Puts an indentation blank by blank.
 fn write_blanks<S: Sink>(indentation: Indentation, sink: &mut S) -> Result<(), S::Fault>
-    ensures ok { OnOk result (S.took sink.old (indentation_text indentation) sink.new) }
-    ensures err { OnErr result (S.failed sink.old (indentation_text indentation) sink.new) }
+    ensures { Puts S.took S.failed sink.old result (indentation_text indentation) sink.new }
 {
     let blank = indentation.blank();
     for _i in 0..indentation.count() {
@@ -159,8 +158,7 @@ fn write_blanks<S: Sink>(indentation: Indentation, sink: &mut S) -> Result<(), S
 
 /// Puts the text of fragments.
 fn write_fragments<S: Sink>(fragments: &[Fragment<'_>], sink: &mut S) -> Result<(), S::Fault>
-    ensures ok { OnOk result (S.took sink.old (fragments_text fragments.now) sink.new) }
-    ensures err { OnErr result (S.failed sink.old (fragments_text fragments.now) sink.new) }
+    ensures { Puts S.took S.failed sink.old result (fragments_text fragments.now) sink.new }
 {
     for fragment in fragments {
         write_fragment(fragment, sink)?;
@@ -174,8 +172,8 @@ pub fn write_line<S: Sink>(
     indentation: Indentation,
     sink: &mut S,
 ) -> Result<(), S::Fault>
-    ensures ok { OnOk result (S.took sink.old (line_text (indentation_text indentation) (line_shape line.now)) sink.new) }
-    ensures err { OnErr result (S.failed sink.old (line_text (indentation_text indentation) (line_shape line.now)) sink.new) }
+    ensures { Puts S.took S.failed sink.old result
+        (line_text (indentation_text indentation) (line_shape line.now)) sink.new }
 {
     if line.is_empty() {
         return Ok(());

@@ -1,5 +1,6 @@
-ghost use Rattle.std.specs.Prelude.{◌≡◌, ◌++◌, OnOk, OnErr, IfOk, codes};
+ghost use Rattle.std.specs.Prelude.{◌≡◌, ◌++◌, IfOk, codes};
 ghost use Rattle.justfile_model.specs.Printing.{fixed_text, if_true};
+ghost use Rattle.justfile_expression.specs.Sink.{Puts};
 ghost use Rattle.justfile_recipe_header.specs.Header.{default_text, parameter_text_of, parameters_text};
 ghost use Rattle.justfile_recipe_header.specs.Parameter.{is_positive};
 
@@ -111,8 +112,8 @@ impl TryClone for Parameter<'_> {
 
 /// Puts the sign of a parameter that is an environment variable too.
 fn write_export<S: Sink>(export: bool, sink: &mut S) -> Result<(), S::Fault>
-    ensures ok { OnOk result (S.took sink.old (if_true export (fixed_text (codes "$"))) sink.new) }
-    ensures err { OnErr result (S.failed sink.old (if_true export (fixed_text (codes "$"))) sink.new) }
+    ensures { Puts S.took S.failed sink.old result
+        (if_true export (fixed_text (codes "$"))) sink.new }
 {
     if export { put_piece("$", sink) } else { Ok(()) }
 }
@@ -122,8 +123,7 @@ fn write_default<S: Sink>(
     default: &Option<Box<Expression<'_>>>,
     sink: &mut S,
 ) -> Result<(), S::Fault>
-    ensures ok { OnOk result (S.took sink.old (default_text default.now) sink.new) }
-    ensures err { OnErr result (S.failed sink.old (default_text default.now) sink.new) }
+    ensures { Puts S.took S.failed sink.old result (default_text default.now) sink.new }
 {
     match default {
         None => Ok(()),
@@ -136,8 +136,7 @@ fn write_default<S: Sink>(
 
 /// Puts the text of a parameter.
 pub fn write_parameter<S: Sink>(parameter: &Parameter<'_>, sink: &mut S) -> Result<(), S::Fault>
-    ensures ok { OnOk result (S.took sink.old (parameter_text_of parameter.now) sink.new) }
-    ensures err { OnErr result (S.failed sink.old (parameter_text_of parameter.now) sink.new) }
+    ensures { Puts S.took S.failed sink.old result (parameter_text_of parameter.now) sink.new }
 {
     sink.put(prefix(parameter.kind))?;
     write_export(parameter.export, sink)?;
@@ -156,8 +155,7 @@ impl WriteTo for Parameter<'_> {
 /// Puts the parameters of a recipe, each after a space.
 #[tactic(auto, using(crate::proofs::Parts::parameters_parts))]
 pub fn write_parameters<S: Sink>(parameters: &[Parameter<'_>], sink: &mut S) -> Result<(), S::Fault>
-    ensures ok { OnOk result (S.took sink.old (parameters_text parameters.now) sink.new) }
-    ensures err { OnErr result (S.failed sink.old (parameters_text parameters.now) sink.new) }
+    ensures { Puts S.took S.failed sink.old result (parameters_text parameters.now) sink.new }
 {
     write_each(" ", parameters, sink)?;
     Ok(())

@@ -1,7 +1,8 @@
 //! Pieces of a header that stand in a row.
-ghost use Rattle.std.specs.Prelude.{ℕ, List, ◌++◌, OnOk, OnErr};
+ghost use Rattle.std.specs.Prelude.{ℕ, List, ◌++◌};
 ghost use Rattle.std.specs.List.{flat_map};
 ghost use Rattle.justfile_model.specs.Printing.{fixed_text};
+ghost use Rattle.justfile_expression.specs.Sink.{Puts};
 
 use justfile_expression::{Sink, put_piece};
 
@@ -12,14 +13,13 @@ pub(crate) trait WriteTo {
 
     /// Puts the text of the piece.
     fn write<S: Sink>(&self, sink: &mut S) -> Result<(), S::Fault>
-        ensures ok { OnOk result (S.took sink.old (piece_text self.now) sink.new) }
-        ensures err { OnErr result (S.failed sink.old (piece_text self.now) sink.new) };
+        ensures { Puts S.took S.failed sink.old result (piece_text self.now) sink.new };
 }
 
 /// Puts a text, and a piece after it.
 fn write_after<P: WriteTo, S: Sink>(before: &str, piece: &P, sink: &mut S) -> Result<(), S::Fault>
-    ensures ok { OnOk result (S.took sink.old (fixed_text before.now ++ P.piece_text piece.now) sink.new) }
-    ensures err { OnErr result (S.failed sink.old (fixed_text before.now ++ P.piece_text piece.now) sink.new) }
+    ensures { Puts S.took S.failed sink.old result
+        (fixed_text before.now ++ P.piece_text piece.now) sink.new }
 {
     put_piece(before, sink)?;
     piece.write(sink)
@@ -31,8 +31,8 @@ pub(crate) fn write_each<P: WriteTo, S: Sink>(
     pieces: &[P],
     sink: &mut S,
 ) -> Result<(), S::Fault>
-    ensures ok { OnOk result (S.took sink.old (flat_map (λ p. fixed_text before.now ++ P.piece_text p) pieces.now) sink.new) }
-    ensures err { OnErr result (S.failed sink.old (flat_map (λ p. fixed_text before.now ++ P.piece_text p) pieces.now) sink.new) }
+    ensures { Puts S.took S.failed sink.old result
+        (flat_map (λ p. fixed_text before.now ++ P.piece_text p) pieces.now) sink.new }
 {
     for piece in pieces {
         write_after(before, piece, sink)?;

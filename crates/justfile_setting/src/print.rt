@@ -1,8 +1,9 @@
 //! The text of settings.
-ghost use Rattle.std.specs.Prelude.{◌≡◌, ◌++◌, OnOk, OnErr, codes};
+ghost use Rattle.std.specs.Prelude.{◌≡◌, ◌++◌, codes};
 ghost use Rattle.std.specs.List.{flat_map};
 ghost use Rattle.justfile_token.specs.StringLiteral.{literal_text};
 ghost use Rattle.justfile_model.specs.Printing.{fixed_text};
+ghost use Rattle.justfile_expression.specs.Sink.{Puts};
 ghost use Rattle.justfile_setting.specs.Print.{interpreter_text, later_texts, setting_output, truth_text, value_text_of};
 ghost use Rattle.justfile_expression.specs.Text.{text_of};
 
@@ -15,8 +16,7 @@ use std::fmt;
 
 /// Puts a truth value.
 fn write_truth<S: Sink>(value: bool, sink: &mut S) -> Result<(), S::Fault>
-    ensures ok { OnOk result (S.took sink.old (truth_text value) sink.new) }
-    ensures err { OnErr result (S.failed sink.old (truth_text value) sink.new) }
+    ensures { Puts S.took S.failed sink.old result (truth_text value) sink.new }
 {
     if value {
         put_piece("true", sink)
@@ -27,8 +27,7 @@ fn write_truth<S: Sink>(value: bool, sink: &mut S) -> Result<(), S::Fault>
 
 /// Puts a literal with its marks.
 fn write_literal<S: Sink>(literal: &StringLiteral<'_>, sink: &mut S) -> Result<(), S::Fault>
-    ensures ok { OnOk result (S.took sink.old (literal_text literal.now) sink.new) }
-    ensures err { OnErr result (S.failed sink.old (literal_text literal.now) sink.new) }
+    ensures { Puts S.took S.failed sink.old result (literal_text literal.now) sink.new }
 {
     sink.put(literal.marks())?;
     sink.put(literal.token.lexeme())
@@ -36,8 +35,8 @@ fn write_literal<S: Sink>(literal: &StringLiteral<'_>, sink: &mut S) -> Result<(
 
 /// Puts an argument after a comma.
 fn write_later<S: Sink>(argument: &Expression<'_>, sink: &mut S) -> Result<(), S::Fault>
-    ensures ok { OnOk result (S.took sink.old (fixed_text (codes ", ") ++ text_of argument.now) sink.new) }
-    ensures err { OnErr result (S.failed sink.old (fixed_text (codes ", ") ++ text_of argument.now) sink.new) }
+    ensures { Puts S.took S.failed sink.old result
+        (fixed_text (codes ", ") ++ text_of argument.now) sink.new }
 {
     put_piece(", ", sink)?;
     write_expression(argument, sink)
@@ -45,8 +44,7 @@ fn write_later<S: Sink>(argument: &Expression<'_>, sink: &mut S) -> Result<(), S
 
 /// Puts arguments, each after a comma.
 fn write_arguments<S: Sink>(arguments: &[Expression<'_>], sink: &mut S) -> Result<(), S::Fault>
-    ensures ok { OnOk result (S.took sink.old (later_texts arguments.now) sink.new) }
-    ensures err { OnErr result (S.failed sink.old (later_texts arguments.now) sink.new) }
+    ensures { Puts S.took S.failed sink.old result (later_texts arguments.now) sink.new }
 {
     for argument in arguments {
         write_later(argument, sink)?;
@@ -59,8 +57,7 @@ fn write_interpreter<S: Sink>(
     interpreter: &Interpreter<Expression<'_>>,
     sink: &mut S,
 ) -> Result<(), S::Fault>
-    ensures ok { OnOk result (S.took sink.old (interpreter_text interpreter.now) sink.new) }
-    ensures err { OnErr result (S.failed sink.old (interpreter_text interpreter.now) sink.new) }
+    ensures { Puts S.took S.failed sink.old result (interpreter_text interpreter.now) sink.new }
 {
     put_piece("[", sink)?;
     write_expression(&interpreter.command, sink)?;
@@ -70,8 +67,7 @@ fn write_interpreter<S: Sink>(
 
 /// Puts what a setting is set to.
 fn write_value<S: Sink>(value: &Value<'_, '_>, sink: &mut S) -> Result<(), S::Fault>
-    ensures ok { OnOk result (S.took sink.old (value_text_of value.now) sink.new) }
-    ensures err { OnErr result (S.failed sink.old (value_text_of value.now) sink.new) }
+    ensures { Puts S.took S.failed sink.old result (value_text_of value.now) sink.new }
 {
     match value {
         Value::Truth(value) => write_truth(**value, sink),
@@ -84,8 +80,7 @@ fn write_value<S: Sink>(value: &Value<'_, '_>, sink: &mut S) -> Result<(), S::Fa
 /// Puts the text of a setting, which is that of its value.
 #[tactic(auto, using(crate::proofs::SettingText::seen))]
 pub fn write_setting<S: Sink>(setting: &Setting<'_>, sink: &mut S) -> Result<(), S::Fault>
-    ensures ok { OnOk result (S.took sink.old (setting_output setting.now) sink.new) }
-    ensures err { OnErr result (S.failed sink.old (setting_output setting.now) sink.new) }
+    ensures { Puts S.took S.failed sink.old result (setting_output setting.now) sink.new }
 {
     write_value(&setting.value(), sink)
 }
