@@ -66,7 +66,7 @@ def by_alias(text, aliases):
 
 def main():
     bad = False
-    for path in sorted([*CRATES.glob("*/*/**/*.antt"), *CRATES.glob("*/src/**/*.rt")]):
+    for path in sorted([*CRATES.glob("*/specs/**/*.antt"), *CRATES.glob("*/proofs/**/*.antt"), *CRATES.glob("*/src/**/*.rt")]):
         text = path.read_text()
         named, aliases = imports(text, r"(?:ghost |pub |unfoldable |abbrev )*use ")
         wanted = [*named.values(), *((head, None) for head in aliases.values())]

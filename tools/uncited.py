@@ -54,7 +54,7 @@ def cited_by_path(text, crate):
 
 
 def main():
-    cited, files = set(), [File(path) for path in sorted(CRATES.glob("*/*/**/*.antt"))]
+    cited, files = set(), [File(path) for part in ("specs", "proofs") for path in sorted(CRATES.glob(f"*/{part}/**/*.antt"))]
     for file in files:
         cited |= cited_by_use(file.path.read_text(), r"(?:pub |unfoldable |abbrev )*use ", r"(?:^|\s)--\s.*$")
     for path in [*CRATES.glob("*/src/**/*.rt"), *CRATES.glob("*/must-fail/*.edit")]:

@@ -1,3 +1,4 @@
+//! What the lexer returns for a text, and how it is displayed.
 ghost use Rattle.std.specs.Prelude.{IfOk};
 ghost use Rattle.bench_lex.specs.Counted.{IsAnswer};
 

@@ -24,7 +24,7 @@ use Rattle.justfile_setting.specs.Setting.{HasDerivedSettingFields, keyword_of, 
 use Rattle.justfile_setting.specs.declared.setting.Setting.{Setting}
 use Rattle.justfile_setting.specs.declared.setting.Setting.TheVariants as settings
 use Rattle.justfile_expression.specs.Expression.{literal_tok}
-use Rattle.justfile_item.specs.Indented.{HasDerivedItemFields, indentation_set, item_indentation, items_indentation, set_indentation}
+use Rattle.justfile_item.specs.Indented.{HasDerivedFieldsOfSetting, indentation_set, item_indentation, items_indentation, set_indentation}
 use Rattle.justfile_item.specs.Item.{item_of}
 use Rattle.justfile_item.specs.declared.item.Item.{Item}
 use Rattle.justfile_item.specs.declared.item.Item.TheVariants as items
@@ -158,7 +158,7 @@ found_holds : (Q : StringLiteral × Indentation → Type 0) (o found : Option (S
 found_holds Q None found h k = k
 found_holds Q (Some p) found h k = h
 
-text_item : (i : Item) → HasDerivedItemFields i → IfSome (item_indentation i) IsTextOf
+text_item : (i : Item) → HasDerivedFieldsOfSetting i → IfSome (item_indentation i) IsTextOf
 text_item (items.Alias a) whole = tt
 text_item (items.Assignment a) whole = tt
 text_item (items.Comment text) whole = tt
@@ -178,8 +178,8 @@ first_holds Q (i ∷ all) each =
     (first_holds Q all (All-tail (λ j. IfSome (item_indentation j) Q) i all each))
 
 -- the indentation that items set is the text of its literal
-pub indented_text : (all : List Item) → All HasDerivedItemFields all → IfSome (items_indentation all) IsTextOf
-indented_text all whole = first_holds IsTextOf all (All-weaker HasDerivedItemFields (λ i. IfSome (item_indentation i) IsTextOf) text_item all whole)
+pub indented_text : (all : List Item) → All HasDerivedFieldsOfSetting all → IfSome (items_indentation all) IsTextOf
+indented_text all whole = first_holds IsTextOf all (All-weaker HasDerivedFieldsOfSetting (λ i. IfSome (item_indentation i) IsTextOf) text_item all whole)
 
 -- ---- the loop over the items
 

@@ -1,3 +1,4 @@
+//! Files: their type, copies, indentation and printing.
 ghost use Rattle.std.specs.Prelude.{◌≡◌, All, OnOk, OnErr, IfOk, IfSome, map, string_bytes};
 ghost use Rattle.std.specs.Io.KnownBytes.{Appends};
 ghost use Rattle.std.specs.List.{AllZip, list_all};
@@ -7,9 +8,10 @@ ghost use Rattle.justfile_model.specs.Enabled.{indentation_of};
 ghost use Rattle.justfile_model.specs.NormalShape.{normal};
 ghost use Rattle.justfile_model.specs.Printing.{printable, printable_item, text};
 ghost use Rattle.justfile_model.specs.Uncommented.{HasNoComments, uncommented_text};
+ghost use Rattle.justfile_expression.specs.Sink.{Puts};
 ghost use Rattle.justfile_expression.specs.Expression.{literal_tok};
 ghost use Rattle.justfile_item.specs.Copies.{IsSameItem};
-ghost use Rattle.justfile_item.specs.Indented.{HasDerivedItemFields, items_indentation};
+ghost use Rattle.justfile_item.specs.Indented.{HasDerivedFieldsOfSetting, items_indentation};
 ghost use Rattle.justfile_item.specs.Item.{item_shape};
 ghost use Rattle.justfile_ast.specs.Ast.{ast_shape, tree_of};
 ghost use Rattle.justfile_ast.specs.Separator.{front_text, end_text};
@@ -17,8 +19,8 @@ ghost use Rattle.justfile_ast.specs.PrintsBack.{PrintsBack};
 ghost use Rattle.justfile_ast.specs.Written.{AppendsPart};
 ghost use Rattle.justfile_ast.specs.declared.separator.Separator.TheVariants.{Start};
 
-use crate::copy::put_made;
-use crate::separator::{Separator, write_after};
+use crate::push::push_made;
+use crate::separator::{Separator, write_step};
 use crate::write_fault::WriteFault;
 use crate::writer::WriterSink;
 use justfile_expression::{ListFeature, Sink};
@@ -56,7 +58,7 @@ impl<'src> Ast<'src> {
         ensures literal { indentation_of (tree_of self.now)
             ≡ option_map (λ p. literal_tok p.0) (items_indentation self.now.items.items) }
         // Its text is the indentation.
-        ensures text { All HasDerivedItemFields self.now.items.items
+        ensures text { All HasDerivedFieldsOfSetting self.now.items.items
             → IfSome (items_indentation self.now.items.items) (λ p. indentation_text p.1
             ≡ string_bytes p.0.cooked) }
     {
@@ -91,7 +93,7 @@ impl<'src> Ast<'src> {
         }
     }
 
-    /// Returns the formatted text of the file, with this indentation of body lines, or an error if
+    /// Returns the printed text of the file, with this indentation of body lines, or an error if
     /// out of memory. `docs/LANGUAGE.md` describes the format, and `specs/PrintsBack.antt` defines
     /// what holds for the text.
     pub fn print(&self, alloc: Global, indentation: Indentation) -> Result<String, AllocError>
@@ -110,7 +112,7 @@ impl<'src> Ast<'src> {
         Ok(printed)
     }
 
-    /// Writes the formatted text of the file to the writer, piece by piece. If it fails, the writer
+    /// Writes the printed text of the file to the writer, piece by piece. If it fails, the writer
     /// has a beginning of the text, and nothing else. The writer isn't flushed.
     pub fn print_to<W: Write>(
         &self,
@@ -159,15 +161,15 @@ fn copy_items<'src>(items: &[Item<'src>], alloc: Global) -> Result<Vec<Item<'src
 {
     let mut copies = Vec::new(alloc);
     for item in items {
-        put_made(&mut copies, item.clone(alloc))?;
+        push_made(&mut copies, item.clone(alloc))?;
     }
     Ok(copies)
 }
 
-/// Writes the formatted text of a file.
+/// Writes the printed text of a file.
 fn write_ast<S: Sink>(ast: &Ast<'_>, indentation: Indentation, sink: &mut S) -> Result<(), S::Fault>
-    ensures ok { OnOk result (S.took sink.old (text (normal (ast_shape ast.now)) (indentation_text indentation)) sink.new) }
-    ensures err { OnErr result (S.failed sink.old (text (normal (ast_shape ast.now)) (indentation_text indentation)) sink.new) }
+    ensures { Puts S.took S.failed sink.old result
+        (text (normal (ast_shape ast.now)) (indentation_text indentation)) sink.new }
 {
     write_items(&ast.items, indentation, sink)?;
     write_end(&ast.items, sink)?;
@@ -180,20 +182,19 @@ fn write_items<S: Sink>(
     indentation: Indentation,
     sink: &mut S,
 ) -> Result<(), S::Fault>
-    ensures ok { OnOk result (S.took sink.old (front_text (indentation_text indentation) Start (map item_shape items.now)) sink.new) }
-    ensures err { OnErr result (S.failed sink.old (front_text (indentation_text indentation) Start (map item_shape items.now)) sink.new) }
+    ensures { Puts S.took S.failed sink.old result
+        (front_text (indentation_text indentation) Start (map item_shape items.now)) sink.new }
 {
     let mut separator = Separator::Start;
     for item in items {
-        separator = write_after(item, indentation, separator, sink)?;
+        separator = write_step(item, indentation, separator, sink)?;
     }
     Ok(())
 }
 
 /// Writes the line end at the end of a file, unless the file has no items.
 fn write_end<S: Sink>(items: &[Item<'_>], sink: &mut S) -> Result<(), S::Fault>
-    ensures ok { OnOk result (S.took sink.old (end_text (map item_shape items.now)) sink.new) }
-    ensures err { OnErr result (S.failed sink.old (end_text (map item_shape items.now)) sink.new) }
+    ensures { Puts S.took S.failed sink.old result (end_text (map item_shape items.now)) sink.new }
 {
     if items.is_empty() {
         return Ok(());

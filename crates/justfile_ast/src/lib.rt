@@ -2,8 +2,8 @@
 #![tactic(auto)]
 
 pub mod ast;
-mod copy;
 pub mod laws;
+mod push;
 mod separator;
 pub mod write_fault;
 mod writer;

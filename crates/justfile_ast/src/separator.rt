@@ -1,6 +1,7 @@
 //! The separators between items, which are printed from left to right.
-ghost use Rattle.std.specs.Prelude.{◌≡◌, OnOk, OnErr, IfOk};
+ghost use Rattle.std.specs.Prelude.{◌≡◌, IfOk};
 ghost use Rattle.justfile_vocabulary.specs.Indentation.{indentation_text};
+ghost use Rattle.justfile_expression.specs.Sink.{Puts};
 ghost use Rattle.justfile_item.specs.Item.{item_shape};
 ghost use Rattle.justfile_ast.specs.Separator.{separator_text, is_line_end, next_separator, step_text, with_line_end};
 
@@ -8,16 +9,16 @@ use justfile_expression::Sink;
 use justfile_item::{Item, write_item};
 use justfile_vocabulary::Indentation;
 
-/// What is printed between two items. It depends on the line ends between them.
+/// What comes before an item. It determines what is printed there.
 #[derive(Clone, Copy, Debug, PartialEq, Eq)]
 pub enum Separator {
-    /// Nothing is before the item.
+    /// Nothing comes before the item.
     Start,
-    /// Another item is directly before the item.
+    /// Another item comes directly before it.
     Item,
-    /// One line end is before the item.
+    /// One line end comes before it.
     Line,
-    /// Two or more line ends are before the item.
+    /// Two or more line ends come before it.
     Blank,
 }
 
@@ -48,7 +49,7 @@ impl Separator {
 /// Writes an item, with the separator before it, and returns the separator after it. For a line end
 /// it writes nothing: that becomes part of the separator before the next item.
 #[tactic(auto, using(crate::proofs::Separators::separator_at_end, crate::proofs::Separators::text_at_end, crate::proofs::Separators::separator_past, crate::proofs::Separators::text_past))]
-pub(crate) fn write_after<S: Sink>(
+pub(crate) fn write_step<S: Sink>(
     item: &Item<'_>,
     indentation: Indentation,
     separator: Separator,
@@ -56,8 +57,8 @@ pub(crate) fn write_after<S: Sink>(
 ) -> Result<Separator, S::Fault>
     ensures separator { IfOk result (λ following. following
         ≡ next_separator separator (item_shape item.now)) }
-    ensures ok { OnOk result (S.took sink.old (step_text (indentation_text indentation) separator (item_shape item.now)) sink.new) }
-    ensures err { OnErr result (S.failed sink.old (step_text (indentation_text indentation) separator (item_shape item.now)) sink.new) }
+    ensures puts { Puts S.took S.failed sink.old result
+        (step_text (indentation_text indentation) separator (item_shape item.now)) sink.new }
 {
     if is_line_end(item) {
         return Ok(separator.with_line_end());

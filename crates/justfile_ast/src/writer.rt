@@ -31,11 +31,22 @@ impl<W: Write> Sink for WriterSink<'_, W> {
 
     ghost took_nothing = { λ s. (refl, Appends-nil (W.contents s.writer.now)) };
 
-    ghost took_more = { λ s t u xs ys p q. (q.0 ∙ p.0, Appends-trans (W.contents s.writer.now) (W.contents t.writer.now) (W.contents u.writer.now) xs ys p.1 q.1) };
+    ghost took_more = { λ s t u xs ys p q. (
+      q.0 ∙ p.0,
+      Appends-trans (W.contents s.writer.now) (W.contents t.writer.now)
+          (W.contents u.writer.now) xs ys p.1 q.1,
+    ) };
 
-    ghost failed_later = { λ s t u xs ys p q. (q.0 ∙ p.0, part_later (W.contents s.writer.now) (W.contents t.writer.now) (W.contents u.writer.now) xs ys p.1 q.1) };
+    ghost failed_later = { λ s t u xs ys p q. (
+      q.0 ∙ p.0,
+      part_later (W.contents s.writer.now) (W.contents t.writer.now)
+          (W.contents u.writer.now) xs ys p.1 q.1,
+    ) };
 
-    ghost failed_before = { λ s t xs ys p. (p.0, part_before (W.contents s.writer.now) (W.contents t.writer.now) xs ys p.1) };
+    ghost failed_before = { λ s t xs ys p. (
+      p.0,
+      part_before (W.contents s.writer.now) (W.contents t.writer.now) xs ys p.1,
+    ) };
 }
 
 /// Writes all bytes, with as many writes as that takes. Stops at the first write that fails or

@@ -1,25 +1,14 @@
 -- The walk over the slots of an attribute.
-use Rattle.std.proofs.Common.{◌≡◌, ◌∙◌, ℕ, zero, suc, ◌+◌, Bool, ◌||◌, is_some, List, [], ◌∷◌, ◌++◌, drop, Option, None, Some, Result, Ok, Err, OnOk, OnErr, refl, sym, ap, subst, append_assoc, arith}
+use Rattle.std.proofs.Common.{◌≡◌, ◌∙◌, ℕ, zero, suc, ◌+◌, Bool, ◌||◌, is_some, List, [], ◌∷◌, ◌++◌, drop, Option, None, Some, Result, refl, sym, ap, subst, append_assoc, arith}
 use Rattle.std.specs.List.{slice_get}
+use Rattle.justfile_expression.specs.Sink.{Puts}
+use Rattle.justfile_expression.proofs.PutLemmas.{put_last}
 use Rattle.justfile_attribute.specs.Print.{Slots, closing, slot_piece, slot_text, slots_text}
 use Rattle.justfile_attribute.specs.declared.part.Part.{Part}
 
 -- all of a text but this rest is written
 abbrev pub Walked : {S : Type 0} (took : S → List ℕ → S → Type 0) (a m : S) (whole rest : List ℕ) → Type 0
 Walked took a m whole rest = (text : List ℕ) × took a text m × (text ++ rest ≡ whole)
-
--- what holds if a call failed holds at its `Err`, and what follows if it succeeded
-pub at_err : {T E P : Type 0} (r : Result T E) → P → OnErr r P
-at_err (Ok x) p = tt
-at_err (Err e) p = p
-
-pub then_ok : {T E P Q : Type 0} (r : Result T E) → (P → Q) → OnOk r P → OnOk r Q
-then_ok (Ok x) f p = f p
-then_ok (Err e) f p = tt
-
-pub then_err : {T E P Q : Type 0} (r : Result T E) → (P → Q) → OnErr r P → OnErr r Q
-then_err (Ok x) f p = tt
-then_err (Err e) f p = f p
 
 -- an argument is present exactly if it has a text
 pub is_there : (p : Option Part) → is_some p ≡ is_some (slot_text p)
@@ -60,8 +49,5 @@ module _ {S : Type 0} (took failed : S → List ℕ → S → Type 0)
     end_is : walked.0 ++ closing begun ≡ whole
     end_is = ap (λ t. walked.0 ++ t) (sym (left_none begun xs i past)) ∙ walked.2
 
-    pub ended : (n : S) → took m (closing begun) n → took a whole n
-    ended n p = subst (λ (t : List ℕ). took a t n) end_is (more a m n _ _ walked.1 p)
-
-    pub end_failed : (n : S) → failed m (closing begun) n → failed a whole n
-    end_failed n p = subst (λ (t : List ℕ). failed a t n) end_is (later a m n _ _ walked.1 p)
+    pub ended : {T E : Type 0} (n : S) (r : Result T E) → Puts took failed m r (closing begun) n → Puts took failed a r whole n
+    ended n r p = subst (λ (t : List ℕ). Puts took failed a r t n) end_is (put_last took failed more later a m n _ _ r walked.1 p)

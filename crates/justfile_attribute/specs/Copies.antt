@@ -6,24 +6,14 @@ use Rattle.std.specs.List.{AllZip}
 use Rattle.justfile_token.specs.StringLiteral.{IsSameLiteral}
 use Rattle.justfile_token.specs.declared.name.Name.{Name}
 use Rattle.justfile_token.specs.declared.string_literal.StringLiteral.{StringLiteral}
-use Rattle.justfile_expression.specs.Copies.{IsSameExpression}
+use Rattle.justfile_expression.specs.Copies.{IsSameBoxed, IsSameIfPresent}
 use Rattle.justfile_expression.specs.declared.expression.Expression.{Expression}
 use Rattle.justfile_attribute.specs.declared.attribute.Attribute.{Attribute}
 use Rattle.justfile_attribute.specs.declared.attribute.Attribute.TheVariants as attributes
 use Rattle.justfile_attribute.specs.declared.interpreter.Interpreter.{Interpreter}
 
--- a copy of an optional value
-abbrev pub IsSameIfPresent : {X : Type 0} → (X → X → Type 0) → (copy original : Option X) → Type 0
-IsSameIfPresent R None None = Unit {0}
-IsSameIfPresent R (Some copy) (Some original) = R copy original
-IsSameIfPresent R _ _ = ⊥
-
 abbrev pub IsSameText : (copy original : String Global) → Type 0
 IsSameText copy original = string_bytes copy ≡ string_bytes original
-
--- expressions in boxes, compared by value
-abbrev pub IsSameBoxed : (copy original : Box Expression) → Type 0
-IsSameBoxed copy original = IsSameExpression copy.value original.value
 
 -- a copy of a key with its value
 abbrev pub IsSameProperty : (copy original : Name × Box Expression) → Type 0

@@ -13,11 +13,11 @@ pub record IsDefault (interpreter : Interpreter (String Global)) : Type 0 where
   pub arguments : map string_bytes interpreter.arguments.items ≡ codes "-eu" ∷ []
 
 -- a copy with the same texts
-pub record IsSameTexts (copy original : Interpreter (String Global)) : Type 0 where
+pub record IsSameTextInterpreter (copy original : Interpreter (String Global)) : Type 0 where
   pub command : IsSameText copy.command original.command
   pub arguments : AllZip IsSameText copy.arguments.items original.arguments.items
 
 -- a copy with the same expressions
-pub record IsSameCommand (copy original : Interpreter Expression) : Type 0 where
+pub record IsSameExpressionInterpreter (copy original : Interpreter Expression) : Type 0 where
   pub command : IsSameExpression copy.command original.command
   pub arguments : AllZip IsSameExpression copy.arguments.items original.arguments.items

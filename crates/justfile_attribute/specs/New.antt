@@ -54,12 +54,12 @@ with_known known made = do
   checked ← known
   Ok attribute
 
--- an attribute of this kind has only literals, or no arguments at all
-abbrev pub has_texts : AttributeKind → Bool
-has_texts kinds.Arg = false
-has_texts kinds.Cache = false
-has_texts kinds.Continue = false
-has_texts kind = true
+-- an attribute of a kind without rules of its own: it has only literals, or no arguments
+abbrev pub has_no_own_rules : AttributeKind → Bool
+has_no_own_rules kinds.Arg = false
+has_no_own_rules kinds.Cache = false
+has_no_own_rules kinds.Continue = false
+has_no_own_rules kind = true
 
 -- the derived fields of an `arg` attribute: those that its tree doesn't show
 pub record HasDerivedArgumentFields (help : Option (String Global)) (name : StringLiteral) (long_key : Option Name) (long : Option StringLiteral)

@@ -1,3 +1,5 @@
+//! The type of attributes, and their kinds.
+
 use crate::interpreter::Interpreter;
 use justfile_expression::Expression;
 use justfile_token::{Name, StringLiteral, Token};
@@ -20,11 +22,13 @@ pub enum Attribute<'src> {
         long: Option<StringLiteral<'src>>,
         /// The key `long` if it has no value, so that the option has the parameter's name.
         long_key: Option<Name<'src>>,
-        /// The most values that the parameter takes.
+        /// The most arguments that the parameter takes.
         max: Option<u64>,
+        /// The key `max`, if it is given.
         max_key: Option<Name<'src>>,
-        /// The fewest values that the parameter takes.
+        /// The fewest arguments that the parameter takes.
         min: Option<u64>,
+        /// The key `min`, if it is given.
         min_key: Option<Name<'src>>,
         /// The key `multiple`: the option may be given more than once.
         multiple: Option<Token<'src>>,

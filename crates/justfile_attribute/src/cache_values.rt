@@ -1,3 +1,5 @@
+//! The values of the keys of `cache`.
+
 use justfile_expression::Expression;
 
 /// The values of the keys of a `cache` attribute.

@@ -2,15 +2,15 @@
 ghost use Rattle.std.specs.Prelude.{◌≡◌, IfOk};
 ghost use Rattle.std.specs.List.{AllZip};
 ghost use Rattle.justfile_token.specs.StringLiteral.{IsSameLiteral};
-ghost use Rattle.justfile_expression.specs.Copies.{IsSameExpression};
+ghost use Rattle.justfile_expression.specs.Copies.{IsSameIfPresent};
 ghost use Rattle.justfile_vocabulary.specs.declared.attribute_kind.AttributeKind.TheVariants as kinds;
 ghost use Rattle.justfile_attribute.specs.Order.{case_kind};
-ghost use Rattle.justfile_attribute.specs.Copies.{IsSameAttribute, IsSameBoxed, IsSameInterpreter, IsSameIfPresent, IsSameProperty, IsSameText, unboxed};
+ghost use Rattle.justfile_attribute.specs.Copies.{IsSameAttribute, IsSameInterpreter, IsSameProperty, IsSameText, unboxed};
 ghost use Rattle.justfile_attribute.specs.declared.attribute.Attribute.TheVariants as attributes;
 
 use crate::attribute::Attribute;
 use crate::interpreter::Interpreter;
-use justfile_expression::Expression;
+use justfile_expression::{Expression, copy_boxed, copy_optional};
 use justfile_token::{Name, StringLiteral};
 use justfile_vocabulary::Signal;
 use std::alloc::{AllocError, Global};
@@ -83,9 +83,9 @@ fn copy_cache<'src>(
     ensures { IfOk result
         (λ copy. IsSameAttribute copy (attributes.Cache extra.now inputs.now outputs.now)) }
 {
-    let extra = copy_option(alloc, extra)?;
-    let inputs = copy_option(alloc, inputs)?;
-    let outputs = copy_option(alloc, outputs)?;
+    let extra = copy_optional(alloc, extra)?;
+    let inputs = copy_optional(alloc, inputs)?;
+    let outputs = copy_optional(alloc, outputs)?;
     Ok(Attribute::Cache {
         extra,
         inputs,
@@ -136,13 +136,13 @@ fn copy_arg<'src>(alloc: Global, attribute: &Attribute<'src>) -> Result<Attribut
             short_key,
             value,
         } => {
-            let help = copy_text(alloc, help)?;
+            let help = copy_optional_text(alloc, help)?;
             let help_property = copy_property(alloc, help_property)?;
             let long = copy_option_literal(alloc, long)?;
             let name = copy_literal(alloc, name)?;
             let pattern_property = copy_property(alloc, pattern_property)?;
             let short = copy_option_literal(alloc, short)?;
-            let value = copy_option(alloc, value)?;
+            let value = copy_optional(alloc, value)?;
             Ok(Attribute::Arg {
                 flag: *flag,
                 help,
@@ -166,7 +166,7 @@ fn copy_arg<'src>(alloc: Global, attribute: &Attribute<'src>) -> Result<Attribut
 }
 
 /// Returns a copy of an optional text.
-fn copy_text(alloc: Global, text: &Option<String>) -> Result<Option<String>, AllocError>
+fn copy_optional_text(alloc: Global, text: &Option<String>) -> Result<Option<String>, AllocError>
     ensures { IfOk result (λ copy. IsSameIfPresent IsSameText copy text.now) }
 {
     match text {
@@ -229,7 +229,7 @@ fn copy_confirm<'src>(
 ) -> Result<Attribute<'src>, AllocError>
     ensures { IfOk result (λ copy. IsSameAttribute copy (attributes.Confirm prompt.now)) }
 {
-    Ok(Attribute::Confirm(copy_option(alloc, prompt)?))
+    Ok(Attribute::Confirm(copy_optional(alloc, prompt)?))
 }
 
 /// Returns a copy of a `doc` attribute, given by its doc.
@@ -239,7 +239,7 @@ fn copy_doc<'src>(
 ) -> Result<Attribute<'src>, AllocError>
     ensures { IfOk result (λ copy. IsSameAttribute copy (attributes.Doc doc.now)) }
 {
-    Ok(Attribute::Doc(copy_option(alloc, doc)?))
+    Ok(Attribute::Doc(copy_optional(alloc, doc)?))
 }
 
 /// Returns a copy of an `extension` attribute, given by its extension.
@@ -317,20 +317,7 @@ fn copy_timestamp<'src>(
 ) -> Result<Attribute<'src>, AllocError>
     ensures { IfOk result (λ copy. IsSameAttribute copy (attributes.Timestamp format.now)) }
 {
-    Ok(Attribute::Timestamp(copy_option(alloc, format)?))
-}
-
-/// Returns a copy of an optional expression.
-fn copy_option<'src>(
-    alloc: Global,
-    expression: &Option<Box<Expression<'src>>>,
-) -> Result<Option<Box<Expression<'src>>>, AllocError>
-    ensures { IfOk result (λ copy. IsSameIfPresent IsSameBoxed copy expression.now) }
-{
-    match expression {
-        None => Ok(None),
-        Some(expression) => Ok(Some(copy_boxed(alloc, expression)?)),
-    }
+    Ok(Attribute::Timestamp(copy_optional(alloc, format)?))
 }
 
 /// Returns a copy of a `working-directory` attribute, given by its path.
@@ -341,15 +328,4 @@ fn copy_working_directory<'src>(
     ensures { IfOk result (λ copy. IsSameAttribute copy (attributes.WorkingDirectory path.now)) }
 {
     Ok(Attribute::WorkingDirectory(copy_boxed(alloc, path)?))
-}
-
-/// Returns a copy of an expression in a box of its own.
-fn copy_boxed<'src>(
-    alloc: Global,
-    expression: &Expression<'src>,
-) -> Result<Box<Expression<'src>>, AllocError>
-    ensures { IfOk result (λ copy. IsSameExpression copy.value expression.now) }
-{
-    let copy = expression.clone(alloc)?;
-    Ok(Box::new(alloc, copy)?)
 }

@@ -1,3 +1,4 @@
+//! Interpreters of scripts, and how they are displayed.
 ghost use Rattle.std.specs.Prelude.{Some, codes};
 ghost use Rattle.std.specs.Fmt.{DisplaysOnOk, ◌++?◌};
 

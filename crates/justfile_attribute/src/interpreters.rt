@@ -2,7 +2,7 @@
 ghost use Rattle.std.specs.Prelude.{IfOk};
 ghost use Rattle.std.specs.List.{AllZip};
 ghost use Rattle.justfile_attribute.specs.Copies.{IsSameText};
-ghost use Rattle.justfile_attribute.specs.Interpreters.{IsDefault, IsSameCommand, IsSameTexts};
+ghost use Rattle.justfile_attribute.specs.Interpreters.{IsDefault, IsSameExpressionInterpreter, IsSameTextInterpreter};
 ghost use Rattle.justfile_expression.specs.Copies.{IsSameExpression};
 
 use crate::interpreter::Interpreter;
@@ -24,7 +24,7 @@ impl Interpreter<String> {
 
     /// Returns a copy of the interpreter, or an error if out of memory.
     pub fn clone(&self, alloc: Global) -> Result<Self, AllocError>
-        ensures { IfOk result (λ copy. IsSameTexts copy self.now) }
+        ensures { IfOk result (λ copy. IsSameTextInterpreter copy self.now) }
     {
         let arguments = copy_texts(alloc, &self.arguments)?;
         Ok(Interpreter {
@@ -37,7 +37,7 @@ impl Interpreter<String> {
 impl<'src> Interpreter<Expression<'src>> {
     /// Returns a copy of the interpreter, or an error if out of memory.
     pub fn clone(&self, alloc: Global) -> Result<Self, AllocError>
-        ensures { IfOk result (λ copy. IsSameCommand copy self.now) }
+        ensures { IfOk result (λ copy. IsSameExpressionInterpreter copy self.now) }
     {
         let arguments = copy_expressions(alloc, &self.arguments)?;
         Ok(Interpreter {

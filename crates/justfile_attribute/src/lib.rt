@@ -16,5 +16,5 @@ mod print;
 pub use crate::attribute::Attribute;
 pub use crate::interpreter::Interpreter;
 pub use crate::order::attribute_content_cmp;
-pub use crate::print::write_attribute;
+pub use crate::print::{write_attribute, write_literal};
 pub use justfile_vocabulary::{AttributeKind, Signal};

@@ -1,3 +1,4 @@
+//! Attributes from their kinds and arguments.
 ghost use Rattle.std.specs.Prelude.{◌≡◌, ◌≤◌, IfOk, IsTrue, [], ◌∷◌, false, true, length};
 ghost use Rattle.std.specs.Option.{option_map};
 ghost use Rattle.justfile_vocabulary.specs.declared.attribute_kind.AttributeKind.TheVariants as kinds;
@@ -10,7 +11,7 @@ ghost use Rattle.justfile_expression.specs.LeafViews.{views_leaves};
 ghost use Rattle.justfile_expression.specs.LeafTree.{leaf_tree_of};
 ghost use Rattle.justfile_attribute.specs.Attribute.{leaf_attribute_of};
 ghost use Rattle.justfile_attribute.specs.Cached.{cache_of, cache_read};
-ghost use Rattle.justfile_attribute.specs.New.{IsCounted, HasDerivedAttributeFields, continue_made, has_texts, is_plain, values_of, with_known};
+ghost use Rattle.justfile_attribute.specs.New.{IsCounted, HasDerivedAttributeFields, continue_made, has_no_own_rules, is_plain, values_of, with_known};
 ghost use Rattle.justfile_attribute_rules.specs.ArgumentRules.{AreNamed, rules_of};
 ghost use Rattle.justfile_attribute_rules.specs.Keys.{AreKeyed, IsTaken, key_arguments};
 ghost use Rattle.justfile_attribute_rules.specs.KeywordArguments.{keys_of};
@@ -46,7 +47,7 @@ impl<'src> Attribute<'src> {
         ensures made { Makes leaf_attribute_of result (new.new_attribute views_leaves
             name.entry.token kind (placed_leaves arguments.entry.items)
             (key_arguments (keys_of keyword_arguments.entry))) }
-        ensures whole { IfOk result HasDerivedAttributeFields }
+        ensures fields { IfOk result HasDerivedAttributeFields }
     {
         let keys = keyword_arguments.into_map();
         check_count(name, kind, arguments.len())?;
@@ -71,7 +72,7 @@ fn from_expressions<'src>(
     requires counted { IsCounted name.token kind (length (placed_leaves arguments.items)) }
     ensures made { Makes leaf_attribute_of result (new.from_expressions views_leaves
         name.entry.token kind (placed_leaves arguments.entry.items) (key_arguments keys.entry)) }
-    ensures whole { IfOk result HasDerivedAttributeFields }
+    ensures fields { IfOk result HasDerivedAttributeFields }
 {
     check_keys(name, kind, &keys)?;
     match kind {
@@ -107,7 +108,7 @@ fn working_directory<'src>(
     requires { 1 ≤ length arguments.items }
     ensures made { (at : Token) → leaf_attribute_of result ≡ new.new_of_expressions views_leaves at
         kinds.WorkingDirectory (values_of (placed_leaves arguments.entry.items)) }
-    ensures whole { HasDerivedAttributeFields result }
+    ensures fields { HasDerivedAttributeFields result }
 {
     let (_first, value) = arguments.remove(0);
     Attribute::WorkingDirectory(value)
@@ -119,7 +120,7 @@ fn env<'src>(mut arguments: Vec<(Token<'src>, Box<Expression<'src>>)>) -> Attrib
     requires { 2 ≤ length arguments.items }
     ensures made { (at : Token) → leaf_attribute_of result ≡ new.new_of_expressions views_leaves at
         kinds.Env (values_of (placed_leaves arguments.entry.items)) }
-    ensures whole { HasDerivedAttributeFields result }
+    ensures fields { HasDerivedAttributeFields result }
 {
     let (_first, value) = arguments.remove(1);
     let (_first, key) = arguments.remove(0);
@@ -140,7 +141,7 @@ fn from_literals<'src>(
     requires counted { IsCounted name.token kind (length (placed_leaves arguments.items)) }
     ensures made { Makes leaf_attribute_of result (new.from_literals views_leaves name.entry.token
         kind (placed_leaves arguments.entry.items) (key_arguments keys.entry)) }
-    ensures whole { IfOk result HasDerivedAttributeFields }
+    ensures fields { IfOk result HasDerivedAttributeFields }
 {
     let literals = string_literals(alloc, name, arguments)?;
     of_literals(alloc, name, kind, literals, &mut keys)
@@ -163,19 +164,19 @@ fn of_literals<'src>(
         (with_known (new.check_keys views_leaves name.entry.token kind (key_arguments keys.old))
         (new.new_of_literals views_leaves name.entry.token kind (quoted_leaves literals.entry.items)
         (key_arguments keys.old))) }
-    ensures whole { IfOk result HasDerivedAttributeFields }
+    ensures fields { IfOk result HasDerivedAttributeFields }
 {
     match kind {
         AttributeKind::Arg => arg(alloc, name, literals, keys),
         AttributeKind::Cache => cache(alloc, name, keys),
-        AttributeKind::Continue => proceed(alloc, name, literals, keys),
-        _ => of_texts(name, kind, literals, keys),
+        AttributeKind::Continue => continue_attribute(alloc, name, literals, keys),
+        _ => of_plain_literals(name, kind, literals, keys),
     }
 }
 
 /// Returns an attribute that has only literals, or no arguments at all.
 #[tactic(auto, using(justfile_attribute_rules::proofs::Refused::refused_first, crate::proofs::Counted::known_made))]
-fn of_texts<'src>(
+fn of_plain_literals<'src>(
     name: Name<'src>,
     kind: AttributeKind,
     literals: Vec<StringLiteral<'src>>,
@@ -183,13 +184,13 @@ fn of_texts<'src>(
 ) -> CompileResult<'src, Attribute<'src>>
     requires keyed { AreKeyed keys.now }
     requires kind { takes_expressions kind ≡ false }
-    requires texts { IsTrue (has_texts kind) }
+    requires texts { IsTrue (has_no_own_rules kind) }
     requires counted { IsCounted name.token kind (length (quoted_leaves literals.items)) }
     ensures made { Makes leaf_attribute_of result
         (with_known (new.check_keys views_leaves name.entry.token kind (key_arguments keys.now))
         (new.new_of_literals views_leaves name.entry.token kind (quoted_leaves literals.entry.items)
         (key_arguments keys.now))) }
-    ensures whole { IfOk result HasDerivedAttributeFields }
+    ensures fields { IfOk result HasDerivedAttributeFields }
 {
     check_keys(name, kind, keys)?;
     match kind {
@@ -205,7 +206,7 @@ fn of_texts<'src>(
 fn plain<'src>(kind: AttributeKind) -> Attribute<'src>
     requires { IsTrue (is_plain kind) }
     ensures made { leaf_attribute_of result ≡ tree.Plain kind }
-    ensures whole { HasDerivedAttributeFields result }
+    ensures fields { HasDerivedAttributeFields result }
 {
     match kind {
         AttributeKind::Android => Attribute::Android,
@@ -232,7 +233,7 @@ fn plain<'src>(kind: AttributeKind) -> Attribute<'src>
 
 /// Returns a `continue` attribute.
 #[tactic(auto, using(justfile_attribute_rules::proofs::Refused::refused_first))]
-fn proceed<'src>(
+fn continue_attribute<'src>(
     alloc: Global,
     name: Name<'src>,
     literals: Vec<StringLiteral<'src>>,
@@ -242,7 +243,7 @@ fn proceed<'src>(
     ensures made { Makes leaf_attribute_of result
         (with_known (new.check_keys views_leaves name.entry.token kinds.Continue
         (key_arguments keys.now)) (continue_made (quoted_leaves literals.entry.items))) }
-    ensures whole { IfOk result HasDerivedAttributeFields }
+    ensures fields { IfOk result HasDerivedAttributeFields }
 {
     let signals = signal_set(alloc, literals)?;
     check_keys(name, AttributeKind::Continue, keys)?;
@@ -254,7 +255,7 @@ fn proceed<'src>(
 fn script(mut literals: Vec<StringLiteral<'_>>) -> Attribute<'_>
     ensures made { leaf_attribute_of result
         ≡ texts_of views_leaves kinds.Script (quoted_leaves literals.entry.items) }
-    ensures whole { HasDerivedAttributeFields result }
+    ensures fields { HasDerivedAttributeFields result }
 {
     if literals.is_empty() {
         return Attribute::Script(None);
@@ -277,7 +278,7 @@ fn cache<'src>(
     ensures made { Makes leaf_attribute_of result (with_known
         (new.check_keys views_leaves name.entry.token kinds.Cache (key_arguments keys.old))
         (new.new_cache views_leaves name.entry.token (key_arguments keys.old))) }
-    ensures whole { IfOk result HasDerivedAttributeFields }
+    ensures fields { IfOk result HasDerivedAttributeFields }
 {
     let mut values = no_values(alloc)?;
     let known = check_keys(name, AttributeKind::Cache, keys);
@@ -341,7 +342,7 @@ fn read_value<'src>(
 /// Returns the `cache` attribute with these values.
 fn of_values(values: Box<CacheValues<'_>>) -> Attribute<'_>
     ensures made { leaf_attribute_of result ≡ cache_of values.entry.value }
-    ensures whole { HasDerivedAttributeFields result }
+    ensures fields { HasDerivedAttributeFields result }
 {
     let values = Box::into_inner(values);
     Attribute::Cache {
@@ -365,7 +366,7 @@ fn arg<'src>(
         (new.check_keys views_leaves name.entry.token kinds.Arg (key_arguments keys.old))
         (new.new_arg views_leaves name.entry.token (quoted_leaves literals.entry.items)
         (key_arguments keys.old))) }
-    ensures whole { IfOk result HasDerivedAttributeFields }
+    ensures fields { IfOk result HasDerivedAttributeFields }
 {
     let argument = only(literals);
     let known = check_keys(name, AttributeKind::Arg, keys);
@@ -391,7 +392,7 @@ fn only(mut literals: Vec<StringLiteral<'_>>) -> StringLiteral<'_>
 fn of_rules(rules: Box<ArgumentRules<'_>>) -> Attribute<'_>
     requires { AreNamed rules.value }
     ensures made { leaf_attribute_of result ≡ tree.Arg (rules_of rules.entry.value) }
-    ensures whole { HasDerivedAttributeFields result }
+    ensures fields { HasDerivedAttributeFields result }
 {
     let rules = Box::into_inner(rules);
     let (max_key, max) = parts(rules.max);

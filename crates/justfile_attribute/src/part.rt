@@ -29,14 +29,14 @@ pub enum Value<'a, 'src> {
     Number(u64),
 }
 
-/// Returns the slot with the index `place` of an attribute, counted from 0. A slot is one possible
+/// Returns the slot of an attribute with this index, counted from 0. A slot is one possible
 /// argument: `Some(None)` if the argument is absent. Returns `None` after the last slot.
 pub fn slot<'a, 'src>(
     attribute: &'a Attribute<'src>,
-    place: usize,
+    index: usize,
 ) -> Option<Option<Part<'a, 'src>>>
-    ensures slot { slot_of result ≡ slice_get (slots attribute.now) place }
-    ensures bounded { IsSome result → place < usize.MAX }
+    ensures slot { slot_of result ≡ slice_get (slots attribute.now) index }
+    ensures bounded { IsSome result → index < usize.MAX }
 {
     match attribute {
         Attribute::Arg {
@@ -66,23 +66,23 @@ pub fn slot<'a, 'src>(
             min,
             max,
             help_property,
-            place,
+            index,
         ),
         Attribute::Cache {
             extra,
             inputs,
             outputs,
-        } => cache_slot(extra, inputs, outputs, place),
-        Attribute::Confirm(value) => single_slot(value, place),
-        Attribute::Continue(signals) => signal_slot(signals, place),
-        Attribute::Doc(value) => single_slot(value, place),
-        Attribute::Env(key, value) => env_slot(key, value, place),
-        Attribute::Extension(literal) => literal_slot(literal, place),
-        Attribute::Group(literal) => literal_slot(literal, place),
-        Attribute::Metadata(literals) => row_slot(literals, place),
-        Attribute::Script(interpreter) => script_slot(interpreter, place),
-        Attribute::Timestamp(value) => single_slot(value, place),
-        Attribute::WorkingDirectory(value) => expression_slot(value, place),
+        } => cache_slot(extra, inputs, outputs, index),
+        Attribute::Confirm(value) => single_slot(value, index),
+        Attribute::Continue(signals) => signal_slot(signals, index),
+        Attribute::Doc(value) => single_slot(value, index),
+        Attribute::Env(key, value) => env_slot(key, value, index),
+        Attribute::Extension(literal) => literal_slot(literal, index),
+        Attribute::Group(literal) => literal_slot(literal, index),
+        Attribute::Metadata(literals) => row_slot(literals, index),
+        Attribute::Script(interpreter) => script_slot(interpreter, index),
+        Attribute::Timestamp(value) => single_slot(value, index),
+        Attribute::WorkingDirectory(value) => expression_slot(value, index),
         _ => None,
     }
 }
@@ -101,14 +101,14 @@ fn arg_slot<'a, 'src>(
     min: &'a Option<u64>,
     max: &'a Option<u64>,
     help: &'a Option<(Name<'src>, Box<Expression<'src>>)>,
-    place: usize,
+    index: usize,
 ) -> Option<Option<Part<'a, 'src>>>
     ensures slot { slot_of result
         ≡ slice_get (arg_slots name.now long_key.now long.now short_key.now short.now
-        pattern.now value.now flag.now multiple.now min.now max.now help.now) place }
-    ensures bounded { IsSome result → place < usize.MAX }
+        pattern.now value.now flag.now multiple.now min.now max.now help.now) index }
+    ensures bounded { IsSome result → index < usize.MAX }
 {
-    match place {
+    match index {
         0 => literal_slot(name, 0),
         1 => Some(option_part("long", "long=", long_key, long)),
         2 => Some(option_part("short", "short=", short_key, short)),
@@ -128,12 +128,12 @@ fn cache_slot<'a, 'src>(
     extra: &'a Option<Box<Expression<'src>>>,
     inputs: &'a Option<Box<Expression<'src>>>,
     outputs: &'a Option<Box<Expression<'src>>>,
-    place: usize,
+    index: usize,
 ) -> Option<Option<Part<'a, 'src>>>
-    ensures slot { slot_of result ≡ slice_get (cache_slots extra.now inputs.now outputs.now) place }
-    ensures bounded { IsSome result → place < usize.MAX }
+    ensures slot { slot_of result ≡ slice_get (cache_slots extra.now inputs.now outputs.now) index }
+    ensures bounded { IsSome result → index < usize.MAX }
 {
-    match place {
+    match index {
         0 => Some(value_part("extra=", extra)),
         1 => Some(value_part("inputs=", inputs)),
         2 => Some(value_part("outputs=", outputs)),
@@ -144,14 +144,14 @@ fn cache_slot<'a, 'src>(
 /// Returns the only slot of an attribute whose expression is optional.
 fn single_slot<'a, 'src>(
     value: &'a Option<Box<Expression<'src>>>,
-    place: usize,
+    index: usize,
 ) -> Option<Option<Part<'a, 'src>>>
-    ensures slot { slot_of result ≡ slice_get (single_slots value.now) place }
-    ensures bounded { IsSome result → place < usize.MAX }
+    ensures slot { slot_of result ≡ slice_get (single_slots value.now) index }
+    ensures bounded { IsSome result → index < usize.MAX }
 {
     match value {
         None => None,
-        Some(value) => expression_slot(value, place),
+        Some(value) => expression_slot(value, index),
     }
 }
 
@@ -159,28 +159,28 @@ fn single_slot<'a, 'src>(
 fn env_slot<'a, 'src>(
     key: &'a Expression<'src>,
     value: &'a Expression<'src>,
-    place: usize,
+    index: usize,
 ) -> Option<Option<Part<'a, 'src>>>
     ensures slot { slot_of result
-        ≡ slice_get (positional key.now ∷ positional value.now ∷ []) place }
-    ensures bounded { IsSome result → place < usize.MAX }
+        ≡ slice_get (positional key.now ∷ positional value.now ∷ []) index }
+    ensures bounded { IsSome result → index < usize.MAX }
 {
-    if place == 0 {
+    if index == 0 {
         expression_slot(key, 0)
     } else {
-        expression_slot(value, place - 1)
+        expression_slot(value, index - 1)
     }
 }
 
 /// Returns the only slot of an attribute that has one expression.
 fn expression_slot<'a, 'src>(
     value: &'a Expression<'src>,
-    place: usize,
+    index: usize,
 ) -> Option<Option<Part<'a, 'src>>>
-    ensures slot { slot_of result ≡ slice_get (positional value.now ∷ []) place }
-    ensures bounded { IsSome result → place < usize.MAX }
+    ensures slot { slot_of result ≡ slice_get (positional value.now ∷ []) index }
+    ensures bounded { IsSome result → index < usize.MAX }
 {
-    if place == 0 {
+    if index == 0 {
         Some(Some(Part {
             piece: "",
             value: Value::Expression(value),
@@ -193,18 +193,18 @@ fn expression_slot<'a, 'src>(
 /// Returns a slot of a `script` attribute: the command or one of its arguments.
 fn script_slot<'a, 'src>(
     interpreter: &'a Option<Interpreter<StringLiteral<'src>>>,
-    place: usize,
+    index: usize,
 ) -> Option<Option<Part<'a, 'src>>>
-    ensures slot { slot_of result ≡ slice_get (script_slots interpreter.now) place }
-    ensures bounded { IsSome result → place < usize.MAX }
+    ensures slot { slot_of result ≡ slice_get (script_slots interpreter.now) index }
+    ensures bounded { IsSome result → index < usize.MAX }
 {
     match interpreter {
         None => None,
         Some(interpreter) => {
-            if place == 0 {
+            if index == 0 {
                 literal_slot(&interpreter.command, 0)
             } else {
-                row_slot(&interpreter.arguments, place - 1)
+                row_slot(&interpreter.arguments, index - 1)
             }
         }
     }
@@ -213,12 +213,12 @@ fn script_slot<'a, 'src>(
 /// Returns a slot of an attribute that has a list of literals.
 fn row_slot<'a, 'src>(
     literals: &'a Vec<StringLiteral<'src>>,
-    place: usize,
+    index: usize,
 ) -> Option<Option<Part<'a, 'src>>>
-    ensures slot { slot_of result ≡ slice_get (map literal_slot literals.now.items) place }
-    ensures bounded { IsSome result → place < usize.MAX }
+    ensures slot { slot_of result ≡ slice_get (map literal_slot literals.now.items) index }
+    ensures bounded { IsSome result → index < usize.MAX }
 {
-    match literals.get(place) {
+    match literals.get(index) {
         None => None,
         Some(literal) => literal_slot(literal, 0),
     }
@@ -227,12 +227,12 @@ fn row_slot<'a, 'src>(
 /// Returns the only slot of an attribute that has one literal.
 fn literal_slot<'a, 'src>(
     literal: &'a StringLiteral<'src>,
-    place: usize,
+    index: usize,
 ) -> Option<Option<Part<'a, 'src>>>
-    ensures slot { slot_of result ≡ slice_get (literal_slot literal.now ∷ []) place }
-    ensures bounded { IsSome result → place < usize.MAX }
+    ensures slot { slot_of result ≡ slice_get (literal_slot literal.now ∷ []) index }
+    ensures bounded { IsSome result → index < usize.MAX }
 {
-    if place == 0 {
+    if index == 0 {
         Some(Some(Part {
             piece: "",
             value: Value::Literal(literal),
@@ -245,12 +245,12 @@ fn literal_slot<'a, 'src>(
 /// Returns a slot of a `continue` attribute: a signal in double quotes.
 fn signal_slot<'a, 'src>(
     signals: &'a BTreeSet<Signal>,
-    place: usize,
+    index: usize,
 ) -> Option<Option<Part<'a, 'src>>>
-    ensures slot { slot_of result ≡ slice_get (map signal_slot signals.now.keys) place }
-    ensures bounded { IsSome result → place < usize.MAX }
+    ensures slot { slot_of result ≡ slice_get (map signal_slot signals.now.keys) index }
+    ensures bounded { IsSome result → index < usize.MAX }
 {
-    match signals.iter().nth(place) {
+    match signals.iter().nth(index) {
         None => None,
         Some(signal) => Some(Some(Part {
             piece: signal_piece(*signal),

@@ -1,8 +1,10 @@
 //! Printing of attributes.
-ghost use Rattle.std.specs.Prelude.{◌≡◌, ◌∷◌, ◌++◌, ◌+◌, ◌<◌, [], OnOk, OnErr, false};
+ghost use Rattle.std.specs.Prelude.{◌≡◌, ◌∷◌, ◌++◌, ◌+◌, ◌<◌, [], false};
 ghost use Rattle.std.specs.Fmt.{decimal};
+ghost use Rattle.justfile_vocabulary.specs.ByteNames as byte;
 ghost use Rattle.justfile_token.specs.StringLiteral.{literal_text};
 ghost use Rattle.justfile_model.specs.Printing.{attribute_text};
+ghost use Rattle.justfile_expression.specs.Sink.{Puts};
 ghost use Rattle.justfile_attribute.specs.Attribute.{attribute_shape};
 ghost use Rattle.justfile_attribute.specs.Print.{closing, opening, part_text, quoted_number, slot_piece, slot_text, slots, slots_text, value_text};
 
@@ -34,8 +36,8 @@ impl fmt::Debug for Attribute<'_> {
 
 /// Writes the text of an attribute.
 pub fn write_attribute<S: Sink>(attribute: &Attribute<'_>, sink: &mut S) -> Result<(), S::Fault>
-    ensures ok { OnOk result (S.took sink.old (attribute_text (attribute_shape attribute.now)) sink.new) }
-    ensures err { OnErr result (S.failed sink.old (attribute_text (attribute_shape attribute.now)) sink.new) }
+    ensures { Puts S.took S.failed sink.old result
+        (attribute_text (attribute_shape attribute.now)) sink.new }
 {
     sink.put(attribute.name())?;
     write_arguments(attribute, sink)
@@ -43,15 +45,15 @@ pub fn write_attribute<S: Sink>(attribute: &Attribute<'_>, sink: &mut S) -> Resu
 
 /// Writes the arguments in parentheses, or nothing if there are none.
 fn write_arguments<S: Sink>(attribute: &Attribute<'_>, sink: &mut S) -> Result<(), S::Fault>
-    ensures ok { OnOk result (S.took sink.old (slots_text false (slots attribute.now)) sink.new) }
-    ensures err { OnErr result (S.failed sink.old (slots_text false (slots attribute.now)) sink.new) }
+    ensures { Puts S.took S.failed sink.old result
+        (slots_text false (slots attribute.now)) sink.new }
 {
     let mut begun = false;
-    let mut place = 0;
-    while let Some(part) = slot(attribute, place) {
+    let mut index = 0;
+    while let Some(part) = slot(attribute, index) {
         write_slot(begun, &part, sink)?;
         begun |= part.is_some();
-        place += 1;
+        index += 1;
     }
     write_closing(begun, sink)
 }
@@ -62,8 +64,8 @@ fn write_slot<S: Sink>(
     slot: &Option<Part<'_, '_>>,
     sink: &mut S,
 ) -> Result<(), S::Fault>
-    ensures ok { OnOk result (S.took sink.old (slot_piece begun (slot_text slot.now)) sink.new) }
-    ensures err { OnErr result (S.failed sink.old (slot_piece begun (slot_text slot.now)) sink.new) }
+    ensures { Puts S.took S.failed sink.old result
+        (slot_piece begun (slot_text slot.now)) sink.new }
 {
     match slot {
         None => Ok(()),
@@ -76,8 +78,7 @@ fn write_slot<S: Sink>(
 
 /// Writes what is before an argument: `, ` if an argument was written, and otherwise `(`.
 fn write_opening<S: Sink>(begun: bool, sink: &mut S) -> Result<(), S::Fault>
-    ensures ok { OnOk result (S.took sink.old (opening begun) sink.new) }
-    ensures err { OnErr result (S.failed sink.old (opening begun) sink.new) }
+    ensures { Puts S.took S.failed sink.old result (opening begun) sink.new }
 {
     if begun {
         put_piece(", ", sink)
@@ -88,8 +89,7 @@ fn write_opening<S: Sink>(begun: bool, sink: &mut S) -> Result<(), S::Fault>
 
 /// Writes an argument.
 fn write_part<S: Sink>(part: &Part<'_, '_>, sink: &mut S) -> Result<(), S::Fault>
-    ensures ok { OnOk result (S.took sink.old (part_text part.now) sink.new) }
-    ensures err { OnErr result (S.failed sink.old (part_text part.now) sink.new) }
+    ensures { Puts S.took S.failed sink.old result (part_text part.now) sink.new }
 {
     sink.put(part.piece)?;
     write_value(&part.value, sink)
@@ -97,8 +97,7 @@ fn write_part<S: Sink>(part: &Part<'_, '_>, sink: &mut S) -> Result<(), S::Fault
 
 /// Writes the value of an argument.
 fn write_value<S: Sink>(value: &Value<'_, '_>, sink: &mut S) -> Result<(), S::Fault>
-    ensures ok { OnOk result (S.took sink.old (value_text value.now) sink.new) }
-    ensures err { OnErr result (S.failed sink.old (value_text value.now) sink.new) }
+    ensures { Puts S.took S.failed sink.old result (value_text value.now) sink.new }
 {
     match value {
         Value::Nothing => Ok(()),
@@ -109,9 +108,8 @@ fn write_value<S: Sink>(value: &Value<'_, '_>, sink: &mut S) -> Result<(), S::Fa
 }
 
 /// Writes a literal with its marks.
-fn write_literal<S: Sink>(literal: &StringLiteral<'_>, sink: &mut S) -> Result<(), S::Fault>
-    ensures ok { OnOk result (S.took sink.old (literal_text literal.now) sink.new) }
-    ensures err { OnErr result (S.failed sink.old (literal_text literal.now) sink.new) }
+pub fn write_literal<S: Sink>(literal: &StringLiteral<'_>, sink: &mut S) -> Result<(), S::Fault>
+    ensures { Puts S.took S.failed sink.old result (literal_text literal.now) sink.new }
 {
     sink.put(literal.marks())?;
     sink.put(literal.token.lexeme())
@@ -119,8 +117,7 @@ fn write_literal<S: Sink>(literal: &StringLiteral<'_>, sink: &mut S) -> Result<(
 
 /// Writes a number in single quotes.
 fn write_number<S: Sink>(number: u64, sink: &mut S) -> Result<(), S::Fault>
-    ensures ok { OnOk result (S.took sink.old (quoted_number number) sink.new) }
-    ensures err { OnErr result (S.failed sink.old (quoted_number number) sink.new) }
+    ensures { Puts S.took S.failed sink.old result (quoted_number number) sink.new }
 {
     put_piece("'", sink)?;
     write_decimal(number, sink)?;
@@ -129,8 +126,7 @@ fn write_number<S: Sink>(number: u64, sink: &mut S) -> Result<(), S::Fault>
 
 /// Writes a number in decimal.
 fn write_decimal<S: Sink>(number: u64, sink: &mut S) -> Result<(), S::Fault>
-    ensures ok { OnOk result (S.took sink.old (decimal number) sink.new) }
-    ensures err { OnErr result (S.failed sink.old (decimal number) sink.new) }
+    ensures { Puts S.took S.failed sink.old result (decimal number) sink.new }
 {
     if number < 10 {
         return write_digit(number, sink);
@@ -142,16 +138,14 @@ fn write_decimal<S: Sink>(number: u64, sink: &mut S) -> Result<(), S::Fault>
 /// Writes one digit.
 fn write_digit<S: Sink>(digit: u64, sink: &mut S) -> Result<(), S::Fault>
     requires { digit < 10 }
-    ensures ok { OnOk result (S.took sink.old ((48 + digit) ∷ []) sink.new) }
-    ensures err { OnErr result (S.failed sink.old ((48 + digit) ∷ []) sink.new) }
+    ensures { Puts S.took S.failed sink.old result ((byte.digit_zero + digit) ∷ []) sink.new }
 {
     sink.put(DIGITS[digit as usize])
 }
 
 /// Writes `)` if an argument was written.
 fn write_closing<S: Sink>(begun: bool, sink: &mut S) -> Result<(), S::Fault>
-    ensures ok { OnOk result (S.took sink.old (closing begun) sink.new) }
-    ensures err { OnErr result (S.failed sink.old (closing begun) sink.new) }
+    ensures { Puts S.took S.failed sink.old result (closing begun) sink.new }
 {
     if begun { put_piece(")", sink) } else { Ok(()) }
 }

@@ -9,7 +9,7 @@ use Rattle.std.proofs.lemmas.List.Elements.{All-from_recursion, recursion_from_A
 use Rattle.std.proofs.lemmas.Map.Text.{is_eq-slice_cmp}
 use Rattle.std.proofs.lemmas.Slice.Eq.{bytes_eq-Decides}
 use denote.Ref.{Bor}
-use Rattle.justfile_attribute_rules.specs.Keys.{AreKeyed, Given, IsPut, KeyMap, key_text, text_order}
+use Rattle.justfile_attribute_rules.specs.Keys.{AreKeyed, Given, IsInserted, KeyMap, key_text, text_order}
 
 abbrev pub Stored : Type 0
 Stored = Bor (List ℕ) × Given
@@ -42,7 +42,7 @@ pub same_keyed : (m n : KeyMap) → n.entries ≡ m.entries → AreKeyed m → A
 unfolding AreKeyed
 same_keyed m n e h = subst (All IsKeyed) (sym e) h
 
-pub stays_keyed : (g : Given) (m n : KeyMap) → IsPut g m n → AreKeyed m → AreKeyed n
+pub stays_keyed : (g : Given) (m n : KeyMap) → IsInserted g m n → AreKeyed m → AreKeyed n
 unfolding AreKeyed
 stays_keyed g m n p h =
     subst (All IsKeyed) (sym p.entries) (All-from_recursion IsKeyed _ (put_keyed p.text g p.is m.entries (recursion_from_All IsKeyed m.entries h)))

@@ -17,7 +17,7 @@ use Rattle.justfile_model.specs.Tree.{Bound, Expr, OptionName, Property, Quoted}
 use Rattle.justfile_expression.specs.LeafViews.{leaf_cooked, views_leaves}
 use Rattle.justfile_expression.specs.LeafTree.{Leaf, Literal, literal_of}
 use Rattle.justfile_attribute_rules.specs.Keys.{without}
-use Rattle.justfile_attribute_rules.specs.Made.{Makes, quoted_leaf, within}
+use Rattle.justfile_attribute_rules.specs.Made.{Makes, quoted_leaf, bounds_checked}
 use Rattle.justfile_attribute_rules.specs.Steps.{Key, Keys, Rules, at, bounds_of, help_of, named_only, names_of, rules_read, short_of, switches_of, values_of, with_long}
 
 -- a text that is one key isn't another
@@ -117,7 +117,7 @@ module _ (name : Token) (argument : Quoted Leaf) (l s p v f m x n h : Option Key
       if_given (new.bound views_leaves name text) x
       >>= (λ max. if_given (new.bound views_leaves name text) n
       >>= (λ min. new.check_bounds views_leaves name text min max
-      >>= (λ within. help_of name h (record r { min = min; max = max }))))
+      >>= (λ bounds_checked. help_of name h (record r { min = min; max = max }))))
 
   abbrev rest_2 : Rules → Made Token Rules
   rest_2 r =
@@ -137,7 +137,7 @@ module _ (name : Token) (argument : Quoted Leaf) (l s p v f m x n h : Option Key
       >>= (λ long. new.option views_leaves name text true s
       >>= (λ short. rest_1 (named long short)))
 
-  within_is : (min max : Option (Bound Token)) → within min max ≡ new.check_bounds views_leaves name text min max
+  within_is : (min max : Option (Bound Token)) → bounds_checked min max ≡ new.check_bounds views_leaves name text min max
   within_is None max = refl
   within_is (Some min) None = refl
   within_is (Some min) (Some max) = refl
@@ -148,7 +148,7 @@ module _ (name : Token) (argument : Quoted Leaf) (l s p v f m x n h : Option Key
       step_3 flag multiple =
           let r = switched long short pattern value flag multiple in
           checked (if_given (new.bound views_leaves name text) x) (λ max. if_given (new.bound views_leaves name text) n)
-          (λ max min. within min max) (λ max min. record r { min = min; max = max }) (help_of name h)
+          (λ max min. bounds_checked min max) (λ max min. record r { min = min; max = max }) (help_of name h)
           ∙ (λ i. if_given (new.bound views_leaves name text) x
           >>= (λ max. if_given (new.bound views_leaves name text) n
           >>= (λ min. within_is min max i >>= (λ u. help_of name h (record r { min = min; max = max })))))

@@ -48,7 +48,7 @@ abbrev pub text_order : Bor (List ℕ) → Bor (List ℕ) → Ordering
 text_order s t = slice_cmp nat_cmp s.now t.now
 
 -- a key was inserted by its text, and replaced one with the same text
-pub record IsPut (given : Given) (old new : KeyMap) : Type 0 where
+pub record IsInserted (given : Given) (old new : KeyMap) : Type 0 where
   pub text : Bor (List ℕ)
   pub is : text.now ≡ key_text given
   pub entries : new.entries ≡ insert_entry text_order old.entries text given

@@ -58,9 +58,9 @@ signals_made texts = do
   Ok (signal_set given)
 
 -- the rule that `min` isn't above `max`
-abbrev pub within : (min max : Option (Bound Token)) → Made Token (Unit {0})
-within (Some min) (Some max) = check (nat_lt max.number min.number) (ArgAttributeMinExceedsMax min.number max.number) min.key
-within _ _ = Ok tt
+abbrev pub bounds_checked : (min max : Option (Bound Token)) → Made Token (Unit {0})
+bounds_checked (Some min) (Some max) = check (nat_lt max.number min.number) (ArgAttributeMinExceedsMax min.number max.number) min.key
+bounds_checked _ _ = Ok tt
 
 -- the number that a literal holds, or the broken rule, for an error that names `key`
 abbrev pub count_made : (key : Token) → Quoted Leaf → Made Token ℕ

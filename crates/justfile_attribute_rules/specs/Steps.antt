@@ -10,7 +10,7 @@ use Rattle.justfile_model.specs.Tree.{Bound, Expr, OptionName, Quoted}
 use Rattle.justfile_expression.specs.LeafViews.{views_leaves}
 use Rattle.justfile_expression.specs.LeafTree.{Leaf}
 use Rattle.justfile_attribute_rules.specs.Keys.{without}
-use Rattle.justfile_attribute_rules.specs.Made.{within}
+use Rattle.justfile_attribute_rules.specs.Made.{bounds_checked}
 
 abbrev pub Rules : Type 0
 Rules = tree.ArgumentRules Leaf Token
@@ -43,9 +43,9 @@ argument_of r = text_of views_leaves r.name
 abbrev pub place_of : Rules → Token
 place_of r = views_leaves.place r.name.token
 
--- the parameter isn't an option
-abbrev pub wants_option : Rules → Bool
-wants_option r = not (new.is_option views_leaves (place_of r) (argument_of r) r.long) && not (new.is_option views_leaves (place_of r) (argument_of r) r.short)
+-- the parameter has neither name of an option, so it isn't one
+abbrev pub lacks_option : Rules → Bool
+lacks_option r = not (new.is_option views_leaves (place_of r) (argument_of r) r.long) && not (new.is_option views_leaves (place_of r) (argument_of r) r.short)
 
 abbrev pub value_made : Rules → Key → Made Token (Expr Leaf Token)
 value_made r = new.option_value views_leaves (place_of r) (argument_of r) r.long r.short
@@ -56,8 +56,8 @@ flag_made r = new.flag views_leaves (place_of r) (argument_of r) r.long r.short 
 abbrev pub multiple_made : Rules → Key → Made Token Token
 multiple_made r = new.multiple views_leaves (place_of r) (argument_of r) r.long r.short
 
-abbrev pub with_numbers : (min max : Option (Bound Token)) → Rules → Rules
-with_numbers min max r = record r { min = min; max = max }
+abbrev pub with_bounds : (min max : Option (Bound Token)) → Rules → Rules
+with_bounds min max r = record r { min = min; max = max }
 
 abbrev pub with_long : OptionName Leaf Token → Rules → Rules
 with_long long r = record r { long = long }
@@ -122,8 +122,8 @@ module _ (name : Token) where
   bounds_of x n r = do
     max ← if_given (new.bound views_leaves name (argument_of r)) x
     min ← if_given (new.bound views_leaves name (argument_of r)) n
-    checked ← within min max
-    Ok (with_numbers min max r)
+    checked ← bounds_checked min max
+    Ok (with_bounds min max r)
 
   abbrev pub help_of : Option Key → Rules → Made Token Rules
   help_of h r = do

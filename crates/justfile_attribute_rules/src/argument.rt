@@ -1,3 +1,4 @@
+//! Reading of the keys of `arg`, one after another.
 ghost use Rattle.std.specs.Prelude.{◌≡◌, IfOk, OnOk, codes, string_bytes};
 ghost use Rattle.std.specs.Option.{option_map};
 ghost use Rattle.justfile_token.specs.declared.string_literal.StringLiteral.{StringLiteral};
@@ -6,7 +7,7 @@ ghost use Rattle.justfile_expression.specs.LeafViews.{views_leaves};
 ghost use Rattle.justfile_attribute_rules.specs.ArgumentRules.{AreNamed, option_of, rules_of};
 ghost use Rattle.justfile_attribute_rules.specs.Keys.{AreKeyed, IsTaken, key_arguments};
 ghost use Rattle.justfile_attribute_rules.specs.Made.{Makes, bound_at, quoted_leaf};
-ghost use Rattle.justfile_attribute_rules.specs.Steps.{after_bounds, after_names, after_switches, after_values, bounds_read, help_read, named_only, names_read, rules_read, switches_read, values_read, at, long_of, short_of, with_long, with_short, with_numbers};
+ghost use Rattle.justfile_attribute_rules.specs.Steps.{after_bounds, after_names, after_switches, after_values, bounds_read, help_read, named_only, names_read, rules_read, switches_read, values_read, at, long_of, short_of, with_long, with_short, with_bounds};
 
 use crate::argument_rules::ArgumentRules;
 use crate::keys::{KeyMap, take_required};
@@ -235,7 +236,7 @@ fn set_bounds<'src>(
     min: Option<(Name<'src>, u64)>,
     max: Option<(Name<'src>, u64)>,
 )
-    ensures { rules_of rules.new ≡ with_numbers (option_map bound_at min.entry)
+    ensures { rules_of rules.new ≡ with_bounds (option_map bound_at min.entry)
         (option_map bound_at max.entry) (rules_of rules.old) }
 {
     rules.min = min;

@@ -1,3 +1,5 @@
+//! The type of what an `arg` attribute sets for its parameter.
+
 use justfile_expression::Expression;
 use justfile_token::{Name, StringLiteral, Token};
 
@@ -12,9 +14,9 @@ pub struct ArgumentRules<'src> {
     pub long: Option<StringLiteral<'src>>,
     /// The key `long` if it has no value, so that the option has the parameter's name.
     pub long_key: Option<Name<'src>>,
-    /// The key `max` and its number: the most values that the parameter takes.
+    /// The key `max` and its number: the most arguments that the parameter takes.
     pub max: Option<(Name<'src>, u64)>,
-    /// The key `min` and its number: the fewest values that the parameter takes.
+    /// The key `min` and its number: the fewest arguments that the parameter takes.
     pub min: Option<(Name<'src>, u64)>,
     /// The key `multiple`: the option may be given more than once.
     pub multiple: Option<Token<'src>>,

@@ -1,3 +1,4 @@
+//! The number of positional arguments that each kind of attribute takes.
 ghost use Rattle.std.specs.Prelude.{◌≡◌};
 ghost use Rattle.justfile_model.specs.AttributeKinds.{least_count, most_count, takes_expressions};
 ghost use Rattle.justfile_model.specs.NewAttribute as new;

@@ -1,3 +1,4 @@
+//! The keys of an attribute: insertion, removal, and the check that its kind accepts them.
 ghost use Rattle.std.specs.Prelude.{◌≡◌, OnErr, OnOk, codes};
 ghost use Rattle.std.specs.List.{list_any};
 ghost use Rattle.std.specs.Option.{option_map};
@@ -8,7 +9,7 @@ ghost use Rattle.justfile_model.specs.NewAttribute as new;
 ghost use Rattle.justfile_expression.specs.LeafViews.{views_leaves};
 ghost use Rattle.justfile_expression.specs.LeafTree.{leaf_tree_of};
 ghost use Rattle.justfile_attribute_rules.specs.ArgumentRules.{property_of};
-ghost use Rattle.justfile_attribute_rules.specs.Keys.{AreKeyed, IsPut, IsTaken, key_argument, key_arguments};
+ghost use Rattle.justfile_attribute_rules.specs.Keys.{AreKeyed, IsInserted, IsTaken, key_argument, key_arguments};
 ghost use Rattle.justfile_model.specs.Rules.{AttributeKeyMissingValue};
 ghost use Rattle.justfile_attribute_rules.specs.Made.{IsFaultOfRule, Makes};
 
@@ -31,17 +32,17 @@ static CACHE_KEYS: [&str; 3] = ["extra", "inputs", "outputs"];
 
 /// Inserts a key by its text. It replaces a key with the same text.
 #[tactic(auto, using(crate::proofs::PutKeys::same_keyed))]
-pub(crate) fn put_key<'src>(
+pub(crate) fn insert_key<'src>(
     keys: &mut KeyMap<'src>,
-    given: (Name<'src>, Option<Box<Expression<'src>>>),
+    property: (Name<'src>, Option<Box<Expression<'src>>>),
 ) -> Result<(), AllocError>
     requires { AreKeyed keys.old }
-    ensures ok { OnOk result (IsPut given.entry keys.old keys.new) }
+    ensures ok { OnOk result (IsInserted property.entry keys.old keys.new) }
     ensures err { OnErr result (keys.new.entries ≡ keys.old.entries) }
     ensures keyed { AreKeyed keys.new }
 {
-    let text = given.0.lexeme();
-    match keys.insert(text, given) {
+    let text = property.0.lexeme();
+    match keys.insert(text, property) {
         Ok(_before) => Ok(()),
         Err(_failed) => Err(AllocError),
     }

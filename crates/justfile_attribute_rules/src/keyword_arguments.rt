@@ -1,6 +1,7 @@
+//! The keyword arguments of an attribute.
 ghost use Rattle.justfile_attribute_rules.specs.Keys.{AreKeyed, prop_keyed};
 
-use crate::keys::{KeyMap, put_key};
+use crate::keys::{KeyMap, insert_key};
 use justfile_expression::Expression;
 use justfile_token::Name;
 use std::alloc::{AllocError, Global};
@@ -15,7 +16,7 @@ pub struct KeywordArguments<'src> {
 
 impl<'src> KeywordArguments<'src> {
     ghost use Rattle.std.specs.Prelude.{◌≡◌, [], OnErr, OnOk};
-    ghost use Rattle.justfile_attribute_rules.specs.Keys.{IsPut};
+    ghost use Rattle.justfile_attribute_rules.specs.Keys.{IsInserted};
     ghost use Rattle.justfile_attribute_rules.specs.KeywordArguments.{keys_of};
 
     /// Returns an empty set of keys.
@@ -39,13 +40,13 @@ impl<'src> KeywordArguments<'src> {
         value: Option<Box<Expression<'src>>>,
     ) -> Result<(), AllocError>
         ensures ok { OnOk result
-            (IsPut (name.entry, value.entry) (keys_of self.old) (keys_of self.new)) }
+            (IsInserted (name.entry, value.entry) (keys_of self.old) (keys_of self.new)) }
         ensures err { OnErr result ((keys_of self.new).entries ≡ (keys_of self.old).entries) }
     {
-        put_key(&mut self.keys, (name, value))
+        insert_key(&mut self.keys, (name, value))
     }
 
-    /// Returns the keys by their texts.
+    /// Returns the keys with their values, by their texts.
     pub fn into_map(self) -> KeyMap<'src>
         ensures keys { result ≡ keys_of self.entry }
         ensures keyed { AreKeyed result }

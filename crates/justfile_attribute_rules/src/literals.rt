@@ -1,3 +1,4 @@
+//! Arguments that must be literals.
 ghost use Rattle.std.specs.Prelude.{◌≡◌, None};
 ghost use Rattle.std.specs.Option.{option_map};
 ghost use Rattle.justfile_model.specs.Meaning.{quoted};

@@ -1,3 +1,4 @@
+//! The numbers of the keys `min` and `max` of `arg`.
 ghost use Rattle.std.specs.Prelude.{◌≡◌, IsTrue, [], string_bytes};
 ghost use Rattle.std.specs.List.{list_all};
 ghost use Rattle.std.specs.Option.{option_map};
@@ -8,7 +9,7 @@ ghost use Rattle.justfile_model.specs.NewAttribute as new;
 ghost use Rattle.justfile_expression.specs.LeafViews.{views_leaves};
 ghost use Rattle.justfile_expression.specs.LeafTree.{leaf_tree_of};
 ghost use Rattle.justfile_attribute_rules.specs.Keys.{AreKeyed, IsTaken, key_arguments};
-ghost use Rattle.justfile_attribute_rules.specs.Made.{Makes, bound_at, bound_made, count_made, quoted_leaf, within};
+ghost use Rattle.justfile_attribute_rules.specs.Made.{Makes, bound_at, bound_made, count_made, quoted_leaf, bounds_checked};
 
 use crate::keys::{KeyMap, missing_value, take};
 use crate::literals::key_literal;
@@ -111,7 +112,7 @@ fn are_digits(text: &[u8]) -> bool
     text.iter().all(|digit| digit.is_ascii_digit())
 }
 
-/// Returns the number that such a text stands for, or `None` if it doesn't fit into 64 bits.
+/// Returns the number that a text of digits stands for, or `None` if it doesn't fit into 64 bits.
 #[tactic(auto, using(justfile_model::proofs::CountLaws::count_read))]
 fn parse_count(text: &str) -> Option<u64>
     requires { IsTrue (means.is_count text.now) }
@@ -130,7 +131,7 @@ pub(crate) fn check_bounds<'src>(
     max: Option<(Name<'src>, u64)>,
 ) -> CompileResult<'src>
     ensures { Makes (λ _. tt) result
-        (within (option_map bound_at min.entry) (option_map bound_at max.entry)) }
+        (bounds_checked (option_map bound_at min.entry) (option_map bound_at max.entry)) }
 {
     if let (Some((key, min)), Some((_, max))) = (min, max) {
         if max < min {

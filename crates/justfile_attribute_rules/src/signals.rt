@@ -1,3 +1,4 @@
+//! Signals from literals.
 ghost use Rattle.std.specs.Prelude.{◌≡◌};
 ghost use Rattle.justfile_attribute_rules.specs.Made.{Makes, quoted_leaf, quoted_leaves, signal_made, signals_made};
 

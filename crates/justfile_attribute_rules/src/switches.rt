@@ -1,14 +1,15 @@
+//! The keys `value`, `flag` and `multiple` of `arg`, which only options may have.
 ghost use Rattle.std.specs.Prelude.{◌≡◌, ◌&&◌, not, codes, string_bytes};
 ghost use Rattle.std.specs.Option.{is_some, option_map};
 ghost use Rattle.justfile_model.specs.Meaning.{at_key};
 ghost use Rattle.justfile_model.specs.NewAttribute as new;
-ghost use Rattle.justfile_model.specs.Rules as refusals;
+ghost use Rattle.justfile_model.specs.Rules as broken;
 ghost use Rattle.justfile_expression.specs.LeafViews.{views_leaves};
 ghost use Rattle.justfile_expression.specs.LeafTree.{leaf_tree_of};
 ghost use Rattle.justfile_attribute_rules.specs.ArgumentRules.{rules_of};
 ghost use Rattle.justfile_attribute_rules.specs.Keys.{AreKeyed, IsTaken, key_argument, key_arguments};
 ghost use Rattle.justfile_attribute_rules.specs.Made.{Makes};
-ghost use Rattle.justfile_attribute_rules.specs.Steps.{flag_made, multiple_made, value_made, wants_option};
+ghost use Rattle.justfile_attribute_rules.specs.Steps.{flag_made, multiple_made, value_made, lacks_option};
 
 use crate::argument_rules::ArgumentRules;
 use crate::keys::{KeyMap, missing_value, take};
@@ -35,7 +36,7 @@ pub(crate) fn take_value<'src>(
     match take(keys, "value") {
         None => Ok(None),
         Some((key, None)) => Err(missing_value(key)),
-        Some((key, Some(value))) => match check_wanted(key, rules) {
+        Some((key, Some(value))) => match check_has_option(key, rules) {
             Ok(()) => Ok(Some(value)),
             Err(fault) => Err(fault),
         },
@@ -85,7 +86,7 @@ fn check_flag<'src>(
             parameter,
         })));
     }
-    check_wanted(key, rules)?;
+    check_has_option(key, rules)?;
     if rules.value.is_some() {
         let parameter = argument_text(alloc, &rules.name)?;
         return Err(Fault::Compile(key.error(CompileErrorKind::FlagAndValueArgAttribute {
@@ -136,26 +137,26 @@ fn check_multiple<'src>(
     if value.is_some() {
         return Err(Fault::Compile(key.error(CompileErrorKind::AttributeKeyTakesNoValue { key })));
     }
-    match check_wanted(key, rules) {
+    match check_has_option(key, rules) {
         Ok(()) => Ok(()),
         Err(fault) => Err(fault),
     }
 }
 
 /// Refuses a key if the parameter isn't an option.
-fn check_wanted<'src>(key: Name<'src>, rules: &ArgumentRules<'src>) -> CompileResult<'src>
-    ensures { Makes (λ _. tt) result (new.check (wants_option (rules_of rules.now))
-        (refusals.ArgAttributeRequiresOption key.entry.token) key.entry.token) }
+fn check_has_option<'src>(key: Name<'src>, rules: &ArgumentRules<'src>) -> CompileResult<'src>
+    ensures { Makes (λ _. tt) result (new.check (lacks_option (rules_of rules.now))
+        (broken.ArgAttributeRequiresOption key.entry.token) key.entry.token) }
 {
-    if wants_option(rules) {
+    if lacks_option(rules) {
         return Err(Fault::Compile(key.error(CompileErrorKind::ArgAttributeRequiresOption { key })));
     }
     Ok(())
 }
 
 /// Whether the parameter isn't an option: neither a literal nor a key gives it an option name.
-fn wants_option(rules: &ArgumentRules<'_>) -> bool
-    ensures { result ≡ wants_option (rules_of rules.now) }
+fn lacks_option(rules: &ArgumentRules<'_>) -> bool
+    ensures { result ≡ lacks_option (rules_of rules.now) }
 {
     rules.long_key.is_none()
         && rules.long.is_none()

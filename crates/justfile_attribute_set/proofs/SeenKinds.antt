@@ -15,7 +15,7 @@ use Rattle.justfile_expression.specs.LeafViews.{views_leaves}
 use Rattle.justfile_attribute.specs.Attribute.{leaf_attribute_of}
 use Rattle.justfile_attribute.specs.declared.attribute.Attribute.{Attribute}
 use Rattle.justfile_attribute.proofs.Ordered.{kind_seen}
-use Rattle.justfile_attribute_set.specs.AttributeSet.{IsInvalidBy, SaysInvalid}
+use Rattle.justfile_attribute_set.specs.AttributeSet.{IsInvalidBy, NamesInvalid}
 use Rattle.justfile_attribute_set.specs.Attributes.{kind_of}
 use Rattle.justfile_attribute_set.specs.Pairs.{Pair, leaf_entry_of}
 
@@ -52,4 +52,4 @@ pub invalid_by : (item : ItemKind) (pairs : List Pair) (p : Pair) (name : Token)
     → IsInvalidBy (first_invalid views_leaves item (map leaf_entry_of pairs)) item name e
 invalid_by item pairs p name kind e found is token says named =
     subst (λ o. IsInvalidBy o item name e) (sym (first_seen item pairs ∙ ap (option_map leaf_entry_of) found))
-    (token, subst (λ k. SaysInvalid item name (kind_of_attribute (leaf_attribute_of p.0)) k) (sym says) (refl, named, is ∙ kind_is p.0))
+    (token, subst (λ k. NamesInvalid item name (kind_of_attribute (leaf_attribute_of p.0)) k) (sym says) (refl, named, is ∙ kind_is p.0))

@@ -53,11 +53,11 @@ IsConstruct items.Newline = ⊥
 IsConstruct _ = Unit {0}
 
 -- the error says that an item of this kind, named by this token, may not have an attribute of that kind
-abbrev pub SaysInvalid : ItemKind → (name : Token) → AttributeKind → CompileErrorKind → Type 0
-SaysInvalid item name kind (InvalidAttribute item' name' kind') = (item' ≡ item) × (name'.now ≡ lexeme_of name) × (kind' ≡ kind)
-SaysInvalid item name kind _ = ⊥
+abbrev pub NamesInvalid : ItemKind → (name : Token) → AttributeKind → CompileErrorKind → Type 0
+NamesInvalid item name kind (InvalidAttribute item' name' kind') = (item' ≡ item) × (name'.now ≡ lexeme_of name) × (kind' ≡ kind)
+NamesInvalid item name kind _ = ⊥
 
 -- the error for the first attribute that such an item may not have
 abbrev pub IsInvalidBy : Option (Entry Leaf Token) → ItemKind → (name : Token) → CompileError → Type 0
 IsInvalidBy None item name e = ⊥
-IsInvalidBy (Some first) item name e = (e.token ≡ name) × SaysInvalid item name (kind_of_attribute first.attribute) e.kind
+IsInvalidBy (Some first) item name e = (e.token ≡ name) × NamesInvalid item name (kind_of_attribute first.attribute) e.kind

@@ -10,5 +10,5 @@ abbrev pub IsSamePair : (copy original : Pair) → Type 0
 IsSamePair copy original = IsSameAttribute copy.0 original.0 × (copy.1 ≡ original.1)
 
 -- a copy of a set: copies of its attributes, one by one
-abbrev pub IsSameSet : (copy original : AttributeSet) → Type 0
-IsSameSet copy original = AllZip IsSamePair (written_of copy) (written_of original)
+abbrev pub IsSameAttributes : (copy original : AttributeSet) → Type 0
+IsSameAttributes copy original = AllZip IsSamePair (written_of copy) (written_of original)

@@ -1,3 +1,4 @@
+//! Sets of attributes: how they are made, read, copied and checked.
 ghost use Rattle.std.specs.Prelude.{◌≡◌, [], length, find, map, not, None, IfErr, IfOk, OnOk};
 ghost use Rattle.std.specs.Cmp.{on_per};
 ghost use Rattle.std.specs.Cmp.Lexicographic.{lists_per, pointwise};
@@ -16,13 +17,13 @@ ghost use Rattle.justfile_expression.specs.LeafViews.{views_leaves};
 ghost use Rattle.justfile_attribute_set.specs.Pairs.{commented_cmp, leaf_entry_of, pair_cmp, same, same_attributes, same_commented};
 ghost use Rattle.justfile_attribute_set.specs.IntoNamed.{named_left};
 ghost use Rattle.justfile_written.specs.Written.{uncommented};
-ghost use Rattle.justfile_attribute_set.specs.Attributes as wanted;
+ghost use Rattle.justfile_attribute_set.specs.Attributes as definitions;
 ghost use Rattle.justfile_attribute_set.specs.Attributes.{are_enabled, groups_in, has_kind};
 ghost use Rattle.justfile_attribute_set.specs.Keys.{keys_left};
 
 use crate::copy::copy_pairs;
 use crate::keys::{IntoNamed, Keys};
-use crate::kinds::{first_of_kind, has_enabler, has_kind, is_here, kind_of, may_have};
+use crate::kinds::{enables_here, first_of_kind, has_enabler, has_kind, kind_of, may_have};
 use crate::pair_set::PairSet;
 use crate::pairs::{find_key, have_same_keys, last_of_each, sort_pairs};
 use justfile_attribute::Attribute;
@@ -37,7 +38,7 @@ pub type AttributeSet<'src> = PairSet<Attribute<'src>, Written<'src>>;
 
 impl<'src> PairSet<Attribute<'src>, Written<'src>> {
     ghost use Rattle.justfile_attribute_set.specs.AttributeSet.{IsConstruct, IsInvalidBy, attributes_of, entries_with_comments, leaf_entries_of, pairs_of, written_of};
-    ghost use Rattle.justfile_attribute_set.specs.Copies.{IsSameSet};
+    ghost use Rattle.justfile_attribute_set.specs.Copies.{IsSameAttributes};
 
     /// Returns an empty set.
     #[tactic(auto, unfolding(crate::specs::InOrder::AreInOrder))]
@@ -127,7 +128,7 @@ impl<'src> PairSet<Attribute<'src>, Written<'src>> {
     /// `AllocError` if out of memory.
     #[tactic(auto, using(crate::proofs::CopiedPairs::copies_in_order))]
     pub fn clone(&self, alloc: Global) -> Result<Self, AllocError>
-        ensures { IfOk result (λ copy. IsSameSet copy self.now) }
+        ensures { IfOk result (λ copy. IsSameAttributes copy self.now) }
     {
         let pairs = copy_pairs(alloc, &self.pairs)?;
         Ok(PairSet { pairs })
@@ -142,7 +143,7 @@ impl<'src> PairSet<Attribute<'src>, Written<'src>> {
 
     /// Returns the first attribute of this kind, or `None` if there is none.
     pub fn get(&self, kind: AttributeKind) -> Option<&Attribute<'src>>
-        ensures { option_copied result ≡ find (wanted.is_of_kind kind) (attributes_of self.now) }
+        ensures { option_copied result ≡ find (definitions.is_of_kind kind) (attributes_of self.now) }
     {
         match first_of_kind(&self.pairs, kind) {
             Some(pair) => Some(&pair.0),
@@ -161,8 +162,9 @@ impl<'src> PairSet<Attribute<'src>, Written<'src>> {
         }
     }
 
-    /// Returns the comment after the line on which this attribute was written, without white space
-    /// at its end. Only the last attribute in its brackets can have one.
+    /// Returns the comment at the end of the line on which this attribute was written, without
+    /// whitespace at its end. Only the last attribute in its brackets can have one. `None` if there
+    /// is no comment, or the set doesn't have the attribute.
     pub fn comment(&self, attribute: &Attribute<'src>) -> Option<&'src str>
         ensures { result ≡ option_and_then (λ p. p.1.comment)
             (find (λ p. same attribute.now p.0) (written_of self.now)) }
@@ -202,7 +204,7 @@ impl<'src> PairSet<Attribute<'src>, Written<'src>> {
     pub fn is_enabled(&self) -> bool
         ensures { result ≡ are_enabled (attributes_of self.now) }
     {
-        is_here(
+        enables_here(
             has_enabler(&self.pairs),
             self.contains(AttributeKind::Linux),
             self.contains(AttributeKind::Unix),
@@ -269,7 +271,7 @@ impl<'src> PairSet<Attribute<'src>, Written<'src>> {
     /// Returns the first pair whose attribute an item of this kind may not have.
     fn first_invalid(&self, item_kind: ItemKind) -> Option<&(Attribute<'src>, Written<'src>)>
         ensures { option_copied result
-            ≡ find (λ p. not (is_allowed item_kind (wanted.kind_of p.0))) (written_of self.now) }
+            ≡ find (λ p. not (is_allowed item_kind (definitions.kind_of p.0))) (written_of self.now) }
     {
         self.pairs
             .iter()

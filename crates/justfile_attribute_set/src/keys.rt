@@ -1,3 +1,4 @@
+//! Iterators over the attributes of a set.
 ghost use Rattle.std.specs.Prelude.{◌≡◌, map};
 ghost use Rattle.std.specs.Iterator.{YieldsFirst, YieldsFirstRef, item_count};
 ghost use Rattle.std.specs.Slice.Iter.{iter_rest};

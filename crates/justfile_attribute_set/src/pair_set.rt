@@ -1,3 +1,4 @@
+//! Pairs in the order of their content, and the trait of that order.
 ghost use Rattle.std.specs.Prelude.{◌≡◌};
 ghost use Rattle.std.specs.declared.cmp.Ordering.{Ordering};
 ghost use Rattle.justfile_attribute.specs.Order.{attribute_content_cmp};

@@ -2,15 +2,17 @@ mod CasesListed
 pub mod Compared
 mod Conditionals
 pub mod ContentTies
-mod ExpressionCopies
+mod EmptyTexts
 mod Ended
 mod Equalities
+mod ExpressionCopies
 mod ExpressionRows
 mod Joined
+pub mod ListLoops
 mod Loops
 mod Nodes
+pub mod PutLemmas
 mod Resolved
 mod RightSides
 mod Rows
-mod Silent
 mod Walk

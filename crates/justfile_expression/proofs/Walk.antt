@@ -10,7 +10,7 @@ use Rattle.justfile_expression.specs.declared.expression.Expression.{Expression}
 use Rattle.justfile_expression.proofs.Joined.{child_text, joined}
 use Rattle.justfile_expression.proofs.Loops.{all_taken, failed_next, flat_split, text_last}
 use Rattle.justfile_expression.proofs.Nodes.{nodes, fewer}
-use Rattle.justfile_expression.proofs.Silent.{silent_last}
+use Rattle.justfile_expression.proofs.EmptyTexts.{silent_last}
 
 -- for a child with no text after it: the text before the child, followed by the child's text, is the whole text
 up_to_last : (e : Expression) (i : ℕ) (c : Child) → slice_get (children e) i ≡ Some c → texts_joined c.1 ≡ []

@@ -42,11 +42,15 @@ abbrev mutual
   AreSameParts (format_row_more copy part copies) (format_row_more original part' originals) = IsSameExpression copy original × IsSameLiteral part part' × AreSameParts copies originals
   AreSameParts _ _ = ⊥
 
--- the same for an `Option` of a box
-abbrev pub IsSameOption : (copy original : Option (Box Expression)) → Type 0
-IsSameOption None None = Unit {0}
-IsSameOption (Some copy) (Some original) = IsSameExpression copy.value original.value
-IsSameOption _ _ = ⊥
+-- the same for expressions in boxes
+abbrev pub IsSameBoxed : (copy original : Box Expression) → Type 0
+IsSameBoxed copy original = IsSameExpression copy.value original.value
+
+-- a copy of an optional value
+abbrev pub IsSameIfPresent : {X : Type 0} → (X → X → Type 0) → (copy original : Option X) → Type 0
+IsSameIfPresent R None None = Unit {0}
+IsSameIfPresent R (Some copy) (Some original) = R copy original
+IsSameIfPresent R _ _ = ⊥
 
 -- the same for an expression of a format string and the part after it
 abbrev pub IsSamePart : (copy original : Expression × literals.StringLiteral) → Type 0

@@ -16,6 +16,7 @@ pub mod Orders
 pub mod Resolved
 pub mod RightSides
 pub mod SeenKeys
+pub mod Sink
 pub mod SinkLaws
 pub mod Text
 pub mod Texts

@@ -1,10 +1,11 @@
+//! Expressions: their type, and how they are dropped and copied.
 ghost use Rattle.std.specs.Prelude.{◌≡◌, None, Some, IfOk, IfSome, IfNone, reverse};
 ghost use Rattle.justfile_token.specs.declared.string_literal.StringLiteral.{StringLiteral as LiteralRecord};
 ghost use Rattle.justfile_expression.specs.declared.expression.Expression as cases;
 ghost use Rattle.std.specs.List.{All, AllZip};
 ghost use Rattle.std.specs.Option.{option_map};
 ghost use Rattle.justfile_expression.specs.Children.{of_option};
-ghost use Rattle.justfile_expression.specs.Copies.{IsSameExpression, IsSameOption, IsSamePart};
+ghost use Rattle.justfile_expression.specs.Copies.{IsSameExpression, IsSameBoxed, IsSameIfPresent, IsSamePart};
 ghost use Rattle.justfile_expression.specs.RightSides.{IsCopied, IsLessDeep, IsRow, right_side};
 
 use justfile_model::ConditionalOperator;
@@ -323,6 +324,16 @@ fn copy_pair<'src>(
     Ok((copy, copy_right(alloc, rhs, copied)?))
 }
 
+/// Returns a copy of an optional expression, or an error if out of memory.
+pub fn copy_optional<'src>(
+    alloc: Global,
+    expression: &Option<Box<Expression<'src>>>,
+) -> Result<Option<Box<Expression<'src>>>, AllocError>
+    ensures { IfOk result (λ copy. IsSameIfPresent IsSameBoxed copy expression.now) }
+{
+    copy_option(alloc, expression, None)
+}
+
 /// Copies an optional expression. If `copied` is given, it is that copy.
 #[cycle(copy)]
 fn copy_option<'src>(
@@ -331,7 +342,7 @@ fn copy_option<'src>(
     copied: Option<Box<Expression<'src>>>,
 ) -> Result<Option<Box<Expression<'src>>>, AllocError>
     requires { IsCopied copied (of_option expression.now) }
-    ensures { IfOk result (λ copy. IsSameOption copy expression.now) }
+    ensures { IfOk result (λ copy. IsSameIfPresent IsSameBoxed copy expression.now) }
 {
     match expression {
         None => Ok(None),
@@ -355,10 +366,11 @@ fn copy_right<'src>(
     }
 }
 
-/// Copies an expression into a box of its own. Expressions nest to the right without a limit, so a
-/// loop copies the right sides, from the innermost to the outermost.
+/// Returns a copy of an expression in a box of its own, or an error if out of memory. Expressions
+/// nest to the right without a limit, so a loop copies the right sides, from the innermost to the
+/// outermost.
 #[cycle(copy)]
-fn copy_boxed<'src>(
+pub fn copy_boxed<'src>(
     alloc: Global,
     expression: &Expression<'src>,
 ) -> Result<Box<Expression<'src>>, AllocError>

@@ -16,7 +16,7 @@ mod words;
 
 pub use crate::children::child;
 pub use crate::content::{literal_content_cmp, token_content_cmp};
-pub use crate::expression::Expression;
+pub use crate::expression::{Expression, copy_boxed, copy_optional};
 pub use crate::list_operator::ListOperator;
 pub use crate::print::{put_piece, write_expression};
 pub use crate::resolve::resolve_expressions;

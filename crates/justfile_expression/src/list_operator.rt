@@ -1,3 +1,4 @@
+//! The operators that join lists.
 ghost use Rattle.std.specs.Prelude.{◌≡◌};
 ghost use Rattle.justfile_expression.specs.ListOperator.{list_operator_separator, list_operator_sign};
 

@@ -34,7 +34,8 @@ impl Expression<'_> {
 impl PartialEq for Expression<'_> {
     ghost eq = { eq_by_cmp expression_cmp };
 
-    ghost laws = { partial_equiv_from_equiv (eq_by_cmp_equiv (on_total key (key_total leaf_total))) };
+    ghost laws = { partial_equiv_from_equiv
+        (eq_by_cmp_equiv (on_total key (key_total leaf_total))) };
 
     fn eq(&self, other: &Self) -> bool {
         compare_whole(self, other).is_eq()

@@ -1,6 +1,7 @@
 //! Printing of expressions.
-ghost use Rattle.std.specs.Prelude.{◌≡◌, ℕ, List, IfOk, OnOk, OnErr};
+ghost use Rattle.std.specs.Prelude.{◌≡◌, ℕ, List, IfOk, OnErr};
 ghost use Rattle.justfile_model.specs.Printing.{fixed_text};
+ghost use Rattle.justfile_expression.specs.Sink.{Puts};
 ghost use Rattle.justfile_expression.specs.Ends.{IsCompleted};
 ghost use Rattle.justfile_expression.specs.Text.{text_of};
 
@@ -30,8 +31,7 @@ impl fmt::Debug for Expression<'_> {
 /// Writes a fixed piece of text.
 #[tactic(auto, unfolding(justfile_model::specs::Printing::fixed_text))]
 pub fn put_piece<S: Sink>(bytes: &str, sink: &mut S) -> Result<(), S::Fault>
-    ensures ok { OnOk result (S.took sink.old (fixed_text bytes.now) sink.new) }
-    ensures err { OnErr result (S.failed sink.old (fixed_text bytes.now) sink.new) }
+    ensures { Puts S.took S.failed sink.old result (fixed_text bytes.now) sink.new }
 {
     sink.put(bytes)
 }
@@ -40,8 +40,7 @@ pub fn put_piece<S: Sink>(bytes: &str, sink: &mut S) -> Result<(), S::Fault>
 /// follows the children that end their expressions.
 #[cycle(write)]
 pub fn write_expression<S: Sink>(expression: &Expression<'_>, sink: &mut S) -> Result<(), S::Fault>
-    ensures ok { OnOk result (S.took sink.old (text_of expression.now) sink.new) }
-    ensures err { OnErr result (S.failed sink.old (text_of expression.now) sink.new) }
+    ensures { Puts S.took S.failed sink.old result (text_of expression.now) sink.new }
 {
     let mut rest = Some(expression);
     while let Some(next) = rest {
@@ -57,7 +56,8 @@ fn write_to_last<'a, 'src, S: Sink>(
     expression: &'a Expression<'src>,
     sink: &mut S,
 ) -> Result<Option<&'a Expression<'src>>, S::Fault>
-    ensures ok { IfOk result (λ last. (text : List ℕ) × S.took sink.old text sink.new × IsCompleted text last expression.now) }
+    ensures ok { IfOk result (λ last. (text : List ℕ) × S.took sink.old text sink.new
+        × IsCompleted text last expression.now) }
     ensures err { OnErr result (S.failed sink.old (text_of expression.now) sink.new) }
 {
     write_words(&start(expression), sink)?;

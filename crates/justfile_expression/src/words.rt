@@ -1,7 +1,8 @@
 //! A token's text with the fixed texts written directly before and after it.
-ghost use Rattle.std.specs.Prelude.{◌≡◌, ◌++◌, ◌↔◌, [], IsTrue, OnOk, OnErr};
+ghost use Rattle.std.specs.Prelude.{◌≡◌, ◌++◌, ◌↔◌, [], IsTrue};
 ghost use Rattle.justfile_token.specs.StringLiteral.{literal_marks};
 ghost use Rattle.justfile_token.specs.Token.{lexeme_of};
+ghost use Rattle.justfile_expression.specs.Sink.{Puts};
 ghost use Rattle.justfile_expression.specs.Texts.{texts_of, text_alone, lexeme_alone, literal_texts, part_texts, texts_joined};
 
 use crate::sink::Sink;
@@ -77,7 +78,7 @@ impl<'src> Words<'src> {
     }
 
     /// Whether the joined text is empty.
-    #[tactic(auto, using(crate::proofs::Silent::nothing_said))]
+    #[tactic(auto, using(crate::proofs::EmptyTexts::all_empty))]
     pub fn is_empty(&self) -> bool
         ensures { IsTrue result ↔ (texts_joined (texts_of self.now) ≡ []) }
     {
@@ -96,8 +97,7 @@ impl<'src> Words<'src> {
 
 /// Writes the texts of `words` one after another.
 pub fn write_words<S: Sink>(words: &Words<'_>, sink: &mut S) -> Result<(), S::Fault>
-    ensures ok { OnOk result (S.took sink.old (texts_joined (texts_of words.now)) sink.new) }
-    ensures err { OnErr result (S.failed sink.old (texts_joined (texts_of words.now)) sink.new) }
+    ensures { Puts S.took S.failed sink.old result (texts_joined (texts_of words.now)) sink.new }
 {
     put_text(words.before, sink)?;
     put_text(words.marks, sink)?;
@@ -107,8 +107,7 @@ pub fn write_words<S: Sink>(words: &Words<'_>, sink: &mut S) -> Result<(), S::Fa
 
 /// Writes a text, unless it is empty.
 fn put_text<S: Sink>(text: &str, sink: &mut S) -> Result<(), S::Fault>
-    ensures ok { OnOk result (S.took sink.old text.now sink.new) }
-    ensures err { OnErr result (S.failed sink.old text.now sink.new) }
+    ensures { Puts S.took S.failed sink.old result text.now sink.new }
 {
     if text.is_empty() {
         return Ok(());

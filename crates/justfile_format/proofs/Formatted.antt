@@ -12,11 +12,11 @@ use Rattle.justfile_model.specs.NormalShape.{normal}
 use Rattle.justfile_model.specs.Printing.{printable, text}
 use Rattle.justfile_model.specs.Tok.{Tok}
 use Rattle.justfile_model.specs.Tree.{Tree, lexeme, shape_of}
-use Rattle.justfile_model.proofs.IndentedShapes.{SaysIndentation, indentation_normal, indentation_said, indentation_shape}
+use Rattle.justfile_model.proofs.IndentedShapes.{IsIndentationLiteral, indentation_normal, indentation_valid, indentation_shape}
 use Rattle.justfile_model.proofs.Normal.{normal_printable}
 use Rattle.justfile_round_trip.specs.RoundTrip.{ReadsBack, TextDerives, printed}
 use Rattle.justfile_round_trip.proofs.RoundTrip.{back, one_text, shape_derives}
-use Rattle.justfile_format.specs.Formatting.{HasNone, IsFormatted, IsIndentedBy, conditions, refused, unprintable}
+use Rattle.justfile_format.specs.Formatting.{HasNone, IsFormatted, IsIndentedBy, conditions, rejected, unprintable}
 
 -- ---- indentations
 
@@ -40,36 +40,36 @@ also_indented None (Some m) i e p = absurd (none-some _ e)
 also_indented (Some l) None i e p = absurd (none-some _ (sym e))
 also_indented (Some l) (Some m) i e p = ap string_text (sym (same_Some _ _ e)) ∙ p
 
--- an indentation that a literal says, or none does
+-- the indentation for an optional literal
 record Indents (literal : Option Tok) : Type 0 where
   text : List ℕ
-  says : IsIndentedBy literal text
+  is : IsIndentedBy literal text
   blanks : IsIndentation text
 
-indents : (literal : Option Tok) → IfSome (option_map lexeme literal) SaysIndentation → Indents literal
-indents None h = record { text = codes "    "; says = refl; blanks = indentation_read (codes "    ") refl }
-indents (Some literal) h = record { text = h.0; says = h.1; blanks = h.2 }
+indents : (literal : Option Tok) → IfSome (option_map lexeme literal) IsIndentationLiteral → Indents literal
+indents None h = record { text = codes "    "; is = refl; blanks = indentation_read (codes "    ") refl }
+indents (Some literal) h = record { text = h.0; is = h.1; blanks = h.2 }
 
 -- ---- formatted texts
 
 module _ (source : List ℕ) (tree : Tree) (features : List (Noted Tok)) (derives : TextDerives conditions source tree features) where
   -- the indentation of a text
-  said : Indents (indentation_of tree)
-  said =
+  found_indentation : Indents (indentation_of tree)
+  found_indentation =
       indents (indentation_of tree)
-      (subst (λ (o : Option (List ℕ)). IfSome o SaysIndentation) (indentation_shape tree)
-      (indentation_said conditions _ (shape_of tree) _ (shape_derives conditions source tree features derives)))
+      (subst (λ (o : Option (List ℕ)). IfSome o IsIndentationLiteral) (indentation_shape tree)
+      (indentation_valid conditions _ (shape_of tree) _ (shape_derives conditions source tree features derives)))
 
   pub formatted : printable (shape_of tree) ≡ true → (canonical : List ℕ) × IsFormatted source canonical
   formatted prints = (
-    printed (shape_of tree) said.text,
+    printed (shape_of tree) found_indentation.text,
     record {
       tree = tree;
       features = features;
       derives = derives;
       can_be_printed = prints;
-      indentation = said.text;
-      is_indented = said.says;
+      indentation = found_indentation.text;
+      is_indented = found_indentation.is;
       is = refl;
     },
   )
@@ -77,8 +77,8 @@ module _ (source : List ℕ) (tree : Tree) (features : List (Noted Tok)) (derive
 module _ (source canonical : List ℕ) (f : IsFormatted source canonical) where
   blanks : IsIndentation f.indentation
   blanks =
-      let s = said source f.tree f.features f.derives in
-      subst IsIndentation (one_indentation (indentation_of f.tree) (indentation_of f.tree) s.text f.indentation refl s.says f.is_indented) s.blanks
+      let s = found_indentation source f.tree f.features f.derives in
+      subst IsIndentation (one_indentation (indentation_of f.tree) (indentation_of f.tree) s.text f.indentation refl s.is f.is_indented) s.blanks
 
   reads : ReadsBack conditions (shape_of f.tree) f.features f.indentation canonical
   reads =
@@ -86,8 +86,8 @@ module _ (source canonical : List ℕ) (f : IsFormatted source canonical) where
       (back conditions source f.tree f.features f.indentation blanks f.derives f.can_be_printed)
 
   -- the literal of the formatted text's tree is the same
-  same_said : option_map lexeme (indentation_of f.tree) ≡ option_map lexeme (indentation_of reads.tree)
-  same_said = sym (indentation_shape f.tree) ∙ sym (indentation_normal (shape_of f.tree)) ∙ ap indentation_of (sym reads.same_shape) ∙ indentation_shape reads.tree
+  same_literal : option_map lexeme (indentation_of f.tree) ≡ option_map lexeme (indentation_of reads.tree)
+  same_literal = sym (indentation_shape f.tree) ∙ sym (indentation_normal (shape_of f.tree)) ∙ ap indentation_of (sym reads.same_shape) ∙ indentation_shape reads.tree
 
   pub again : IsFormatted canonical canonical
   again = record {
@@ -96,7 +96,7 @@ module _ (source canonical : List ℕ) (f : IsFormatted source canonical) where
     derives = reads.derives;
     can_be_printed = ap printable reads.same_shape ∙ normal_printable (shape_of f.tree) ∙ f.can_be_printed;
     indentation = f.indentation;
-    is_indented = also_indented (indentation_of f.tree) (indentation_of reads.tree) f.indentation same_said f.is_indented;
+    is_indented = also_indented (indentation_of f.tree) (indentation_of reads.tree) f.indentation same_literal f.is_indented;
     is = sym reads.printed_again;
   }
 
@@ -128,6 +128,6 @@ one source canonical other f g =
     alike source source canonical other f g (ap (λ (t : Tree). normal (shape_of t)) (one_text conditions source f.tree g.tree f.features g.features f.derives g.derives))
 
 pub never_both : (source canonical : List ℕ) → IsFormatted source canonical → HasNone source → ⊥
-never_both source canonical f (refused r) = r.derives_none f.tree f.features f.derives
+never_both source canonical f (rejected r) = r.derives_none f.tree f.features f.derives
 never_both source canonical f (unprintable u) =
     true≢false (sym f.can_be_printed ∙ ap (λ (t : Tree). printable (shape_of t)) (one_text conditions source f.tree u.tree f.features u.features f.derives u.derives) ∙ u.cannot_be_printed)

@@ -1,6 +1,6 @@
 pub mod Formatted
 pub mod Indented
 pub mod Outcomes
-pub mod Refused
+pub mod Rejected
 pub mod WholeInput
 pub mod Written

@@ -4,10 +4,10 @@ use Rattle.justfile_token.specs.Excerpt.{excerpt_text}
 use Rattle.justfile_token.specs.Messages.{message_text}
 use Rattle.justfile_token.specs.declared.compile_error.CompileError.{CompileError}
 use Rattle.justfile_format.specs.declared.failure.Failure.{Failure}
-use Rattle.justfile_format.specs.declared.failure.Failure.TheVariants.{Usage, Reading, NotUtf8, Refused, NotPrintable, Writing, Memory, Numbers}
+use Rattle.justfile_format.specs.declared.failure.Failure.TheVariants.{Usage, Reading, NotUtf8, Rejected, NotPrintable, Writing, Memory, Numbers}
 
 abbrev pub status_of : Failure → ℕ
-status_of (Refused lines) = 2
+status_of (Rejected lines) = 2
 status_of NotPrintable = 2
 status_of _ = 3
 
@@ -15,7 +15,7 @@ abbrev pub failure_text : Failure → List ℕ
 failure_text Usage = codes "usage: justfmt [--check]\n"
 failure_text Reading = codes "error: reading failed\n"
 failure_text NotUtf8 = codes "error: input is not UTF-8\n"
-failure_text (Refused lines) = string_bytes lines
+failure_text (Rejected lines) = string_bytes lines
 failure_text NotPrintable = codes "error: a body line ends in a carriage return\n"
 failure_text Writing = codes "error: writing failed\n"
 failure_text Memory = codes "error: out of memory\n"
@@ -26,15 +26,15 @@ abbrev pub error_text : CompileError → List ℕ
 error_text e = codes "error: " ++ message_text e ++ codes "\n" ++ excerpt_text e.token ++ codes "\n"
 
 -- The failure is the one for the error, or memory ran out.
-abbrev pub IsRefusalFor : CompileError → Failure → Type 0
-IsRefusalFor e (Refused lines) = string_bytes lines ≡ error_text e
-IsRefusalFor e Memory = Unit {0}
-IsRefusalFor e _ = ⊥
+abbrev pub IsRejectionFor : CompileError → Failure → Type 0
+IsRejectionFor e (Rejected lines) = string_bytes lines ≡ error_text e
+IsRejectionFor e Memory = Unit {0}
+IsRejectionFor e _ = ⊥
 
 -- If the failure is that of a text that isn't a justfile, `Holds` applies to its lines.
-abbrev pub IfRefused : (List ℕ → Type 0) → Failure → Type 0
-IfRefused Holds (Refused lines) = Holds (string_bytes lines)
-IfRefused Holds _ = Unit {0}
+abbrev pub IfRejected : (List ℕ → Type 0) → Failure → Type 0
+IfRejected Holds (Rejected lines) = Holds (string_bytes lines)
+IfRejected Holds _ = Unit {0}
 
 -- The failure is one of reading the input.
 abbrev pub IsOfReading : Failure → Type 0
@@ -44,7 +44,7 @@ IsOfReading _ = ⊥
 
 -- The failure is one of formatting a text.
 abbrev pub IsOfText : Failure → Type 0
-IsOfText (Refused lines) = Unit {0}
+IsOfText (Rejected lines) = Unit {0}
 IsOfText NotPrintable = Unit {0}
 IsOfText Memory = Unit {0}
 IsOfText Numbers = Unit {0}

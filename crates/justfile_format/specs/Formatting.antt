@@ -47,14 +47,14 @@ pub record IsFormatted (source canonical : List ℕ) : Type 0 where
   pub is : canonical ≡ printed (shape_of tree) indentation
 
 -- The bytes are UTF-8, but not a justfile.
-pub record IsRefusedText (source : List ℕ) : Type 0 where
+pub record IsRejectedText (source : List ℕ) : Type 0 where
   pub utf8 : IsUtf8 source
   pub derives_none : (tree : Tree) (features : List (Noted Tok)) → TextDerives conditions source tree features → ⊥
 
 -- The text isn't a justfile, and the lines tell which error is the cause: a fault of lexing, or the one for which its tokens are refused,
 -- at a part of the text.
-pub record IsRefusal (source lines : List ℕ) : Type 0 where
-  pub refused : IsRefusedText source
+pub record IsRejection (source lines : List ℕ) : Type 0 where
+  pub rejected : IsRejectedText source
   pub error : CompileError
   pub from : IsFrom (codes "justfile") source error.token
   pub cause : IsLexicalError (codes "justfile") source error ⊎ IsTextRefused conditions source error
@@ -69,7 +69,7 @@ pub record IsUnprintable (source : List ℕ) : Type 0 where
 
 -- why bytes that are UTF-8 have no canonical text
 pub data HasNone (source : List ℕ) : Type 0 where
-  refused : IsRefusedText source → HasNone source
+  rejected : IsRejectedText source → HasNone source
   unprintable : IsUnprintable source → HasNone source
 
 -- The canonical text was written after what had been written before.
@@ -85,12 +85,12 @@ pub record Differs (source : List ℕ) : Type 0 where
   pub differs : canonical ≢ source
 
 -- The indentation is the text of its literal.
-abbrev pub IsSaid : StringLiteral × Indentation → Type 0
-IsSaid p = string_text (literal_tok p.0).lexeme ≡ Ok (indentation_text p.1)
+abbrev pub MatchesLiteral : StringLiteral × Indentation → Type 0
+MatchesLiteral p = string_text (literal_tok p.0).lexeme ≡ Ok (indentation_text p.1)
 
 -- The file's indentation, if it sets one, is the text of its literal.
 abbrev pub IsIndented : Ast → Type 0
-IsIndented ast = IfSome (items_indentation ast.items.items) IsSaid
+IsIndented ast = IfSome (items_indentation ast.items.items) MatchesLiteral
 
 -- The file is that of the text.
 pub record IsFileOf (source : List ℕ) (ast : Ast) : Type 0 where

@@ -13,9 +13,9 @@ use Rattle.justfile_round_trip.specs.RoundTrip.{TextDerives}
 use Rattle.justfile_parse.specs.Parsing.{TextWantsNumber}
 use Rattle.justfile_format.specs.Arguments.{AsksCheck, AsksFormat}
 use Rattle.justfile_format.specs.Failure.{failure_text, status_of}
-use Rattle.justfile_format.specs.Formatting.{IsFormatted, IsRefusal, IsUnprintable, conditions}
+use Rattle.justfile_format.specs.Formatting.{IsFormatted, IsRejection, IsUnprintable, conditions}
 use Rattle.justfile_format.specs.declared.failure.Failure.{Failure}
-use Rattle.justfile_format.specs.declared.failure.Failure.TheVariants.{Usage, Reading, NotUtf8, Refused, NotPrintable, Writing, Memory, Numbers}
+use Rattle.justfile_format.specs.declared.failure.Failure.TheVariants.{Usage, Reading, NotUtf8, Rejected, NotPrintable, Writing, Memory, Numbers}
 
 -- If the bytes are known, the beginning of the text or all of it was appended to them.
 pub record AppendsBeginning (old new : Option (List ℕ)) (text : List ℕ) : Type 0 where
@@ -47,7 +47,7 @@ abbrev pub IsWhy : {A : Type 0} → List (String A) → (source old new : Option
 IsWhy arguments source old new Usage = ¬ AsksFormat arguments × ¬ AsksCheck arguments
 IsWhy arguments source old new Reading = Unit {0}
 IsWhy arguments source old new NotUtf8 = IfSome source (λ text. ¬ IsUtf8 text)
-IsWhy arguments source old new (Refused lines) = IfSome source (λ text. IsRefusal text (string_bytes lines))
+IsWhy arguments source old new (Rejected lines) = IfSome source (λ text. IsRejection text (string_bytes lines))
 IsWhy arguments source old new NotPrintable = IfSome source IsUnprintable
 IsWhy arguments source old new Writing = AsksFormat arguments × IfSome source (λ text. FormatsBeginning text old new)
 IsWhy arguments source old new Memory = Unit {0}

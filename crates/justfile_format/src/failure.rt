@@ -1,3 +1,4 @@
+//! Why nothing was formatted, and how that is reported.
 ghost use Rattle.std.specs.Prelude.{◌≡◌};
 ghost use Rattle.justfile_format.specs.Failure.{failure_text, status_of};
 ghost use Rattle.justfile_format.specs.Outcome.{AppendsBeginning};
@@ -16,8 +17,8 @@ pub enum Failure {
     /// The input isn't UTF-8.
     NotUtf8,
     /// The text isn't a justfile. The lines tell why.
-    Refused(String),
-    /// The printed text wouldn't parse back to the same file.
+    Rejected(String),
+    /// A body line ends in a carriage return, so the printed text wouldn't read back.
     NotPrintable,
     /// Standard output couldn't be written.
     Writing,
@@ -63,7 +64,7 @@ impl Failure {
         ensures { result ≡ status_of self.now }
     {
         match self {
-            Failure::Refused(_) | Failure::NotPrintable => 2,
+            Failure::Rejected(_) | Failure::NotPrintable => 2,
             _ => 3,
         }
     }
@@ -76,7 +77,7 @@ impl Failure {
             Failure::Usage => "usage: justfmt [--check]\n",
             Failure::Reading => "error: reading failed\n",
             Failure::NotUtf8 => "error: input is not UTF-8\n",
-            Failure::Refused(lines) => lines.as_str(),
+            Failure::Rejected(lines) => lines.as_str(),
             Failure::NotPrintable => "error: a body line ends in a carriage return\n",
             Failure::Writing => "error: writing failed\n",
             Failure::Memory => "error: out of memory\n",

@@ -1,8 +1,9 @@
+//! From a text to its canonical text.
 ghost use Rattle.std.specs.Prelude.{◌≡◌, ◌≢◌, Err, IfErr, IfOk, OnOk, false, string_bytes, true};
 ghost use Rattle.justfile_format.specs.declared.failure.Failure.TheVariants as failures;
-ghost use Rattle.justfile_format.specs.Failure.{IfRefused, IsOfPrinting, IsOfText, IsOfTextOrWriting, IsRefusalFor};
+ghost use Rattle.justfile_format.specs.Failure.{IfRejected, IsOfPrinting, IsOfText, IsOfTextOrWriting, IsRejectionFor};
 ghost use Rattle.justfile_format.specs.Outcome.{FormatsBeginning, LacksNumbers};
-ghost use Rattle.justfile_format.specs.Formatting.{Formats, IsFileOf, IsFormatted, IsIndented, IsIndentedBy, IsPrinted, IsRefusal, IsUnprintable};
+ghost use Rattle.justfile_format.specs.Formatting.{Formats, IsFileOf, IsFormatted, IsIndented, IsIndentedBy, IsPrinted, IsRejection, IsUnprintable};
 ghost use Rattle.justfile_vocabulary.specs.Indentation.{indentation_text};
 ghost use Rattle.justfile_ast.specs.Ast.{ast_shape, tree_of};
 ghost use Rattle.justfile_model.specs.Enabled.{indentation_of};
@@ -23,7 +24,7 @@ use std::alloc::Global;
 use std::io::Write;
 use std::mem;
 
-/// The version of the language.
+/// The running version, under which texts are parsed.
 const CURRENT: Version = Version {
     major: 1,
     minor: 58,
@@ -39,7 +40,7 @@ const CURRENT: Version = Version {
 #[tactic(auto, using(crate::proofs::Outcomes::formatted_part))]
 pub fn format_to<W: Write>(alloc: Global, source: &str, writer: &mut W) -> Result<(), Failure>
     ensures ok { OnOk result (Formats source.now (W.contents writer.old) (W.contents writer.new)) }
-    ensures refused { IfErr result (IfRefused (IsRefusal source.now)) }
+    ensures rejected { IfErr result (IfRejected (IsRejection source.now)) }
     ensures unprintable { result ≡ Err failures.NotPrintable → IsUnprintable source.now }
     ensures part { result ≡ Err failures.Writing
         → FormatsBeginning source.now (W.contents writer.old) (W.contents writer.new) }
@@ -60,7 +61,7 @@ pub fn format_to<W: Write>(alloc: Global, source: &str, writer: &mut W) -> Resul
 /// The text isn't a justfile or can't be printed, or memory or numbers run out.
 pub fn format_text(alloc: Global, source: &str) -> Result<String, Failure>
     ensures ok { IfOk result (λ text. IsFormatted source.now (string_bytes text)) }
-    ensures refused { IfErr result (IfRefused (IsRefusal source.now)) }
+    ensures rejected { IfErr result (IfRejected (IsRejection source.now)) }
     ensures unprintable { result ≡ Err failures.NotPrintable → IsUnprintable source.now }
     ensures numbers { result ≡ Err failures.Numbers → LacksNumbers source.now }
     ensures err { IfErr result IsOfText }
@@ -75,7 +76,7 @@ pub fn format_text(alloc: Global, source: &str) -> Result<String, Failure>
 #[tactic(auto, using(crate::proofs::Indented::file_of))]
 fn parse(alloc: Global, source: &str) -> Result<Ast<'_>, Failure>
     ensures ok { IfOk result (IsFileOf source.now) }
-    ensures refused { IfErr result (IfRefused (IsRefusal source.now)) }
+    ensures rejected { IfErr result (IfRejected (IsRejection source.now)) }
     ensures printable { result ≡ Err failures.NotPrintable → ⊥ }
     ensures numbers { result ≡ Err failures.Numbers → LacksNumbers source.now }
     ensures err { IfErr result IsOfText }
@@ -98,27 +99,27 @@ fn parse(alloc: Global, source: &str) -> Result<Ast<'_>, Failure>
         RECURSION_LIMIT,
     ) {
         Ok(ast) => Ok(ast),
-        Err(Fault::Compile(error)) => Err(refusal(alloc, &error)),
+        Err(Fault::Compile(error)) => Err(rejected_failure(alloc, &error)),
         Err(Fault::Memory) => Err(Failure::Memory),
         Err(Fault::Numbers) => Err(Failure::Numbers),
     }
 }
 
 /// Makes the failure for an error: its message, and the excerpt of the line that it is on.
-fn refusal(alloc: Global, error: &CompileError<'_>) -> Failure
-    ensures { IsRefusalFor error.now result }
+fn rejected_failure(alloc: Global, error: &CompileError<'_>) -> Failure
+    ensures { IsRejectionFor error.now result }
 {
     match format!(in alloc; "error: {error}\n{}\n", error.token) {
-        Ok(lines) => Failure::Refused(lines),
+        Ok(lines) => Failure::Rejected(lines),
         Err(_) => Failure::Memory,
     }
 }
 
-/// Returns the canonical text of a file, which is unchanged.
+/// Returns the canonical text of a file, and leaves the file unchanged.
 fn print(alloc: Global, ast: &mut Ast<'_>) -> Result<String, Failure>
     requires { IsIndented ast.old }
     ensures ok { IfOk result (λ text. IsPrinted ast.old (string_bytes text)) }
-    ensures refused { IfErr result (IfRefused (λ _. ⊥)) }
+    ensures rejected { IfErr result (IfRejected (λ _. ⊥)) }
     ensures unprintable { result ≡ Err failures.NotPrintable
         → printable (ast_shape ast.old) ≡ false }
     ensures err { IfErr result IsOfPrinting }
@@ -143,7 +144,7 @@ fn printing_indentation(ast: &Ast<'_>) -> Result<Indentation, Failure>
 }
 
 /// Returns the indentation of body lines: that of the setting `indentation`, or four spaces.
-#[tactic(auto, using(crate::proofs::Indented::said, crate::proofs::Indented::unsaid))]
+#[tactic(auto, using(crate::proofs::Indented::indented_by_literal, crate::proofs::Indented::indented_by_default))]
 fn indentation_for(ast: &Ast<'_>) -> Indentation
     requires { IsIndented ast.now }
     ensures { IsIndentedBy (indentation_of (tree_of ast.now)) (indentation_text result) }

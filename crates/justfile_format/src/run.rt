@@ -1,10 +1,11 @@
+//! A run of the program, from its arguments to its exit status.
 ghost use Rattle.std.specs.Prelude.{◌≡◌, ◌≢◌, ◌≤◌, ◌<◌, true, false, Ok, Err, IfOk, IfErr, IfSome, OnOk};
 ghost use Rattle.std.specs.Io.KnownBytes.{IsAtEnd, Keeps};
 ghost use Rattle.std.specs.Str.{IsUtf8};
 ghost use Rattle.justfile_format.specs.declared.failure.Failure.TheVariants as failures;
 ghost use Rattle.justfile_format.specs.Arguments.{AsksCheck, AsksFormat};
-ghost use Rattle.justfile_format.specs.Failure.{IfRefused};
-ghost use Rattle.justfile_format.specs.Formatting.{IsFormatted, IsRefusal, IsUnprintable, Formats, Differs, HasNone};
+ghost use Rattle.justfile_format.specs.Failure.{IfRejected};
+ghost use Rattle.justfile_format.specs.Formatting.{IsFormatted, IsRejection, IsUnprintable, Formats, Differs, HasNone};
 ghost use Rattle.justfile_format.specs.Outcome.{Fails, FormatsBeginning, LacksNumbers};
 
 use crate::failure::{Failure, report};
@@ -68,7 +69,7 @@ pub fn run<R: Read, W: Write, E: Write>(
         → IfSome (R.remaining reader.old) (λ source. IsFormatted source source) }
     ensures differs { result ≡ 1 → AsksCheck arguments.now
         × IfSome (R.remaining reader.old) Differs }
-    ensures refused { result ≡ 2 → IfSome (R.remaining reader.old) HasNone }
+    ensures rejected { result ≡ 2 → IfSome (R.remaining reader.old) HasNone }
     ensures failed { 1 < result → Fails arguments.now (R.remaining reader.old)
         W.contents writer.old writer.new (E.contents errors.old) (E.contents errors.new) result }
 
@@ -76,7 +77,7 @@ pub fn run<R: Read, W: Write, E: Write>(
     ensures unread_writes_nothing { ¬ IsAtEnd (R.remaining reader.new) → writer.new ≡ writer.old }
     ensures not_utf8_writes_nothing { IfSome (R.remaining reader.old) (λ source. ¬ IsUtf8 source
         → writer.new ≡ writer.old) }
-    ensures refused_writes_nothing { result ≡ 2 → writer.new ≡ writer.old }
+    ensures rejected_writes_nothing { result ≡ 2 → writer.new ≡ writer.old }
     ensures silent { result ≤ 1 → errors.new ≡ errors.old }
 {
     match Task::of(arguments) {
@@ -98,8 +99,8 @@ pub fn run<R: Read, W: Write, E: Write>(
 fn format<R: Read, W: Write>(alloc: Global, reader: &mut R, writer: &mut W) -> Result<(), Failure>
     ensures ok { OnOk result (IfSome (R.remaining reader.old)
         (λ source. Formats source (W.contents writer.old) (W.contents writer.new))) }
-    ensures refused { IfErr result
-        (IfRefused (λ lines. IfSome (R.remaining reader.old) (λ source. IsRefusal source lines))) }
+    ensures rejected { IfErr result
+        (IfRejected (λ lines. IfSome (R.remaining reader.old) (λ source. IsRejection source lines))) }
     ensures unprintable { result ≡ Err failures.NotPrintable
         → IfSome (R.remaining reader.old) IsUnprintable }
     ensures not_utf8 { result ≡ Err failures.NotUtf8
@@ -135,8 +136,8 @@ fn check<R: Read>(alloc: Global, reader: &mut R) -> Result<bool, Failure>
     ensures same { result ≡ Ok true
         → IfSome (R.remaining reader.old) (λ source. IsFormatted source source) }
     ensures differs { result ≡ Ok false → IfSome (R.remaining reader.old) Differs }
-    ensures refused { IfErr result
-        (IfRefused (λ lines. IfSome (R.remaining reader.old) (λ source. IsRefusal source lines))) }
+    ensures rejected { IfErr result
+        (IfRejected (λ lines. IfSome (R.remaining reader.old) (λ source. IsRejection source lines))) }
     ensures unprintable { result ≡ Err failures.NotPrintable
         → IfSome (R.remaining reader.old) IsUnprintable }
     ensures not_utf8 { result ≡ Err failures.NotUtf8

@@ -1,3 +1,5 @@
+//! The expander of the program.
+
 use justfile_syntax::expander::{ExpandFault, Expander};
 use std::alloc::Global;
 

@@ -50,8 +50,8 @@ boxed_cooked e = expr_cooked e.value
 abbrev pub property_cooked : Name × Box Expression → List (List ℕ)
 property_cooked p = boxed_cooked p.1
 
-abbrev pub interpreter_cooked : Interpreter StringLiteral → List (List ℕ)
-interpreter_cooked i = literal_cooked i.command ++ flat_map literal_cooked i.arguments.items
+abbrev pub script_cooked : Interpreter StringLiteral → List (List ℕ)
+script_cooked i = literal_cooked i.command ++ flat_map literal_cooked i.arguments.items
 
 -- the texts of an attribute's literals, in the order of printing
 abbrev pub attribute_cooked : Attribute → List (List ℕ)
@@ -65,11 +65,11 @@ attribute_cooked (attributes.Env key value) = boxed_cooked key ++ boxed_cooked v
 attribute_cooked (attributes.Extension literal) = literal_cooked literal
 attribute_cooked (attributes.Group literal) = literal_cooked literal
 attribute_cooked (attributes.Metadata literals) = flat_map literal_cooked literals.items
-attribute_cooked (attributes.Script interpreter) = optional interpreter_cooked interpreter
+attribute_cooked (attributes.Script interpreter) = optional script_cooked interpreter
 attribute_cooked (attributes.Timestamp value) = optional boxed_cooked value
 attribute_cooked (attributes.WorkingDirectory value) = boxed_cooked value
 attribute_cooked _ = []
 
 -- the texts of the literals of a set's attributes, in order
-abbrev pub set_cooked : AttributeSet → List (List ℕ)
-set_cooked set = flat_map attribute_cooked (attributes_of set)
+abbrev pub attributes_cooked : AttributeSet → List (List ℕ)
+attributes_cooked set = flat_map attribute_cooked (attributes_of set)

@@ -1,12 +1,12 @@
 -- Copies of items.
 use Rattle.std.specs.Prelude.{◌≡◌}
 use Rattle.std.specs.List.{AllZip}
-use Rattle.justfile_attribute.specs.Copies.{IsSameIfPresent}
-use Rattle.justfile_attribute_set.specs.Copies.{IsSameSet}
+use Rattle.justfile_expression.specs.Copies.{IsSameIfPresent}
+use Rattle.justfile_attribute_set.specs.Copies.{IsSameAttributes}
 use Rattle.justfile_token.specs.Namepath.{names_in}
 use Rattle.justfile_token.specs.StringLiteral.{IsSameLiteral}
 use Rattle.justfile_token.specs.declared.namepath.Namepath.{Namepath}
-use Rattle.justfile_recipe_header.specs.Copies.{IsSameDependency, IsSameParameter, IsSameText}
+use Rattle.justfile_recipe_header.specs.Copies.{IsSameDependency, IsSameParameter, IsSameOptionalText}
 use Rattle.justfile_line.specs.Copies.{IsSameLine}
 use Rattle.justfile_setting.specs.Copies.{IsSameSetting}
 use Rattle.justfile_expression.specs.declared.expression.Expression.{Expression}
@@ -21,13 +21,13 @@ use Rattle.justfile_item.specs.declared.set.Set.{Set}
 
 -- a copy of an alias: all fields are the same
 pub record IsSameAlias (copy original : Alias Namepath) : Type 0 where
-  pub attributes : IsSameSet copy.attributes original.attributes
+  pub attributes : IsSameAttributes copy.attributes original.attributes
   pub name : copy.name ≡ original.name
   pub target : names_in copy.target ≡ names_in original.target
 
 -- a copy of an assignment: all fields are the same
 pub record IsSameAssignment (copy original : Binding Expression) : Type 0 where
-  pub attributes : IsSameSet copy.attributes original.attributes
+  pub attributes : IsSameAttributes copy.attributes original.attributes
   pub eager : copy.eager ≡ original.eager
   pub export : copy.export ≡ original.export
   pub file_depth : copy.file_depth ≡ original.file_depth
@@ -39,18 +39,18 @@ pub record IsSameAssignment (copy original : Binding Expression) : Type 0 where
 
 -- a copy of a function: all fields are the same
 pub record IsSameFunction (copy original : FunctionDefinition) : Type 0 where
-  pub attributes : IsSameSet copy.attributes original.attributes
+  pub attributes : IsSameAttributes copy.attributes original.attributes
   pub body : IsSameExpression copy.body.value original.body.value
   pub name : copy.name ≡ original.name
   pub parameters : copy.parameters.items ≡ original.parameters.items
 
 -- a copy of a recipe: all fields are the same
 pub record IsSameRecipe (copy original : UnresolvedRecipe) : Type 0 where
-  pub attributes : IsSameSet copy.attributes original.attributes
+  pub attributes : IsSameAttributes copy.attributes original.attributes
   pub body : AllZip IsSameLine copy.body.items original.body.items
   pub comment : copy.comment ≡ original.comment
   pub dependencies : AllZip IsSameDependency copy.dependencies.items original.dependencies.items
-  pub doc : IsSameText copy.doc original.doc
+  pub doc : IsSameOptionalText copy.doc original.doc
   pub file_depth : copy.file_depth ≡ original.file_depth
   pub import_offsets : copy.import_offsets.items ≡ original.import_offsets.items
   pub name : copy.name ≡ original.name
@@ -62,8 +62,8 @@ pub record IsSameRecipe (copy original : UnresolvedRecipe) : Type 0 where
   pub shebang : copy.shebang ≡ original.shebang
 
 -- a copy of a setting: all fields are the same
-pub record IsSameAssigned (copy original : Set) : Type 0 where
-  pub attributes : IsSameSet copy.attributes original.attributes
+pub record IsSameSet (copy original : Set) : Type 0 where
+  pub attributes : IsSameAttributes copy.attributes original.attributes
   pub name : copy.name ≡ original.name
   pub value : IsSameSetting copy.value.value original.value.value
 
@@ -74,11 +74,11 @@ IsSameItem (items.Assignment copy) (items.Assignment original) = IsSameAssignmen
 IsSameItem (items.Comment copy) (items.Comment original) = copy ≡ original
 IsSameItem (items.Function copy) (items.Function original) = IsSameFunction copy original
 IsSameItem (items.Import attributes optional relative) (items.Import attributes' optional' relative') =
-    IsSameSet attributes attributes' × (optional ≡ optional') × IsSameLiteral relative relative'
+    IsSameAttributes attributes attributes' × (optional ≡ optional') × IsSameLiteral relative relative'
 IsSameItem (items.Module attributes doc name optional relative) (items.Module attributes' doc' name' optional' relative') =
-    IsSameSet attributes attributes' × IsSameText doc doc' × (name ≡ name') × (optional ≡ optional') × IsSameIfPresent IsSameLiteral relative relative'
+    IsSameAttributes attributes attributes' × IsSameOptionalText doc doc' × (name ≡ name') × (optional ≡ optional') × IsSameIfPresent IsSameLiteral relative relative'
 IsSameItem items.Newline items.Newline = Unit {0}
 IsSameItem (items.Recipe copy) (items.Recipe original) = IsSameRecipe copy original
-IsSameItem (items.Setting copy) (items.Setting original) = IsSameAssigned copy original
-IsSameItem (items.Unexport attributes name) (items.Unexport attributes' name') = IsSameSet attributes attributes' × (name ≡ name')
+IsSameItem (items.Setting copy) (items.Setting original) = IsSameSet copy original
+IsSameItem (items.Unexport attributes name) (items.Unexport attributes' name') = IsSameAttributes attributes attributes' × (name ≡ name')
 IsSameItem _ _ = ⊥

@@ -32,6 +32,6 @@ items_indentation [] = None
 items_indentation (i ∷ items) = or_else (item_indentation i) (items_indentation items)
 
 -- for a setting, its derived fields are right; nothing for other items
-abbrev pub HasDerivedItemFields : Item → Type 0
-HasDerivedItemFields (items.Setting s) = HasDerivedSettingFields s.value.value
-HasDerivedItemFields _ = Unit {0}
+abbrev pub HasDerivedFieldsOfSetting : Item → Type 0
+HasDerivedFieldsOfSetting (items.Setting s) = HasDerivedSettingFields s.value.value
+HasDerivedFieldsOfSetting _ = Unit {0}

@@ -21,7 +21,7 @@ use Rattle.justfile_recipe_header.specs.declared.parameter.Parameter.{Parameter}
 use Rattle.justfile_recipe_header.specs.declared.unresolved_dependency.UnresolvedDependency.{UnresolvedDependency}
 use Rattle.justfile_setting.specs.Setting.{keyword_of, setting_cooked, value_of}
 use Rattle.justfile_line.specs.Body.{body_line_of, line_cooked}
-use Rattle.justfile_item.specs.Attributes.{literal_cooked, optional, set_cooked}
+use Rattle.justfile_item.specs.Attributes.{literal_cooked, optional, attributes_cooked}
 use Rattle.justfile_item.specs.declared.alias.Alias.{Alias}
 use Rattle.justfile_item.specs.declared.binding.Binding.{Binding}
 use Rattle.justfile_item.specs.declared.function_definition.FunctionDefinition.{FunctionDefinition}
@@ -152,16 +152,16 @@ header_cooked r = flat_map parameter_cooked r.parameters.items ++ flat_map depen
 
 -- the texts of an item's literals, in order
 abbrev pub item_cooked : Item → List (List ℕ)
-item_cooked (items.Alias a) = set_cooked a.attributes
-item_cooked (items.Assignment a) = set_cooked a.attributes ++ expr_cooked a.value
+item_cooked (items.Alias a) = attributes_cooked a.attributes
+item_cooked (items.Assignment a) = attributes_cooked a.attributes ++ expr_cooked a.value
 item_cooked (items.Comment text) = []
-item_cooked (items.Function f) = set_cooked f.attributes ++ expr_cooked f.body.value
-item_cooked (items.Import attributes _ relative) = set_cooked attributes ++ literal_cooked relative
-item_cooked (items.Module attributes _ _ _ relative) = set_cooked attributes ++ optional literal_cooked relative
+item_cooked (items.Function f) = attributes_cooked f.attributes ++ expr_cooked f.body.value
+item_cooked (items.Import attributes _ relative) = attributes_cooked attributes ++ literal_cooked relative
+item_cooked (items.Module attributes _ _ _ relative) = attributes_cooked attributes ++ optional literal_cooked relative
 item_cooked items.Newline = []
-item_cooked (items.Recipe r) = set_cooked r.attributes ++ header_cooked r ++ flat_map line_cooked r.body.items
-item_cooked (items.Setting s) = set_cooked s.attributes ++ setting_cooked s.value.value
-item_cooked (items.Unexport attributes name) = set_cooked attributes
+item_cooked (items.Recipe r) = attributes_cooked r.attributes ++ header_cooked r ++ flat_map line_cooked r.body.items
+item_cooked (items.Setting s) = attributes_cooked s.attributes ++ setting_cooked s.value.value
+item_cooked (items.Unexport attributes name) = attributes_cooked attributes
 
 -- the number of a parameter
 abbrev pub parameter_number : Parameter → ℕ

@@ -1,9 +1,11 @@
-ghost use Rattle.std.specs.Prelude.{◌≡◌, ◌&&◌, OnOk, OnErr, IfOk};
+//! Aliases of recipes.
+ghost use Rattle.std.specs.Prelude.{◌≡◌, ◌&&◌, IfOk};
 ghost use Rattle.std.specs.Cmp.{and_per, on_per};
 ghost use Rattle.justfile_attribute_set.specs.contracts.attribute_set.PairSetAttributeWrittenPartialEq.TheImpl as sets;
 ghost use Rattle.justfile_attribute_set.specs.contracts.attribute_set.PairSetAttributeWrittenPartialEq.TheImpl.Laws.{laws-law as set_per};
 ghost use Rattle.justfile_token.specs.contracts.name.NamePartialEq.TheImpl as names;
 ghost use Rattle.justfile_token.specs.contracts.name.NamePartialEq.TheImpl.Laws.{laws-law as name_per};
+ghost use Rattle.justfile_expression.specs.Sink.{Puts};
 ghost use Rattle.justfile_item.specs.Copies.{IsSameAlias};
 ghost use Rattle.justfile_item.specs.ItemText.{alias_text_of};
 
@@ -56,9 +58,11 @@ impl<'src, T> Keyed<'src> for Alias<'src, T> {
 
 /// Two aliases are equal if all their fields are.
 impl<'src, T: PartialEq> PartialEq for Alias<'src, T> {
-    ghost eq = { λ a b. sets.eq-value.it a.attributes b.attributes && (names.eq-value.it a.name b.name && T.eq a.target b.target) };
+    ghost eq = { λ a b. sets.eq-value.it a.attributes b.attributes
+        && (names.eq-value.it a.name b.name && T.eq a.target b.target) };
 
-    ghost laws = { and_per (on_per (λ b. b.attributes) set_per) (and_per (on_per (λ b. b.name) name_per) (on_per (λ b. b.target) T.laws)) };
+    ghost laws = { and_per (on_per (λ a. a.attributes) set_per)
+        (and_per (on_per (λ a. a.name) name_per) (on_per (λ a. a.target) T.laws)) };
 
     fn eq(&self, other: &Self) -> bool {
         are_equal(&self.attributes, &other.attributes)
@@ -89,8 +93,7 @@ pub(crate) fn write_alias<S: Sink>(
     alias: &Alias<'_, Namepath<'_>>,
     sink: &mut S,
 ) -> Result<(), S::Fault>
-    ensures ok { OnOk result (S.took sink.old (alias_text_of alias.now) sink.new) }
-    ensures err { OnErr result (S.failed sink.old (alias_text_of alias.now) sink.new) }
+    ensures { Puts S.took S.failed sink.old result (alias_text_of alias.now) sink.new }
 {
     put_piece("alias ", sink)?;
     sink.put(alias.name.lexeme())?;

@@ -1,10 +1,12 @@
-ghost use Rattle.std.specs.Prelude.{OnOk, OnErr, IfOk};
-ghost use Rattle.justfile_model.specs.Printing.{fixed_text, if_true};
+//! Assignments to variables.
+ghost use Rattle.std.specs.Prelude.{IfOk};
+ghost use Rattle.justfile_expression.specs.Sink.{Puts};
 ghost use Rattle.justfile_item.specs.Assignment.{binding_text};
 ghost use Rattle.justfile_item.specs.Copies.{IsSameAssignment};
 
 use crate::binding::Binding;
 use justfile_expression::{Expression, Sink, put_piece, write_expression};
+use justfile_recipe_header::put_piece_if;
 use std::alloc::{AllocError, Global};
 use std::fmt;
 
@@ -49,21 +51,12 @@ pub(crate) fn write_assignment<S: Sink>(
     assignment: &Assignment<'_>,
     sink: &mut S,
 ) -> Result<(), S::Fault>
-    ensures ok { OnOk result (S.took sink.old (binding_text assignment.now) sink.new) }
-    ensures err { OnErr result (S.failed sink.old (binding_text assignment.now) sink.new) }
+    ensures { Puts S.took S.failed sink.old result (binding_text assignment.now) sink.new }
 {
-    write_word(assignment.eager, "eager ", sink)?;
-    write_word(assignment.export, "export ", sink)?;
+    put_piece_if(assignment.eager, "eager ", sink)?;
+    put_piece_if(assignment.export, "export ", sink)?;
     sink.put(assignment.name.lexeme())?;
     put_piece(" := ", sink)?;
     write_expression(&assignment.value, sink)?;
     Ok(())
-}
-
-/// Writes a keyword, with the space after it, if `said` is set.
-fn write_word<S: Sink>(said: bool, word: &str, sink: &mut S) -> Result<(), S::Fault>
-    ensures ok { OnOk result (S.took sink.old (if_true said (fixed_text word.now)) sink.new) }
-    ensures err { OnErr result (S.failed sink.old (if_true said (fixed_text word.now)) sink.new) }
-{
-    if said { put_piece(word, sink) } else { Ok(()) }
 }

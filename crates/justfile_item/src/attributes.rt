@@ -1,4 +1,6 @@
-ghost use Rattle.std.specs.Prelude.{◌≡◌, OnOk, OnErr};
+//! Attributes of constructs: how they are compared and printed.
+ghost use Rattle.std.specs.Prelude.{◌≡◌};
+ghost use Rattle.justfile_expression.specs.Sink.{Puts};
 ghost use Rattle.justfile_attribute_set.specs.contracts.attribute_set.PairSetAttributeWrittenPartialEq.TheImpl as sets;
 ghost use Rattle.justfile_item.specs.Attributes.{attribute_line, attributes_text, lines_text};
 
@@ -19,8 +21,7 @@ pub(crate) fn write_attributes<S: Sink>(
     attributes: &AttributeSet<'_>,
     sink: &mut S,
 ) -> Result<(), S::Fault>
-    ensures ok { OnOk result (S.took sink.old (attributes_text attributes.now) sink.new) }
-    ensures err { OnErr result (S.failed sink.old (attributes_text attributes.now) sink.new) }
+    ensures { Puts S.took S.failed sink.old result (attributes_text attributes.now) sink.new }
 {
     write_lines(attributes.written(), sink)
 }
@@ -30,8 +31,7 @@ fn write_lines<S: Sink>(
     pairs: &[(Attribute<'_>, Written<'_>)],
     sink: &mut S,
 ) -> Result<(), S::Fault>
-    ensures ok { OnOk result (S.took sink.old (lines_text pairs.now) sink.new) }
-    ensures err { OnErr result (S.failed sink.old (lines_text pairs.now) sink.new) }
+    ensures { Puts S.took S.failed sink.old result (lines_text pairs.now) sink.new }
 {
     for pair in pairs {
         write_attribute_line(pair, sink)?;
@@ -44,8 +44,7 @@ fn write_attribute_line<S: Sink>(
     pair: &(Attribute<'_>, Written<'_>),
     sink: &mut S,
 ) -> Result<(), S::Fault>
-    ensures ok { OnOk result (S.took sink.old (attribute_line pair.now) sink.new) }
-    ensures err { OnErr result (S.failed sink.old (attribute_line pair.now) sink.new) }
+    ensures { Puts S.took S.failed sink.old result (attribute_line pair.now) sink.new }
 {
     put_piece("[", sink)?;
     write_attribute(&pair.0, sink)?;

@@ -1,3 +1,4 @@
+//! Names that are bound to values.
 ghost use Rattle.std.specs.Prelude.{◌==◌, ◌&&◌};
 ghost use Rattle.std.specs.Bool.{beq};
 ghost use Rattle.std.specs.Cmp.{and_per, bool_eq_equiv, nat_eq_equiv, on_per, partial_equiv_from_equiv};
@@ -50,14 +51,23 @@ impl<'src, V> Keyed<'src> for Binding<'src, V> {
 
 /// Two bindings are equal if all their fields are.
 impl<'src, V: PartialEq> PartialEq for Binding<'src, V> {
-    ghost eq = { λ a b. sets.eq-value.it a.attributes b.attributes && (beq a.eager b.eager && (beq a.export b.export
-        && ((a.file_depth == b.file_depth) && (names.eq-value.it a.name b.name && (numbers.eq-value.it a.number b.number
-        && (beq a.prelude b.prelude && (beq a.private b.private && V.eq a.value b.value))))))) };
+    ghost eq = { λ a b. sets.eq-value.it a.attributes b.attributes
+        && (beq a.eager b.eager
+        && (beq a.export b.export
+        && ((a.file_depth == b.file_depth)
+        && (names.eq-value.it a.name b.name
+        && (numbers.eq-value.it a.number b.number
+        && (beq a.prelude b.prelude
+        && (beq a.private b.private && V.eq a.value b.value))))))) };
 
-    ghost laws = { and_per (on_per (λ b. b.attributes) set_per) (and_per (on_per (λ b. b.eager) (partial_equiv_from_equiv bool_eq_equiv))
-        (and_per (on_per (λ b. b.export) (partial_equiv_from_equiv bool_eq_equiv)) (and_per (on_per (λ b. b.file_depth) (partial_equiv_from_equiv nat_eq_equiv))
-        (and_per (on_per (λ b. b.name) name_per) (and_per (on_per (λ b. b.number) number_per)
-        (and_per (on_per (λ b. b.prelude) (partial_equiv_from_equiv bool_eq_equiv)) (and_per (on_per (λ b. b.private) (partial_equiv_from_equiv bool_eq_equiv))
+    ghost laws = { and_per (on_per (λ b. b.attributes) set_per)
+        (and_per (on_per (λ b. b.eager) (partial_equiv_from_equiv bool_eq_equiv))
+        (and_per (on_per (λ b. b.export) (partial_equiv_from_equiv bool_eq_equiv))
+        (and_per (on_per (λ b. b.file_depth) (partial_equiv_from_equiv nat_eq_equiv))
+        (and_per (on_per (λ b. b.name) name_per)
+        (and_per (on_per (λ b. b.number) number_per)
+        (and_per (on_per (λ b. b.prelude) (partial_equiv_from_equiv bool_eq_equiv))
+        (and_per (on_per (λ b. b.private) (partial_equiv_from_equiv bool_eq_equiv))
         (on_per (λ b. b.value) V.laws)))))))) };
 
     fn eq(&self, other: &Self) -> bool {

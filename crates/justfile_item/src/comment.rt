@@ -1,14 +1,14 @@
 //! Comments at the ends of lines.
-ghost use Rattle.std.specs.Prelude.{OnOk, OnErr};
 ghost use Rattle.std.specs.Option.{option_copied};
 ghost use Rattle.justfile_model.specs.Printing.{comment_text};
+ghost use Rattle.justfile_expression.specs.Sink.{Puts};
 
 use justfile_expression::{Sink, put_piece};
 
 /// Writes a space and a comment, or nothing if there is none.
 pub(crate) fn write_comment<S: Sink>(comment: Option<&str>, sink: &mut S) -> Result<(), S::Fault>
-    ensures ok { OnOk result (S.took sink.old (comment_text (option_copied comment.entry)) sink.new) }
-    ensures err { OnErr result (S.failed sink.old (comment_text (option_copied comment.entry)) sink.new) }
+    ensures { Puts S.took S.failed sink.old result
+        (comment_text (option_copied comment.entry)) sink.new }
 {
     match comment {
         None => Ok(()),

@@ -1,3 +1,4 @@
+//! Values, and values of results, in boxes of their own.
 ghost use Rattle.std.specs.Prelude.{◌≡◌, IfOk, Ok};
 
 use std::alloc::{AllocError, Global};

@@ -1,8 +1,9 @@
 //! Docs of constructs, which are printed as comments.
-ghost use Rattle.std.specs.Prelude.{◌≡◌, OnOk, OnErr, string_bytes};
+ghost use Rattle.std.specs.Prelude.{◌≡◌, string_bytes};
 ghost use Rattle.std.specs.Option.{option_copied, option_map};
 ghost use Rattle.justfile_item.specs.Doc.{doc_text_of, shown_doc_of};
 ghost use Rattle.justfile_model.specs.Printing.{doc_comment, doc_line};
+ghost use Rattle.justfile_expression.specs.Sink.{Puts};
 
 use justfile_attribute_set::AttributeSet;
 use justfile_expression::{Sink, put_piece};
@@ -15,8 +16,7 @@ pub(crate) fn write_doc<S: Sink>(
     doc: &Option<String>,
     sink: &mut S,
 ) -> Result<(), S::Fault>
-    ensures ok { OnOk result (S.took sink.old (doc_text_of attributes.now doc.now) sink.new) }
-    ensures err { OnErr result (S.failed sink.old (doc_text_of attributes.now doc.now) sink.new) }
+    ensures { Puts S.took S.failed sink.old result (doc_text_of attributes.now doc.now) sink.new }
 {
     match shown_doc(attributes, doc) {
         Some(doc) => write_doc_line(doc, sink),
@@ -51,8 +51,7 @@ fn text_of(doc: &Option<String>) -> Option<&str>
 
 /// Writes a doc as a comment on a line of its own.
 fn write_doc_line<S: Sink>(doc: &str, sink: &mut S) -> Result<(), S::Fault>
-    ensures ok { OnOk result (S.took sink.old (doc_line doc.now) sink.new) }
-    ensures err { OnErr result (S.failed sink.old (doc_line doc.now) sink.new) }
+    ensures { Puts S.took S.failed sink.old result (doc_line doc.now) sink.new }
 {
     write_doc_comment(doc, sink)?;
     put_piece("\n", sink)
@@ -60,8 +59,7 @@ fn write_doc_line<S: Sink>(doc: &str, sink: &mut S) -> Result<(), S::Fault>
 
 /// Writes a doc as a comment.
 fn write_doc_comment<S: Sink>(doc: &str, sink: &mut S) -> Result<(), S::Fault>
-    ensures ok { OnOk result (S.took sink.old (doc_comment doc.now) sink.new) }
-    ensures err { OnErr result (S.failed sink.old (doc_comment doc.now) sink.new) }
+    ensures { Puts S.took S.failed sink.old result (doc_comment doc.now) sink.new }
 {
     if doc.is_empty() {
         return put_piece("#", sink);

@@ -1,4 +1,5 @@
-ghost use Rattle.std.specs.Prelude.{◌≡◌, ◌++◌, ◌&&◌, OnOk, OnErr, IfOk, codes};
+//! Definitions of functions.
+ghost use Rattle.std.specs.Prelude.{◌≡◌, ◌++◌, ◌&&◌, IfOk, codes};
 ghost use Rattle.std.specs.Cmp.{and_per, on_per};
 ghost use Rattle.std.specs.Cmp.Lexicographic.{lists_per, pointwise};
 ghost use Rattle.justfile_attribute_set.specs.contracts.attribute_set.PairSetAttributeWrittenPartialEq.TheImpl as sets;
@@ -7,7 +8,7 @@ ghost use Rattle.justfile_token.specs.contracts.name.NamePartialEq.TheImpl as na
 ghost use Rattle.justfile_token.specs.contracts.name.NamePartialEq.TheImpl.Laws.{laws-law as name_per};
 ghost use Rattle.justfile_token.specs.Token.{lexeme_of};
 ghost use Rattle.justfile_model.specs.Printing.{fixed_text};
-ghost use Rattle.justfile_expression.specs.Copies.{IsSameExpression};
+ghost use Rattle.justfile_expression.specs.Sink.{Puts};
 ghost use Rattle.justfile_expression.specs.contracts.order.ExpressionPartialEq.TheImpl as expressions;
 ghost use Rattle.justfile_expression.specs.contracts.order.ExpressionPartialEq.TheImpl.Laws.{laws-law as expression_per};
 ghost use Rattle.justfile_item.specs.Copies.{IsSameFunction};
@@ -15,9 +16,8 @@ ghost use Rattle.justfile_item.specs.FunctionParameter.{parameter_per, same_para
 ghost use Rattle.justfile_item.specs.ItemText.{function_text_of, later_names_text, parameter_names_text};
 
 use crate::attributes::are_equal;
-use crate::copy::boxed_made;
 use justfile_attribute_set::AttributeSet;
-use justfile_expression::{Expression, Sink, put_piece, write_expression};
+use justfile_expression::{Expression, Sink, copy_boxed, put_piece, write_expression};
 use justfile_token::{Keyed, Name};
 use justfile_vocabulary::Number;
 use std::alloc::{AllocError, Global};
@@ -42,7 +42,7 @@ impl<'src> FunctionDefinition<'src> {
     pub fn clone(&self, alloc: Global) -> Result<Self, AllocError>
         ensures { IfOk result (λ copy. IsSameFunction copy self.now) }
     {
-        let body = copy_boxed(&self.body, alloc)?;
+        let body = copy_boxed(alloc, &self.body)?;
         let parameters = self.parameters.as_slice().to_vec(alloc)?;
         match self.attributes.clone(alloc) {
             Ok(attributes) => Ok(FunctionDefinition {
@@ -69,11 +69,15 @@ impl<'src> Keyed<'src> for FunctionDefinition<'src> {
 
 /// Two functions are equal if all their fields are.
 impl<'src> PartialEq for FunctionDefinition<'src> {
-    ghost eq = { λ a b. sets.eq-value.it a.attributes b.attributes && (expressions.eq-value.it a.body.value b.body.value
-        && (names.eq-value.it a.name b.name && pointwise same_parameter a.parameters.items b.parameters.items)) };
+    ghost eq = { λ a b. sets.eq-value.it a.attributes b.attributes
+        && (expressions.eq-value.it a.body.value b.body.value
+        && (names.eq-value.it a.name b.name
+        && pointwise same_parameter a.parameters.items b.parameters.items)) };
 
-    ghost laws = { and_per (on_per (λ f. f.attributes) set_per) (and_per (on_per (λ f. f.body.value) expression_per)
-        (and_per (on_per (λ f. f.name) name_per) (on_per (λ f. f.parameters.items) (lists_per parameter_per)))) };
+    ghost laws = { and_per (on_per (λ f. f.attributes) set_per)
+        (and_per (on_per (λ f. f.body.value) expression_per)
+        (and_per (on_per (λ f. f.name) name_per)
+        (on_per (λ f. f.parameters.items) (lists_per parameter_per)))) };
 
     fn eq(&self, other: &Self) -> bool {
         are_equal(&self.attributes, &other.attributes)
@@ -88,16 +92,6 @@ impl fmt::Debug for FunctionDefinition<'_> {
     fn fmt<W: fmt::Write>(&self, f: &mut fmt::Formatter<W>) -> fmt::Result {
         write_function(self, f)
     }
-}
-
-/// Returns a copy of an expression in a box of its own.
-fn copy_boxed<'src>(
-    expression: &Expression<'src>,
-    alloc: Global,
-) -> Result<Box<Expression<'src>>, AllocError>
-    ensures { IfOk result (λ copy. IsSameExpression copy.value expression.now) }
-{
-    boxed_made(alloc, expression.clone(alloc))
 }
 
 /// Whether two lists of parameters are equal.
@@ -115,8 +109,7 @@ pub(crate) fn write_function<S: Sink>(
     function: &FunctionDefinition<'_>,
     sink: &mut S,
 ) -> Result<(), S::Fault>
-    ensures ok { OnOk result (S.took sink.old (function_text_of function.now) sink.new) }
-    ensures err { OnErr result (S.failed sink.old (function_text_of function.now) sink.new) }
+    ensures { Puts S.took S.failed sink.old result (function_text_of function.now) sink.new }
 {
     sink.put(function.name.lexeme())?;
     put_piece("(", sink)?;
@@ -128,8 +121,7 @@ pub(crate) fn write_function<S: Sink>(
 /// Writes the names of parameters with a comma and a space between them.
 #[tactic(auto, using(crate::proofs::ItemTexts::names_none))]
 fn write_names<S: Sink>(parameters: &[(Name<'_>, Number)], sink: &mut S) -> Result<(), S::Fault>
-    ensures ok { OnOk result (S.took sink.old (parameter_names_text parameters.now) sink.new) }
-    ensures err { OnErr result (S.failed sink.old (parameter_names_text parameters.now) sink.new) }
+    ensures { Puts S.took S.failed sink.old result (parameter_names_text parameters.now) sink.new }
 {
     let Some((first, rest)) = parameters.split_first() else {
         return Ok(());
@@ -144,8 +136,7 @@ fn write_later_names<S: Sink>(
     parameters: &[(Name<'_>, Number)],
     sink: &mut S,
 ) -> Result<(), S::Fault>
-    ensures ok { OnOk result (S.took sink.old (later_names_text parameters.now) sink.new) }
-    ensures err { OnErr result (S.failed sink.old (later_names_text parameters.now) sink.new) }
+    ensures { Puts S.took S.failed sink.old result (later_names_text parameters.now) sink.new }
 {
     for parameter in parameters {
         write_later_name(&parameter.0, sink)?;
@@ -155,8 +146,8 @@ fn write_later_names<S: Sink>(
 
 /// Writes the name of a parameter with a comma and a space before it.
 fn write_later_name<S: Sink>(name: &Name<'_>, sink: &mut S) -> Result<(), S::Fault>
-    ensures ok { OnOk result (S.took sink.old (fixed_text (codes ", ") ++ lexeme_of name.now.token) sink.new) }
-    ensures err { OnErr result (S.failed sink.old (fixed_text (codes ", ") ++ lexeme_of name.now.token) sink.new) }
+    ensures { Puts S.took S.failed sink.old result
+        (fixed_text (codes ", ") ++ lexeme_of name.now.token) sink.new }
 {
     put_piece(", ", sink)?;
     sink.put(name.lexeme())

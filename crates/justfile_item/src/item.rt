@@ -1,7 +1,9 @@
-ghost use Rattle.std.specs.Prelude.{◌≡◌, OnOk, OnErr, IfOk, string_bytes};
+//! Items of any kind: their type, and how they are copied and printed.
+ghost use Rattle.std.specs.Prelude.{◌≡◌, IfOk, string_bytes};
 ghost use Rattle.std.specs.Option.{option_map};
 ghost use Rattle.justfile_vocabulary.specs.Indentation.{indentation_text};
 ghost use Rattle.justfile_model.specs.Printing.{if_some, item_text, printable_item};
+ghost use Rattle.justfile_expression.specs.Sink.{Puts};
 ghost use Rattle.justfile_item.specs.Attributes.{attributes_text};
 ghost use Rattle.justfile_item.specs.Copies.{IsSameItem};
 ghost use Rattle.justfile_item.specs.Indented.{item_indentation};
@@ -19,7 +21,7 @@ use crate::recipe::{UnresolvedRecipe, write_recipe};
 use crate::set::{Set, write_set};
 use justfile_attribute_set::AttributeSet;
 use justfile_expression::Sink;
-use justfile_recipe_header::try_clone::copy_text;
+use justfile_recipe_header::try_clone::copy_optional_text;
 use justfile_token::{Name, Namepath, StringLiteral};
 use justfile_vocabulary::Indentation;
 use std::alloc::{AllocError, Global};
@@ -29,7 +31,7 @@ use std::alloc::{AllocError, Global};
 pub enum Item<'src> {
     Alias(Alias<'src, Namepath<'src>>),
     Assignment(Assignment<'src>),
-    /// A comment, without white space at its end.
+    /// A comment, without whitespace at its end.
     Comment(&'src str),
     Function(FunctionDefinition<'src>),
     /// `import relative`, or `import? relative` if the file need not exist.
@@ -219,7 +221,7 @@ fn copy_module<'src>(
     ensures { IfOk result (λ copy. IsSameItem copy
         (items.Module attributes.now doc.now name.now optional relative.now)) }
 {
-    let doc = copy_text(alloc, doc)?;
+    let doc = copy_optional_text(alloc, doc)?;
     let relative = copy_path(alloc, relative)?;
     match attributes.clone(alloc) {
         Ok(attributes) => Ok(Item::Module {
@@ -256,8 +258,8 @@ pub fn write_item<S: Sink>(
     indentation: Indentation,
     sink: &mut S,
 ) -> Result<(), S::Fault>
-    ensures ok { OnOk result (S.took sink.old (item_text (item_shape item.now) (indentation_text indentation)) sink.new) }
-    ensures err { OnErr result (S.failed sink.old (item_text (item_shape item.now) (indentation_text indentation)) sink.new) }
+    ensures { Puts S.took S.failed sink.old result
+        (item_text (item_shape item.now) (indentation_text indentation)) sink.new }
 {
     write_item_doc(item, sink)?;
     write_item_attributes(item, sink)?;
@@ -268,8 +270,7 @@ pub fn write_item<S: Sink>(
 /// Writes the doc of an item, if any, as a comment on a line of its own, unless there is an
 /// attribute `doc`.
 fn write_item_doc<S: Sink>(item: &Item<'_>, sink: &mut S) -> Result<(), S::Fault>
-    ensures ok { OnOk result (S.took sink.old (item_doc_text item.now) sink.new) }
-    ensures err { OnErr result (S.failed sink.old (item_doc_text item.now) sink.new) }
+    ensures { Puts S.took S.failed sink.old result (item_doc_text item.now) sink.new }
 {
     match item {
         Item::Module {
@@ -291,8 +292,8 @@ fn write_item_doc<S: Sink>(item: &Item<'_>, sink: &mut S) -> Result<(), S::Fault
 
 /// Writes the attributes of an item, each on a line of its own.
 fn write_item_attributes<S: Sink>(item: &Item<'_>, sink: &mut S) -> Result<(), S::Fault>
-    ensures ok { OnOk result (S.took sink.old (if_some attributes_text (item_attributes item.now)) sink.new) }
-    ensures err { OnErr result (S.failed sink.old (if_some attributes_text (item_attributes item.now)) sink.new) }
+    ensures { Puts S.took S.failed sink.old result
+        (if_some attributes_text (item_attributes item.now)) sink.new }
 {
     match item {
         Item::Alias(alias) => write_attributes(&alias.attributes, sink),
@@ -313,8 +314,8 @@ fn write_bare<S: Sink>(
     indentation: Indentation,
     sink: &mut S,
 ) -> Result<(), S::Fault>
-    ensures ok { OnOk result (S.took sink.old (bare_text item.now (indentation_text indentation)) sink.new) }
-    ensures err { OnErr result (S.failed sink.old (bare_text item.now (indentation_text indentation)) sink.new) }
+    ensures { Puts S.took S.failed sink.old result
+        (bare_text item.now (indentation_text indentation)) sink.new }
 {
     match item {
         Item::Alias(alias) => write_alias(alias, sink),

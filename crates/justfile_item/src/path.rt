@@ -1,11 +1,13 @@
 //! The paths of imports and modules, and how these items are printed.
-ghost use Rattle.std.specs.Prelude.{◌++◌, OnOk, OnErr, IfOk, codes};
+ghost use Rattle.std.specs.Prelude.{◌++◌, IfOk};
 ghost use Rattle.justfile_token.specs.StringLiteral.{IsSameLiteral};
-ghost use Rattle.justfile_model.specs.Printing.{fixed_text, if_true, mark_text};
-ghost use Rattle.justfile_attribute.specs.Copies.{IsSameIfPresent};
+ghost use Rattle.justfile_model.specs.Printing.{mark_text};
+ghost use Rattle.justfile_expression.specs.Sink.{Puts};
+ghost use Rattle.justfile_expression.specs.Copies.{IsSameIfPresent};
 ghost use Rattle.justfile_item.specs.ItemText.{import_text_of, later_path_text, module_text_of, path_text_of, unexport_text_of};
 
 use justfile_expression::{Sink, put_piece};
+use justfile_recipe_header::put_piece_if;
 use justfile_token::{Name, StringLiteral};
 use std::alloc::{AllocError, Global};
 
@@ -28,11 +30,10 @@ pub(crate) fn write_import<S: Sink>(
     relative: &StringLiteral<'_>,
     sink: &mut S,
 ) -> Result<(), S::Fault>
-    ensures ok { OnOk result (S.took sink.old (import_text_of optional relative.now) sink.new) }
-    ensures err { OnErr result (S.failed sink.old (import_text_of optional relative.now) sink.new) }
+    ensures { Puts S.took S.failed sink.old result (import_text_of optional relative.now) sink.new }
 {
     put_piece("import", sink)?;
-    write_optional(optional, sink)?;
+    put_piece_if(optional, "?", sink)?;
     put_piece(" ", sink)?;
     write_path(relative, sink)
 }
@@ -45,32 +46,19 @@ pub(crate) fn write_module<S: Sink>(
     relative: &Option<StringLiteral<'_>>,
     sink: &mut S,
 ) -> Result<(), S::Fault>
-    ensures ok { OnOk result (S.took sink.old (module_text_of name.now optional relative.now) sink.new) }
-    ensures err { OnErr result (S.failed sink.old (module_text_of name.now optional relative.now) sink.new) }
+    ensures { Puts S.took S.failed sink.old result
+        (module_text_of name.now optional relative.now) sink.new }
 {
     put_piece("mod", sink)?;
-    write_optional(optional, sink)?;
+    put_piece_if(optional, "?", sink)?;
     put_piece(" ", sink)?;
     sink.put(name.lexeme())?;
     write_later_path(relative, sink)
 }
 
-/// Writes the `?` of an import or a module whose file need not exist.
-fn write_optional<S: Sink>(optional: bool, sink: &mut S) -> Result<(), S::Fault>
-    ensures ok { OnOk result (S.took sink.old (if_true optional (fixed_text (codes "?"))) sink.new) }
-    ensures err { OnErr result (S.failed sink.old (if_true optional (fixed_text (codes "?"))) sink.new) }
-{
-    if optional {
-        put_piece("?", sink)
-    } else {
-        Ok(())
-    }
-}
-
 /// Writes a space and a path, or nothing if there is none.
 fn write_later_path<S: Sink>(path: &Option<StringLiteral<'_>>, sink: &mut S) -> Result<(), S::Fault>
-    ensures ok { OnOk result (S.took sink.old (later_path_text path.now) sink.new) }
-    ensures err { OnErr result (S.failed sink.old (later_path_text path.now) sink.new) }
+    ensures { Puts S.took S.failed sink.old result (later_path_text path.now) sink.new }
 {
     match path {
         None => Ok(()),
@@ -84,8 +72,7 @@ fn write_later_path<S: Sink>(path: &Option<StringLiteral<'_>>, sink: &mut S) -> 
 /// Writes the path of a file.
 #[tactic(auto, using(crate::proofs::ItemTexts::path_parts))]
 fn write_path<S: Sink>(path: &StringLiteral<'_>, sink: &mut S) -> Result<(), S::Fault>
-    ensures ok { OnOk result (S.took sink.old (path_text_of path.now) sink.new) }
-    ensures err { OnErr result (S.failed sink.old (path_text_of path.now) sink.new) }
+    ensures { Puts S.took S.failed sink.old result (path_text_of path.now) sink.new }
 {
     write_mark(path.expand, sink)?;
     sink.put(path.format_mark())?;
@@ -94,8 +81,7 @@ fn write_path<S: Sink>(path: &StringLiteral<'_>, sink: &mut S) -> Result<(), S::
 
 /// Writes the mark `x` of a literal that is expanded.
 fn write_mark<S: Sink>(expanded: bool, sink: &mut S) -> Result<(), S::Fault>
-    ensures ok { OnOk result (S.took sink.old (mark_text expanded) sink.new) }
-    ensures err { OnErr result (S.failed sink.old (mark_text expanded) sink.new) }
+    ensures { Puts S.took S.failed sink.old result (mark_text expanded) sink.new }
 {
     if expanded {
         put_piece("x", sink)
@@ -106,8 +92,7 @@ fn write_mark<S: Sink>(expanded: bool, sink: &mut S) -> Result<(), S::Fault>
 
 /// Writes the text of an `unexport` item, without its attributes.
 pub(crate) fn write_unexport<S: Sink>(name: &Name<'_>, sink: &mut S) -> Result<(), S::Fault>
-    ensures ok { OnOk result (S.took sink.old (unexport_text_of name.now) sink.new) }
-    ensures err { OnErr result (S.failed sink.old (unexport_text_of name.now) sink.new) }
+    ensures { Puts S.took S.failed sink.old result (unexport_text_of name.now) sink.new }
 {
     put_piece("unexport ", sink)?;
     sink.put(name.lexeme())

@@ -1,7 +1,9 @@
-ghost use Rattle.std.specs.Prelude.{◌≡◌, ◌++◌, OnOk, OnErr, IfOk, codes};
+//! Recipes: their type, and how they are copied and printed.
+ghost use Rattle.std.specs.Prelude.{◌≡◌, ◌++◌, IfOk, codes};
 ghost use Rattle.std.specs.List.{list_all};
 ghost use Rattle.justfile_vocabulary.specs.Indentation.{indentation_text};
-ghost use Rattle.justfile_model.specs.Printing.{fixed_text, header_text, if_true, line_text, body_text, printable_fragments, printable_body};
+ghost use Rattle.justfile_model.specs.Printing.{fixed_text, header_text, line_text, body_text, printable_fragments, printable_body};
+ghost use Rattle.justfile_expression.specs.Sink.{Puts};
 ghost use Rattle.justfile_line.specs.Body.{fragment_shapes, line_shape, line_shapes};
 ghost use Rattle.justfile_item.specs.Copies.{IsSameRecipe};
 ghost use Rattle.justfile_item.specs.Item.{header_shape, priors_of, subsequents_of};
@@ -11,9 +13,10 @@ use crate::comment::write_comment;
 use justfile_attribute_set::AttributeSet;
 use justfile_expression::{Sink, put_piece};
 use justfile_line::{Line, is_printable, write_line};
-use justfile_recipe_header::try_clone::{clone_all, copy_text};
+use justfile_recipe_header::try_clone::{clone_all, copy_optional_text};
 use justfile_recipe_header::{
-    Parameter, UnresolvedDependency, write_dependencies, write_parameters, write_subsequents,
+    Parameter, UnresolvedDependency, put_piece_if, write_dependencies, write_parameters,
+    write_subsequents,
 };
 use justfile_token::Name;
 use justfile_vocabulary::{Indentation, Number};
@@ -27,8 +30,8 @@ pub struct UnresolvedRecipe<'src> {
     pub attributes: AttributeSet<'src>,
     /// The lines of the body, without empty ones at the end. Empty if the recipe has no body.
     pub body: Vec<Line<'src>>,
-    /// The comment between the header and the body, without white space at its end. `None` if the
-    /// recipe has no body.
+    /// The comment between the header and the body, without whitespace at its end, if there is one.
+    /// `None` if the recipe has no body.
     pub comment: Option<&'src str>,
     /// The dependencies: the recipes that run before this one and then those that run after it, in
     /// order.
@@ -65,7 +68,7 @@ impl<'src> UnresolvedRecipe<'src> {
         let dependencies = clone_all(alloc, &self.dependencies)?;
         let parameters = clone_all(alloc, &self.parameters)?;
         let import_offsets = self.import_offsets.clone()?;
-        let doc = copy_text(alloc, &self.doc)?;
+        let doc = copy_optional_text(alloc, &self.doc)?;
         Ok(UnresolvedRecipe {
             attributes,
             body: clone_all(alloc, &self.body)?,
@@ -124,8 +127,8 @@ pub(crate) fn write_recipe<S: Sink>(
     indentation: Indentation,
     sink: &mut S,
 ) -> Result<(), S::Fault>
-    ensures ok { OnOk result (S.took sink.old (unresolved_recipe_text recipe.now (indentation_text indentation)) sink.new) }
-    ensures err { OnErr result (S.failed sink.old (unresolved_recipe_text recipe.now (indentation_text indentation)) sink.new) }
+    ensures { Puts S.took S.failed sink.old result
+        (unresolved_recipe_text recipe.now (indentation_text indentation)) sink.new }
 {
     write_header(recipe, sink)?;
     write_comment(recipe.comment, sink)?;
@@ -135,24 +138,16 @@ pub(crate) fn write_recipe<S: Sink>(
 
 /// Writes the header of a recipe.
 fn write_header<S: Sink>(recipe: &UnresolvedRecipe<'_>, sink: &mut S) -> Result<(), S::Fault>
-    ensures ok { OnOk result (S.took sink.old (header_text (header_shape recipe.now)) sink.new) }
-    ensures err { OnErr result (S.failed sink.old (header_text (header_shape recipe.now)) sink.new) }
+    ensures { Puts S.took S.failed sink.old result
+        (header_text (header_shape recipe.now)) sink.new }
 {
     let (priors, subsequents) = recipe.split_dependencies();
-    write_quiet(recipe.quiet, sink)?;
+    put_piece_if(recipe.quiet, "@", sink)?;
     sink.put(recipe.name.lexeme())?;
     write_parameters(&recipe.parameters, sink)?;
     put_piece(":", sink)?;
     write_dependencies(priors, sink)?;
     write_subsequents(subsequents, sink)
-}
-
-/// Writes the `@` of a quiet recipe.
-fn write_quiet<S: Sink>(quiet: bool, sink: &mut S) -> Result<(), S::Fault>
-    ensures ok { OnOk result (S.took sink.old (if_true quiet (fixed_text (codes "@"))) sink.new) }
-    ensures err { OnErr result (S.failed sink.old (if_true quiet (fixed_text (codes "@"))) sink.new) }
-{
-    if quiet { put_piece("@", sink) } else { Ok(()) }
 }
 
 /// Writes the lines of a body.
@@ -161,8 +156,8 @@ fn write_body<S: Sink>(
     indentation: Indentation,
     sink: &mut S,
 ) -> Result<(), S::Fault>
-    ensures ok { OnOk result (S.took sink.old (body_text (indentation_text indentation) (line_shapes lines.now)) sink.new) }
-    ensures err { OnErr result (S.failed sink.old (body_text (indentation_text indentation) (line_shapes lines.now)) sink.new) }
+    ensures { Puts S.took S.failed sink.old result
+        (body_text (indentation_text indentation) (line_shapes lines.now)) sink.new }
 {
     for line in lines {
         write_next_line(line, indentation, sink)?;
@@ -176,10 +171,9 @@ fn write_next_line<S: Sink>(
     indentation: Indentation,
     sink: &mut S,
 ) -> Result<(), S::Fault>
-    ensures ok { OnOk result (S.took sink.old (fixed_text (codes "\n")
-        ++ line_text (indentation_text indentation) (line_shape line.now)) sink.new) }
-    ensures err { OnErr result (S.failed sink.old (fixed_text (codes "\n")
-        ++ line_text (indentation_text indentation) (line_shape line.now)) sink.new) }
+    ensures { Puts S.took S.failed sink.old result
+        (fixed_text (codes "\n")
+        ++ line_text (indentation_text indentation) (line_shape line.now)) sink.new }
 {
     put_piece("\n", sink)?;
     write_line(line, indentation, sink)?;

@@ -1,7 +1,9 @@
-ghost use Rattle.std.specs.Prelude.{◌≡◌, OnOk, OnErr, IfOk};
+//! Settings with their names and attributes.
+ghost use Rattle.std.specs.Prelude.{◌≡◌, IfOk};
 ghost use Rattle.std.specs.Option.{option_map};
+ghost use Rattle.justfile_expression.specs.Sink.{Puts};
 ghost use Rattle.justfile_setting.specs.Copies.{IsSameSetting};
-ghost use Rattle.justfile_item.specs.Copies.{IsSameAssigned};
+ghost use Rattle.justfile_item.specs.Copies.{IsSameSet};
 ghost use Rattle.justfile_item.specs.Indented.{indentation_set, set_indentation};
 ghost use Rattle.justfile_item.specs.ItemText.{later_value_text, setting_text_of};
 
@@ -28,7 +30,7 @@ pub struct Set<'src> {
 impl<'src> Set<'src> {
     /// Returns a copy of the setting, or an error if out of memory.
     pub fn clone(&self, alloc: Global) -> Result<Self, AllocError>
-        ensures { IfOk result (λ copy. IsSameAssigned copy self.now) }
+        ensures { IfOk result (λ copy. IsSameSet copy self.now) }
     {
         let value = copy_boxed(&self.value, alloc)?;
         match self.attributes.clone(alloc) {
@@ -104,8 +106,7 @@ fn indentation_of(setting: &Setting<'_>) -> Option<Indentation>
 
 /// Writes the text of a setting, without its attributes.
 pub(crate) fn write_set<S: Sink>(set: &Set<'_>, sink: &mut S) -> Result<(), S::Fault>
-    ensures ok { OnOk result (S.took sink.old (setting_text_of set.now) sink.new) }
-    ensures err { OnErr result (S.failed sink.old (setting_text_of set.now) sink.new) }
+    ensures { Puts S.took S.failed sink.old result (setting_text_of set.now) sink.new }
 {
     put_piece("set ", sink)?;
     sink.put(set.name.lexeme())?;
@@ -115,8 +116,7 @@ pub(crate) fn write_set<S: Sink>(set: &Set<'_>, sink: &mut S) -> Result<(), S::F
 /// Writes `:=` and the value of a setting, or nothing if it is the default value.
 #[tactic(auto, using(crate::proofs::ItemTexts::value_default))]
 fn write_value<S: Sink>(setting: &Setting<'_>, sink: &mut S) -> Result<(), S::Fault>
-    ensures ok { OnOk result (S.took sink.old (later_value_text setting.now) sink.new) }
-    ensures err { OnErr result (S.failed sink.old (later_value_text setting.now) sink.new) }
+    ensures { Puts S.took S.failed sink.old result (later_value_text setting.now) sink.new }
 {
     if setting.is_default() {
         return Ok(());

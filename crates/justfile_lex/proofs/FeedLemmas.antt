@@ -1,11 +1,10 @@
--- Which tokens have no line feed.
-use Rattle.std.proofs.Common.{◌≡◌, ℕ, zero, suc, ◌<◌, ◌≤◌, Bool, true, false, cond, eqb, ltb, List, [], ◌∷◌, length, get_or, take, drop, Option, Some, None, Ok, Err, refl, sym, subst, arith, get_or-drop}
+-- The tokens that aren't searched have no line feed.
+use Rattle.std.proofs.Common.{◌≡◌, ℕ, zero, suc, ◌<◌, ◌≤◌, Bool, true, false, cond, eqb, List, [], ◌∷◌, length, get_or, take, drop, Option, Some, None, Ok, Err, refl, sym, subst, arith}
 use Rattle.std.specs.Prelude.{◌||◌, ◌&&◌, not, nat_eq}
 use Rattle.std.specs.List.{starts_with}
 use Rattle.std.specs.Str.{bytes_eq}
 use Rattle.std.proofs.lemmas.List.{length-take}
 use Rattle.std.proofs.lemmas.Bool.{and_parts}
-use Rattle.std.proofs.lemmas.Bool.Decides.{nat_tests}
 use Rattle.std.proofs.lemmas.List.Sums.{prefix_len_passes}
 use Rattle.justfile_vocabulary.specs.declared.byte_class.ByteClass.{ByteClass}
 use Rattle.justfile_vocabulary.specs.declared.byte_class.ByteClass.TheVariants as classes
@@ -20,74 +19,22 @@ use Rattle.justfile_token.specs.declared.string_kind.StringKind.{StringKind}
 use Rattle.justfile_token.specs.StringKind.{kind_of, token_kind_of}
 use Rattle.justfile_model.specs.declared.open_delimiter.OpenDelimiter.{OpenDelimiter}
 use Rattle.justfile_model.specs.declared.raw_text.RawText.TheVariants as raw_texts
-use Rattle.justfile_model.specs.Bytes.{is_blank, is_name_byte, blank_len, word_len, is_line_end, is_interpolation_start, is_interpolation_end, is_interpolation_escape, is_mixed, closes_levels, first_char}
+use Rattle.justfile_model.specs.Bytes.{is_blank, is_name_byte, blank_len, word_len, is_interpolation_start, is_interpolation_end, is_mixed, closes_levels, first_char}
 use Rattle.justfile_model.specs.LexicalFault.{LexicalError}
-use Rattle.justfile_model.specs.LiteralText.{hides, ends, pieces_len, raw_len}
+use Rattle.justfile_model.specs.LiteralText.{hides, ends, raw_len}
 use Rattle.justfile_model.specs.Modes.{Mode, head_of, is_empty, innermost, nested}
 use Rattle.justfile_model.specs.Tok.{Tok}
-use Rattle.justfile_model.specs.Next.{NextToken, doubled_token, fixed_token, opening, literal_part, literal_token, is_same, closing_delimiter, format_kind, brace_by, closing, line_end_token, escaped_line_end, token_by_class, text_or, body_token, at_end_by, Region, InText, InInterpolation, Inline, region_by, token_in_region, token_within_line, blanks_or, tested_blanks, is_level, begins_blank_line, layout, next_by, next}
-use Rattle.justfile_model.proofs.CutLemmas.{blank_no_newline, word_no_newline, is_line_feed, not_newline}
+use Rattle.justfile_model.specs.Next.{NextToken, doubled_token, fixed_token, opening, literal_part, literal_token, is_same, closing_delimiter, format_kind, brace_by, closing, line_end_token, escaped_line_end, token_by_class, text_or, body_token, at_end_by, Region, InText, InInterpolation, OutsideText, region_by, token_in_region, token_within_line, blanks_or, tested_blanks, is_level, begins_blank_line, layout, next_by, next}
+use Rattle.justfile_model.proofs.CutLemmas.{blank_no_newline, body_no_newline, comment_no_newline, escape_no_newline, word_no_newline, is_line_feed, no_newline_in_pieces, not_newline}
 use Rattle.justfile_lex.specs.Lexing.{is_searched, HasNoFeed}
 
--- Where a text's pieces have none.
--- where so many bytes have none, the rest of the pieces has none
-abbrev NoFeed : (List ℕ → ℕ) → (List ℕ → Bool) → List ℕ → ℕ → Type 0
-NoFeed hide end bs n = HasNoFeed bs n → HasNoFeed bs (pieces_len hide end n bs)
-
-no_feed_in_pieces :
-    (hide : List ℕ → ℕ) (end : List ℕ → Bool)
-    → ((bs : List ℕ) → ltb 0 (hide bs) ≡ true → (i : ℕ) → i ≤ hide bs → eqb (get_or bs i 0) 10 ≡ false)
-    → ((bs : List ℕ) → end bs ≡ false → eqb (get_or bs 0 0) 10 ≡ false)
-    → (bs : List ℕ) (n : ℕ) → NoFeed hide end bs n
-unfolding pieces_len
-no_feed_in_pieces hide end hidden shown [] n = λ before i l. refl
-no_feed_in_pieces hide end hidden shown (b ∷ bs) (suc n) = λ before i l. go (no_feed_in_pieces hide end hidden shown bs n) before i l
-  where
-    go : NoFeed hide end bs n → HasNoFeed (b ∷ bs) (suc n) → (i : ℕ) → i < suc (pieces_len hide end n bs) → eqb (get_or (b ∷ bs) i 0) 10 ≡ false
-    go more before zero l = before 0 (omega arith)
-    go more before (suc i) l = more (λ i h. before (suc i) (omega arith)) i (omega arith)
-no_feed_in_pieces hide end hidden shown (b ∷ bs) zero = λ before i l. go (no_feed_in_pieces hide end hidden shown bs) _ _ refl refl i l
-  where
-    piece : (k : ℕ) → NoFeed hide end bs k → eqb b 10 ≡ false → HasNoFeed bs k → (i : ℕ) → i < suc (pieces_len hide end k bs) → eqb (get_or (b ∷ bs) i 0) 10 ≡ false
-    piece k more f before zero l = f
-    piece k more f before (suc i) l = more before i (omega arith)
-
-    go : ((k : ℕ) → NoFeed hide end bs k) → (t s : Bool) → ltb 0 (hide (b ∷ bs)) ≡ t → end (b ∷ bs) ≡ s → (i : ℕ) → i < cond t (suc (pieces_len hide end (hide (b ∷ bs)) bs)) (cond s 0 (suc (pieces_len hide end 0 bs))) → eqb (get_or (b ∷ bs) i 0) 10 ≡ false
-    go more true s h g i l = piece (hide (b ∷ bs)) (more _) (hidden (b ∷ bs) h 0 (omega arith)) (λ i l. hidden (b ∷ bs) h (suc i) (omega arith)) i l
-    go more false true h g i l = absurd (omega arith)
-    go more false false h g i l = piece 0 (more _) (shown (b ∷ bs) g) (λ i l. absurd (omega arith)) i l
-
-comment_shown : (bs : List ℕ) → is_line_end bs ≡ false → eqb (get_or bs 0 0) 10 ≡ false
-comment_shown bs h = grind (arith, nat_tests)
-
-body_shown : (bs : List ℕ) → (is_line_end bs || is_interpolation_start bs) ≡ false → eqb (get_or bs 0 0) 10 ≡ false
-body_shown bs h = grind (arith, nat_tests)
-
-body_hidden : (bs : List ℕ) → ltb 0 (hides raw_texts.Body bs) ≡ true → (i : ℕ) → i ≤ hides raw_texts.Body bs → eqb (get_or bs i 0) 10 ≡ false
-body_hidden bs h i l = go (is_interpolation_escape bs) refl h i l
-  where
-    four : (a b c d : ℕ) → (eqb a 123 && eqb b 123 && (eqb c 123 && eqb d 123)) ≡ true → (eqb a 10 ≡ false) × (eqb b 10 ≡ false) × (eqb c 10 ≡ false) × (eqb d 10 ≡ false)
-    four a b c d h = (grind (arith, nat_tests), grind (arith, nat_tests), grind (arith, nat_tests), grind (arith, nat_tests))
-
-    is_four : is_interpolation_escape bs ≡ true → (eqb (get_or bs 0 0) 123 && eqb (get_or bs 1 0) 123 && (eqb (get_or bs 2 0) 123 && eqb (get_or bs 3 0) 123)) ≡ true
-    is_four e = subst (λ (x : ℕ). (eqb (get_or bs 0 0) 123 && eqb (get_or bs 1 0) 123 && (eqb x 123 && eqb (get_or bs 3 0) 123)) ≡ true) (get_or-drop 2 bs 0 0) (subst (λ (x : ℕ). (eqb (get_or bs 0 0) 123 && eqb (get_or bs 1 0) 123 && (eqb (get_or (drop 2 bs) 0 0) 123 && eqb x 123)) ≡ true) (get_or-drop 2 bs 1 0) e)
-
-    pick : (i : ℕ) → i ≤ 3 → (eqb (get_or bs 0 0) 10 ≡ false) × (eqb (get_or bs 1 0) 10 ≡ false) × (eqb (get_or bs 2 0) 10 ≡ false) × (eqb (get_or bs 3 0) 10 ≡ false) → eqb (get_or bs i 0) 10 ≡ false
-    pick zero l f = f.0
-    pick (suc zero) l f = f.1
-    pick (suc (suc zero)) l f = f.2
-    pick (suc (suc (suc zero))) l f = f.3
-    pick (suc (suc (suc (suc i)))) l f = absurd (omega arith)
-
-    go : (t : Bool) → is_interpolation_escape bs ≡ t → ltb 0 (cond t 3 0) ≡ true → (i : ℕ) → i ≤ cond t 3 0 → eqb (get_or bs i 0) 10 ≡ false
-    go true e h i l = pick i l (four _ _ _ _ (is_four e))
-    go false e h i l = cc
+-- ---- bytes without a line feed
 
 comment_feeds : (rest : List ℕ) → HasNoFeed rest (raw_len raw_texts.Comment rest)
-comment_feeds rest = no_feed_in_pieces (hides raw_texts.Comment) (ends raw_texts.Comment) (λ bs h. cc) comment_shown rest 0 (λ i h. absurd (omega arith))
+comment_feeds rest = no_newline_in_pieces (hides raw_texts.Comment) (ends raw_texts.Comment) (λ bs h. cc) comment_no_newline rest 0 (λ i h. absurd (omega arith))
 
 body_feeds : (rest : List ℕ) → HasNoFeed rest (raw_len raw_texts.Body rest)
-body_feeds rest = no_feed_in_pieces (hides raw_texts.Body) (ends raw_texts.Body) body_hidden body_shown rest 0 (λ i h. absurd (omega arith))
+body_feeds rest = no_newline_in_pieces (hides raw_texts.Body) (ends raw_texts.Body) escape_no_newline body_no_newline rest 0 (λ i h. absurd (omega arith))
 
 blank_feeds : (rest : List ℕ) → HasNoFeed rest (blank_len rest)
 blank_feeds rest i l = blank_no_newline _ (prefix_len_passes is_blank rest i 0 l)
@@ -95,7 +42,8 @@ blank_feeds rest i l = blank_no_newline _ (prefix_len_passes is_blank rest i 0 l
 word_feeds : (rest : List ℕ) → HasNoFeed rest (word_len rest)
 word_feeds rest i l = word_no_newline _ (prefix_len_passes is_name_byte rest i 0 l)
 
--- Tokens, by case: a token that isn't searched has none.
+-- ---- tokens, by case: one that isn't searched has no line feed
+
 abbrev FeedsBy : List ℕ → NextToken → Type 0
 FeedsBy rest (Ok x) = is_searched x.0 ≡ false → HasNoFeed rest x.1
 FeedsBy rest (Err r) = Unit {0}
@@ -226,7 +174,7 @@ module _ (rest : List ℕ) where
       by : (p : Region) → Feeds rest (token_in_region p m rest)
       by InText = body
       by InInterpolation = if_feeds (is_empty m.openers && is_interpolation_end rest) (λ h. ends_interpolation (and_parts _ _ h).1) (λ _. outside_text m)
-      by Inline = outside_text m
+      by OutsideText = outside_text m
 
   blanks : (m : Mode) (n : ℕ) → Feeds rest (blanks_or n m rest)
   blanks m zero = within_line m

@@ -48,7 +48,7 @@ tail_less : {A : Type 0} (xs : List A) → 0 < length xs → length (tail_of xs)
 tail_less [] h = absurd (omega arith)
 tail_less (x ∷ xs) h = omega arith
 
--- what the lexer asks for is what the definition asks for
+-- the next token of the lexer is that of the definition
 pub next_is : (l : Lexer) → IsLexing l → next_of l.src.now (earlier l) ≡ next (mode_of l.mode) (drop l.offset l.src.now)
 next_is l h =
     let offset = sym h.at_end.offset_is in

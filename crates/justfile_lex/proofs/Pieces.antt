@@ -8,9 +8,9 @@ use Rattle.justfile_token.specs.StringKind.{quote_of, escapes}
 use Rattle.justfile_model.specs.declared.raw_text.RawText.{RawText}
 use Rattle.justfile_model.specs.declared.raw_text.RawText.TheVariants.{Comment, Body, Literal}
 use Rattle.justfile_model.specs.LiteralText.{hides, ends, pieces_len, raw_len}
-use Rattle.justfile_lex.specs.RawTexts.{is_plain, IsPiece, IsInside}
+use Rattle.justfile_lex.specs.RawTexts.{is_plain, IsScanStep, IsWithinRaw}
 
--- what is left from a place on is the byte there and the rest
+-- the text from a position is the byte there and the rest
 pub cell : (bs : List ℕ) (i : ℕ) → i < length bs → drop i bs ≡ get_or bs i 0 ∷ drop (i + 1) bs
 cell bs i l = rw (add-one, drop-cons bs i 0) refl
 
@@ -42,7 +42,7 @@ plain_hides (Literal k format) b bs h =
     let slash : eqb b 92 ≡ false = grind (arith, nat_tests) in
     rw (slash, brace, and_false (escapes k.delimiter), and_false format) refl
 
--- and begins no end
+-- a plain byte doesn't begin an end
 plain_ends : (s : RawText) (b : ℕ) (bs : List ℕ) → is_plain s b ≡ true → ends s (b ∷ bs) ≡ false
 plain_ends Comment b bs h =
     let feed : eqb b 10 ≡ false = grind (arith, nat_tests) in
@@ -104,17 +104,17 @@ past_plain s (b ∷ bs) = go (is_plain s b) refl (past_plain s bs)
         rw one (omega (arith, in_plain (hides s) (ends s) b bs (omega (arith, plain_hides s b bs e)) (plain_ends s b bs e), rest))
     go false e ih = sym (zero-add (raw_len s (b ∷ bs)))
 
-pub piece_none : (s : RawText) (rest : List ℕ) → length rest ≡ 0 → IsPiece s rest 0
+pub piece_none : (s : RawText) (rest : List ℕ) → length rest ≡ 0 → IsScanStep s rest 0
 piece_none s rest h = record { within = omega arith; length_is = in_nothing (hides s) (ends s) rest (omega arith) }
 
-pub piece_end : (s : RawText) (rest : List ℕ) → hides s rest ≤ 0 → ends s rest ≡ true → IsPiece s rest 0
+pub piece_end : (s : RawText) (rest : List ℕ) → hides s rest ≤ 0 → ends s rest ≡ true → IsScanStep s rest 0
 piece_end s rest h g = record { within = omega arith; length_is = at_end (hides s) (ends s) rest h g }
 
-pub piece_plain : (s : RawText) (rest : List ℕ) → 0 < length rest → hides s rest ≤ 0 → ends s rest ≡ false → IsPiece s rest 1
+pub piece_plain : (s : RawText) (rest : List ℕ) → 0 < length rest → hides s rest ≤ 0 → ends s rest ≡ false → IsScanStep s rest 1
 piece_plain s [] l h g = absurd (omega arith)
 piece_plain s (b ∷ bs) l h g = record { within = omega arith; length_is = in_plain (hides s) (ends s) b bs h g ∙ omega arith }
 
-pub piece_hiding : (s : RawText) (rest : List ℕ) (n : ℕ) → 0 < length rest → n ≡ hides s rest → 0 < n → IsPiece s rest (min (length rest) (n + 1))
+pub piece_hiding : (s : RawText) (rest : List ℕ) (n : ℕ) → 0 < length rest → n ≡ hides s rest → 0 < n → IsScanStep s rest (min (length rest) (n + 1))
 piece_hiding s [] n l e h = absurd (omega arith)
 piece_hiding s (b ∷ bs) n l e h =
     let len : min (length (b ∷ bs)) (n + 1) ≡ suc (min (length bs) n) = omega arith in
@@ -130,7 +130,7 @@ piece_hiding s (b ∷ bs) n l e h =
 pub ruleset piece_cases = (piece_none, piece_end, piece_plain, piece_hiding)
 
 -- a place after plain bytes
-pub inside_plain : (s : RawText) (bs : List ℕ) (at n : ℕ) → IsInside s bs at → n ≡ prefix_len (is_plain s) (drop at bs) → IsInside s bs (at + n)
+pub inside_plain : (s : RawText) (bs : List ℕ) (at n : ℕ) → IsWithinRaw s bs at → n ≡ prefix_len (is_plain s) (drop at bs) → IsWithinRaw s bs (at + n)
 inside_plain s bs at n h e =
     let le : n ≤ length (drop at bs) = omega (arith, e, prefix_len-le-length (is_plain s) (drop at bs)) in
     let there : drop n (drop at bs) ≡ drop (at + n) bs = drop-drop n at bs in
@@ -140,7 +140,7 @@ inside_plain s bs at n h e =
     }
 
 -- a place after a piece
-pub inside_piece : (s : RawText) (bs : List ℕ) (at n : ℕ) → IsInside s bs at → IsPiece s (drop at bs) n → 0 < n → IsInside s bs (at + n)
+pub inside_piece : (s : RawText) (bs : List ℕ) (at n : ℕ) → IsWithinRaw s bs at → IsScanStep s (drop at bs) n → 0 < n → IsWithinRaw s bs (at + n)
 inside_piece s bs at n h p some =
     let more : eqb n 0 ≡ false = grind (arith, nat_tests) in
     let piece : raw_len s (drop at bs) ≡ n + raw_len s (drop n (drop at bs)) = p.length_is ∙ rw more refl in
@@ -150,7 +150,7 @@ inside_piece s bs at n h p some =
     }
 
 -- where no piece is left, the text ends
-pub inside_end : (s : RawText) (bs : List ℕ) (at n : ℕ) → IsInside s bs at → IsPiece s (drop at bs) n → n ≡ 0 → at ≡ raw_len s bs
+pub inside_end : (s : RawText) (bs : List ℕ) (at n : ℕ) → IsWithinRaw s bs at → IsScanStep s (drop at bs) n → n ≡ 0 → at ≡ raw_len s bs
 inside_end s bs at n h p none =
     let piece : raw_len s (drop at bs) ≡ 0 = p.length_is ∙ rw none refl in
     omega (arith, h.length_is, piece)

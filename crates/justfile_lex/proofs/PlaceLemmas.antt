@@ -101,7 +101,7 @@ place_feedless text from (suc n) line column p l free =
     let no_feed : eqb (get_or text (from + n) 0) 10 ≡ false = subst (λ (b : ℕ). eqb b 10 ≡ false) (get_or-drop from text n 0) (free n (omega arith)) in
     same_place text _ _ line _ _ (omega arith) (omega arith) (place_other text (from + n) line (column + n) before (omega (arith, l)) (λ more e. ne_from _ 10 no_feed e))
 
--- up to the first line feed, bytes have none
+-- the bytes before the first line feed aren't line feeds
 other_is : (b : ℕ) → is_other b ≡ true → eqb b 10 ≡ false
 other_is b h = grind (arith, nat_tests)
 

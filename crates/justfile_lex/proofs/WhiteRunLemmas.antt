@@ -7,7 +7,7 @@ use Rattle.justfile_lex.specs.declared.white_run.WhiteRun.{WhiteRun}
 use Rattle.justfile_lex.specs.WhiteRun.{IsRunOf}
 use Rattle.justfile_lex.proofs.Pieces.{cell}
 
--- the run so far: from the front, and from each place in it, the answer is that of the rest after it
+-- the run so far: from the front, and from each position in it, the result is that of the rest after it
 pub record AfterWhite (bs : List ℕ) (at : ℕ) (last : Bool) : Type 0 where
   pub so_far : closes_levels false bs ≡ closes_levels last (drop at bs)
   pub inside : (i : ℕ) → i < at → closes_levels false (drop i bs) ≡ closes_levels last (drop at bs)
@@ -52,7 +52,7 @@ white_end bs at last t l h = sym (t.so_far ∙ at_other bs at last l h)
 pub white_all : (bs : List ℕ) (at : ℕ) (last : Bool) → AfterWhite bs at last → length bs ≤ at → false ≡ closes_levels false bs
 white_all bs at last t l = sym (t.so_far ∙ at_none bs at last l)
 
--- what is said of each place in a run that ends before another byte
+-- the result at each position in a run that ends before another byte
 pub run_ends : (bs : List ℕ) (at : ℕ) (last : Bool) → AfterWhite bs at last → at < length bs → white (class_of (get_or bs at 0)) ≡ false → (i : ℕ) → length bs - at < length (drop i bs) → closes_levels false (drop i bs) ≡ last
 run_ends bs at last t l h i more = t.inside i (omega (arith, more, l, length-drop i bs)) ∙ at_other bs at last l h
 
@@ -60,7 +60,7 @@ run_ends bs at last t l h i more = t.inside i (omega (arith, more, l, length-dro
 pub run_all : (bs : List ℕ) (at : ℕ) (last : Bool) → AfterWhite bs at last → length bs ≤ at → (i : ℕ) → 0 < length (drop i bs) → closes_levels false (drop i bs) ≡ false
 run_all bs at last t l i more = t.inside i (omega (arith, more, l, length-drop i bs)) ∙ at_none bs at last l
 
--- a run that reaches past some bytes is a run of what follows them
+-- a run that reaches past some bytes is a run of the text after them
 pub run_on : (text : List ℕ) (run : WhiteRun) (n : ℕ) → IsRunOf text run → IsRunOf (drop n text) run
 run_on text run n h i more = ap (closes_levels false) (drop-drop i n text) ∙ h (n + i) (subst (λ bs. run.rest_len < length bs) (drop-drop i n text) more)
 

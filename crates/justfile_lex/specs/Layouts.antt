@@ -1,4 +1,4 @@
--- The layout token for blanks that differ from the open levels.
+-- The token for the blanks at the start of a line if they differ from the open levels.
 use Rattle.std.specs.Prelude.{ℕ, List, length, not, nat_eq, Ok, Err, if◌then◌else◌}
 use Rattle.std.specs.List.{starts_with}
 use Rattle.justfile_vocabulary.specs.declared.token_kind.TokenKind.TheVariants.{Indent}

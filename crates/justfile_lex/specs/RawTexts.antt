@@ -13,11 +13,11 @@ is_plain Body b = nat_lt byte.carriage_return b && not (b == byte.brace_left)
 is_plain (Literal k format) b = not (b == quote_of k.delimiter) && not (b == byte.backslash) && not (b == byte.brace_left)
 
 -- The piece at the start has `n` bytes; 0 means that the text ends here.
-pub record IsPiece (s : RawText) (rest : List ℕ) (n : ℕ) : Type 0 where
+pub record IsScanStep (s : RawText) (rest : List ℕ) (n : ℕ) : Type 0 where
   pub within : n ≤ length rest
   pub length_is : raw_len s rest ≡ n + (if n == 0 then 0 else raw_len s (drop n rest))
 
 -- The text up to this position belongs to the inside, and the inside continues here or ends here.
-pub record IsInside (s : RawText) (bytes : List ℕ) (at : ℕ) : Type 0 where
+pub record IsWithinRaw (s : RawText) (bytes : List ℕ) (at : ℕ) : Type 0 where
   pub within : at ≤ length bytes
   pub length_is : raw_len s bytes ≡ at + raw_len s (drop at bytes)

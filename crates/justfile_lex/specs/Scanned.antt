@@ -21,9 +21,9 @@ scan_fault faults.UnpairedCarriageReturn = UnpairedCarriageReturn
 scan_fault faults.UnterminatedBacktick = UnterminatedBacktick
 scan_fault faults.UnterminatedString = UnterminatedString
 
-abbrev pub scan_refusal : ScanError → LexicalError
-scan_refusal r = Here (scan_fault r.fault) r.skip r.length
+abbrev pub lexical_error_of : ScanError → LexicalError
+lexical_error_of r = Here (scan_fault r.fault) r.skip r.length
 
-abbrev pub scan_answer : Result (TokenKind × ℕ) ScanError → NextToken
-scan_answer (Ok x) = Ok x
-scan_answer (Err r) = Err (scan_refusal r)
+abbrev pub next_token_of : Result (TokenKind × ℕ) ScanError → NextToken
+next_token_of (Ok x) = Ok x
+next_token_of (Err r) = Err (lexical_error_of r)

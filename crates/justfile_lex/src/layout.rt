@@ -4,7 +4,7 @@ ghost use Rattle.justfile_model.specs.Bytes.{blank_len};
 ghost use Rattle.justfile_model.specs.Next.{end_token, blanks_or, tested_blanks, begins_blank_line, layout, at_line_start, next};
 ghost use Rattle.justfile_lex.specs.Layouts.{indent};
 ghost use Rattle.justfile_lex.specs.Modes.{mode_of};
-ghost use Rattle.justfile_lex.specs.Scanned.{scan_answer};
+ghost use Rattle.justfile_lex.specs.Scanned.{next_token_of};
 ghost use Rattle.justfile_lex.specs.WhiteRun.{IsRunOf};
 
 use crate::bytes::{begins_with, blank_len, is_line_end, is_mixed, skip, take_blanks};
@@ -24,7 +24,7 @@ pub(crate) fn scan_token<'src>(
 ) -> Scanned<'src>
     requires closed { length rest.now ≡ 0 → (mode_of mode.now).interpolation ≡ None }
     requires run { IsRunOf rest.now run.old }
-    ensures found { scan_answer result ≡ next (mode_of mode.now) rest.now }
+    ensures found { next_token_of result ≡ next (mode_of mode.now) rest.now }
     ensures run { IsRunOf rest.now run.new }
 {
     if rest.is_empty() {
@@ -39,7 +39,7 @@ pub(crate) fn scan_token<'src>(
 /// Returns the token at the end of the text, if no interpolation is open: a dedent or `Eof`.
 fn scan_end<'src>(mode: &Mode<'src>) -> Scanned<'src>
     requires { (mode_of mode.now).interpolation ≡ None }
-    ensures { scan_answer result ≡ end_token (mode_of mode.now) }
+    ensures { next_token_of result ≡ end_token (mode_of mode.now) }
 {
     if mode.no_level() {
         Ok((TokenKind::Eof, 0))
@@ -53,7 +53,7 @@ fn scan_end<'src>(mode: &Mode<'src>) -> Scanned<'src>
 fn scan_line_start<'src>(mode: &Mode<'src>, run: &mut WhiteRun, rest: &'src str) -> Scanned<'src>
     requires some { 0 < length rest.now }
     requires run { IsRunOf rest.now run.old }
-    ensures found { scan_answer result ≡ at_line_start (mode_of mode.now) rest.now }
+    ensures found { next_token_of result ≡ at_line_start (mode_of mode.now) rest.now }
     ensures run { IsRunOf rest.now run.new }
 {
     let bytes = rest.as_bytes();
@@ -86,7 +86,7 @@ fn scan_line_start<'src>(mode: &Mode<'src>, run: &mut WhiteRun, rest: &'src str)
 #[inline(always)]
 fn scan_blanks<'src>(count: usize, mode: &Mode<'src>, rest: &'src str) -> Scanned<'src>
     requires { 0 < length rest.now }
-    ensures { scan_answer result ≡ blanks_or count (mode_of mode.now) rest.now }
+    ensures { next_token_of result ≡ blanks_or count (mode_of mode.now) rest.now }
 {
     if count == 0 {
         scan_within_line(mode, rest)
@@ -113,7 +113,7 @@ fn continues_body(mode: &Mode, found: &str, level: &str) -> bool
 /// level.
 fn scan_indent<'src>(mode: &Mode<'src>, found: &'src str) -> Scanned<'src>
     requires { blank_len found.now ≡ length found.now }
-    ensures { scan_answer result ≡ indent (mode_of mode.now) found.now }
+    ensures { next_token_of result ≡ indent (mode_of mode.now) found.now }
 {
     let level = mode.level();
     let tested_blanks = take_tested_blanks(mode, found);

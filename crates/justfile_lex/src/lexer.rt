@@ -2,6 +2,7 @@ ghost use Rattle.std.specs.Prelude.{◌≡◌, ◌+◌, ◌≤◌, ◌||◌, ◌
 ghost use Rattle.std.specs.Str.{IsCharBoundary, IsUtf8};
 ghost use Rattle.std.specs.Char.{is_ascii_alphabetic, is_ascii_digit};
 ghost use Rattle.justfile_token.specs.Slice.{IsWithin};
+ghost use Rattle.justfile_vocabulary.specs.ByteNames as byte;
 ghost use Rattle.justfile_vocabulary.specs.declared.token_kind.TokenKind.TheVariants.{Unspecified};
 ghost use Rattle.justfile_model.specs.Next.{next};
 ghost use Rattle.justfile_model.specs.Tok.{tok_of};
@@ -10,7 +11,7 @@ ghost use Rattle.justfile_model.specs.LexResult.{IsFrom, IsLexicalError, IsLexer
 ghost use Rattle.justfile_model.specs.Places.{IsPlace};
 ghost use Rattle.justfile_lex.specs.Lexing.{is_searched};
 ghost use Rattle.justfile_lex.specs.Modes.{mode_of};
-ghost use Rattle.justfile_lex.specs.Scanned.{scan_refusal};
+ghost use Rattle.justfile_lex.specs.Scanned.{lexical_error_of};
 
 use crate::layout;
 use crate::mode::Mode;
@@ -81,14 +82,14 @@ impl<'src> Lexer<'src> {
 
     /// Whether an identifier can contain the character after its first one.
     pub fn is_identifier_continue(c: char) -> bool
-        ensures { result ≡ (is_ascii_alphabetic c || c == 95 || is_ascii_digit c || c == 45) }
+        ensures { result ≡ (is_ascii_alphabetic c || c == byte.underscore || is_ascii_digit c || c == byte.minus) }
     {
         Self::is_identifier_start(c) || c.is_ascii_digit() || c == '-'
     }
 
     /// Whether an identifier can begin with the character.
     pub fn is_identifier_start(c: char) -> bool
-        ensures { result ≡ (is_ascii_alphabetic c || c == 95) }
+        ensures { result ≡ (is_ascii_alphabetic c || c == byte.underscore) }
     {
         c.is_ascii_alphabetic() || c == '_'
     }
@@ -149,7 +150,7 @@ impl<'src> Lexer<'src> {
         requires lexing { IsLexing self.now }
         requires utf8 { IsUtf8 self.now.src.now }
         requires refused { next (mode_of self.now.mode) (drop self.now.offset self.now.src.now)
-            ≡ Err (scan_refusal refusal) }
+            ≡ Err (lexical_error_of refusal) }
         ensures { IsLexerFault self.now.path.now self.now.src.now result }
     {
         match self.make_error(alloc, refusal) {
@@ -167,7 +168,7 @@ impl<'src> Lexer<'src> {
         requires lexing { IsLexing self.now }
         requires utf8 { IsUtf8 self.now.src.now }
         requires refused { next (mode_of self.now.mode) (drop self.now.offset self.now.src.now)
-            ≡ Err (scan_refusal refusal) }
+            ≡ Err (lexical_error_of refusal) }
         ensures { IfOk result (IsLexicalError self.now.path.now self.now.src.now) }
     {
         let token = self.make_error_token(refusal.skip, refusal.length);

@@ -2,7 +2,7 @@ ghost use Rattle.std.specs.Prelude.{◌≡◌, ◌≤◌, ◌<◌, length};
 ghost use Rattle.justfile_token.specs.StringKind.{delimiter_len, kind_of};
 ghost use Rattle.justfile_model.specs.Next.{unterminated, is_backtick, literal_part, literal_token, is_same, closing_delimiter, format_string_kind, format_kind, brace_by, closing};
 ghost use Rattle.justfile_lex.specs.Modes.{mode_of};
-ghost use Rattle.justfile_lex.specs.Scanned.{scan_fault, scan_answer};
+ghost use Rattle.justfile_lex.specs.Scanned.{scan_fault, next_token_of};
 
 use crate::bytes::{is_interpolation_end, is_interpolation_start, skip};
 use crate::lexical_fault::LexicalFault;
@@ -17,7 +17,7 @@ use justfile_vocabulary::interpolation::{INTERPOLATION_END, INTERPOLATION_START}
 /// Returns a string, a backtick, or the start of a format string.
 pub(crate) fn scan_literal<'src>(mode: &Mode<'src>, rest: &[u8]) -> Scanned<'src>
     requires { delimiter_len (kind_of rest.now) ≤ length rest.now }
-    ensures { scan_answer result ≡ literal_token (mode_of mode.now) rest.now }
+    ensures { next_token_of result ≡ literal_token (mode_of mode.now) rest.now }
 {
     let kind = StringKind::of_opening(rest);
     let format = mode.after_f && !is_backtick(kind.delimiter);
@@ -42,7 +42,7 @@ fn is_backtick(delimiter: StringDelimiter) -> bool
 #[inline(always)]
 pub(crate) fn scan_closer<'src>(last: Option<OpenDelimiter>, byte: u8, rest: &str) -> Scanned<'src>
     requires { 0 < length rest.now }
-    ensures { scan_answer result ≡ closing last byte rest.now }
+    ensures { next_token_of result ≡ closing last byte rest.now }
 {
     match byte {
         b')' => close_delimiter(last, Delimiter::Paren, TokenKind::ParenR),
@@ -52,10 +52,10 @@ pub(crate) fn scan_closer<'src>(last: Option<OpenDelimiter>, byte: u8, rest: &st
     }
 }
 
-/// Returns a closing brace, or the next part of a format string after two of them.
+/// Returns a closing brace, or the next part of a format string, which begins with two of them.
 fn scan_closing_brace<'src>(last: Option<OpenDelimiter>, rest: &[u8]) -> Scanned<'src>
     requires { 0 < length rest.now }
-    ensures { scan_answer result ≡ brace_by (format_kind last) last rest.now }
+    ensures { next_token_of result ≡ brace_by (format_kind last) last rest.now }
 {
     match format_kind(last) {
         Some(kind) if is_interpolation_end(rest) => scan_literal_part(
@@ -90,34 +90,37 @@ fn format_of(delimiter: Delimiter) -> Option<StringKind>
     }
 }
 
-/// Returns a literal or a part of a format string with an opener of `opener` bytes. Its kind is
-/// `more` if an interpolation follows, and otherwise `whole`.
+/// Returns a literal or a part of a format string with an opener of `opener_len` bytes. Its kind is
+/// `continued` if an interpolation follows, and otherwise `ended`.
 #[tactic(auto, unfolding(justfile_model::specs::Next::literal_part))]
 fn scan_literal_part<'src>(
     kind: StringKind,
     format: bool,
-    opener: usize,
-    more: TokenKind,
-    whole: TokenKind,
+    opener_len: usize,
+    continued: TokenKind,
+    ended: TokenKind,
     rest: &[u8],
 ) -> Scanned<'src>
-    requires { opener ≤ length rest.now }
-    ensures { scan_answer result ≡ literal_part kind format opener more whole rest.now }
+    requires { opener_len ≤ length rest.now }
+    ensures { next_token_of result ≡ literal_part kind format opener_len continued ended rest.now }
 {
-    let body = skip(rest, opener);
-    let inside = raw_len(
+    let body = skip(rest, opener_len);
+    let inside_len = raw_len(
         RawText::Literal {
             kind,
             is_format_string: format,
         },
         body,
     );
-    if inside == body.len() {
-        refuse(unterminated_fault(kind.delimiter), 0, opener)
-    } else if format && is_interpolation_start(skip(body, inside)) {
-        Ok((more, opener + inside + INTERPOLATION_START.len()))
+    if inside_len == body.len() {
+        refuse(unterminated_fault(kind.delimiter), 0, opener_len)
+    } else if format && is_interpolation_start(skip(body, inside_len)) {
+        Ok((
+            continued,
+            opener_len + inside_len + INTERPOLATION_START.len(),
+        ))
     } else {
-        Ok((whole, opener + inside + kind.delimiter_len()))
+        Ok((ended, opener_len + inside_len + kind.delimiter_len()))
     }
 }
 
@@ -138,7 +141,7 @@ fn close_delimiter<'src>(
     delimiter: Delimiter,
     kind: TokenKind,
 ) -> Scanned<'src>
-    ensures { scan_answer result ≡ closing_delimiter last delimiter kind }
+    ensures { next_token_of result ≡ closing_delimiter last delimiter kind }
 {
     match last {
         None => refuse(

@@ -22,7 +22,7 @@ pub(crate) struct Mode<'src> {
     pub(crate) interpolation: Option<Token<'src>>,
     /// The open levels, innermost last.
     pub(crate) levels: Vec<&'src str>,
-    /// Whether the next token is the first one on its line.
+    /// Whether the next token is at column 0.
     pub(crate) line_start: bool,
     /// The open delimiters, innermost last.
     pub(crate) openers: Vec<OpenDelimiter>,
@@ -81,11 +81,11 @@ impl<'src> Mode<'src> {
     pub(crate) fn is_nested(&self) -> bool
         ensures { result ≡ nested (mode_of self.now) }
     {
-        !self.nothing_open() || self.interpolation.is_some()
+        !self.no_delimiter_open() || self.interpolation.is_some()
     }
 
     /// Whether no delimiter is open.
-    pub(crate) fn nothing_open(&self) -> bool
+    pub(crate) fn no_delimiter_open(&self) -> bool
         ensures { result ≡ is_empty (mode_of self.now).openers }
     {
         self.openers.is_empty()

@@ -3,7 +3,7 @@ ghost use Rattle.std.specs.List.{prefix_len};
 ghost use Rattle.justfile_model.specs.declared.raw_text.RawText.TheVariants.{Literal};
 ghost use Rattle.justfile_token.specs.StringKind.{quote_of};
 ghost use Rattle.justfile_model.specs.LiteralText.{is_delimiter, hides, ends, raw_len};
-ghost use Rattle.justfile_lex.specs.RawTexts.{is_plain, IsPiece};
+ghost use Rattle.justfile_lex.specs.RawTexts.{is_plain, IsScanStep};
 
 use crate::bytes::{is_interpolation_escape, is_interpolation_start, is_line_end, skip};
 use justfile_model::RawText;
@@ -66,7 +66,7 @@ fn is_plain(text: RawText, byte: u8) -> bool
 /// Returns the length of the piece at the start, or 0 if the text ends there.
 #[tactic(auto, using(crate::proofs::Pieces::piece_cases))]
 fn piece_len(text: RawText, rest: &[u8]) -> usize
-    ensures { IsPiece text rest.now result }
+    ensures { IsScanStep text rest.now result }
 {
     if rest.is_empty() {
         return 0;

@@ -3,7 +3,7 @@ ghost use Rattle.std.specs.Str.{IsCharBoundary};
 ghost use Rattle.justfile_vocabulary.specs.ByteClass.{class_of};
 ghost use Rattle.justfile_model.specs.Next.{doubled_token, fixed_token, opening, line_end_token, escaped_line_end, multibyte_token, other_token, token_by_class, token_outside_text, body_token, interpolated, token_within_line};
 ghost use Rattle.justfile_lex.specs.Modes.{mode_of};
-ghost use Rattle.justfile_lex.specs.Scanned.{scan_answer};
+ghost use Rattle.justfile_lex.specs.Scanned.{next_token_of};
 
 use crate::bytes::{blank_len, first_char, is_interpolation_end, skip, skip_first, word_len};
 use crate::lexical_fault::LexicalFault;
@@ -20,12 +20,12 @@ use justfile_vocabulary::{ByteClass, TokenKind};
 /// The byte order mark, a token of its own that can begin a file.
 const BYTE_ORDER_MARK: char = '\u{feff}';
 
-/// Returns the next token other than layout tokens.
+/// Returns the next token, other than a dedent, an indent, or the blanks at the start of a line.
 #[inline(always)]
 #[tactic(auto, unfolding(justfile_model::specs::Next::token_within_line))]
 pub(crate) fn scan_within_line<'src>(mode: &Mode<'src>, rest: &'src str) -> Scanned<'src>
     requires { 0 < length rest.now }
-    ensures { scan_answer result ≡ token_within_line (mode_of mode.now) rest.now }
+    ensures { next_token_of result ≡ token_within_line (mode_of mode.now) rest.now }
 {
     match mode.interpolation {
         Some(_) => scan_interpolation(mode, rest),
@@ -43,9 +43,9 @@ pub(crate) fn scan_within_line<'src>(mode: &Mode<'src>, rest: &'src str) -> Scan
 #[inline(always)]
 fn scan_interpolation<'src>(mode: &Mode<'src>, rest: &'src str) -> Scanned<'src>
     requires { 0 < length rest.now }
-    ensures { scan_answer result ≡ interpolated (mode_of mode.now) rest.now }
+    ensures { next_token_of result ≡ interpolated (mode_of mode.now) rest.now }
 {
-    if mode.nothing_open() && is_interpolation_end(rest.as_bytes()) {
+    if mode.no_delimiter_open() && is_interpolation_end(rest.as_bytes()) {
         Ok((TokenKind::InterpolationEnd, INTERPOLATION_END.len()))
     } else {
         scan_outside_text(mode, rest)
@@ -56,7 +56,7 @@ fn scan_interpolation<'src>(mode: &Mode<'src>, rest: &'src str) -> Scanned<'src>
 #[inline(always)]
 fn scan_outside_text<'src>(mode: &Mode<'src>, rest: &'src str) -> Scanned<'src>
     requires { 0 < length rest.now }
-    ensures { scan_answer result ≡ token_outside_text (mode_of mode.now) rest.now }
+    ensures { next_token_of result ≡ token_outside_text (mode_of mode.now) rest.now }
 {
     scan_by_class(mode, byte_class(byte_at(rest.as_bytes(), 0)), rest)
 }
@@ -67,7 +67,7 @@ fn scan_outside_text<'src>(mode: &Mode<'src>, rest: &'src str) -> Scanned<'src>
 fn scan_by_class<'src>(mode: &Mode<'src>, class: ByteClass, rest: &'src str) -> Scanned<'src>
     requires some { 0 < length rest.now }
     requires class { class ≡ class_of (slice_index rest.now 0) }
-    ensures { scan_answer result ≡ token_by_class (mode_of mode.now) class rest.now }
+    ensures { next_token_of result ≡ token_by_class (mode_of mode.now) class rest.now }
 {
     let bytes = rest.as_bytes();
     let first = byte_at(bytes, 0);
@@ -94,7 +94,7 @@ fn scan_by_class<'src>(mode: &Mode<'src>, class: ByteClass, rest: &'src str) -> 
 
 /// Returns a line end, which is whitespace while a delimiter or an interpolation is open.
 fn scan_line_end<'src>(mode: &Mode<'src>, length: usize) -> Scanned<'src>
-    ensures { scan_answer result ≡ line_end_token (mode_of mode.now) length }
+    ensures { next_token_of result ≡ line_end_token (mode_of mode.now) length }
 {
     if mode.is_nested() {
         Ok((TokenKind::Whitespace, length))
@@ -106,7 +106,7 @@ fn scan_line_end<'src>(mode: &Mode<'src>, length: usize) -> Scanned<'src>
 /// Returns an opening delimiter.
 fn scan_opener<'src>(byte: u8, rest: &str) -> Scanned<'src>
     requires { 0 < length rest.now }
-    ensures { scan_answer result ≡ opening byte rest.now }
+    ensures { next_token_of result ≡ opening byte rest.now }
 {
     match byte {
         b'(' => Ok((TokenKind::ParenL, 1)),
@@ -121,7 +121,7 @@ fn scan_opener<'src>(byte: u8, rest: &str) -> Scanned<'src>
 #[tactic(auto, unfolding(justfile_model::specs::Next::fixed_token))]
 fn scan_fixed<'src>(byte: u8, rest: &'src str) -> Scanned<'src>
     requires { IsCharBoundary rest.now 1 }
-    ensures { scan_answer result ≡ fixed_token byte rest.now }
+    ensures { next_token_of result ≡ fixed_token byte rest.now }
 {
     let second = byte_at(rest.as_bytes(), 1);
     match byte {
@@ -160,7 +160,7 @@ fn scan_fixed<'src>(byte: u8, rest: &'src str) -> Scanned<'src>
 #[inline(always)]
 fn scan_doubled<'src>(byte: u8, kind: TokenKind, rest: &'src str) -> Scanned<'src>
     requires { IsCharBoundary rest.now 1 }
-    ensures { scan_answer result ≡ doubled_token byte kind rest.now }
+    ensures { next_token_of result ≡ doubled_token byte kind rest.now }
 {
     if byte_at(rest.as_bytes(), 1) == byte {
         return Ok((kind, 2));
@@ -179,7 +179,7 @@ fn scan_doubled<'src>(byte: u8, kind: TokenKind, rest: &'src str) -> Scanned<'sr
 /// Returns a byte order mark, or an error for another character.
 fn scan_multibyte<'src>(rest: &str) -> Scanned<'src>
     requires { 0 < length rest.now }
-    ensures { scan_answer result ≡ multibyte_token rest.now }
+    ensures { next_token_of result ≡ multibyte_token rest.now }
 {
     match first_char(rest) {
         Some(BYTE_ORDER_MARK) => Ok((TokenKind::ByteOrderMark, BYTE_ORDER_MARK.len_utf8())),
@@ -190,7 +190,7 @@ fn scan_multibyte<'src>(rest: &str) -> Scanned<'src>
 /// Returns a comment or an escaped line end, or an error for another character.
 fn scan_other<'src>(rest: &'src str) -> Scanned<'src>
     requires { 0 < length rest.now }
-    ensures { scan_answer result ≡ other_token rest.now }
+    ensures { next_token_of result ≡ other_token rest.now }
 {
     let bytes = rest.as_bytes();
     match byte_at(bytes, 0) {
@@ -204,7 +204,7 @@ fn scan_other<'src>(rest: &'src str) -> Scanned<'src>
 /// end it is an error.
 fn scan_escaped_line_end<'src>(rest: &str) -> Scanned<'src>
     requires { IsCharBoundary rest.now 1 }
-    ensures { scan_answer result ≡ escaped_line_end rest.now }
+    ensures { next_token_of result ≡ escaped_line_end rest.now }
 {
     let bytes = rest.as_bytes();
     match byte_at(bytes, 1) {
@@ -226,7 +226,7 @@ fn scan_escaped_line_end<'src>(rest: &str) -> Scanned<'src>
 /// Returns the next token of a body, outside of interpolations.
 #[tactic(auto, unfolding(justfile_model::specs::Next::body_token))]
 fn scan_body<'src>(bytes: &[u8]) -> Scanned<'src>
-    ensures { scan_answer result ≡ body_token bytes.now }
+    ensures { next_token_of result ≡ body_token bytes.now }
 {
     let length = raw_len(RawText::Body, bytes);
     if length > 0 {

@@ -1,7 +1,7 @@
 ghost use Rattle.std.specs.Prelude.{◌≡◌, ◌<◌, Err, length};
 ghost use Rattle.justfile_model.specs.LexicalFault.{Here};
 ghost use Rattle.justfile_model.specs.Next.{unknown};
-ghost use Rattle.justfile_lex.specs.Scanned.{scan_fault, scan_answer};
+ghost use Rattle.justfile_lex.specs.Scanned.{scan_fault, next_token_of};
 
 use crate::bytes::first_char;
 use crate::lexical_fault::LexicalFault;
@@ -23,7 +23,7 @@ pub(crate) type Scanned<'src> = Result<(TokenKind, usize), ScanError<'src>>;
 /// Returns the error for a character that doesn't begin a token.
 pub(crate) fn refuse_character<'src>(rest: &str) -> Scanned<'src>
     requires { 0 < length rest.now }
-    ensures { scan_answer result ≡ unknown rest.now }
+    ensures { next_token_of result ≡ unknown rest.now }
 {
     match first_char(rest) {
         Some(start) => refuse(
@@ -37,7 +37,7 @@ pub(crate) fn refuse_character<'src>(rest: &str) -> Scanned<'src>
 
 /// Returns an error for the `length` bytes of the rest after the first `skip` ones.
 pub(crate) fn refuse<'src>(fault: LexicalFault<'src>, skip: usize, length: usize) -> Scanned<'src>
-    ensures { scan_answer result ≡ Err (Here (scan_fault fault.entry) skip length) }
+    ensures { next_token_of result ≡ Err (Here (scan_fault fault.entry) skip length) }
 {
     Err(ScanError {
         fault,

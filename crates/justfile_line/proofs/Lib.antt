@@ -1,4 +1,4 @@
 pub mod Bodies
+mod EqualBytes
 pub mod Equalities
-pub mod Loops
 pub mod SigilLaws

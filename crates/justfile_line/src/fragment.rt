@@ -1,5 +1,7 @@
-ghost use Rattle.std.specs.Prelude.{OnOk, OnErr, ◌++◌, codes};
+//! Fragments of body lines: texts and interpolations.
+ghost use Rattle.std.specs.Prelude.{◌++◌, codes};
 ghost use Rattle.justfile_model.specs.Printing.{fixed_text, fragment_text};
+ghost use Rattle.justfile_expression.specs.Sink.{Puts};
 ghost use Rattle.justfile_line.specs.Body.{fragment_shape};
 
 use justfile_expression::{Expression, Sink, put_piece, write_expression};
@@ -67,8 +69,8 @@ impl fmt::Debug for Fragment<'_> {
 
 /// Writes the text of a fragment.
 pub(crate) fn write_fragment<S: Sink>(fragment: &Fragment<'_>, sink: &mut S) -> Result<(), S::Fault>
-    ensures ok { OnOk result (S.took sink.old (fragment_text (fragment_shape fragment.now)) sink.new) }
-    ensures err { OnErr result (S.failed sink.old (fragment_text (fragment_shape fragment.now)) sink.new) }
+    ensures { Puts S.took S.failed sink.old result
+        (fragment_text (fragment_shape fragment.now)) sink.new }
 {
     match fragment {
         Fragment::Interpolation { expression } => {
@@ -83,8 +85,7 @@ pub(crate) fn write_fragment<S: Sink>(fragment: &Fragment<'_>, sink: &mut S) -> 
 /// Writes `{{` and a space.
 #[tactic(auto, unfolding(justfile_model::specs::Printing::fixed_text))]
 fn write_interpolation_start<S: Sink>(sink: &mut S) -> Result<(), S::Fault>
-    ensures ok { OnOk result (S.took sink.old (fixed_text (codes "{{ ")) sink.new) }
-    ensures err { OnErr result (S.failed sink.old (fixed_text (codes "{{ ")) sink.new) }
+    ensures { Puts S.took S.failed sink.old result (fixed_text (codes "{{ ")) sink.new }
 {
     put_piece("{{ ", sink)
 }
@@ -92,8 +93,7 @@ fn write_interpolation_start<S: Sink>(sink: &mut S) -> Result<(), S::Fault>
 /// Writes a space and `}}`.
 #[tactic(auto, unfolding(justfile_model::specs::Printing::fixed_text))]
 fn write_interpolation_end<S: Sink>(sink: &mut S) -> Result<(), S::Fault>
-    ensures ok { OnOk result (S.took sink.old (fixed_text (codes " }}")) sink.new) }
-    ensures err { OnErr result (S.failed sink.old (fixed_text (codes " }}")) sink.new) }
+    ensures { Puts S.took S.failed sink.old result (fixed_text (codes " }}")) sink.new }
 {
     put_piece(" }}", sink)
 }

@@ -1,8 +1,10 @@
-ghost use Rattle.std.specs.Prelude.{◌≡◌, ◌↔◌, OnOk, OnErr, IfOk, IsTrue};
+//! Lines of bodies.
+ghost use Rattle.std.specs.Prelude.{◌≡◌, ◌↔◌, IfOk, IsTrue};
 ghost use Rattle.std.specs.List.{Contains};
 ghost use Rattle.std.specs.Option.{option_copied};
 ghost use Rattle.justfile_vocabulary.specs.Indentation.{indentation_text};
 ghost use Rattle.justfile_model.specs.Printing.{ends_in_return, line_text, printable_fragments};
+ghost use Rattle.justfile_expression.specs.Sink.{Puts};
 ghost use Rattle.justfile_line.specs.Copies.{IsSameLine};
 ghost use Rattle.justfile_line.specs.Body.{fragment_shapes, fragments_text, line_shape};
 ghost use Rattle.justfile_line.specs.Line.{IsComment, IsContinuation, IsEmpty, IsShebang, HasSigil, first_text, last_text};
@@ -152,8 +154,8 @@ pub fn write_line<S: Sink>(
     indentation: Indentation,
     sink: &mut S,
 ) -> Result<(), S::Fault>
-    ensures ok { OnOk result (S.took sink.old (line_text (indentation_text indentation) (line_shape line.now)) sink.new) }
-    ensures err { OnErr result (S.failed sink.old (line_text (indentation_text indentation) (line_shape line.now)) sink.new) }
+    ensures { Puts S.took S.failed sink.old result
+        (line_text (indentation_text indentation) (line_shape line.now)) sink.new }
 {
     if line.is_empty() {
         return Ok(());
@@ -165,8 +167,7 @@ pub fn write_line<S: Sink>(
 
 /// Writes an indentation, the default one in one piece.
 fn write_indentation<S: Sink>(indentation: Indentation, sink: &mut S) -> Result<(), S::Fault>
-    ensures ok { OnOk result (S.took sink.old (indentation_text indentation) sink.new) }
-    ensures err { OnErr result (S.failed sink.old (indentation_text indentation) sink.new) }
+    ensures { Puts S.took S.failed sink.old result (indentation_text indentation) sink.new }
 {
     if indentation == Indentation::default() {
         return sink.put("    ");
@@ -176,8 +177,7 @@ fn write_indentation<S: Sink>(indentation: Indentation, sink: &mut S) -> Result<
 
 /// Writes an indentation, one blank at a time.
 fn write_blanks<S: Sink>(indentation: Indentation, sink: &mut S) -> Result<(), S::Fault>
-    ensures ok { OnOk result (S.took sink.old (indentation_text indentation) sink.new) }
-    ensures err { OnErr result (S.failed sink.old (indentation_text indentation) sink.new) }
+    ensures { Puts S.took S.failed sink.old result (indentation_text indentation) sink.new }
 {
     let blank = indentation.blank();
     for _i in 0..indentation.count() {
@@ -188,8 +188,7 @@ fn write_blanks<S: Sink>(indentation: Indentation, sink: &mut S) -> Result<(), S
 
 /// Writes the texts of fragments.
 fn write_fragments<S: Sink>(fragments: &[Fragment<'_>], sink: &mut S) -> Result<(), S::Fault>
-    ensures ok { OnOk result (S.took sink.old (fragments_text fragments.now) sink.new) }
-    ensures err { OnErr result (S.failed sink.old (fragments_text fragments.now) sink.new) }
+    ensures { Puts S.took S.failed sink.old result (fragments_text fragments.now) sink.new }
 {
     for fragment in fragments {
         write_fragment(fragment, sink)?;

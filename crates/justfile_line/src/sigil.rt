@@ -1,3 +1,5 @@
+//! The sigils at the front of body lines.
+
 /// A mark at the front of a body line that changes how the line is run.
 #[derive(Clone, Copy, Debug, PartialEq, Eq, PartialOrd, Ord)]
 pub enum Sigil {

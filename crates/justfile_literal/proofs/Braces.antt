@@ -26,7 +26,7 @@ escape_at bs h =
     let second : is_interpolation_start (drop 2 bs) ≡ true = grind (arith, h) in
     starts bs first ∙ ap (λ l. two ++ l) (starts (drop 2 bs) second)
 
--- where four braces are not at the front, the test says so
+-- the test fails if there aren't four braces at the front
 not_escape : (bs : List ℕ) → LacksTextAt four bs 0 → is_interpolation_escape bs ≡ false
 not_escape bs lacks = go (is_interpolation_escape bs) refl
   where
@@ -37,14 +37,14 @@ not_escape bs lacks = go (is_interpolation_escape bs) refl
 one_kept : (b : ℕ) (bs : List ℕ) → LacksTextAt four (b ∷ bs) 0 → unescaped_braces (b ∷ bs) ≡ b ∷ unescaped_braces bs
 one_kept b bs lacks = ap (λ (t : Bool). if t then two ++ unescaped_from 3 bs else b ∷ unescaped_braces bs) (not_escape (b ∷ bs) lacks)
 
--- what stands before the first match is kept
+-- the text before the first match is kept
 before_match : (s : List ℕ) (a : ℕ) → ((i : ℕ) → i < a → LacksTextAt four s i) → unescaped_braces s ≡ take a s ++ unescaped_braces (drop a s)
 before_match s zero lacks = refl
 before_match [] (suc a) lacks = refl
 before_match (b ∷ bs) (suc a) lacks =
     one_kept b bs (lacks 0 (omega arith)) ∙ ap (λ l. b ∷ l) (before_match bs a (λ i l. lacks (suc i) (omega (arith, l))))
 
--- and all of a text with no match
+-- a text without a match is kept
 no_match : (s : List ℕ) → ((i : ℕ) → i ≤ length s → LacksTextAt four s i) → unescaped_braces s ≡ s
 no_match [] lacks = refl
 no_match (b ∷ bs) lacks =

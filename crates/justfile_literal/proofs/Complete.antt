@@ -45,7 +45,7 @@ many_digits hex rest h e =
 apart : (c value k : ℕ) → named c ≡ Some value → named k ≡ None → c ≢ k
 apart c value k h n e = let same = ap named e in absurd (cc)
 
--- a character that begins no other escape
+-- a character that doesn't begin another escape
 plain_escape : (c : ℕ) (rest : List ℕ) (value : Option ℕ) → c ≢ 117 → c ≢ 13 → c ≢ 10 → named c ≡ value → escape_piece (c ∷ rest) ≡ known c value rest
 plain_escape c rest value u r l e =
     cond-false _ _ _ (ne_eqb c 117 u) ∙ cond-false _ _ _ (ne_eqb c 13 r) ∙ cond-false _ _ _ (ne_eqb c 10 l) ∙ ap (λ (o : Option ℕ). known c o rest) e

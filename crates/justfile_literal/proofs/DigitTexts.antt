@@ -33,7 +33,7 @@ hex_stops cs n le most h stop =
     let len = length-take-le n cs le in
     sym (ap (hex_upto 7) (sym (take-append-drop n cs)) ∙ hex_is 7 (take n cs) (drop n cs) h (omega arith) (λ l. stop (omega arith)) ∙ len)
 
--- a run of digits ends where the characters so far have been yielded and the next is no digit
+-- a run of digits ends after the characters so far, if the next one isn't a digit
 pub stop_here : (cs ys : List ℕ) (n c : ℕ) → n ≡ length ys → (length ys < length cs) × (c ≡ get_or cs (length ys) c) → n ≤ 7 → AreHex (take n cs) → (n < 7 → is_ascii_hexdigit c ≡ false) → n ≡ hex_upto 7 cs
 stop_here cs ys n c e t most h stop =
     let is : c ≡ get_or cs n c = rw e t.1 in
@@ -49,7 +49,7 @@ go_on_here cs ys n c e t h is =
 hex_ascii : (c : ℕ) → is_ascii_hexdigit c ≡ true → c < 128
 hex_ascii c e = grind (arith, nat_tests)
 
--- so many digits are as many bytes
+-- each digit is one byte
 digits_cut : (cs : List ℕ) (n : ℕ) → AreHex (take n cs) → n ≤ length cs → (take n (encode_utf8_all cs) ≡ take n cs) × (drop n (encode_utf8_all cs) ≡ encode_utf8_all (drop n cs))
 digits_cut cs zero h le = (refl, refl)
 digits_cut [] (suc n) h le = absurd (omega arith)
@@ -124,7 +124,7 @@ no_plus : (hex : List ℕ) → AreHex hex → get_or hex 0 0 ≢ 43
 no_plus [] h e = absurd (omega arith)
 no_plus (c ∷ hex) h e = absurd (cc (subst (λ (x : ℕ). is_ascii_hexdigit x ≡ true) e h.0))
 
--- where the digits are not read, their number is no character's
+-- if the digits aren't read as a number, their number isn't that of a character
 pub not_read : {E : Type 0} → (hex : List ℕ) (r : Result ℕ E) (e : E) → AreHex hex → 0 < length hex → ParsesUnsigned 32 16 hex r → r ≡ Err e → IsScalar (digits_value 16 hex) → ⊥
 not_read hex r e h some p is scalar =
     let plain = without_leading_plus_none hex (no_plus hex h) in

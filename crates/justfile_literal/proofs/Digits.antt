@@ -4,7 +4,7 @@ use Rattle.std.specs.List.{prefix_len}
 use Rattle.std.specs.Char.{is_ascii_hexdigit}
 use Rattle.justfile_model.specs.Cook.{AreHex}
 
--- the digits at the front, so many at most
+-- the number of digits at the front, at most `most`
 abbrev pub hex_upto : ℕ → List ℕ → ℕ
 hex_upto most cs = prefix_len is_ascii_hexdigit (take most cs)
 
@@ -13,7 +13,7 @@ abbrev pub is_hex_head : List ℕ → Bool
 is_hex_head [] = false
 is_hex_head (c ∷ cs) = is_ascii_hexdigit c
 
--- what the count says
+-- the number of digits at the front is `n`
 pub record HexFront (most : ℕ) (cs : List ℕ) (n : ℕ) : Type 0 where
   pub bound : n ≤ most
   pub front : AreHex (take n cs)

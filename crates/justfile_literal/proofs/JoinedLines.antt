@@ -20,7 +20,7 @@ later_is run front lines middle last e =
     append_assoc front (flat_map (middle_line run) (map now middle)) (outer_line run last.now)
     ∙ ap (λ v. front ++ v) (sym (ap (λ ls. later_lines run (map now ls)) e ∙ ap (later_lines run) (map_push now middle last) ∙ later_push run (map now middle) last.now))
 
--- what is known of a call that went well
+-- the effect of a call that succeeded
 pub where_ok : {X E : Type 0} (r : Result X E) (after good before : List ℕ) → after ≡ (if is_ok r then good else before) → OnOk r (after ≡ good)
 where_ok (Ok _) after good before e = e
 where_ok (Err _) after good before e = tt

@@ -9,7 +9,7 @@ use Rattle.justfile_literal.proofs.PieceSound.{Begins, Breaks, Means, piece_mean
 use Rattle.justfile_literal.proofs.Texts.{broken, cooks, made, refused}
 use Rattle.justfile_literal.proofs.PieceLists.{Made, begins_shorter, broken_first, made_empty, whole_more}
 
--- the answer for the rest is the answer for the text, with what is cooked so far before it
+-- the result for the rest is the result for the text, after the cooked text so far
 pub record Leads (text done rest : List ℕ) : Type 0 where
   pub cooked : (out : List ℕ) → Cooks rest out → Cooks text (done ++ out)
   pub refused : (fault : EscapeFault) → Refused rest fault → Refused text fault

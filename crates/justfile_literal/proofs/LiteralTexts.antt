@@ -17,7 +17,7 @@ use Rattle.justfile_token.specs.declared.compile_error_kind.CompileErrorKind.The
 use Rattle.justfile_model.specs.EscapeFault.{EscapeFault, escape_fault_of}
 use Rattle.justfile_literal.proofs.Texts.{cooked_complete, fault_complete}
 
--- so many bytes at the two ends leave a text, with a byte of ASCII on either side of it
+-- without this many bytes at its two ends, the lexeme is a text between two ASCII bytes
 pub record IsFramed (front end : ℕ) (lexeme : List ℕ) : Type 0 where
   pub long : front + end ≤ length lexeme
   pub before : slice_index lexeme (front - 1) < 128

@@ -74,7 +74,7 @@ read_is (suc most) (c ∷ cs) le = first (first_escaped_piece c cs) (piece_means
     first (Ok x) m more = whole_more (c ∷ cs) x.1 x.0 (cook_within most x.1) m (more x.1 (omega (arith, begins_shorter (c ∷ cs) x.1 x.0 m)))
     first (Err fault) m more = broken_first (c ∷ cs) fault m
 
--- what is read, said of the first piece
+-- the cooked text, by its first piece
 from_front : (most : ℕ) (cs : List ℕ) → 0 < length cs → cook_within (suc most) cs ≡ go_on (cook_within most) (front cs)
 unfolding cook_within
 from_front most [] h = absurd (omega arith)

@@ -1,5 +1,6 @@
 -- The results of cooking a token that is a literal.
 use Rattle.std.specs.Prelude.{◌≡◌, ℕ, ◌+◌, ◌-◌, Bool, false, ◌&&◌, nat_lt, nat_le, List, length, slice_index, Option, Some, None, Result, Ok, Err, option_map, string_bytes}
+use Rattle.justfile_vocabulary.specs.ByteNames as byte
 use Rattle.justfile_token.specs.StringKind.{kind_of, delimiter_len}
 use Rattle.justfile_token.specs.Token.{lexeme_of}
 use Rattle.justfile_token.specs.declared.compile_error.CompileError.{CompileError}
@@ -16,7 +17,7 @@ use Rattle.justfile_model.specs.Literals.{Expansions, LiteralFault, Escape, Refu
 
 -- the lexeme has `front` bytes before its text and `end` bytes after it, and the bytes next to the text are ASCII
 abbrev pub is_framed : (front end : ℕ) → List ℕ → Bool
-is_framed front end lexeme = nat_le (front + end) (length lexeme) && nat_lt (slice_index lexeme (front - 1)) 128 && nat_lt (slice_index lexeme (length lexeme - end)) 128
+is_framed front end lexeme = nat_le (front + end) (length lexeme) && nat_lt (slice_index lexeme (front - 1)) byte.after_ascii && nat_lt (slice_index lexeme (length lexeme - end)) byte.after_ascii
 
 -- the lexeme has a delimiter at each end
 abbrev pub is_quoted : List ℕ → Bool

@@ -7,7 +7,7 @@ use std::alloc::{AllocError, Global};
 
 /// Returns the text without the indentation that its lines share.
 ///
-/// Lines of white space don't count for the indentation. Such a line is removed if it is the first
+/// Lines of whitespace don't count for the indentation. Such a line is removed if it is the first
 /// or the last one, and otherwise keeps its line end.
 #[tactic(auto, using(crate::proofs::SharedFronts::all_indented), unfolding(justfile_model::specs::Unindent::unindented))]
 pub fn unindent(alloc: Global, text: &str) -> Result<String, AllocError>
@@ -110,7 +110,7 @@ fn find_indentation<'text>(lines: &[&'text str]) -> &'text str
     shared.unwrap_or("")
 }
 
-/// Whether the line consists of white space.
+/// Whether the line consists of whitespace.
 fn is_blank_line(line: &str) -> bool
     ensures { result ≡ is_blank_line line.now }
 {

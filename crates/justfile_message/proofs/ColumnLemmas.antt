@@ -16,7 +16,7 @@ use Rattle.std.proofs.lemmas.List.Sums.{sum_by-append}
 use Rattle.std.proofs.lemmas.Str.{IsUtf8-past_char, chars_past_char, chars-nil}
 use Rattle.justfile_message.specs.Columns.{is_among, placed_from, width_among, width_of}
 
--- the text behind an optional reference, or that of the other one where it is empty
+-- the text of an optional reference, or the empty text of the other one if there is none
 pub now-unwrap_or : (o : Option (Bor (List ℕ))) (other : Bor (List ℕ)) (text : Option (List ℕ))
     → option_map (λ r. r.now) o ≡ text → other.now ≡ [] → (unwrap_or o other).now ≡ unwrap_or text []
 now-unwrap_or None other text same empty = empty ∙ ap (λ t. unwrap_or t []) same
@@ -45,11 +45,11 @@ width_among-append start count xs ys =
     ap (sum_by (λ p. width_of p.1)) (filter-append (λ p. is_among start count p.0) xs ys)
     ∙ sum_by-append (λ p. width_of p.1) (filter (λ p. is_among start count p.0) xs) (filter (λ p. is_among start count p.0) ys)
 
--- one character counts where its place is among those of interest
+-- a character counts if its place is in the range
 pub width_among-in : (start count : ℕ) (p : ℕ × ℕ) → is_among start count p.0 ≡ true → width_among start count (p ∷ []) ≡ width_of p.1
 width_among-in start count p inside = ap (λ (b : Bool). sum_by (λ (q : ℕ × ℕ). width_of q.1) (if b then p ∷ [] else [])) inside ∙ zero-add (width_of p.1)
 
--- with one more character
+-- a character in the range adds its width
 pub width_among-push_in : (start count : ℕ) (xs : List (ℕ × ℕ)) (p : ℕ × ℕ) → is_among start count p.0 ≡ true
     → width_among start count (xs ++ p ∷ []) ≡ width_among start count xs + width_of p.1
 width_among-push_in start count xs p inside =
@@ -67,7 +67,7 @@ width_among-front start count all xs p front turn =
     let same = ap (width_among start count) pushed in
     omega (arith, whole, same)
 
--- at least one caret
+-- at least one repetition: the same number if it isn't 0, and one otherwise
 pub repeat-max : {A : Type 0} (n : ℕ) (xs : List A) → 0 < n → repeat (max 1 n) xs ≡ repeat n xs
 repeat-max n xs some = let same : max 1 n ≡ n = omega arith in ap (λ k. repeat k xs) same
 
@@ -78,7 +78,7 @@ repeat-max_none n xs none = let one : max 1 n ≡ 1 = omega arith in ap (λ k. r
 pub length-decimal_step : (n : ℕ) → 10 ≤ n → n < 10 ^ 64 → length (decimal n) ≡ length (decimal (n / 10)) + 1
 length-decimal_step n more fits = ap length (decimal_step_wide n more fits) ∙ length-append (decimal (n / 10)) ((48 + n % 10) ∷ [])
 
--- what is written whatever the options of the formatter are is written by a plain one
+-- a text that is written with any options of the formatter is written by a plain formatter
 module _ {W : Type 0} (took : W → List ℕ → W → Type 0) where
   pub has_written_from_styled : (f g : Formatter W) (text : List ℕ) → IsPlainFormatter f → HasWrittenStyled took f text g → HasWritten took f text g
   has_written_from_styled f g text plain written = record {

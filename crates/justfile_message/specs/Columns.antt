@@ -2,6 +2,7 @@
 use Rattle.std.specs.Prelude.{ℕ, ◌+◌, Bool, false, ◌&&◌, ◌==◌, nat_lt, nat_le, List, [], ◌∷◌, length, chars, codes, encode_utf8, filter, flat_map, slice_get, sum_by, unwrap_or, if◌then◌else◌}
 use Rattle.std.specs.Str.Lines.{lines}
 use Rattle.unicode_width.specs.Width.{char_width}
+use Rattle.justfile_vocabulary.specs.ByteNames as byte
 
 -- the line with this number, from 0, without its line end; empty if the text has no such line
 abbrev pub line_at : List ℕ → ℕ → List ℕ
@@ -9,7 +10,7 @@ line_at text number = unwrap_or (slice_get (lines text) number) []
 
 -- a character as messages show it: a tab shows as four spaces
 abbrev pub shown_character : ℕ → List ℕ
-shown_character c = if c == 9 then codes "    " else encode_utf8 c
+shown_character c = if c == byte.tab then codes "    " else encode_utf8 c
 
 -- a line as messages show it
 abbrev pub shown_line : List ℕ → List ℕ
@@ -17,7 +18,7 @@ shown_line line = flat_map shown_character (chars line)
 
 -- the number of columns that a character takes on the screen; 0 for a character without a width
 abbrev pub width_of : ℕ → ℕ
-width_of c = if c == 9 then 4 else unwrap_or (char_width false c) 0
+width_of c = if c == byte.tab then 4 else unwrap_or (char_width false c) 0
 
 -- the characters, each with its byte position, if the first one is at the given position
 abbrev pub placed_from : ℕ → List ℕ → List (ℕ × ℕ)

@@ -74,7 +74,8 @@ pub fn write_columns<W: fmt::Write>(
     text: &str,
     f: &mut fmt::Formatter<W>,
 ) -> fmt::Result
-    ensures { DisplaysOnOk W.write_str_gives f.old result (Some (repeat (width_in line.now start count) text.now)) f.new }
+    ensures { DisplaysOnOk W.write_str_gives f.old result
+        (Some (repeat (width_in line.now start count) text.now)) f.new }
 {
     for (place, character) in line.char_indices() {
         if is_among(place, start, count) {
@@ -106,7 +107,8 @@ pub fn write_carets<W: fmt::Write>(
     count: usize,
     f: &mut fmt::Formatter<W>,
 ) -> fmt::Result
-    ensures { DisplaysOnOk W.write_str_gives f.old result (Some (repeat (max 1 (width_in line.now start count)) (codes "^"))) f.new }
+    ensures { DisplaysOnOk W.write_str_gives f.old result
+        (Some (repeat (max 1 (width_in line.now start count)) (codes "^"))) f.new }
 {
     if has_width(line, start, count) {
         write_columns(line, start, count, "^", f)

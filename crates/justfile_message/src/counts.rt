@@ -49,7 +49,8 @@ impl fmt::Display for Taken {
 struct ArgumentRange<'a>(&'a RangeInclusive<usize>);
 
 impl fmt::Display for ArgumentRange<'_> {
-    ghost output = { λ range. Some (range_text (range_inclusive_start range.0.now) (range_inclusive_end range.0.now)) };
+    ghost output = { λ range.
+        Some (range_text (range_inclusive_start range.0.now) (range_inclusive_end range.0.now)) };
 
     fn fmt<W: fmt::Write>(&self, f: &mut fmt::Formatter<W>) -> fmt::Result {
         let (least, most) = (*self.0.start(), *self.0.end());
@@ -73,7 +74,8 @@ pub fn write_count_mismatch<A: fmt::Display, W: fmt::Write>(
     f: &mut fmt::Formatter<W>,
 ) -> fmt::Result
     ensures { DisplaysOnOk W.write_str_gives f.old result
-        (Some before.now ++? A.output taker.now ++? Some (codes "` got " & arguments_text found & codes " but takes "
+        (Some before.now ++? A.output taker.now
+        ++? Some (codes "` got " & arguments_text found & codes " but takes "
         & taken_text found min max)) f.new }
 {
     let taken = Taken { found, min, max };
@@ -84,7 +86,8 @@ pub fn write_count_mismatch<A: fmt::Display, W: fmt::Write>(
 /// Writes that attributes are before something that takes none. The message ends with the noun,
 /// without the count.
 pub fn write_extraneous<W: fmt::Write>(count: usize, f: &mut fmt::Formatter<W>) -> fmt::Result
-    ensures { DisplaysOnOk W.write_str_gives f.old result (Some (codes "extraneous " & noun_text (codes "attribute") count)) f.new }
+    ensures { DisplaysOnOk W.write_str_gives f.old result
+        (Some (codes "extraneous " & noun_text (codes "attribute") count)) f.new }
 {
     write!(f, "extraneous {}", Count::unnumbered("attribute", count))
 }
@@ -99,7 +102,8 @@ pub fn write_function_mismatch<W: fmt::Write>(
     ensures { DisplaysOnOk W.write_str_gives f.old result
         (Some (codes "function `" & function.now & codes "` called with " & arguments_text arguments
         & codes " but takes "
-        & range_text (range_inclusive_start expected.now) (range_inclusive_end expected.now))) f.new }
+        & range_text (range_inclusive_start expected.now) (range_inclusive_end expected.now)))
+        f.new }
 {
     let (arguments, expected) = (Arguments(arguments), ArgumentRange(expected));
     write!(

@@ -8,7 +8,8 @@ use std::fmt;
 
 /// Writes names, each after an arrow.
 fn write_arrows<W: fmt::Write>(names: &[&str], f: &mut fmt::Formatter<W>) -> fmt::Result
-    ensures { DisplaysOnOk W.write_str_gives f.old result (Some (flat_map arrow_name names.now)) f.new }
+    ensures { DisplaysOnOk W.write_str_gives f.old result
+        (Some (flat_map arrow_name names.now)) f.new }
 {
     for name in names {
         f.write_str(" -> ")?;
@@ -39,7 +40,8 @@ pub fn write_recipe_circle<W: fmt::Write>(
     circle: &[&str],
     f: &mut fmt::Formatter<W>,
 ) -> fmt::Result
-    ensures { DisplaysOnOk W.write_str_gives f.old result (Some (recipe_circle_text recipe.now circle.now)) f.new }
+    ensures { DisplaysOnOk W.write_str_gives f.old result
+        (Some (recipe_circle_text recipe.now circle.now)) f.new }
 {
     if circle.len() == 2 {
         write!(f, "recipe `{recipe}` depends on itself")
@@ -58,7 +60,8 @@ pub fn write_variable_circle<W: fmt::Write>(
     circle: &[&str],
     f: &mut fmt::Formatter<W>,
 ) -> fmt::Result
-    ensures { DisplaysOnOk W.write_str_gives f.old result (Some (variable_circle_text variable.now circle.now)) f.new }
+    ensures { DisplaysOnOk W.write_str_gives f.old result
+        (Some (variable_circle_text variable.now circle.now)) f.new }
 {
     if circle.len() == 2 {
         write!(f, "variable `{variable}` is defined in terms of itself")

@@ -36,7 +36,8 @@ pub fn write_redefinition<W: fmt::Write>(
     line: usize,
     f: &mut fmt::Formatter<W>,
 ) -> fmt::Result
-    ensures { DisplaysOnOk W.write_str_gives f.old result (Some (redefinition_text first_type name.now first second_type line)) f.new }
+    ensures { DisplaysOnOk W.write_str_gives f.old result
+        (Some (redefinition_text first_type name.now first second_type line)) f.new }
 {
     let (first, line) = (LineNumber(first), LineNumber(line));
     if first_type == second_type {
@@ -60,7 +61,8 @@ pub fn write_around<A: fmt::Display, W: fmt::Write>(
     after: &str,
     f: &mut fmt::Formatter<W>,
 ) -> fmt::Result
-    ensures { DisplaysOnOk W.write_str_gives f.old result (Some before.now ++? A.output value.now ++? Some after.now) f.new }
+    ensures { DisplaysOnOk W.write_str_gives f.old result
+        (Some before.now ++? A.output value.now ++? Some after.now) f.new }
 {
     write!(f, "{before}{value}{after}")
 }
@@ -91,7 +93,8 @@ pub fn write_duplicate<A: fmt::Display, W: fmt::Write>(
     f: &mut fmt::Formatter<W>,
 ) -> fmt::Result
     ensures { DisplaysOnOk W.write_str_gives f.old result
-        (Some before.now ++? A.output value.now ++? Some after.now ++? Some (duplicate_text first line)) f.new }
+        (Some before.now ++? A.output value.now ++? Some after.now
+        ++? Some (duplicate_text first line)) f.new }
 {
     let (first, line) = (LineNumber(first), LineNumber(line));
     write!(
@@ -143,7 +146,8 @@ pub fn write_inconsistent<W: fmt::Write>(
     f: &mut fmt::Formatter<W>,
 ) -> fmt::Result
     ensures { DisplaysOnOk W.write_str_gives f.old result
-        (Some (codes "recipe line has inconsistent leading whitespace, started with `" & blanks_text expected.now
+        (Some (codes "recipe line has inconsistent leading whitespace, started with `"
+        & blanks_text expected.now
         & codes "` but found line with `" & blanks_text found.now & codes "`")) f.new }
 {
     let (expected, found) = (Blanks(expected), Blanks(found));
@@ -161,7 +165,8 @@ pub fn write_invalid_attribute<W: fmt::Write>(
     f: &mut fmt::Formatter<W>,
 ) -> fmt::Result
     ensures { DisplaysOnOk W.write_str_gives f.old result
-        (Some (item_kind_text item_kind & codes " `" & item_name.now & codes "` has invalid attribute `"
+        (Some (item_kind_text item_kind & codes " `" & item_name.now
+        & codes "` has invalid attribute `"
         & attribute_name attribute & codes "`")) f.new }
 {
     let attribute = attribute.name();
@@ -179,7 +184,8 @@ pub fn write_invalid_count<A: fmt::Display, W: fmt::Write>(
     f: &mut fmt::Formatter<W>,
 ) -> fmt::Result
     ensures { DisplaysOnOk W.write_str_gives f.old result
-        (Some (codes "invalid `") ++? A.output key.now ++? Some (codes "` value `" & string_bytes value.now
+        (Some (codes "invalid `") ++? A.output key.now
+        ++? Some (codes "` value `" & string_bytes value.now
         & codes "`: " & source.now)) f.new }
 {
     write!(f, "invalid `{key}` value `{value}`: {source}")
@@ -192,7 +198,8 @@ pub fn write_invalid_version<W: fmt::Write>(
     f: &mut fmt::Formatter<W>,
 ) -> fmt::Result
     ensures { DisplaysOnOk W.write_str_gives f.old result
-        (Some (codes "`minimum-version` setting has invalid version `" & string_bytes version.now & codes "`: "
+        (Some (codes "`minimum-version` setting has invalid version `" & string_bytes version.now
+        & codes "`: "
         & source.now)) f.new }
 {
     write!(
@@ -208,7 +215,8 @@ pub fn write_minimum_version<W: fmt::Write>(
     f: &mut fmt::Formatter<W>,
 ) -> fmt::Result
     ensures { DisplaysOnOk W.write_str_gives f.old result
-        (Some (codes "justfile requires just " & version_text minimum.now & codes " or later, but using "
+        (Some (codes "justfile requires just " & version_text minimum.now
+        & codes " or later, but using "
         & version_text current.now)) f.new }
 {
     write!(
@@ -220,7 +228,8 @@ pub fn write_minimum_version<W: fmt::Write>(
 /// Writes that the indentation of a body mixes tabs and spaces.
 pub fn write_mixed<W: fmt::Write>(whitespace: &str, f: &mut fmt::Formatter<W>) -> fmt::Result
     ensures { DisplaysOnOk W.write_str_gives f.old result
-        (Some (codes "found a mix of tabs and spaces in leading whitespace: `" & blanks_text whitespace.now
+        (Some (codes "found a mix of tabs and spaces in leading whitespace: `"
+        & blanks_text whitespace.now
         & codes "`\nleading whitespace may consist of tabs or spaces, but not both")) f.new }
 {
     let whitespace = Blanks(whitespace);
@@ -235,7 +244,8 @@ pub fn write_expected_character<W: fmt::Write>(
     expected: &[char],
     f: &mut fmt::Formatter<W>,
 ) -> fmt::Result
-    ensures { DisplaysOnOk W.write_str_gives f.old result (Some (codes "expected character " & expected_characters expected.now)) f.new }
+    ensures { DisplaysOnOk W.write_str_gives f.old result
+        (Some (codes "expected character " & expected_characters expected.now)) f.new }
 {
     write!(f, "expected character {}", List::or_ticked(expected))
 }
@@ -260,7 +270,8 @@ pub fn write_unexpected_token<W: fmt::Write>(
     f: &mut fmt::Formatter<W>,
 ) -> fmt::Result
     ensures { DisplaysOnOk W.write_str_gives f.old result
-        (Some (codes "expected " & expected_tokens expected.now & codes ", but found " & kind_text found)) f.new }
+        (Some (codes "expected " & expected_tokens expected.now & codes ", but found "
+        & kind_text found)) f.new }
 {
     let expected = List::or(expected);
     write!(f, "expected {expected}, but found {found}")

@@ -28,7 +28,7 @@ given name arguments = bare_attribute name arguments
 abbrev at : Expr (List ℕ) (Unit {0}) → Argument (List ℕ) (Unit {0})
 at value = tree.Positional tt value
 
--- the text of what the attributes mean
+-- the printed text of the meaning of the attributes, or `none` if they have none
 abbrev printed : Option (List (Entry (List ℕ) (Unit {0}))) → List ℕ
 printed None = codes "none"
 printed (Some entries) = entries_text entries

@@ -246,7 +246,7 @@ module _ {R T A B S W : Type 0} (leaves : Leaves R T A B S) (view : R → LeafVi
         either_goes s (accept leaves kinds.Comment s) _ _ (accepts leaves kinds.Comment s) (line_end_goes None s)
         (λ comment. keeps comment.1 _ (line_end_goes (Some comment.0) comment.1))
 
-    -- `put` is how a comment is put to what is kept
+    -- `put` adds a comment to the part of an attribute that is kept
     module _ (put : List ℕ → W → W) where
       lines_rule_keeps : (f : AttributePlace → ReadAttributes) → ((x : AttributePlace) → Keeps x.1 (f x)) → (x : AttributePlace)
           → Keeps x.1 (r.attribute_lines_rule leaves view keep entry_in put f x)
@@ -262,7 +262,7 @@ module _ {R T A B S W : Type 0} (leaves : Leaves R T A B S) (view : R → LeafVi
           (r.attribute_lines_rule leaves view keep entry_in put)
           (λ x found. Keeps x.1 found) (λ x. tt) lines_rule_keeps
 
-      -- no attribute may stand before a construct, and then nothing is taken
+      -- a construct can have no attributes, and then no token is taken
       pub attribute_lines_keep : (s : State R T B) → Keeps s (r.attribute_lines leaves view keep entry_in put s)
       unfolding r.attribute_lines
       attribute_lines_keep s = attribute_lines_from_keep ([], s)

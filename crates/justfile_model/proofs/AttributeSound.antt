@@ -108,7 +108,7 @@ module _ (conditions : Conditions) where
 
   -- ---- an argument after others
 
-  -- an argument that may stand after these
+  -- an argument that can follow these
   record IsArgument (keys : Bool) (name : Tok) (before : List (Argument Tok Tok)) (s : State) (x : ReadArgument) : Type 0 where
     derived : Derived conditions (ArgumentOf keys x.0) (argument_literals x.0) 0 s x.1
     follows : Follows (token_view conditions) name (by_key before) x.0
@@ -141,7 +141,7 @@ module _ (conditions : Conditions) where
       after_bind (reader.placed s) _ (λ o. IfOk o (IsArgument keys name before s)) (λ e. tt)
       (λ x is. ordered_sound keys name before s (reader.some_key (by_key before)) x refl not (known x (PlacedAt s) is (placed_sound s here)))
 
-  -- what stands after a key
+  -- the tokens after a key: its value, or no `=`
   data IsValue : Option (Expr Tok Tok) → List (Noted Tok) → Tokens → Tokens → Type 0 where
     nothing : {rest : Tokens} → NotNext kinds.Equals rest → IsValue None [] rest rest
     value : {e : Expr Tok Tok} {fs : List (Noted Tok)} {equals : SignificantToken} {tokens rest : Tokens} → IsKind kinds.Equals equals
@@ -215,7 +215,7 @@ module _ (conditions : Conditions) where
 
   -- ---- arguments up to the closing parenthesis
 
-  -- more arguments that may stand after those before
+  -- more arguments that can follow the earlier ones
   record AreArguments (keys : Bool) (name : Tok) (x y : reader.ArgumentPlace) : Type 0 where
     others : List (Argument Tok Tok)
     all_are : y.0 ≡ x.0 ++ others

@@ -78,13 +78,13 @@ module _ {A B : Type 0} (view : LeafView A B) (at : B) where
   abbrev pub IsNew : (before : List (KeyArgument A B)) → A → Type 0
   IsNew before key = is_some (at_key view (view.bytes key) before) ≡ false
 
-  -- an argument that may stand after these keys
+  -- an argument that can follow these keys
   abbrev pub Follows : (before : List (KeyArgument A B)) → Argument A B → Type 0
   Follows before (tree.Positional first value) = reader.some_key before ≡ false
   Follows before (tree.Bare key) = IsNew before key
   Follows before (tree.Keyed key value) = IsNew before key
 
-  -- arguments that may stand after these keys
+  -- arguments that can follow these keys
   pub record Follow (before : List (KeyArgument A B)) (all : List (Argument A B)) : Type 0 where
     pub in_order : order_broken view at (reader.some_key before) all ≡ []
     pub distinct : repeats_broken view at before (by_key all) ≡ []

@@ -6,14 +6,14 @@ use Rattle.justfile_model.specs.Meaning.{◌>>=◌}
 pub some_back : {X : Type 0} (x y : X) → Some x ≡ Some y → x ≡ y
 some_back x y e = ap (λ (o : Option _). unwrap_or o x) e
 
--- what holds of the one holds of the other
+-- what holds for one of two equal values holds for the other
 pub of_some_is : {X : Type 0} (P : X → Type 0) (x y : X) → Some x ≡ Some y → P x → P y
 of_some_is P x y e h = subst P (some_back x y e) h
 
 pub never_some : {X P : Type 0} (x : X) → None ≡ Some x → P
 never_some x e = absurd (true≢false (sym (ap is_some e)))
 
--- what is taken first, and what it gives
+-- the value of the first option, and the result that it gives
 pub record Binding {X Y : Type 0} (o : Option X) (p : X → Option Y) (y : Y) : Type 0 where
   pub first : X
   pub is : o ≡ Some first

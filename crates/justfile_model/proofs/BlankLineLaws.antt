@@ -161,7 +161,7 @@ inside_other m rest h none = by m.in_body m.interpolation none
 no_dedent : (found : NextToken) → Other found → found ≡ Ok (kinds.Dedent, 0) → ⊥
 no_dedent found o e = (subst Other e o).other refl
 
--- so many blanks, and then a line end or the end of the text
+-- blanks, and then a line end or the end of the text
 blanks_other : (m : Mode) (blanks follows : List ℕ) → blanks ++ follows ≢ [] → (is_line_end follows ≡ true) ⊎ (follows ≡ []) → m.interpolation ≡ None → Other (blanks_or (length blanks) m (blanks ++ follows))
 blanks_other m (b ∷ bs) follows some ends none = token _ _ (λ e. cc)
 blanks_other m [] follows some (inl ends) none = inside_other m follows ends none

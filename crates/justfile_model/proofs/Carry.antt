@@ -19,7 +19,7 @@ use Rattle.justfile_model.proofs.CarryExpressions.{Same, Pairs, nil, cons, fille
 use Rattle.justfile_model.proofs.CarryHeaders as headers
 use Rattle.justfile_model.proofs.CarryParts as parts
 
--- what becomes of what is kept of tokens
+-- how the projections of tokens are mapped
 pub record Maps (A B C S D E F G : Type 0) : Type 0 where
   pub leaf : A → D
   pub position : B → E
@@ -430,9 +430,9 @@ module _ {A B C S A' B' C' S' D E F G : Type 0} (projection : TokenProjection A 
     line_end (g.file_end kind) us (cons s nil) = record { tree = []; features = []; derives = g.file_end (kind_of s kind); alike = refl; noted_alike = refl }
 
   pub file : {all : List (WrittenItem A B C S)} {fs : List (ConstructFeatures B)} {ts : Tokens} → File projection MayEnter all fs ts → (us : Tokens) → Pairs Rel ts us → ItemsOf (λ x n. File kept' MayEnter' x n us) all fs
-  file (g.marked kind more) us (cons s ss) =
+  file (g.with_byte_order_mark kind more) us (cons s ss) =
       let x = items more _ ss in
-      record { tree = x.tree; features = x.features; derives = g.marked (kind_of s kind) x.derives; alike = x.alike; noted_alike = x.noted_alike }
-  file (g.unmarked more) us s =
+      record { tree = x.tree; features = x.features; derives = g.with_byte_order_mark (kind_of s kind) x.derives; alike = x.alike; noted_alike = x.noted_alike }
+  file (g.without_byte_order_mark more) us s =
       let x = items more us s in
-      record { tree = x.tree; features = x.features; derives = g.unmarked x.derives; alike = x.alike; noted_alike = x.noted_alike }
+      record { tree = x.tree; features = x.features; derives = g.without_byte_order_mark x.derives; alike = x.alike; noted_alike = x.noted_alike }

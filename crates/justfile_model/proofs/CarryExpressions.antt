@@ -35,7 +35,7 @@ pub record First (Rel : SignificantToken → SignificantToken → Type 0) (t : S
 pub first : {Rel : SignificantToken → SignificantToken → Type 0} {t : SignificantToken} {ts us : Tokens} → Pairs Rel (t ∷ ts) us → First Rel t ts us
 first (cons s ss) = record { partner = _; more = _; is = refl; related = s; others = ss }
 
--- ---- what is said of single tokens
+-- ---- conditions on single tokens
 
 pub turned : {t u : SignificantToken} → Same t u → Same u t
 turned s = record { kind = sym s.kind; lexeme = sym s.lexeme; glued = sym s.glued }

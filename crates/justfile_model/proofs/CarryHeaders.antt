@@ -114,7 +114,7 @@ module _ {A B S A' B' S' C D T : Type 0} (leaf : Tok → A) (position : Tok → 
   parameter (g.unexported p) us s =
       let x = named_parameter p us s in rederived x (g.unexported x.derives)
 
-  -- the one that takes several arguments, before the colon
+  -- the parameter that takes several arguments, before the colon
   last_parameter : {kind : ParameterKind} {p : Parameter A B} {fs : List (Noted B)} {ts rest : Tokens} {colon : SignificantToken} (us us2 : Tokens)
       → ParameterOf leaf position MayEnter kind p fs ts (colon ∷ rest) → IsKind kinds.Colon colon → Pairs Rel ts us2
       → ((x : Parameter A' B') (gs : List (Noted B')) (after : Tokens) (u : SignificantToken) → ParameterOf leaf' position' MayEnter' kind x gs us2 (u ∷ after)

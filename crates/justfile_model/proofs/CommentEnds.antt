@@ -1,4 +1,4 @@
--- A comment ends before a line feed: its text has none, and doesn't end in a carriage return.
+-- A comment ends before a line feed: its text has no line feed, and doesn't end in a carriage return.
 use Rattle.std.proofs.Common.{◌≡◌, ℕ, suc, ◌<◌, ◌≤◌, Bool, true, false, cond, eqb, List, [], ◌∷◌, ◌++◌, length, get_or, refl, sym, ap, ◌∙◌, subst, arith, length-append}
 use Rattle.std.specs.Prelude.{◌&&◌, ◌||◌}
 use Rattle.std.specs.Char.{is_whitespace}
@@ -61,7 +61,7 @@ kept_last : (b : Bool) (c : ℕ) → cond (b && true) [] (c ∷ []) ≡ c ∷ []
 kept_last true c h = cc
 kept_last false c h = refl
 
--- characters without white space at their end
+-- characters without whitespace at their end
 pub no_return : (ds : List ℕ) → drop_trailing_whitespace ds ≡ ds → ends_in_return (encodes ds) ≡ false
 no_return [] h = refl
 no_return (c ∷ []) h = char_end c (kept_last (is_whitespace c) c h)
@@ -72,14 +72,14 @@ no_return (c ∷ d ∷ ds) h =
 
 -- ---- texts without a line feed
 
--- the text ends before a line feed, whatever follows it
+-- a comment with this text ends before a line feed, with any text after it
 abbrev pub EndsBeforeFeed : List ℕ → Type 0
 EndsBeforeFeed t = (more : List ℕ) → raw_len raw_texts.Comment (t ++ (10 ∷ more)) ≡ length t
 
 abbrev pub NoFeeds : List ℕ → Type 0
 NoFeeds t = AllByRecursion (λ b. eqb b 10 ≡ false) t
 
--- what a comment reaches over has none
+-- the bytes of a comment have no line feed
 step_back : (a b c : Bool) (n m : ℕ) → suc m ≤ cond (a || (b && c)) 0 (suc n) → (a ≡ false) × (m ≤ n)
 step_back true b c n m h = absurd (omega arith)
 step_back false true true n m h = absurd (omega arith)

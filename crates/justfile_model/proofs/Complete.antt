@@ -35,7 +35,7 @@ use Rattle.justfile_model.specs.ReaderState.{Counters, ◌>>=◌, accepted, comm
 use Rattle.std.specs.Option.{option_map}
 use Rattle.justfile_model.specs.Reader as reader
 use Rattle.justfile_model.specs.PartReader.{after_numbered, setting_keyword, setting_value}
-use Rattle.justfile_model.specs.Reader.{alias, any_module, any_recipe, assignment, at_end, attributes, before_item, construct, constructed, content, entries_read, headed, item_rest, body, body_after, optional_body, body_line, comment_item, next_recipe_number, ended, fragment, function, has_body, import, imported, items, items_rule, line, line_end, line_rest, line_rest_rule, lines, lines_rule, named_module, no_exclusion, on_line, recipe, setting, some_lines, stands_alone, unexport, with_recipes, wordless}
+use Rattle.justfile_model.specs.Reader.{alias, any_module, any_recipe, assignment, at_end, attributes, before_item, construct, constructed, content, entries_read, headed, after_item, body, body_after, optional_body, body_line, comment_item, next_recipe_number, item_end, fragment, function, has_body, import, imported, items, items_rule, line, line_end, line_rest, line_rest_rule, lines, lines_rule, named_module, check_exclusions, any_item, recipe, setting, some_lines, stands_alone, unexport, with_recipes, without_keyword}
 use Rattle.justfile_model.specs.TreeReader.{Read, State, tree_of_tokens, token_attributes, token_leaves, unnumbered}
 use Rattle.justfile_model.proofs.AttributeComplete.{attributes_reached}
 use Rattle.justfile_model.proofs.AttributeCovers as covers
@@ -56,7 +56,7 @@ use Rattle.justfile_model.proofs.Steps.{input, AreNext, accept_taken, accept_lef
 
 -- ---- what comes first
 
--- no end, no comment and no mark comes next, as before a construct
+-- the next token isn't an end, a comment or a byte order mark, as before a construct
 record Begins (ts : Tokens) : Type 0 where
   no_file_end : NotNext kinds.Eof ts
   no_line_end : NotNext kinds.Eol ts
@@ -225,7 +225,7 @@ module _ (conditions : Conditions) (Hit : Option SignificantToken → Type 0) wh
   unfolding body
   body_reached ns {ls = ls} {fs = fs} {rest = rest} h some = rw (trimmed_literals ls) (pass conditions Hit _ (lines_reached ns h) (some_read (trimmed ls) (input conditions 0 rest (ns ++ fs)) some))
 
-  -- a body and the comment before it are read, or neither is there
+  -- a body and the comment before it are read, or there is neither
   record BodyFound (comment : Option (List ℕ)) (ls : List (BodyLine Tok Tok ℕ)) (s rest : State) : Type 0 where
     token : Option SignificantToken
     says : option_map (comment_in token_leaves) token ≡ comment
@@ -258,7 +258,7 @@ module _ (conditions : Conditions) (Hit : Option SignificantToken → Type 0) wh
   unfolding optional_body
   no_body_read s none = rw (next_left (kinds.Eol ∷ kinds.Indent ∷ []) s none.at_once, next_left (kinds.Comment ∷ kinds.Eol ∷ kinds.Indent ∷ []) s none.commented) refl
 
-  -- ---- items, where what follows begins no body
+  -- ---- items, if the next tokens don't begin a body
 
   abbrev recipe_content : Header Tok Tok Tok → Option (List ℕ) → List (BodyLine Tok Tok ℕ) → Content Tok Tok ℕ Tok
   recipe_content h comment ls = tree.Recipe (bare_recipe h comment ls)
@@ -285,28 +285,28 @@ module _ (conditions : Conditions) (Hit : Option SignificantToken → Type 0) wh
   header_covered : (xs : List ReadAttribute) (h : Header Tok Tok Tok) (comment : Option (List ℕ)) (ls : List (BodyLine Tok Tok ℕ))
       → CoversHeader conditions Hit (arg_rules (meant_by xs)) h (breaks_by xs (recipe_content h comment ls))
   header_covered xs h comment ls =
-      let said = arg_rules (meant_by xs) in
-      let options : List (Broken Tok) = options_broken (token_view conditions) h.name said in
-      let each : List (Broken Tok) = parameters_broken (token_view conditions) said [] h.parameters in
-      let undefined : List (Broken Tok) = undefined_broken (token_view conditions) h.parameters said in
+      let args = arg_rules (meant_by xs) in
+      let options : List (Broken Tok) = options_broken (token_view conditions) h.name args in
+      let each : List (Broken Tok) = parameters_broken (token_view conditions) args [] h.parameters in
+      let undefined : List (Broken Tok) = undefined_broken (token_view conditions) h.parameters args in
       let exclusions : List (Broken Tok) = exclusions_broken (token_view conditions) h.name (meant_by xs) in
       let all = all_among (breaks_by xs (recipe_content h comment ls)) in
       let meaning = among_first (options ++ each ++ undefined ++ exclusions) (header_broken h) all in
-      let said_first = among_first (options ++ each ++ undefined) exclusions meaning in
-      let both = among_first (options ++ each) undefined said_first in
+      let rest_covered = among_first (options ++ each ++ undefined) exclusions meaning in
+      let both = among_first (options ++ each) undefined rest_covered in
       record {
         options = among_first options each both;
         each = among_others options each both;
-        undefined = among_others (options ++ each) undefined said_first;
+        undefined = among_others (options ++ each) undefined rest_covered;
         starred = among_others (options ++ each ++ undefined ++ exclusions) (header_broken h) all;
       }
 
   exclusions_covered : (xs : List ReadAttribute) (h : Header Tok Tok Tok) (comment : Option (List ℕ)) (ls : List (BodyLine Tok Tok ℕ))
       → Among (exclusions_broken (token_view conditions) h.name (meant_by xs)) (breaks_by xs (recipe_content h comment ls))
   exclusions_covered xs h comment ls =
-      let said = arg_rules (meant_by xs) in
-      let others : List (Broken Tok) = options_broken (token_view conditions) h.name said ++ parameters_broken (token_view conditions) said [] h.parameters
-      ++ undefined_broken (token_view conditions) h.parameters said in
+      let args = arg_rules (meant_by xs) in
+      let others : List (Broken Tok) = options_broken (token_view conditions) h.name args ++ parameters_broken (token_view conditions) args [] h.parameters
+      ++ undefined_broken (token_view conditions) h.parameters args in
       among_others others (exclusions_broken (token_view conditions) h.name (meant_by xs))
       (among_first (recipe_broken (token_view conditions) h (meant_by xs)) (header_broken h) (all_among (breaks_by xs (recipe_content h comment ls))))
 
@@ -327,7 +327,7 @@ module _ (conditions : Conditions) (Hit : Option SignificantToken → Type 0) wh
       (noted : List (Noted Tok)) (x : ReadHeader SignificantToken Tok Tok Tok × Counters) → option_map (comment_in token_leaves) token ≡ comment
       → IsHeader conditions Hit (arg_rules (meant_by xs)) quiet h n x
       → ReachesOne conditions Hit
-      (no_exclusion token_leaves token_attributes xs x.0.name (input conditions 0 rest noted) >>= λ checked. next_recipe_number token_leaves x.1 checked.1
+      (check_exclusions token_leaves token_attributes xs x.0.name (input conditions 0 rest noted) >>= λ checked. next_recipe_number token_leaves x.1 checked.1
       >>= headed token_leaves token_attributes quiet xs x.0 (token, ls))
       ((Construct (written_in xs) (recipe_content h comment ls), count_content n (recipe_content h comment ls)), input conditions 0 rest noted) []
       (breaks_by xs (recipe_content h comment ls))
@@ -347,15 +347,15 @@ module _ (conditions : Conditions) (Hit : Option SignificantToken → Type 0) wh
       → RecipeReached quiet xs (recipe_content h comment ls) (input conditions 0 ts ns) (input conditions 0 rest noted)
   unfolding recipe
   recipe_reached quiet xs ns {h = h} {fs = fs} rest noted comment ls q b n =
-      let said = arg_rules (meant_by xs) in
-      r.then_at conditions Hit _ _ (header_reached conditions Hit said quiet n ns q (header_covered xs h comment ls)) (λ x is.
+      let args = arg_rules (meant_by xs) in
+      r.then_at conditions Hit _ _ (header_reached conditions Hit args quiet n ns q (header_covered xs h comment ls)) (λ x is.
       r.last_one conditions Hit _ _ (r.plainly conditions Hit b.reached) (λ _. numbered_reached quiet xs n h b.token comment ls rest noted x b.says is))
 
   any_reached : (xs : List ReadAttribute) (ns : List (Noted Tok)) {h : Header Tok Tok Tok} {fs : List (Noted Tok)} {ts next : Tokens}
       (rest : Tokens) (noted : List (Noted Tok)) (comment : Option (List ℕ)) (ls : List (BodyLine Tok Tok ℕ)) → HeaderOf itself itself itself (PastLimitAt conditions.limit Hit) h fs ts next
       → BodyFound comment ls (input conditions 0 next (ns ++ (noted_by xs (recipe_content h comment ls) ++ fs))) (input conditions 0 rest noted)
       → ContentReached xs (recipe_content h comment ls) (input conditions 0 ts ns) (input conditions 0 rest noted)
-  unfolding wordless any_recipe
+  unfolding without_keyword any_recipe
   any_reached xs ns rest noted comment ls (headers.quiet {at = mark} {tokens = ts} kind q) b n =
       r.by conditions Hit (no_word_read conditions ns xs n mark ts (λ k. cc))
       (rw (
@@ -493,7 +493,7 @@ module _ (conditions : Conditions) (Hit : Option SignificantToken → Type 0) wh
   content_reached : (xs : List ReadAttribute) (ns : List (Noted Tok)) {c : Content Tok Tok ℕ Tok} {fs : List (Noted Tok)} {ts rest : Tokens}
       → OnLine to_tokens (PastLimitAt conditions.limit Hit) c fs ts rest → NoBody rest
       → ContentReached xs c (input conditions 0 ts ns) (input conditions 0 rest (ns ++ (noted_by xs c ++ fs)))
-  unfolding wordless import any_module accepted
+  unfolding without_keyword import any_module accepted
   content_reached xs ns (g.assignment {name = name} {operator = operator} {tokens = ts} kind kind2 h) none n =
       r.by conditions Hit (none_read conditions ns xs n name (operator ∷ ts) (another_follows operator ts (λ k. cc) (λ k. cc) (λ k. cc) (λ k. cc)))
       (rw (
@@ -542,7 +542,7 @@ module _ (conditions : Conditions) (Hit : Option SignificantToken → Type 0) wh
       r.by conditions Hit (import_read conditions ns xs n word ts is
       (ap (λ b. next_are token_leaves (kinds.QuestionMark ∷ []) (input conditions 0 ts ns) || b) (path_begins conditions ns ts p) ∙ or_true conditions ns _))
       (rw (accept_left kinds.QuestionMark ts conditions 0 ns (path_unmarked p)) (imported_reached false xs ns p n))
-  content_reached xs ns (g.optional_import {word = word} {mark = mark} {tokens = ts} is kind p) none n =
+  content_reached xs ns (g.optional_import {word = word} {question_mark = mark} {tokens = ts} is kind p) none n =
       r.by conditions Hit (import_read conditions ns xs n word (mark ∷ ts) is (rw (next_taken (kinds.QuestionMark ∷ []) (input conditions 0 (mark ∷ ts) ns) (kind, tt)) refl))
       (rw (accept_taken kinds.QuestionMark mark ts conditions 0 ns kind) (imported_reached true xs ns p n))
   content_reached xs ns (g.module_alone {word = word} {name = name} {rest = rest} is kind ends) none n =
@@ -555,10 +555,10 @@ module _ (conditions : Conditions) (Hit : Option SignificantToken → Type 0) wh
   content_reached xs ns (g.module_at {word = word} {name = name} {tokens = ts} is kind p) none n =
       r.by conditions Hit (module_read conditions ns xs n word (name ∷ ts) is (module_follows conditions ns name ts kind p))
       (rw (accept_left kinds.QuestionMark (name ∷ ts) conditions 0 ns (λ e. cc)) (module_at_reached false xs ns name kind p n))
-  content_reached xs ns (g.optional_module_alone {word = word} {mark = mark} {name = name} {rest = rest} is kind kind2 no_path) none n =
+  content_reached xs ns (g.optional_module_alone {word = word} {question_mark = mark} {name = name} {rest = rest} is kind kind2 no_path) none n =
       r.by conditions Hit (module_read conditions ns xs n word (mark ∷ name ∷ rest) is (rw (next_taken (kinds.QuestionMark ∷ []) (input conditions 0 (mark ∷ name ∷ rest) ns) (kind, tt)) refl))
       (rw (accept_taken kinds.QuestionMark mark (name ∷ rest) conditions 0 ns kind) (module_reached true xs ns name kind2 no_path n))
-  content_reached xs ns (g.optional_module_at {word = word} {mark = mark} {name = name} {tokens = ts} is kind kind2 p) none n =
+  content_reached xs ns (g.optional_module_at {word = word} {question_mark = mark} {name = name} {tokens = ts} is kind kind2 p) none n =
       r.by conditions Hit (module_read conditions ns xs n word (mark ∷ name ∷ ts) is (rw (next_taken (kinds.QuestionMark ∷ []) (input conditions 0 (mark ∷ name ∷ ts) ns) (kind, tt)) refl))
       (rw (accept_taken kinds.QuestionMark mark (name ∷ ts) conditions 0 ns kind) (module_at_reached true xs ns name kind2 p n))
   content_reached xs ns (g.setting {word = word} {name = name} {tokens = ts} is is2 form value) none n =
@@ -622,13 +622,13 @@ module _ (conditions : Conditions) (Hit : Option SignificantToken → Type 0) wh
   features_are : (ns : List (Noted Tok)) (ws : List (WrittenAttribute Tok Tok)) (c : Content Tok Tok ℕ Tok) (gs fs : List (Noted Tok))
       (xs : List ReadAttribute) → AreReadings (token_view conditions) ws xs → (ns ++ gs) ++ (noted_by xs c ++ fs) ≡ ns ++ features_of ws c gs fs
   features_are ns ws c gs fs xs h =
-      let said : List (Noted Tok) = of_some (entries_features c) (entries_of (token_view conditions) ws) in
-      ap (λ (l : List (Noted Tok)). (ns ++ gs) ++ (l ++ fs)) (noted_is ws c xs h) ∙ append_assoc ns gs (said ++ fs)
-      ∙ ap (λ (l : List (Noted Tok)). ns ++ l) (sym (append_assoc gs said fs))
+      let noted_here : List (Noted Tok) = of_some (entries_features c) (entries_of (token_view conditions) ws) in
+      ap (λ (l : List (Noted Tok)). (ns ++ gs) ++ (l ++ fs)) (noted_is ws c xs h) ∙ append_assoc ns gs (noted_here ++ fs)
+      ∙ ap (λ (l : List (Noted Tok)). ns ++ l) (sym (append_assoc gs noted_here fs))
 
   abbrev ItemReached : WrittenItem Tok Tok ℕ Tok → State → State → Type 0
   ItemReached i s rest =
-      (n : Counters) → ReachesOne conditions Hit (on_line token_leaves token_attributes n s) ((i, count n i), rest) (item_literals written_literals i)
+      (n : Counters) → ReachesOne conditions Hit (any_item token_leaves token_attributes n s) ((i, count n i), rest) (item_literals written_literals i)
       (item_broken conditions.current (token_view conditions) i)
 
   -- the construct after the attributes that were read
@@ -647,7 +647,7 @@ module _ (conditions : Conditions) (Hit : Option SignificantToken → Type 0) wh
       → Begins header
       → ((xs : List ReadAttribute) → ContentReached xs c (input conditions 0 header (ns ++ gs)) (input conditions 0 rest ((ns ++ gs) ++ (noted_by xs c ++ fs))))
       → ItemReached (Construct ws c) (input conditions 0 ts ns) (input conditions 0 rest (ns ++ features_of ws c gs fs))
-  unfolding on_line construct
+  unfolding any_item construct
   construct_reached ns {ws = ws} {gs = gs} {ts = ts} {header = header} c fs rest a b h n =
       let end : State = input conditions 0 rest (ns ++ features_of ws c gs fs) in
       let y : (WrittenItem Tok Tok ℕ Tok × Counters) × State = ((Construct ws c, count_content n c), end) in
@@ -661,7 +661,7 @@ module _ (conditions : Conditions) (Hit : Option SignificantToken → Type 0) wh
   on_line_reached : (ns : List (Noted Tok)) {i : WrittenItem Tok Tok ℕ Tok} {fs : List (Noted Tok)} {ts rest : Tokens}
       → Stands conditions (PastLimitAt conditions.limit Hit) i fs ts rest → NoBody rest
       → ItemReached i (input conditions 0 ts ns) (input conditions 0 rest (ns ++ fs))
-  unfolding on_line
+  unfolding any_item
   on_line_reached ns {rest = rest} (of_comment {t = token} kind) none n =
       r.renoted conditions Hit (sym (append-nil ns)) (r.read_now conditions Hit _ refl (rw (accept_taken kinds.Comment token rest conditions 0 ns kind) refl))
   on_line_reached ns {rest = rest} (of_line {c = c} {gs = gs} {fs = fs} a o) none n =
@@ -679,8 +679,8 @@ module _ (conditions : Conditions) (Hit : Option SignificantToken → Type 0) wh
     first_read : rule (input conditions 0 ts ns) ≡ Ok (first, input conditions 0 rest ns)
     goes_on : (n : Counters) → AllReached n (after_numbered first (items token_leaves token_attributes n (input conditions 0 rest ns))) all (ns ++ fs)
 
-  ended_after : (i : WrittenItem Tok Tok ℕ Tok) (s : State) → has_body i ≡ false → ended token_leaves token_attributes (has_body i) s ≡ item_rest token_leaves token_attributes s
-  unfolding ended
+  ended_after : (i : WrittenItem Tok Tok ℕ Tok) (s : State) → has_body i ≡ false → item_end token_leaves token_attributes (has_body i) s ≡ after_item token_leaves token_attributes s
+  unfolding item_end
   ended_after i s none = rw none refl
 
   front_is : (i : WrittenItem Tok Tok ℕ Tok) (l : WrittenTree) (found : Read (WrittenTree × Counters)) → after_numbered (i ∷ l) found ≡ (after_numbered l found >>= (λ q. Ok ((i ∷ q.0.0, q.0.1), q.1)))
@@ -697,7 +697,7 @@ module _ (conditions : Conditions) (Hit : Option SignificantToken → Type 0) wh
   line_reached : (n : Counters) (ns : List (Noted Tok)) (i : WrittenItem Tok Tok ℕ Tok) (all : WrittenTree) (is fs : List (Noted Tok)) (ts rest : Tokens)
       → Stands conditions (PastLimitAt conditions.limit Hit) i is ts rest
       → ItemReached i (input conditions 0 ts ns) (input conditions 0 rest (ns ++ is))
-      → Continued (item_rest token_leaves token_attributes) all fs rest (ns ++ is) → AllReached n (items token_leaves token_attributes n (input conditions 0 ts ns)) (i ∷ all) (ns ++ (is ++ fs))
+      → Continued (after_item token_leaves token_attributes) all fs rest (ns ++ is) → AllReached n (items token_leaves token_attributes n (input conditions 0 ts ns)) (i ∷ all) (ns ++ (is ++ fs))
   unfolding items_rule line
   line_reached n ns i all is fs ts rest o h c =
       r.renoted conditions Hit (append_assoc ns is fs) (r.by conditions Hit (items_is token_leaves token_attributes n (input conditions 0 ts ns))
@@ -706,8 +706,8 @@ module _ (conditions : Conditions) (Hit : Option SignificantToken → Type 0) wh
       (front_more i c.first all (counted (count n i) all) ((ns ++ is) ++ fs) (items token_leaves token_attributes (count n i) (input conditions 0 c.rest (ns ++ is))) (c.goes_on (count n i))))))
 
   some_body : (ws : List (WrittenAttribute Tok Tok)) (h : Header Tok Tok Tok) (comment : Option (List ℕ)) (ls : List (BodyLine Tok Tok ℕ)) (s : State) → NotEmpty ls
-      → ended token_leaves token_attributes (has_body (Construct ws (recipe_content h comment ls))) s ≡ Ok (tree.Newline ∷ [], s)
-  unfolding ended
+      → item_end token_leaves token_attributes (has_body (Construct ws (recipe_content h comment ls))) s ≡ Ok (tree.Newline ∷ [], s)
+  unfolding item_end
   some_body ws h comment [] s some = absurd some
   some_body ws h comment (l ∷ ls) s some = refl
 
@@ -715,9 +715,9 @@ module _ (conditions : Conditions) (Hit : Option SignificantToken → Type 0) wh
       → Block to_tokens (PastLimitAt conditions.limit Hit) c fs ts rest
       → ContentReached xs c (input conditions 0 ts ns) (input conditions 0 rest (ns ++ (noted_by xs c ++ fs)))
   block_content xs ns {rest = rest} (g.recipe {h = h} {lines = ls} {fs = fs} {gs = gs} {comment = comment} q b lines some) n =
-      let said : List (Noted Tok) = noted_by xs (recipe_content h comment (trimmed ls)) in
-      let noted : List (Noted Tok) = ns ++ (said ++ fs) in
-      r.renoted conditions Hit (append_assoc ns (said ++ fs) gs ∙ ap (λ (l : List (Noted Tok)). ns ++ l) (append_assoc said fs gs))
+      let noted_here : List (Noted Tok) = noted_by xs (recipe_content h comment (trimmed ls)) in
+      let noted : List (Noted Tok) = ns ++ (noted_here ++ fs) in
+      r.renoted conditions Hit (append_assoc ns (noted_here ++ fs) gs ∙ ap (λ (l : List (Noted Tok)). ns ++ l) (append_assoc noted_here fs gs))
       (any_reached xs ns rest (noted ++ gs) comment (trimmed ls) q (optional_body_reached noted b lines some) n)
 
   -- a recipe with a body and its attributes
@@ -729,7 +729,7 @@ module _ (conditions : Conditions) (Hit : Option SignificantToken → Type 0) wh
 
   block_ends : (ws : List (WrittenAttribute Tok Tok)) {c : Content Tok Tok ℕ Tok} {is : List (Noted Tok)} {ts rest : Tokens} (s : State)
       → Block to_tokens (PastLimitAt conditions.limit Hit) c is ts rest
-      → ended token_leaves token_attributes (has_body (Construct ws c)) s ≡ Ok (tree.Newline ∷ [], s)
+      → item_end token_leaves token_attributes (has_body (Construct ws c)) s ≡ Ok (tree.Newline ∷ [], s)
   block_ends ws s (g.recipe {h = h} {lines = ls} {comment = comment} q b lines some) = some_body ws h comment (trimmed ls) s some
 
   block_reached : (n : Counters) (ns : List (Noted Tok)) {ws : List (WrittenAttribute Tok Tok)} {c : Content Tok Tok ℕ Tok} {gs is : List (Noted Tok)}
@@ -756,7 +756,7 @@ module _ (conditions : Conditions) (Hit : Option SignificantToken → Type 0) wh
   features = all_features (token_view conditions)
 
   mutual
-    unfolding items_rule line item_rest line_end after_numbered at_end
+    unfolding items_rule line after_item line_end after_numbered at_end
 
     pub items_reached : (n : Counters) (ns : List (Noted Tok)) {all : WrittenTree} {fs : List (ConstructFeatures Tok)} {ts : Tokens} → Items to_tokens (PastLimitAt conditions.limit Hit) all fs ts → AllReached n (items token_leaves token_attributes n (input conditions 0 ts ns)) all (ns ++ features all fs)
     items_reached n ns (g.end {token = t} kind) =
@@ -772,7 +772,7 @@ module _ (conditions : Conditions) (Hit : Option SignificantToken → Type 0) wh
     items_reached n ns (g.block {ws = ws} {c = c} {items = more} {gs = gs} {cs = is} {fs = fs} a o h) =
         block_reached n ns more (features more fs) a o (λ m. items_reached m (ns ++ features_of ws c gs is) h)
 
-    item_rest_reached : (ns : List (Noted Tok)) {all : WrittenTree} {fs : List (ConstructFeatures Tok)} {ts : Tokens} → ItemRest to_tokens (PastLimitAt conditions.limit Hit) all fs ts → Continued (item_rest token_leaves token_attributes) all (features all fs) ts ns
+    item_rest_reached : (ns : List (Noted Tok)) {all : WrittenTree} {fs : List (ConstructFeatures Tok)} {ts : Tokens} → ItemRest to_tokens (PastLimitAt conditions.limit Hit) all fs ts → Continued (after_item token_leaves token_attributes) all (features all fs) ts ns
     item_rest_reached ns (g.trailing {items = more} {fs = fs} {token = t} {rest = rest} kind e) =
         let c = line_end_reached ns e in
         record {
@@ -804,5 +804,5 @@ module _ (conditions : Conditions) (Hit : Option SignificantToken → Type 0) wh
   pub file_reached : {all : WrittenTree} {fs : List (ConstructFeatures Tok)} {ts : Tokens} → File to_tokens (PastLimitAt conditions.limit Hit) all fs ts
       → ReachesOne conditions Hit (tree_of_tokens conditions ts) (all, features all fs) (all_literals all) (broken conditions.current (token_view conditions) all)
   unfolding tree_of_tokens reader.file
-  file_reached (g.marked {token = t} {rest = rest} kind h) = rw (accept_taken kinds.ByteOrderMark t rest conditions 0 [] kind) (r.pass conditions Hit _ (items_reached unnumbered [] h) refl)
-  file_reached (g.unmarked {tokens = ts} h) = rw (accept_left kinds.ByteOrderMark ts conditions 0 [] (no_mark h)) (r.pass conditions Hit _ (items_reached unnumbered [] h) refl)
+  file_reached (g.with_byte_order_mark {token = t} {rest = rest} kind h) = rw (accept_taken kinds.ByteOrderMark t rest conditions 0 [] kind) (r.pass conditions Hit _ (items_reached unnumbered [] h) refl)
+  file_reached (g.without_byte_order_mark {tokens = ts} h) = rw (accept_left kinds.ByteOrderMark ts conditions 0 [] (no_mark h)) (r.pass conditions Hit _ (items_reached unnumbered [] h) refl)

@@ -24,7 +24,7 @@ abbrev step : List ℕ → (List Tok → Option Answer) → List Tok → NextTok
 step text more e (Err r) = Some (Err (fault_of r, span_of text e r))
 step text more e (Ok x) = go_on more e (at text x.0 (end_of e) x.1) (is_eof x.0)
 
--- the tokens or the fault after the earlier tokens, if so many steps suffice
+-- the tokens or the fault after the earlier tokens, if this many steps are enough
 unfoldable pub answer : List ℕ → ℕ → List Tok → Option Answer
 answer text zero e = None
 answer text (suc fuel) e = step text (answer text fuel) e (next_of text e)

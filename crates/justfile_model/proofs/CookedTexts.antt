@@ -26,7 +26,7 @@ before_literals (Line number []) [] = refl
 before_literals (Line number []) (l ∷ ls) = refl
 before_literals (Line number (f ∷ fragments)) ls = refl
 
--- no literal stands in an empty line
+-- empty lines contain no literal
 pub trimmed_literals : {A B C : Type 0} (ls : List (BodyLine A B C)) → body_literals (trimmed ls) ≡ body_literals ls
 trimmed_literals [] = refl
 trimmed_literals (Line number fragments ∷ ls) = before_literals (Line number fragments) (trimmed ls) ∙ ap (λ l. fragments_literals fragments ++ l) (trimmed_literals ls)

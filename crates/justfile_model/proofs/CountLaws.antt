@@ -44,7 +44,7 @@ digits_of_count (b ∷ c ∷ cs) e =
     let parts = both (not (nat_lt b 49) && nat_lt b 58) (list_all is_digit_byte (c ∷ cs)) e in
     (omega arith, rw (not_zero b parts.0) parts.1)
 
--- no sign stands first
+-- a text of digits doesn't begin with a sign
 unsigned : (text : List ℕ) → list_all is_digit_byte text ≡ true → without_leading_plus text ≡ text
 unsigned [] e = refl
 unsigned (b ∷ bs) e =
@@ -99,7 +99,7 @@ digit_but_zero b = go (nat_lt b 48) refl (nat_lt b 49) refl
         subst (λ b. (not (nat_lt b 49) && nat_lt b 58) ≡ (is_digit_byte b && not (b == 48))) same refl
     go false e false f = rw (e, f, ne_eqb b 48 (λ same. omega (arith, ltb-false b 49 f, same))) (and_true (nat_lt b 58))
 
--- digits, and more than one of them only if the first is no 0
+-- a count has only digits, and more than one of them only if the first isn't 0
 pub is_count_by : (text : List ℕ)
     → is_count text ≡ (not (length text == 0) && list_all is_digit_byte text && (length text == 1 || not (slice_index text 0 == 48)))
 is_count_by [] = refl

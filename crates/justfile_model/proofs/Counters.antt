@@ -10,7 +10,7 @@ use Rattle.justfile_model.specs.HeaderReader as r
 use Rattle.justfile_model.specs.HeaderReader.{ReadHeader, next_binding_number, expression, obeying, with_bindings}
 use Rattle.justfile_model.specs.PartReader.{accept_keyword_before, after_numbered, file_path, peek_assignment, is_imported, is_module, is_set, setting_keyword, line_is, names, names_end, names_rule, no_names, numbered_name, optional_path, setting_value}
 use Rattle.justfile_model.specs.Settings.{setting_form}
-use Rattle.justfile_model.specs.Reader.{CommentedBody, Start, alias, allowed, any_module, any_recipe, argument_rules, assigned, assignment, at_end, attributes, construct, content, next_recipe_number, end_of_tokens, ended, function, has_body, headed, import, imported, item_rest, items, items_from, items_rule, line, line_end, named_module, no_exclusion, no_items, on_line, optional_body, recipe, setting, unexport, with_recipes, wordless}
+use Rattle.justfile_model.specs.Reader.{CommentedBody, Start, alias, check_allowed, any_module, any_recipe, argument_rules, assigned, assignment, at_end, attributes, construct, content, next_recipe_number, end_of_tokens, item_end, function, has_body, headed, import, imported, after_item, items, items_from, items_rule, line, line_end, named_module, check_exclusions, no_items, any_item, optional_body, recipe, setting, unexport, with_recipes, without_keyword}
 use Rattle.justfile_model.specs.ReaderState.{Counters, ◌>>=◌, Leaves, NoNumber, Read, State, Taken, accept, accepted, choose, expect, next_are}
 use Rattle.justfile_model.specs.RecipeRules.{parameter_broken, undefined_broken}
 use Rattle.justfile_model.specs.LeafView.{LeafView}
@@ -185,7 +185,7 @@ module _ {R T A B S : Type 0} (leaves : Leaves R T A B S) where
     unfolding r.variadic
     variadic_counts kind x =
         let Q : Parameters → Type 0 = λ y. (n : Counters) → x.0.1 ≡ after_parameters n x.0.0 → y.1 ≡ after_parameters n y.0 in
-        after_all (r.parameter leaves view rules kind x) _ Q (λ p is. after_all (r.nothing_after leaves p.1) _ Q
+        after_all (r.parameter leaves view rules kind x) _ Q (λ p is. after_all (r.expect_no_name leaves p.1) _ Q
         (λ end _. known p (λ y. Q y.0) is (parameter_counts kind x)))
 
     last_parameter_counts : (x : ParameterPlace) → After x.0 (r.last_parameter leaves view rules x)
@@ -296,12 +296,12 @@ module _ {R T A B S D W : Type 0} (leaves : Leaves R T A B S) (kept : AttributeL
   unfolding alias
   alias_counts ws n s =
       after_all leaves (expect leaves kinds.Identifier s) _ (Q n) (λ name _. after_all leaves (expect leaves kinds.ColonEquals name.1) _ (Q n) (λ operator _.
-      after_all leaves (r.path leaves operator.1) _ (Q n) (λ target _. after_all leaves (allowed leaves kept item_kinds.Alias ws name.0 target.1) _ (Q n) (λ checked _. refl))))
+      after_all leaves (r.path leaves operator.1) _ (Q n) (λ target _. after_all leaves (check_allowed leaves kept item_kinds.Alias ws name.0 target.1) _ (Q n) (λ checked _. refl))))
 
   function_counts : (ws : List W) (n : Counters) (s : State R T B) → ItemCounted n (function leaves kept ws n s)
   unfolding function
   function_counts ws n s =
-      after_all leaves (expect leaves kinds.Identifier s) _ (Q n) (λ name _. after_all leaves (allowed leaves kept item_kinds.Function ws name.0 name.1) _ (Q n) (λ checked _.
+      after_all leaves (expect leaves kinds.Identifier s) _ (Q n) (λ name _. after_all leaves (check_allowed leaves kept item_kinds.Function ws name.0 name.1) _ (Q n) (λ checked _.
       after_all leaves (expect leaves kinds.ParenL checked.1) _ (Q n) (λ opener _. after_all leaves (names leaves (n, opener.1)) _ (Q n) (λ parameters is.
       after_all leaves (expect leaves kinds.ColonEquals parameters.1) _ (Q n) (λ operator _. after_all leaves (expression leaves operator.1) _ (Q n) (λ body _.
       known parameters (λ x. x.0.1 ≡ after_parameters n x.0.0) is (names_count leaves (n, opener.1))))))))
@@ -309,7 +309,7 @@ module _ {R T A B S D W : Type 0} (leaves : Leaves R T A B S) (kept : AttributeL
   imported_counts : (optional : Bool) (ws : List W) (n : Counters) (s : State R T B) → ItemCounted n (imported leaves kept optional ws n s)
   unfolding imported
   imported_counts optional ws n s =
-      after_all leaves (file_path leaves s) _ (Q n) (λ path _. after_all leaves (allowed leaves kept item_kinds.Import ws path.0.0 path.1) _ (Q n) (λ checked _. refl))
+      after_all leaves (file_path leaves s) _ (Q n) (λ path _. after_all leaves (check_allowed leaves kept item_kinds.Import ws path.0.0 path.1) _ (Q n) (λ checked _. refl))
 
   import_counts : (ws : List W) (n : Counters) (s : State R T B) → ItemCounted n (import leaves kept ws n s)
   unfolding import
@@ -319,7 +319,7 @@ module _ {R T A B S D W : Type 0} (leaves : Leaves R T A B S) (kept : AttributeL
   unfolding named_module
   named_module_counts optional ws n s =
       after_all leaves (expect leaves kinds.Identifier s) _ (Q n) (λ name _. after_all leaves (optional_path leaves name.1) _ (Q n) (λ path _.
-      after_all leaves (allowed leaves kept item_kinds.Module ws name.0 path.1) _ (Q n) (λ checked _. refl)))
+      after_all leaves (check_allowed leaves kept item_kinds.Module ws name.0 path.1) _ (Q n) (λ checked _. refl)))
 
   any_module_counts : (ws : List W) (n : Counters) (s : State R T B) → ItemCounted n (any_module leaves kept ws n s)
   unfolding any_module
@@ -329,20 +329,20 @@ module _ {R T A B S D W : Type 0} (leaves : Leaves R T A B S) (kept : AttributeL
   unfolding setting
   setting_counts ws n s =
       after_all leaves (expect leaves kinds.Identifier s) _ (Q n) (λ name _. after_all leaves (setting_keyword leaves name.0 name.1) _ (Q n) (λ keyword _.
-      after_all leaves (allowed leaves kept item_kinds.Setting ws name.0 keyword.1) _ (Q n) (λ checked _.
+      after_all leaves (check_allowed leaves kept item_kinds.Setting ws name.0 keyword.1) _ (Q n) (λ checked _.
       after_all leaves (setting_value leaves kept.view name.0 keyword.0 (setting_form keyword.0) checked.1) _ (Q n) (λ value _. refl))))
 
   unexport_counts : (ws : List W) (n : Counters) (s : State R T B) → ItemCounted n (unexport leaves kept ws n s)
   unfolding unexport
   unexport_counts ws n s =
-      after_all leaves (expect leaves kinds.Identifier s) _ (Q n) (λ name _. after_all leaves (allowed leaves kept item_kinds.Unexport ws name.0 name.1) _ (Q n) (λ checked _. refl))
+      after_all leaves (expect leaves kinds.Identifier s) _ (Q n) (λ name _. after_all leaves (check_allowed leaves kept item_kinds.Unexport ws name.0 name.1) _ (Q n) (λ checked _. refl))
 
   pub assignment_counts : (eager export : Bool) (ws : List W) (n : Counters) (s : State R T B) → ItemCounted n (assignment leaves kept eager export ws n s)
   unfolding assignment
   assignment_counts eager export ws n s =
       let Q : Item A B ℕ S D × Counters → Type 0 = λ x. x.1 ≡ count n x.0 in
       after_all leaves (expect leaves kinds.Identifier s) _ Q (λ name _. after_all leaves (expect leaves kinds.ColonEquals name.1) _ Q (λ operator _.
-      after_all leaves (expression leaves operator.1) _ Q (λ e _. after_all leaves (allowed leaves kept item_kinds.Assignment ws name.0 e.1) _ Q (λ checked _.
+      after_all leaves (expression leaves operator.1) _ Q (λ e _. after_all leaves (check_allowed leaves kept item_kinds.Assignment ws name.0 e.1) _ Q (λ checked _.
       binding_counted eager export ws n checked.1 name.0 e.0))))
 
   pub recipe_counts : (quiet : Bool) (ws : List W) (n : Counters) (s : State R T B) → ItemCounted n (recipe leaves kept quiet ws n s)
@@ -351,7 +351,7 @@ module _ {R T A B S D W : Type 0} (leaves : Leaves R T A B S) (kept : AttributeL
       let Q : Item A B ℕ S D × Counters → Type 0 = λ x. x.1 ≡ count n x.0 in
       let rules = argument_rules leaves kept s.run ws in
       after_all leaves (r.header leaves kept.view rules n s) _ Q (λ h is. after_all leaves (optional_body leaves h.1) _ Q (λ b _.
-      after_all leaves (no_exclusion leaves kept ws h.0.0.name b.1) _ Q (λ checked _.
+      after_all leaves (check_exclusions leaves kept ws h.0.0.name b.1) _ Q (λ checked _.
       recipe_counted quiet ws n checked.1 h.0.0 h.0.1 b.0
       (known h (λ x. x.0.1 ≡ after_parameters n x.0.0.parameters) is (header_counts leaves kept.view rules n s)))))
 
@@ -361,8 +361,8 @@ module _ {R T A B S D W : Type 0} (leaves : Leaves R T A B S) (kept : AttributeL
       let Q : Item A B ℕ S D × Counters → Type 0 = λ x. x.1 ≡ count n x.0 in
       after_choice leaves (accept leaves kinds.At s) _ _ Q (recipe_counts false ws n s) (λ at. recipe_counts true ws n at.1)
 
-  wordless_counts : (ws : List W) (n : Counters) (s : State R T B) → ItemCounted n (wordless leaves kept ws n s)
-  unfolding wordless
+  wordless_counts : (ws : List W) (n : Counters) (s : State R T B) → ItemCounted n (without_keyword leaves kept ws n s)
+  unfolding without_keyword
   wordless_counts ws n s =
       after_test (next_are leaves (kinds.Identifier ∷ kinds.ParenL ∷ []) s) _ _ (ItemCounted n) (λ _. function_counts ws n s)
       (λ _. after_test (peek_assignment leaves s) _ _ (ItemCounted n) (λ _. assignment_counts false false ws n s) (λ _. any_recipe_counts ws n s))
@@ -390,8 +390,8 @@ module _ {R T A B S D W : Type 0} (leaves : Leaves R T A B S) (kept : AttributeL
   unfolding construct
   construct_counts n s = after_all leaves (attributes leaves kept s) _ (Q n) (λ ws _. content_counts ws.0 n ws.1)
 
-  pub on_line_counts : (n : Counters) (s : State R T B) → ItemCounted n (on_line leaves kept n s)
-  unfolding on_line
+  pub on_line_counts : (n : Counters) (s : State R T B) → ItemCounted n (any_item leaves kept n s)
+  unfolding any_item
   on_line_counts n s =
       let Q : Item A B ℕ S D × Counters → Type 0 = λ x. x.1 ≡ count n x.0 in
       after_choice leaves (accept leaves kinds.Comment s) _ _ Q (construct_counts n s) (λ c. refl)
@@ -402,15 +402,15 @@ module _ {R T A B S D W : Type 0} (leaves : Leaves R T A B S) (kept : AttributeL
       let Q : List (Item A B ℕ S D) → Type 0 = λ x. (n : Counters) → counted n x ≡ n in
       after_choice leaves (accept leaves kinds.Eof s) _ _ Q (after_all leaves (expect leaves kinds.Eol s) _ Q (λ newline _ n. refl)) (λ x n. refl)
 
-  pub item_rest_counts : (s : State R T B) → Uncounted (item_rest leaves kept s)
-  unfolding item_rest
+  pub item_rest_counts : (s : State R T B) → Uncounted (after_item leaves kept s)
+  unfolding after_item
   item_rest_counts s =
       let Q : List (Item A B ℕ S D) → Type 0 = λ x. (n : Counters) → counted n x ≡ n in
       after_choice leaves (accept leaves kinds.Comment s) _ _ Q (line_end_counts s)
       (λ c. after_all leaves (line_end leaves kept c.1) _ Q (λ end is. known end (λ x. Q x.0) is (line_end_counts c.1)))
 
-  pub ended_counts : (b : Bool) (s : State R T B) → Uncounted (ended leaves kept b s)
-  unfolding ended
+  pub ended_counts : (b : Bool) (s : State R T B) → Uncounted (item_end leaves kept b s)
+  unfolding item_end
   ended_counts b s = after_test b _ _ Uncounted (λ _ n. refl) (λ _. item_rest_counts s)
 
   pub line_counts : (n : Counters) (s : State R T B) → Counted n (line leaves kept n s)
@@ -418,7 +418,7 @@ module _ {R T A B S D W : Type 0} (leaves : Leaves R T A B S) (kept : AttributeL
   line_counts n s =
       let Q : List (Item A B ℕ S D) × Counters → Type 0 = λ x. x.1 ≡ counted n x.0 in
       after_choice leaves (accept leaves kinds.Eol s) _ _ Q
-      (after_all leaves (on_line leaves kept n s) _ Q (λ i is. after_all leaves (ended leaves kept (has_body i.0.0) i.1) _ Q (λ b is2.
+      (after_all leaves (any_item leaves kept n s) _ Q (λ i is. after_all leaves (item_end leaves kept (has_body i.0.0) i.1) _ Q (λ b is2.
       known i (λ x. x.0.1 ≡ count n x.0.0) is (on_line_counts n s) ∙ sym (known b (λ x. (n : Counters) → counted n x.0 ≡ n) is2 (ended_counts (has_body i.0.0) i.1) (count n i.0.0)))))
       (λ newline. refl)
 

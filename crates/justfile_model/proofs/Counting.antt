@@ -76,8 +76,8 @@ module _ {A B C S : Type 0} (projection : TokenProjection A B C S) (MayEnter : �
     line_end_counts (g.file_end kind) = omega arith
 
   pub file_counts : {all : List (WrittenItem A B C S)} {fs : List (ConstructFeatures B)} {ts : Tokens} → File projection MayEnter all fs ts → bindings all + recipes all ≤ identifiers ts
-  file_counts (g.marked kind h) = omega (arith, all_count h)
-  file_counts (g.unmarked h) = all_count h
+  file_counts (g.with_byte_order_mark kind h) = omega (arith, all_count h)
+  file_counts (g.without_byte_order_mark h) = all_count h
 
 -- ---- what is read
 

@@ -22,7 +22,7 @@ use Rattle.justfile_model.specs.Bytes.{in_word, line_feed, is_blank, is_name_byt
 use Rattle.justfile_token.specs.StringKind.{delimiter_len, kind_of, quote_of}
 use Rattle.justfile_model.specs.LiteralText.{pieces_len, is_delimiter, hides, ends, raw_len}
 
--- A class says that a byte is ASCII.
+-- the bytes of these classes are ASCII
 abbrev pub ClassFact : ℕ → ByteClass → Type 0
 ClassFact b Lead = Unit {0}
 ClassFact b Other = Unit {0}
@@ -164,7 +164,7 @@ ne_from a b h e = grind (arith, nat_tests)
 pub there : (rest : List ℕ) (i b : ℕ) → 0 < b → get_or rest i 0 ≡ b → i < length rest
 there rest i b p e = ⊎_elim (λ l. l) (λ h. absurd (omega (arith, e, get_or_past rest i 0 h))) (cases_lt i (length rest))
 
--- an ASCII byte that is there
+-- a position after an ASCII byte
 pub past_byte : (rest : List ℕ) (i b n : ℕ) → IsUtf8 rest → eqb (get_or rest i 0) b ≡ true → (ltb 0 b && ltb b 128) ≡ true → i + 1 ≡ n → IsCharBoundary rest n
 past_byte rest i b n u h small e =
     let is : get_or rest i 0 ≡ b = eq_from _ _ h in
@@ -172,7 +172,7 @@ past_byte rest i b n u h small e =
     let high : b < 128 = grind (arith, nat_tests) in
     after_byte rest i n u (there rest i b low is) (omega (arith, is, high)) e
 
--- the delimiter of a literal is there
+-- a quote begins the whole delimiter of a literal
 pub opener_fits : (rest : List ℕ) → 0 < length rest → class_of (get_or rest 0 0) ≡ Quote → delimiter_len (kind_of rest) ≤ length rest
 opener_fits rest l e = by (eqb (get_or rest 1 0) (get_or rest 0 0) && eqb (get_or rest 2 0) (get_or rest 0 0)) refl
   where
@@ -247,12 +247,13 @@ raw_cuts s rest =
     (λ whole. let e : length rest ≡ raw_len s rest = omega (arith, ends'.within) in subst (IsCharBoundary rest) e (IsCharBoundary-end rest))
     (cases_lt (raw_len s rest) (length rest))
 
--- Comments and body text have no newline.
--- where so many bytes have none, the rest of the pieces has none
-abbrev NoNewline : (List ℕ → ℕ) → (List ℕ → Bool) → List ℕ → ℕ → Type 0
+-- ---- comments and body text have no newline
+
+-- if these bytes have no newline, neither do those up to the end of the pieces
+abbrev pub NoNewline : (List ℕ → ℕ) → (List ℕ → Bool) → List ℕ → ℕ → Type 0
 NoNewline hide end bs n = ((i : ℕ) → i < n → eqb (get_or bs i 0) 10 ≡ false) → (i : ℕ) → i < pieces_len hide end n bs → eqb (get_or bs i 0) 10 ≡ false
 
-no_newline_in_pieces :
+pub no_newline_in_pieces :
     (hide : List ℕ → ℕ) (end : List ℕ → Bool)
     → ((bs : List ℕ) → ltb 0 (hide bs) ≡ true → (i : ℕ) → i ≤ hide bs → eqb (get_or bs i 0) 10 ≡ false)
     → ((bs : List ℕ) → end bs ≡ false → eqb (get_or bs 0 0) 10 ≡ false)
@@ -275,13 +276,16 @@ no_newline_in_pieces hide end hidden shown (b ∷ bs) zero = λ before i l. go (
     go more false true h g i l = absurd (omega arith)
     go more false false h g i l = piece 0 (more _) (shown (b ∷ bs) g) (λ i l. absurd (omega arith)) i l
 
-comment_no_newline : (bs : List ℕ) → is_line_end bs ≡ false → eqb (get_or bs 0 0) 10 ≡ false
+-- a byte of a comment, which isn't its end
+pub comment_no_newline : (bs : List ℕ) → is_line_end bs ≡ false → eqb (get_or bs 0 0) 10 ≡ false
 comment_no_newline bs h = grind (arith, nat_tests)
 
-body_no_newline : (bs : List ℕ) → (is_line_end bs || is_interpolation_start bs) ≡ false → eqb (get_or bs 0 0) 10 ≡ false
+-- a byte of body text, which isn't its end
+pub body_no_newline : (bs : List ℕ) → (is_line_end bs || is_interpolation_start bs) ≡ false → eqb (get_or bs 0 0) 10 ≡ false
 body_no_newline bs h = grind (arith, nat_tests)
 
-escape_no_newline : (bs : List ℕ) → ltb 0 (hides Body bs) ≡ true → (i : ℕ) → i ≤ hides Body bs → eqb (get_or bs i 0) 10 ≡ false
+-- the bytes of the escape `{{{{` in body text
+pub escape_no_newline : (bs : List ℕ) → ltb 0 (hides Body bs) ≡ true → (i : ℕ) → i ≤ hides Body bs → eqb (get_or bs i 0) 10 ≡ false
 escape_no_newline bs h i l = go (is_interpolation_escape bs) refl h i l
   where
     four : (a b c d : ℕ) → (eqb a 123 && eqb b 123 && (eqb c 123 && eqb d 123)) ≡ true → (eqb a 10 ≡ false) × (eqb b 10 ≡ false) × (eqb c 10 ≡ false) × (eqb d 10 ≡ false)

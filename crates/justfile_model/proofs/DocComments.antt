@@ -8,7 +8,7 @@ use Rattle.justfile_model.proofs.Binds.{never_some}
 use Rattle.justfile_model.proofs.CommentEnds.{EndsBeforeFeed, NoFeeds, ends_before_feed, no_feeds, no_return}
 use Rattle.justfile_model.proofs.TrimLaws.{IsDoc, doc_comment_text, doc_of_comment, doc_within}
 
--- ---- parts of what all holds
+-- ---- parts of a list of which all elements satisfy a predicate
 
 module _ {X : Type 0} (P : X → Type 0) where
   all_left : (xs ys : List X) → AllByRecursion P (xs ++ ys) → AllByRecursion P xs
@@ -44,7 +44,7 @@ doc_return : (doc : List ℕ) → IsDoc doc → ends_in_return (35 ∷ 32 ∷ do
 doc_return [] d = never_some [] d.some
 doc_return (b ∷ bs) d = ap ends_in_return (sym d.encodes_are) ∙ no_return d.codes_of d.no_trail
 
--- where the comment ends before a line feed, so does the one that its doc is printed as
+-- if the comment ends before a line feed, so does the comment that its doc is printed as
 pub doc_comment_ends : (before : Before) (comment doc : List ℕ) → IsUtf8 (drop 1 comment) → EndsBeforeFeed comment → doc_in before comment ≡ Some doc
     → EndsBeforeFeed (doc_comment doc)
 doc_comment_ends before comment doc u h e =

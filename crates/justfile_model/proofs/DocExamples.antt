@@ -5,14 +5,14 @@ use Rattle.std.specs.Str.{chars, trim_end, trim_start}
 use Rattle.justfile_vocabulary.specs.declared.attribute_kind.AttributeKind.TheVariants as kinds
 use Rattle.justfile_model.specs.AttributeKinds.{same_attribute}
 use Rattle.justfile_model.specs.Docs.{Nothing, documented}
-use Rattle.justfile_model.specs.Files.{says_doc}
+use Rattle.justfile_model.specs.Files.{sets_doc}
 use Rattle.justfile_model.specs.Printing.{fixed_text, text}
 use Rattle.justfile_model.specs.PrintedAttributes.{docs_written}
 use Rattle.justfile_model.specs.Tree as tree
 use Rattle.justfile_model.specs.Tree.{Comment, Construct, Entry, Header, Newline, OrderedItem, Shape, assignment_of, bare_entry, commented_entry}
 
 abbrev with_docs : Shape → Shape
-with_docs = documented says_doc Nothing
+with_docs = documented sets_doc Nothing
 
 abbrev foo : Header (List ℕ) (Unit {0}) (Unit {0})
 foo = record { quiet = false; name = codes "foo"; parameters = []; priors = []; subsequents = [] }
@@ -41,7 +41,7 @@ first : with_docs (Comment (codes "#  a b") ∷ Newline ∷ recipe ∷ Newline �
 unfolding trim_start trim_end chars encode_utf8 same_attribute
 first = refl
 
--- what begins a script is no doc where the file begins
+-- a `#!` line isn't a doc at the start of the file
 script : with_docs (Comment (codes "#!a") ∷ Newline ∷ recipe ∷ []) ≡ Comment (codes "#!a") ∷ Newline ∷ recipe ∷ []
 unfolding trim_start trim_end chars encode_utf8 same_attribute
 script = refl
@@ -65,7 +65,7 @@ empty : with_docs (Comment (codes "#") ∷ Newline ∷ recipe ∷ []) ≡ Commen
 unfolding trim_start trim_end chars encode_utf8 same_attribute
 empty = refl
 
--- a comment that trails an item is no doc of the next one
+-- a comment that trails an item isn't the doc of the next one
 trailing : with_docs (assignment ∷ Comment (codes "# a") ∷ Newline ∷ recipe ∷ []) ≡ assignment ∷ Comment (codes "# a") ∷ Newline ∷ recipe ∷ []
 unfolding trim_start trim_end chars encode_utf8 same_attribute
 trailing = refl
@@ -74,10 +74,10 @@ on_assignment : with_docs (Comment (codes "# a") ∷ Newline ∷ assignment ∷ 
 unfolding trim_start trim_end chars encode_utf8 same_attribute
 on_assignment = refl
 
--- an attribute says the doc, or that there is none
-said : with_docs (Comment (codes "# a") ∷ Newline ∷ recipe_with None doc ∷ []) ≡ Comment (codes "# a") ∷ Newline ∷ recipe_with None doc ∷ []
+-- an attribute sets the doc, or sets that there is none
+unchanged : with_docs (Comment (codes "# a") ∷ Newline ∷ recipe_with None doc ∷ []) ≡ Comment (codes "# a") ∷ Newline ∷ recipe_with None doc ∷ []
 unfolding trim_start trim_end chars encode_utf8 same_attribute
-said = refl
+unchanged = refl
 
 -- ---- how docs are printed
 
@@ -95,7 +95,7 @@ hidden : text (recipe_with (Some (codes "x")) doc ∷ []) [] ≡ codes "[doc]\nf
 unfolding fixed_text same_attribute
 hidden = refl
 
--- a comment after an attribute is no doc
+-- a comment after an attribute isn't a doc
 after_attribute : with_docs (assignment ∷ Newline ∷ recipe_with None (commented_entry (codes "# x") (bare_entry tt (tree.Plain kinds.Private)) ∷ []) ∷ [])
     ≡ assignment ∷ Newline ∷ recipe_with None (commented_entry (codes "# x") (bare_entry tt (tree.Plain kinds.Private)) ∷ []) ∷ []
 unfolding trim_start trim_end chars encode_utf8 same_attribute

@@ -7,8 +7,8 @@ use Rattle.justfile_vocabulary.specs.declared.attribute_kind.AttributeKind.{Attr
 use Rattle.justfile_vocabulary.specs.declared.attribute_kind.AttributeKind.TheVariants.{Doc}
 use Rattle.justfile_model.specs.AttributeKinds.{same_attribute}
 use Rattle.justfile_model.specs.ContentKeys.{kind_of_attribute}
-use Rattle.justfile_model.specs.Docs.{Before, LineEnd, Other, comment_taken, doc_in, doc_or_comment, documented, item_with_doc, redocumented, taken, wants_doc}
-use Rattle.justfile_model.specs.Files.{bindings, content_bindings, content_recipes, recipes, says_doc}
+use Rattle.justfile_model.specs.Docs.{Before, LineEnd, Other, comment_taken, doc_in, doc_or_comment, documented, item_with_doc, redocumented, taken, can_take_doc}
+use Rattle.justfile_model.specs.Files.{bindings, content_bindings, content_recipes, recipes, sets_doc}
 use Rattle.justfile_model.specs.Printing.{printable, printable_content, shown_doc}
 use Rattle.justfile_model.specs.PrintedAttributes.{after_doc, docs_written}
 use Rattle.justfile_model.specs.Tree.{Alias, Assignment, Comment, Construct, Content, Entry, Function, Import, Item, Module, Newline, OrderedItem, Recipe, Setting, Tree, Unexport, lexeme, nothing, over_content, over_entry, over_item, shape_of}
@@ -16,7 +16,7 @@ use Rattle.justfile_model.proofs.SameViewRules.{kind_over}
 
 -- ---- what counts constructs
 
--- it looks at constructs alone, whatever their docs are
+-- it looks at constructs alone, and not at their docs
 pub record CountsConstructs {A B C S D Z : Type 0} (count : List (Item A B C S D) → Z) : Type 0 where
   pub more : D → Content A B C S → Z → Z
   pub newline : (items : List (Item A B C S D)) → count (Newline ∷ items) ≡ count items
@@ -41,13 +41,13 @@ module _ {A B C S D Z : Type 0} (count : List (Item A B C S D) → Z) (c : Count
         by i None = c.comment comment (Newline ∷ i ∷ items)
         by Newline (Some doc) = c.comment comment (Newline ∷ Newline ∷ items)
         by (Comment text) (Some doc) = c.comment comment (Newline ∷ Comment text ∷ items)
-        by (Construct attributes content) (Some doc) = wanted (wants_doc has_doc attributes content)
+        by (Construct attributes content) (Some doc) = by_test (can_take_doc has_doc attributes content)
           where
-            wanted : (b : Bool)
+            by_test : (b : Bool)
                 → count (doc_or_comment has_doc comment (Construct attributes content) items (cond b (Some (Construct attributes (redocumented (Some doc) content))) None))
                 ≡ count (Newline ∷ Construct attributes content ∷ items)
-            wanted true = redocumented_counts attributes content (Some doc) items items refl ∙ sym (c.newline (Construct attributes content ∷ items))
-            wanted false = c.comment comment (Newline ∷ Construct attributes content ∷ items)
+            by_test true = redocumented_counts attributes content (Some doc) items items refl ∙ sym (c.newline (Construct attributes content ∷ items))
+            by_test false = c.comment comment (Newline ∷ Construct attributes content ∷ items)
     taken_counts before comment (Comment text ∷ items) = c.comment comment (Comment text ∷ items)
     taken_counts before comment (Construct attributes content ∷ items) = c.comment comment (Construct attributes content ∷ items)
 
@@ -146,15 +146,15 @@ module _ {A B C S D A' B' C' S' D' : Type 0} (f : A → A') (g : B → B') (h : 
   abbrev over : Item A B C S D → Item A' B' C' S' D'
   over = over_item f g h k m
 
-  wants_over : (attributes : D) (content : Content A B C S) → wants_doc other (m attributes) (over_content f g h k content) ≡ wants_doc has_doc attributes content
-  wants_over attributes (Assignment parts) = refl
-  wants_over attributes (Alias parts) = refl
-  wants_over attributes (Function parts) = refl
-  wants_over attributes (Import parts) = refl
-  wants_over attributes (Setting parts) = refl
-  wants_over attributes (Unexport name) = refl
-  wants_over attributes (Module parts) = ap (λ b. true && not b && not (is_some parts.doc)) (same attributes)
-  wants_over attributes (Recipe parts) = ap (λ b. true && not b && not (is_some parts.doc)) (same attributes)
+  can_take_over : (attributes : D) (content : Content A B C S) → can_take_doc other (m attributes) (over_content f g h k content) ≡ can_take_doc has_doc attributes content
+  can_take_over attributes (Assignment parts) = refl
+  can_take_over attributes (Alias parts) = refl
+  can_take_over attributes (Function parts) = refl
+  can_take_over attributes (Import parts) = refl
+  can_take_over attributes (Setting parts) = refl
+  can_take_over attributes (Unexport name) = refl
+  can_take_over attributes (Module parts) = ap (λ b. true && not b && not (is_some parts.doc)) (same attributes)
+  can_take_over attributes (Recipe parts) = ap (λ b. true && not b && not (is_some parts.doc)) (same attributes)
 
   redocumented_over : (doc : Option (List ℕ)) (content : Content A B C S)
       → redocumented doc (over_content f g h k content) ≡ over_content f g h k (redocumented doc content)
@@ -170,8 +170,8 @@ module _ {A B C S D A' B' C' S' D' : Type 0} (f : A → A') (g : B → B') (h : 
   with_doc_over : (doc : List ℕ) (attributes : D) (content : Content A B C S)
       → item_with_doc other doc (over (Construct attributes content)) ≡ option_map over (item_with_doc has_doc doc (Construct attributes content))
   with_doc_over doc attributes content =
-      (λ i. cond (wants_over attributes content i) (Some (Construct (m attributes) (redocumented_over (Some doc) content i))) None)
-      ∙ go (wants_doc has_doc attributes content)
+      (λ i. cond (can_take_over attributes content i) (Some (Construct (m attributes) (redocumented_over (Some doc) content i))) None)
+      ∙ go (can_take_doc has_doc attributes content)
     where
       go : (b : Bool) → cond b (Some (over (Construct attributes (redocumented (Some doc) content)))) None
           ≡ option_map over (cond b (Some (Construct attributes (redocumented (Some doc) content))) None)
@@ -214,10 +214,10 @@ module _ {A B A' B' : Type 0} (f : A → A') (g : B → B') where
   any_kind_over P [] = refl
   any_kind_over P (e ∷ entries) = λ i. P (kind_over f g e.attribute i) || any_kind_over P entries i
 
-  says_doc_over : (entries : List (Entry A B)) → says_doc (map (over_entry f g) entries) ≡ says_doc entries
+  says_doc_over : (entries : List (Entry A B)) → sets_doc (map (over_entry f g) entries) ≡ sets_doc entries
   says_doc_over = any_kind_over (λ kind. same_attribute kind Doc)
 
 -- the docs of a shape are those of its tree
-pub documented_shape : (before : Before) (tree : Tree) → documented says_doc before (shape_of tree) ≡ shape_of (documented says_doc before tree)
+pub documented_shape : (before : Before) (tree : Tree) → documented sets_doc before (shape_of tree) ≡ shape_of (documented sets_doc before tree)
 documented_shape before tree =
-    documented_over lexeme nothing nothing (λ star. star) (map (over_entry lexeme nothing)) says_doc says_doc (says_doc_over lexeme nothing) before tree
+    documented_over lexeme nothing nothing (λ star. star) (map (over_entry lexeme nothing)) sets_doc sets_doc (says_doc_over lexeme nothing) before tree

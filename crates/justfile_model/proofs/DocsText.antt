@@ -48,7 +48,7 @@ bare_text : (entries : List (Entry (List ℕ) (Unit {0}))) (content : ShapeConte
 bare_text entries content indentation =
     λ i. if_some doc_line (none_shown entries (redocumented None content) (none_left content) i) ++ entries_text entries ++ undocumented_text content indentation i
 
--- ---- what stands after an item
+-- ---- the text after an item
 
 after_any : (i : ShapeItem) (o : Option (List ℕ)) (entries : List (Entry (List ℕ) (Unit {0}))) (content : ShapeContent) (items more : Shape)
     → item_end i (after_doc o (Construct entries content ∷ items)) ≡ item_end i (Construct entries content ∷ more)
@@ -77,7 +77,7 @@ end_written i (Construct entries content ∷ items) =
 
 -- ---- the text
 
--- pieces in a row, however they are put together
+-- pieces in a row, with other parentheses
 pieces : (a n e c z t : List ℕ) → a ++ n ++ e ++ c ++ z ++ t ≡ (a ++ []) ++ (n ++ (e ++ c ++ z ++ t))
 pieces [] [] e c z t = refl
 pieces [] (x ∷ n) e c z t = ap (λ l. x ∷ l) (pieces [] n e c z t)

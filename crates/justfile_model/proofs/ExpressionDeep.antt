@@ -30,7 +30,7 @@ use Rattle.justfile_model.proofs.Steps.{NoMark, input, accept_taken, accept_left
 three : (ns ls ms rs : List (Noted Tok)) → ((ns ++ ls) ++ ms) ++ rs ≡ ns ++ ((ls ++ ms) ++ rs)
 three ns ls ms rs = ap (λ (l : List (Noted Tok)). l ++ rs) (append_assoc ns ls ms) ∙ append_assoc ns (ls ++ ms) rs
 
--- a token of another kind is no word, and no mark
+-- a token of another kind isn't a word, and isn't a mark
 no_word : (word : List ℕ) (t : SignificantToken) {kind : TokenKind} → IsKind kind t → kind ≢ kinds.Identifier → IsWord word t → ⊥
 no_word word t e h w = h (sym e ∙ w.is_name)
 
@@ -53,7 +53,7 @@ record NoLiteral (ts : Tokens) : Type 0 where
   format : NoMark (codes "f") kinds.FormatStringStart ts
   backtick : NotNext kinds.Backtick ts
 
--- a name before a token that is no string
+-- a name before a token that isn't a string
 named : (name t : SignificantToken) (ts : Tokens) → IsKind kinds.Identifier name → (IsKind kinds.StringToken t → ⊥) → (IsKind kinds.FormatStringStart t → ⊥) → NoLiteral (name ∷ t ∷ ts)
 named name t ts kind ns nf = record {
   bang = λ e. cc;
@@ -101,7 +101,7 @@ module _ (MayEnter : ℕ → Option SignificantToken → Type 0) where
   no_slash (g.group kind e kind2) = λ e. cc
   no_slash (g.list kind s) = λ e. cc
 
-  -- braces are no word
+  -- braces aren't a word
   braced_no_word : {d : ℕ} {e : Expr Tok Tok} {fs : List (Noted Tok)} {ts rest : Tokens} → Braced itself itself MayEnter d e fs ts rest → NotWord (codes "if") ts
   braced_no_word (g.braces kind e kind2) = λ i. let n = i.is_name in cc
 
@@ -125,7 +125,7 @@ module _ (conditions : Conditions) (Hit : Option SignificantToken → Type 0) wh
   value_past : (c : Bool) (d : ℕ) (ts : Tokens) (ns : List (Noted Tok)) → NoLiteral ts → read token_leaves (r.At levels.Value c (input conditions d ts ns)) ≡ assert_rule token_leaves (read token_leaves) (input conditions d ts ns)
   value_past c d ts ns h = level_is token_leaves levels.Value c (input conditions d ts ns) ∙ past_literals d ts ns h
 
-  -- the rule for what is no name either
+  -- the rule for tokens that aren't names either
   past_names : (c : Bool) (d : ℕ) (t : SignificantToken) (ts : Tokens) (ns : List (Noted Tok)) → IsOther t → read token_leaves (r.At levels.Value c (input conditions d (t ∷ ts) ns)) ≡ group_rule token_leaves (read token_leaves) (input conditions d (t ∷ ts) ns)
   unfolding assert_rule name_rule
   past_names c d t ts ns h =
@@ -336,7 +336,7 @@ module _ (conditions : Conditions) (Hit : Option SignificantToken → Type 0) wh
         (rw (accept_left kinds.ParenL ts conditions d ns (λ e. cc), accept_taken kinds.BracketL opener tokens conditions d ns kind)
         (pass conditions Hit _ (sequence_deep (ns ++ noted features.ListLiteral opener.tok) within (λ e. cc) s) refl)))
 
-    -- the closing delimiter is no comma
+    -- the closing delimiter isn't a comma
     pub sequence_deep : (ns : List (Noted Tok)) {k : TokenKind} {d : ℕ} (within : d ≤ conditions.limit) {e : Exprs Tok Tok} {fs : List (Noted Tok)} {ts rest : Tokens} → k ≢ kinds.Comma → Sequence itself itself (PastLimitAt conditions.limit Hit) k d e fs ts rest
         → Reaches conditions Hit (read token_leaves (r.Sequence k (input conditions d ts ns))) (e, input conditions d rest (ns ++ fs)) (exprs_literals e)
     sequence_deep ns {k} {d} within {ts = ts} {rest = rest} nc (g.none {closer = closer} kind) =

@@ -12,7 +12,7 @@ use Rattle.justfile_model.specs.ExpressionReader.{Met, Out, Place, ReadExpr, acc
 use Rattle.justfile_model.specs.Features.{noted_if}
 use Rattle.justfile_model.specs.Literals as literals
 use Rattle.justfile_model.specs.Operators.{binary, feature_of, operand, rank, right}
-use Rattle.justfile_model.specs.ReaderState.{◌>>=◌, Leaves, Read, State, accept, accept_marked, accept_word, expect, note, with}
+use Rattle.justfile_model.specs.ReaderState.{◌>>=◌, Leaves, Read, State, accept, accept_marked, accept_keyword, expect, note, with}
 use Rattle.justfile_model.specs.Recursive.{below}
 use Rattle.justfile_model.specs.Tree.{Expr}
 use Rattle.justfile_model.proofs.ReadingSteps.{ItemRest, Found, Goes, Keeps, Past, accepts, accepts_marked, accepts_word, after_test, following, bind_alike, choose_alike, cooks, either, either_goes, expects, finds, first, first_alike, found_after, from_there, goes_after, keeps, known, mapped, operators, parts_go, past, past_then, test_alike, then, then_goes, there, weaken}
@@ -57,7 +57,7 @@ module _ {R T A B S : Type 0} (leaves : Leaves R T A B S) where
 
   ended_keeps : (b : Bool) (e : Expr A B) (s : State R T B) → Keeps s (r.ended_by leaves b e s)
   ended_keeps false e s = there s
-  ended_keeps true e s = either s (accept_word leaves (codes "else") s) _ _ (accepts_word leaves (codes "else") s) (there s) (λ w. tt)
+  ended_keeps true e s = either s (accept_keyword leaves (codes "else") s) _ _ (accepts_word leaves (codes "else") s) (there s) (λ w. tt)
 
   module _ (f : (x : Place R T B) → Out leaves x) (h : (x : Place R T B) → Advances x (f x)) where
     binary_goes : (k : Level) (c : Bool) (s : State R T B) → Goes s (binary_rule leaves f k c s)
@@ -81,7 +81,7 @@ module _ {R T A B S : Type 0} (leaves : Leaves R T A B S) where
     conjunct_goes : (c : Bool) (s : State R T B) → Goes s (conjunct_rule leaves f c s)
     unfolding conjunct_rule
     conjunct_goes c s =
-        either_goes s (accept_word leaves (codes "if") s) _ _ (accepts_word leaves (codes "if") s)
+        either_goes s (accept_keyword leaves (codes "if") s) _ _ (accepts_word leaves (codes "if") s)
         (either_goes s (accept leaves kinds.Slash s) _ _ (accepts leaves kinds.Slash s) (binary_goes levels.Conjunct c s) (λ op. mapped op.1 _ _ (h (r.At levels.Conjunct false op.1))))
         (λ w. keeps w.1 _ (h (r.Conditional w.0 w.1)))
 
@@ -98,7 +98,7 @@ module _ {R T A B S : Type 0} (leaves : Leaves R T A B S) where
     otherwise_goes : (s : State R T B) → Goes s (otherwise_rule leaves f s)
     unfolding otherwise_rule
     otherwise_goes s =
-        either_goes s (accept_word leaves (codes "if") s) _ _ (accepts_word leaves (codes "if") s)
+        either_goes s (accept_keyword leaves (codes "if") s) _ _ (accepts_word leaves (codes "if") s)
         (first s (braced_rule leaves f s) _ (braced_goes s) (λ o. ended_keeps (ends_open o.0) o.0 o.1))
         (λ i. keeps i.1 _ (h (r.Conditional i.0 i.1)))
 
@@ -106,7 +106,7 @@ module _ {R T A B S : Type 0} (leaves : Leaves R T A B S) where
     unfolding conditional_rule
     conditional_goes w s =
         first s (condition_rule leaves f s) _ (condition_goes s) (λ c. then c.1 (braced_rule leaves f c.1) _ (keeps c.1 _ (braced_goes c.1)) (λ b.
-        either b.1 (accept_word leaves (codes "else") b.1) _ _ (accepts_word leaves (codes "else") b.1) (there b.1) (λ w. mapped w.1 _ _ (otherwise_goes w.1))))
+        either b.1 (accept_keyword leaves (codes "else") b.1) _ _ (accepts_word leaves (codes "else") b.1) (there b.1) (λ w. mapped w.1 _ _ (otherwise_goes w.1))))
 
     element_goes : (k : TokenKind) (s : State R T B) → Goes s (element_rule leaves f k s)
     unfolding element_rule
@@ -162,7 +162,7 @@ module _ {R T A B S : Type 0} (leaves : Leaves R T A B S) where
     assert_goes : (s : State R T B) → Goes s (assert_rule leaves f s)
     unfolding assert_rule
     assert_goes s =
-        either_goes s (accept_word leaves (codes "assert") s) _ _ (accepts_word leaves (codes "assert") s) (name_goes s) (λ w.
+        either_goes s (accept_keyword leaves (codes "assert") s) _ _ (accepts_word leaves (codes "assert") s) (name_goes s) (λ w.
         then w.1 _ _ (keeps w.1 _ (expects leaves kinds.ParenL w.1)) (λ o. then o.1 (condition_rule leaves f o.1) _ (keeps o.1 _ (condition_goes o.1)) (λ c.
         either c.1 (accept leaves kinds.Comma c.1) _ _ (accepts leaves kinds.Comma c.1)
         (then c.1 _ _ (keeps c.1 _ (expects leaves kinds.ParenR c.1)) (λ p. there p.1))
@@ -254,7 +254,7 @@ module _ {R T A B S : Type 0} (leaves : Leaves R T A B S) where
   unfolding conjunct_rule
   conjunct_alike c s =
       let x = r.At levels.Conjunct c s in
-      choose_alike (accept_word leaves (codes "if") s) _ _ _ _
+      choose_alike (accept_keyword leaves (codes "if") s) _ _ _ _
       (λ _. choose_alike (accept leaves kinds.Slash s) _ _ _ _ (λ _. binary_alike levels.Conjunct c s (omega arith))
       (λ op e. first_alike _ _ _ (inside_is x (r.At levels.Conjunct false op.1) (omega (arith, (accepts leaves kinds.Slash s op e).0)))))
       (λ w e. inside_is x (r.Conditional w.0 w.1) (omega (arith, (accepts_word leaves (codes "if") s w e).0)))
@@ -271,7 +271,7 @@ module _ {R T A B S : Type 0} (leaves : Leaves R T A B S) where
   otherwise_alike : (x : Place R T B) (s : State R T B) → 8 * length s.left ≤ size x → otherwise_rule leaves (inside x) s ≡ otherwise_rule leaves (read leaves) s
   unfolding otherwise_rule
   otherwise_alike x s h =
-      choose_alike (accept_word leaves (codes "if") s) _ _ _ _
+      choose_alike (accept_keyword leaves (codes "if") s) _ _ _ _
       (λ _. first_alike _ _ _ (braced_alike x s h))
       (λ i e. inside_is x (r.Conditional i.0 i.1) (omega (arith, h, (accepts_word leaves (codes "if") s i e).0)))
 
@@ -283,7 +283,7 @@ module _ {R T A B S : Type 0} (leaves : Leaves R T A B S) where
       let one = (past s _ c (condition_past s) is).0 in
       first_alike _ _ _ (braced_alike x c.1 (omega (arith, one))) ∙ bind_alike (braced_rule leaves (read leaves) c.1) _ _ (λ b is2.
       let two = (past c.1 _ b (braced_past c.1) is2).0 in
-      choose_alike (accept_word leaves (codes "else") b.1) _ _ _ _ (λ _. refl) (λ w e.
+      choose_alike (accept_keyword leaves (codes "else") b.1) _ _ _ _ (λ _. refl) (λ w e.
       first_alike _ _ _ (otherwise_alike x w.1 (omega (arith, one, two, (accepts_word leaves (codes "else") b.1 w e).0)))))))
 
   element_alike : (x : Place R T B) (k : TokenKind) (s : State R T B) → 8 * length s.left + 4 < size x → element_rule leaves (inside x) k s ≡ element_rule leaves (read leaves) k s
@@ -337,7 +337,7 @@ module _ {R T A B S : Type 0} (leaves : Leaves R T A B S) where
 
     assert_alike : assert_rule leaves (inside x) s ≡ assert_rule leaves (read leaves) s
     unfolding assert_rule
-    assert_alike = choose_alike (accept_word leaves (codes "assert") s) _ _ _ _ (λ _. name_alike) (λ w e. bind_alike (expect leaves kinds.ParenL w.1) _ _ (λ o e2.
+    assert_alike = choose_alike (accept_keyword leaves (codes "assert") s) _ _ _ _ (λ _. name_alike) (λ w e. bind_alike (expect leaves kinds.ParenL w.1) _ _ (λ o e2.
         let one = (accepts_word leaves (codes "assert") s w e).0 in
         let two = (past w.1 _ o (expects leaves kinds.ParenL w.1) e2).0 in
         first_alike _ _ _ (condition_alike x o.1 (omega (arith, h, one, two))) ∙ bind_alike (condition_rule leaves (read leaves) o.1) _ _ (λ c is.

@@ -83,7 +83,7 @@ module _ (conditions : Conditions) where
   with_otherwise c b is (branch o closed) = g.if_else c b is o closed
   with_otherwise c b is (again is_if o) = g.else_if c b is is_if o
 
-  -- an element of a sequence, and the token after it: the sequence is closed there, or goes on
+  -- an element of a sequence, and the token after it: the closing delimiter, or a comma
   pub record Element (k : TokenKind) (d : ℕ) (e : Expr Tok Tok) (is_closed : Bool) (fs : List (Noted Tok)) (ts rest : Tokens) : Type 0 where
     pub following : SignificantToken
     pub kind : IsKind (cond is_closed k kinds.Comma) following
@@ -102,7 +102,7 @@ module _ (conditions : Conditions) where
   after_text e x (Ok text) P fails goes = goes text refl
   after_text e x (Err fault) P fails goes = fails fault
 
-  -- so many expressions are open, under these conditions
+  -- `d` expressions are open, under these conditions
   abbrev pub Here : ℕ → State → Type 0
   Here d s = (s.depth ≡ d) × (s.run ≡ conditions)
 
@@ -140,7 +140,7 @@ module _ (conditions : Conditions) where
   abbrev pub DerivesElement : TokenKind → ℕ → State → (Expr Tok Tok × Bool) × State → Type 0
   DerivesElement k d s x = Derived (Element k d x.0.0 x.0.1) (expr_literals x.0.0) d s x.1
 
-  -- parts of a format string, whatever token with this lexeme it begins with
+  -- the parts of a format string that begins with any token with this lexeme
   abbrev pub DerivesParts : List ℕ → ℕ → State → Parts Tok Tok × State → Type 0
   DerivesParts start d s x = (token : Tok) → token.lexeme ≡ start → Derived (FormatParts d x.0) (parts_literals token x.0) d s x.1
 
@@ -277,7 +277,7 @@ module _ (conditions : Conditions) where
         })
         (h (r.Conditional w (at s rest)) d here))
 
-    -- a condition that is no comparison
+    -- a condition that isn't a comparison
     uncompared_keeps : (d : ℕ) (s : State) (x : Expr Tok Tok × State) (from : Tokens) → s.left ≡ from → Derives (Expression true d) d s x → Derives (Condition d) d s (x.0, note_uncompared token_leaves x.0 from x.1)
     uncompared_keeps d s x [] split E = absurd (none_left (subst (λ (ts : Tokens). LeftOf x.1.left ts) split (expression_left itself itself (BelowLimit conditions.limit) E.derives)))
     uncompared_keeps d s x (t ∷ ts) split E = record {

@@ -2,9 +2,9 @@
 use Rattle.std.proofs.Common.{◌≡◌, ◌∙◌, Bool, true, false, List, [], ◌∷◌, ◌++◌, ℕ, Option, Some, None, if◌then◌else◌, refl, sym, ap}
 use Rattle.std.specs.Option.{option_map}
 use Rattle.justfile_model.specs.AttributeRules.{of_some}
-use Rattle.justfile_model.specs.Docs.{Before, Nothing, after, doc_in, doc_or_comment, comment_taken, documented, item_with_doc, redocumented, taken, wants_doc}
+use Rattle.justfile_model.specs.Docs.{Before, Nothing, after, doc_in, doc_or_comment, comment_taken, documented, item_with_doc, redocumented, taken, can_take_doc}
 use Rattle.justfile_model.specs.Features.{ConstructFeatures, Noted}
-use Rattle.justfile_model.specs.Files.{all_features, entries_features, if_both, ordered, says_doc, undocumented, with_entries}
+use Rattle.justfile_model.specs.Files.{all_features, entries_features, if_both, ordered, sets_doc, undocumented, with_entries}
 use Rattle.justfile_model.specs.Meaning.{entries_of}
 use Rattle.justfile_model.specs.LeafView.{LeafView}
 use Rattle.justfile_model.specs.Tree.{Alias, Assignment, Comment, Construct, Content, Entry, Function, Import, Item, Module, Newline, OrderedItem, Recipe, Setting, Unexport, WrittenAttribute, WrittenItem, starless}
@@ -22,7 +22,7 @@ meant_features (Comment text ∷ items) fs = meant_features items fs
 meant_features (Construct entries content ∷ items) [] = []
 meant_features (Construct entries content ∷ items) (f ∷ fs) = content_features entries content f ++ meant_features items fs
 
--- ---- of what has a meaning
+-- ---- the features of constructs that have a meaning
 
 starless_features : {A B C S : Type 0} (content : Content A B C S) (entries : List (Entry A B)) → entries_features (starless content) entries ≡ entries_features content entries
 starless_features (Assignment parts) entries = refl
@@ -95,7 +95,7 @@ module _ {A B C S : Type 0} (has_doc : List (Entry A B) → Bool) where
       → meant_features (doc_or_comment has_doc comment i items (item_with_doc has_doc doc i)) fs ≡ meant_features (i ∷ items) fs
   doc_same comment doc Newline items fs = refl
   doc_same comment doc (Comment text) items fs = refl
-  doc_same comment doc (Construct entries content) items fs = go (wants_doc has_doc entries content) fs
+  doc_same comment doc (Construct entries content) items fs = go (can_take_doc has_doc entries content) fs
     where
       go : (wants : Bool) (gs : List (ConstructFeatures B))
           → meant_features (doc_or_comment has_doc comment (Construct entries content) items
@@ -136,17 +136,17 @@ module _ {A B C S : Type 0} (has_doc : List (Entry A B) → Bool) where
       taken_same before i (documented has_doc (after has_doc i) all) fs
       ∙ same_after i (documented has_doc (after has_doc i) all) all (features_documented (after has_doc i) all) fs
 
--- the features of a file are those of what it means
+-- the features of a file are those of its meaning
 features_ordered : {A B C S : Type 0} (view : LeafView A B) (items : List (WrittenItem A B C S)) (all : List (OrderedItem A B C)) → ordered view items ≡ Some all
     → (fs : List (ConstructFeatures B)) → all_features view items fs ≡ meant_features all fs
 features_ordered {A} {B} {C} {S} view items all h fs = go (undocumented view items) refl h
   where
-    go : (o : Option (List (OrderedItem A B C))) → undocumented view items ≡ o → option_map (documented says_doc Nothing) o ≡ Some all
+    go : (o : Option (List (OrderedItem A B C))) → undocumented view items ≡ o → option_map (documented sets_doc Nothing) o ≡ Some all
         → all_features view items fs ≡ meant_features all fs
     go None e k = never_some all k
     go (Some others) e k =
-        features_meant view items others e fs ∙ sym (features_documented says_doc Nothing others fs)
-        ∙ ap (λ x. meant_features x fs) (some_back (documented says_doc Nothing others) all k)
+        features_meant view items others e fs ∙ sym (features_documented sets_doc Nothing others fs)
+        ∙ ap (λ x. meant_features x fs) (some_back (documented sets_doc Nothing others) all k)
 
 -- what means the same has the same features, however it is seen
 pub features_same : {A B C S : Type 0} (view other : LeafView A B) (items : List (WrittenItem A B C S)) (all : List (OrderedItem A B C))

@@ -4,7 +4,7 @@ use Rattle.justfile_model.specs.Conditions.{Conditions}
 use Rattle.justfile_model.specs.Docs.{Nothing, documented}
 use Rattle.justfile_model.specs.Expressions.{Tokens, BelowLimit}
 use Rattle.justfile_model.specs.Features.{ConstructFeatures, Noted}
-use Rattle.justfile_model.specs.Files.{FileDerives, Obeys, all_features, all_literals, to_tokens, ordered, says_doc}
+use Rattle.justfile_model.specs.Files.{FileDerives, Obeys, all_features, all_literals, to_tokens, ordered, sets_doc}
 use Rattle.justfile_model.specs.Grammar.{File}
 use Rattle.justfile_model.specs.ReadAttribute.{token_view}
 use Rattle.justfile_model.specs.Tok.{Tok}
@@ -36,7 +36,7 @@ module _ (conditions : Conditions) (tokens : Tokens) where
       let found = read_derives written features is in
       let obeyed = obeyed_at conditions tokens (written, features) is in
       let meaning = all_ordered conditions.current (token_view conditions) written obeyed in (
-        documented says_doc Nothing (meanings conditions.current (token_view conditions) written obeyed),
+        documented sets_doc Nothing (meanings conditions.current (token_view conditions) written obeyed),
         meaning,
         record { written = written; by_construct = found.0; derives = found.1; features_are = found.3; obeys = found.2; ordered_is = meaning },
       )

@@ -33,7 +33,7 @@ use Rattle.justfile_model.specs.SettingRules.{value_broken}
 use Rattle.justfile_model.specs.Settings.{SettingForm, setting_form}
 use Rattle.justfile_model.specs.Reader as reader
 use Rattle.justfile_model.specs.PartReader.{after_numbered, file_path, peek_assignment, is_imported, is_module, is_set, line_is, names, optional_path, setting_value}
-use Rattle.justfile_model.specs.Reader.{Start, alias, allowed, any_module, any_recipe, argument_rules, assignment, at_end, attributes, body, body_after, body_line, comment_item, construct, constructed, content, content_has_body, next_recipe_number, ended, entries_read, fragment, function, has_body, import, imported, item_rest, items, items_from, items_rule, line, line_at, line_end, line_rest, line_rest_rule, lines, lines_rule, named_module, no_items, no_line_rest, no_lines, on_line, optional_body, recipe, setting, some_lines, stands_alone, unexport, wordless}
+use Rattle.justfile_model.specs.Reader.{Start, alias, check_allowed, any_module, any_recipe, argument_rules, assignment, at_end, attributes, body, body_after, body_line, comment_item, construct, constructed, content, content_has_body, next_recipe_number, item_end, entries_read, fragment, function, has_body, import, imported, after_item, items, items_from, items_rule, line, line_at, line_end, line_rest, line_rest_rule, lines, lines_rule, named_module, no_items, no_line_rest, no_lines, any_item, optional_body, recipe, setting, some_lines, stands_alone, unexport, without_keyword}
 use Rattle.justfile_model.specs.TreeReader.{Read, State, read_attributes, tree_of_tokens, start_state, token_attributes, token_leaves, unnumbered}
 use Rattle.justfile_model.proofs.AttributeSound.{AttributeLines, IsRead, attributes_at, entries_in, written_in}
 use Rattle.justfile_model.proofs.HeaderSound.{HeaderOf, IsHeader, NamedHeader, after_obeying, header_of, header_sound, path_at}
@@ -149,10 +149,10 @@ module _ (conditions : Conditions) where
   starts_at_once (t ∷ u ∷ ts) h = g.at_once h.0 h.1.0
 
   -- the text of a comment, if there is one
-  abbrev pub comment_said : Option SignificantToken → Option (List ℕ)
-  comment_said comment = option_map (comment_in token_leaves) comment
+  abbrev pub comment_text_of : Option SignificantToken → Option (List ℕ)
+  comment_text_of comment = option_map (comment_in token_leaves) comment
 
-  starts_commented : (ts : Tokens) → AreNext (kinds.Comment ∷ kinds.Eol ∷ kinds.Indent ∷ []) ts → BeforeBody (comment_said (front ts)) ts (drop 3 ts)
+  starts_commented : (ts : Tokens) → AreNext (kinds.Comment ∷ kinds.Eol ∷ kinds.Indent ∷ []) ts → BeforeBody (comment_text_of (front ts)) ts (drop 3 ts)
   starts_commented [] h = absurd h
   starts_commented (t ∷ []) h = absurd h.1
   starts_commented (t ∷ u ∷ []) h = absurd h.1.1
@@ -204,14 +204,14 @@ module _ (conditions : Conditions) where
   -- a body after a header, or none
   pub data IsOptionalBody (s : State) : reader.CommentedBody token_leaves × State → Type 0 where
     no_body : IsOptionalBody s ((None, []), s)
-    a_body : {comment : Option SignificantToken} {first : Tokens} {x : List (BodyLine Tok Tok ℕ) × State} → BeforeBody (comment_said comment) s.left first
+    a_body : {comment : Option SignificantToken} {first : Tokens} {x : List (BodyLine Tok Tok ℕ) × State} → BeforeBody (comment_text_of comment) s.left first
         → IsBody (at s first) x → IsOptionalBody s ((comment, x.0), x.1)
 
   -- what attributes that were read mean, in the order of their content
   abbrev meant : List ReadAttribute → List (Entry Tok Tok)
   meant ws = entries_read token_leaves token_attributes conditions ws
 
-  -- a construct that was read after its attributes; what these say of parameters is noted with its features
+  -- a construct that was read after its attributes; the features of `arg` attributes are noted with those of the construct
   pub record IsContent (ws : List ReadAttribute) (s : State) (x : (WrittenItem Tok Tok ℕ Tok × Counters) × State) : Type 0 where
     pub content : Content Tok Tok ℕ Tok
     pub is : x.0.0 ≡ Construct (written_in ws) content
@@ -222,7 +222,7 @@ module _ (conditions : Conditions) where
     pub unbroken : meaning_broken (token_view conditions) content (meant ws) ≡ []
     pub formed : form_broken conditions.current (token_view conditions) content ≡ []
 
-  -- items note these features, whatever follows them
+  -- items note these features, with any items after them
   abbrev Note : WrittenTree → List (ConstructFeatures Tok) → List (Noted Tok) → Type 0
   Note items bs fs =
       (more : WrittenTree) (cs : List (ConstructFeatures Tok)) → all_features (token_view conditions) (items ++ more) (bs ++ cs) ≡ fs ++ all_features (token_view conditions) more cs
@@ -409,7 +409,7 @@ module _ (conditions : Conditions) where
     where
       finished : (name : SignificantToken) (t1 : Tokens) → s.left ≡ name ∷ t1 → IsKind kinds.Identifier name → (path : Option (Quoted Tok) × State)
           → IsOptionalPath conditions (at s t1) path
-          → IfOk (allowed token_leaves token_attributes item_kinds.Module ws name path.1 >>= λ checked.
+          → IfOk (check_allowed token_leaves token_attributes item_kinds.Module ws name path.1 >>= λ checked.
           constructed token_leaves token_attributes ws (tree.Module (bare_module optional name.tok path.0)) n checked.1) (IsContent ws (at s ts))
       finished name t1 split kind path (without_path none) =
           let P : ReadItem → Type 0 = λ o. IfOk o (IsContent ws (at s ts)) in
@@ -671,7 +671,7 @@ module _ (conditions : Conditions) where
   body_sound s here =
       after_bind (lines token_leaves s) _ (λ o. IfOk o (IsBody s)) (λ e. tt) (λ x is. some_left s x.1 x.0 (trimmed x.0) (lines_at s x is here) refl)
 
-  body_is_after : (s : State) (comment : Option SignificantToken) (first : Tokens) → BeforeBody (comment_said comment) s.left first → Here conditions 0 s
+  body_is_after : (s : State) (comment : Option SignificantToken) (first : Tokens) → BeforeBody (comment_text_of comment) s.left first → Here conditions 0 s
       → IfOk (body_after token_leaves comment (at s first)) (IsOptionalBody s)
   unfolding body_after
   body_is_after s comment first b here = go (body token_leaves (at s first)) (body_sound (at s first) here)
@@ -700,7 +700,7 @@ module _ (conditions : Conditions) where
   -- a header with its body, or without one
   record IsHeaded (h : Header Tok Tok Tok) (fs : List (Noted Tok)) (ts : Tokens) (s : State) (x : reader.CommentedBody token_leaves × State) : Type 0 where
     features : List (Noted Tok)
-    derives : Contents (content_has_body (recipe_content h (comment_said x.0.0) x.0.1)) (recipe_content h (comment_said x.0.0) x.0.1) (fs ++ features) ts x.1.left
+    derives : Contents (content_has_body (recipe_content h (comment_text_of x.0.0) x.0.1)) (recipe_content h (comment_text_of x.0.0) x.0.1) (fs ++ features) ts x.1.left
     met : Met conditions.expander features (body_literals x.0.1) s.noted x.1.noted
     stays : Here conditions 0 x.1
 
@@ -713,11 +713,11 @@ module _ (conditions : Conditions) where
     stays = here;
   }
   headed h fs ts s x here o (a_body {comment = comment} {x = y} b k) =
-      let said : Option (List ℕ) = comment_said comment in
-      let R : List (BodyLine Tok Tok ℕ) → Type 0 = λ ls. Block (recipe_content h said ls) (fs ++ k.features) ts y.1.left in
+      let text : Option (List ℕ) = comment_text_of comment in
+      let R : List (BodyLine Tok Tok ℕ) → Type 0 = λ ls. Block (recipe_content h text ls) (fs ++ k.features) ts y.1.left in
       record {
         features = k.features;
-        derives = starts_block h said (fs ++ k.features) ts y.1.left y.0 (subst R k.left (g.recipe o b k.lines (subst NotEmpty (sym k.left) k.some))) k.some;
+        derives = starts_block h text (fs ++ k.features) ts y.1.left y.0 (subst R k.left (g.recipe o b k.lines (subst NotEmpty (sym k.left) k.some))) k.some;
         met = k.met;
         stays = k.stays;
       }
@@ -737,15 +737,15 @@ module _ (conditions : Conditions) where
       let all : Header Tok Tok Tok = header_of conditions (rules_in conditions ws) quiet h.0.0 in
       after_bind (optional_body token_leaves h.1) _ P (λ e. tt) (λ b is2.
       let found = headed all head.features ts h.1 b head.stays (begins all head.features h.1.left (head.derives quiet)) (optional_body_at h.1 b is2 head.stays) in
-      let said : List (Noted Tok) = entries_features (recipe_content all (comment_said b.0.0) b.0.1) (meant ws) in
+      let noted_here : List (Noted Tok) = entries_features (recipe_content all (comment_text_of b.0.0) b.0.1) (meant ws) in
       after_obeying (exclusion_breaks ws h.0.0.name.tok b.1.run) b.1 _ P (λ e. tt) (λ none.
       record {
-        content = recipe_content all (comment_said b.0.0) b.0.1;
+        content = recipe_content all (comment_text_of b.0.0) b.0.1;
         is = refl;
         features = head.features ++ found.features;
         derives = found.derives;
-        met = subst (λ fs. Met conditions.expander fs (content_literals (recipe_content all (comment_said b.0.0) b.0.1)) s.noted b.1.noted)
-            (append_assoc said head.features found.features) (both_met head.met found.met);
+        met = subst (λ fs. Met conditions.expander fs (content_literals (recipe_content all (comment_text_of b.0.0) b.0.1)) s.noted b.1.noted)
+            (append_assoc noted_here head.features found.features) (both_met head.met found.met);
         stays = found.stays;
         unbroken = rw (head.options_unbroken, head.parameters_unbroken, head.none_undefined)
             (subst (λ run. exclusion_breaks ws h.0.0.name.tok run ≡ []) found.stays.1 none);
@@ -763,8 +763,8 @@ module _ (conditions : Conditions) where
       (λ h fs rest named. subst (λ (ts : Tokens). HeaderOf conditions h fs ts rest) (sym split) (headers.quiet kind named)))
 
   wordless_sound : (ws : List ReadAttribute) (n : Counters) (s : State) → Here conditions 0 s
-      → IfOk (wordless token_leaves token_attributes ws n s) (IsContent ws s)
-  unfolding wordless
+      → IfOk (without_keyword token_leaves token_attributes ws n s) (IsContent ws s)
+  unfolding without_keyword
   wordless_sound ws n s here =
       let P : ReadItem → Type 0 = λ o. IfOk o (IsContent ws s) in
       after_test (next_are token_leaves (kinds.Identifier ∷ kinds.ParenL ∷ []) s) _ _ P (λ _. function_sound ws n s here)
@@ -841,8 +841,8 @@ module _ (conditions : Conditions) where
       weaken (content token_leaves token_attributes ws.0 n ws.1) (IsContent ws.0 ws.1) (IsOnLine s) (λ x h. with_attributes s ws x read h)
       (content_sound ws.0 n ws.1 read.derived.stays))
 
-  pub on_line_sound : (n : Counters) (s : State) → Here conditions 0 s → IfOk (on_line token_leaves token_attributes n s) (IsOnLine s)
-  unfolding on_line
+  pub on_line_sound : (n : Counters) (s : State) → Here conditions 0 s → IfOk (any_item token_leaves token_attributes n s) (IsOnLine s)
+  unfolding any_item
   on_line_sound n s here =
       let P : Read (WrittenItem Tok Tok ℕ Tok × Counters) → Type 0 = λ o. IfOk o (IsOnLine s) in
       after_choose kinds.Comment s _ _ P (λ _. construct_sound n s here)
@@ -858,7 +858,7 @@ module _ (conditions : Conditions) where
         obeys = comment_obeyed conditions.current (token_view conditions) (trim_end c.tok.lexeme);
       })
 
-  pub on_line_at : (n : Counters) (s : State) (x : (WrittenItem Tok Tok ℕ Tok × Counters) × State) → on_line token_leaves token_attributes n s ≡ Ok x
+  pub on_line_at : (n : Counters) (s : State) (x : (WrittenItem Tok Tok ℕ Tok × Counters) × State) → any_item token_leaves token_attributes n s ≡ Ok x
       → Here conditions 0 s → IsOnLine s x
   on_line_at n s x is here = known x (IsOnLine s) is (on_line_sound n s here)
 
@@ -897,8 +897,8 @@ module _ (conditions : Conditions) where
     stays = h.stays;
   }
 
-  pub item_rest_sound : (s : State) → Here conditions 0 s → IfOk (item_rest token_leaves token_attributes s) (Leads ItemRest s)
-  unfolding item_rest
+  pub item_rest_sound : (s : State) → Here conditions 0 s → IfOk (after_item token_leaves token_attributes s) (Leads ItemRest s)
+  unfolding after_item
   item_rest_sound s here =
       let P : Read WrittenTree → Type 0 = λ o. IfOk o (Leads ItemRest s) in
       after_choose kinds.Comment s _ _ P
@@ -945,15 +945,15 @@ module _ (conditions : Conditions) where
   }
 
   ends_by : (i : WrittenItem Tok Tok ℕ Tok) (is : List (ConstructFeatures Tok)) (ts : Tokens) (s : State) (b : Bool) → Here conditions 0 s → Starts b i is ts s.left
-      → IfOk (cond b (Ok (tree.Newline ∷ [], s)) (item_rest token_leaves token_attributes s)) (Ends i is ts s)
+      → IfOk (cond b (Ok (tree.Newline ∷ [], s)) (after_item token_leaves token_attributes s)) (Ends i is ts s)
   ends_by i is ts s true here h =
       record { by_construct = []; derives = λ more gs m. blocks h m; features = []; note = λ more cs. refl; met = nothing_met; stays = here }
   ends_by i is ts s false here h =
-      weaken (item_rest token_leaves token_attributes s) (Leads ItemRest s) (Ends i is ts s) (ends_line i is ts s h) (item_rest_sound s here)
+      weaken (after_item token_leaves token_attributes s) (Leads ItemRest s) (Ends i is ts s) (ends_line i is ts s h) (item_rest_sound s here)
 
   ended_sound : (i : WrittenItem Tok Tok ℕ Tok) (is : List (ConstructFeatures Tok)) (ts : Tokens) (s : State) → Here conditions 0 s
-      → Starts (has_body i) i is ts s.left → IfOk (ended token_leaves token_attributes (has_body i) s) (Ends i is ts s)
-  unfolding ended
+      → Starts (has_body i) i is ts s.left → IfOk (item_end token_leaves token_attributes (has_body i) s) (Ends i is ts s)
+  unfolding item_end
   ended_sound i is ts s here h = ends_by i is ts s (has_body i) here h
 
   pub line_sound : (n : Counters) (s : State) → Here conditions 0 s → IfOk (line token_leaves token_attributes n s) (LeadsNumbered s)
@@ -961,8 +961,8 @@ module _ (conditions : Conditions) where
   line_sound n s here =
       let P : Read (WrittenTree × Counters) → Type 0 = λ o. IfOk o (LeadsNumbered s) in
       after_choose kinds.Eol s _ _ P
-      (λ _. after_bind (on_line token_leaves token_attributes n s) _ P (λ e. tt) (λ i is.
-      after_bind (ended token_leaves token_attributes (has_body i.0.0) i.1) _ P (λ e. tt) (λ b is2.
+      (λ _. after_bind (any_item token_leaves token_attributes n s) _ P (λ e. tt) (λ i is.
+      after_bind (item_end token_leaves token_attributes (has_body i.0.0) i.1) _ P (λ e. tt) (λ b is2.
       let one = (on_line_at n s i is here).derived in
       let found = known b (Ends i.0.0 one.by_construct s.left i.1) is2 (ended_sound i.0.0 one.by_construct s.left i.1 one.stays one.derives) in
       record {
@@ -1032,13 +1032,13 @@ module _ (conditions : Conditions) where
 
   unmarked_file : (s : State) (x : (WrittenTree × Counters) × State) → ReadsWholeFile Items s x → ReadsWholeFile File s x
   unmarked_file s x h =
-      record { by_construct = h.by_construct; derives = g.unmarked h.derives; features = h.features; note = h.note; met = h.met; stays = h.stays }
+      record { by_construct = h.by_construct; derives = g.without_byte_order_mark h.derives; features = h.features; note = h.note; met = h.met; stays = h.stays }
 
   marked_file : (s : State) (rest : Tokens) (t : SignificantToken) → s.left ≡ t ∷ rest → IsKind kinds.ByteOrderMark t
       → (x : (WrittenTree × Counters) × State) → ReadsWholeFile Items (at s rest) x → ReadsWholeFile File s x
   marked_file s rest t split kind x h = record {
     by_construct = h.by_construct;
-    derives = subst (File x.0.0 h.by_construct) (sym split) (g.marked kind h.derives);
+    derives = subst (File x.0.0 h.by_construct) (sym split) (g.with_byte_order_mark kind h.derives);
     features = h.features;
     note = h.note;
     met = h.met;

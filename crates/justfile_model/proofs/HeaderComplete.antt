@@ -158,7 +158,7 @@ module _ (conditions : Conditions) (Hit : Option SignificantToken → Type 0) wh
       → AreAfter [] arguments all → r.dependency_of token_leaves star names all ≡ dependency_with star names arguments
   read_is star names arguments all is = ap (dependency_with star names) (arguments_are (λ (t : SignificantToken). t.tok) all ∙ is)
 
-  -- where the stars stand was among the rules
+  -- the rule for the positions of stars is among the rules
   misplaced_among : (star : Option SignificantToken) (arguments : List (DependencyArgument Tok Tok Tok)) (all : List ReadArgument) {rules : List (Broken Tok)}
       → AreAfter [] arguments all → Among (misplaced_broken (option_map (λ (t : SignificantToken). t.tok) star) (stars arguments)) rules
       → Among (misplaced_broken (option_map (λ (t : SignificantToken). t.tok) star) (stars_read all)) rules
@@ -270,7 +270,7 @@ module _ (conditions : Conditions) (Hit : Option SignificantToken → Type 0) wh
 
   -- ---- parameters
 
-  module _ (said : List (ArgumentRules Tok Tok)) where
+  module _ (args : List (ArgumentRules Tok Tok)) where
     abbrev Numbered : Type 0
     Numbered = List (Parameter Tok Tok) × Counters
 
@@ -279,12 +279,12 @@ module _ (conditions : Conditions) (Hit : Option SignificantToken → Type 0) wh
     drawn n = with_bindings (n.bindings + 1) n
 
     abbrev broken_by : (before : List (Parameter Tok Tok)) → Parameter Tok Tok → List (Broken Tok)
-    broken_by = parameter_broken (token_view conditions) said
+    broken_by = parameter_broken (token_view conditions) args
 
     named_reached : (kind : ParameterKind) (export : Bool) (before : List (Parameter Tok Tok)) (n : Counters) (ns : List (Noted Tok)) {p : Parameter Tok Tok}
         {fs : List (Noted Tok)} {ts rest : Tokens} {rules : List (Broken Tok)} → NamedParameter itself itself MayEnter kind export p fs ts rest
         → Among (broken_by before p) rules
-        → ReachesOne conditions Hit (r.named_parameter token_leaves token_view said kind export (before, n) (input conditions 0 ts ns))
+        → ReachesOne conditions Hit (r.named_parameter token_leaves token_view args kind export (before, n) (input conditions 0 ts ns))
         ((before ++ p ∷ [], drawn n), input conditions 0 rest (ns ++ fs)) (parameter_literals p) rules
     unfolding r.named_parameter r.default_value next_binding_number
     named_reached kind export before n ns {p = p} {rest = rest} (g.required {name = name} is nx) h =
@@ -302,7 +302,7 @@ module _ (conditions : Conditions) (Hit : Option SignificantToken → Type 0) wh
     abbrev ParameterReached : ParameterKind → List (Parameter Tok Tok) → Counters → List (Noted Tok) → Parameter Tok Tok → List (Noted Tok) → Tokens → Tokens
         → List (Broken Tok) → Type 0
     ParameterReached kind before n ns p fs ts rest rules =
-        ReachesOne conditions Hit (r.parameter token_leaves token_view said kind ((before, n), input conditions 0 ts ns))
+        ReachesOne conditions Hit (r.parameter token_leaves token_view args kind ((before, n), input conditions 0 ts ns))
         ((before ++ p ∷ [], drawn n), input conditions 0 rest (ns ++ fs)) (parameter_literals p) rules
 
     parameter_reached : (kind : ParameterKind) (before : List (Parameter Tok Tok)) (n : Counters) (ns : List (Noted Tok)) {p : Parameter Tok Tok}
@@ -327,21 +327,21 @@ module _ (conditions : Conditions) (Hit : Option SignificantToken → Type 0) wh
     -- what follows those that take one argument
     abbrev ending : Numbered × State → Read Numbered
     ending ps =
-        r.last_parameter token_leaves token_view said ps >>= λ all. expect token_leaves kinds.Colon all.1 >>= λ colon. Ok (all.0, colon.1)
+        r.last_parameter token_leaves token_view args ps >>= λ all. expect token_leaves kinds.Colon all.1 >>= λ colon. Ok (all.0, colon.1)
 
     abbrev parameters_from : Numbered × State → Read Numbered
-    parameters_from x = r.singulars token_leaves token_view said x >>= ending
+    parameters_from x = r.singulars token_leaves token_view args x >>= ending
 
     goes_on : (x : Numbered × State) → r.begins_parameter token_leaves x.1 ≡ true
-        → parameters_from x ≡ (r.parameter token_leaves token_view said Singular x >>= parameters_from)
+        → parameters_from x ≡ (r.parameter token_leaves token_view args Singular x >>= parameters_from)
     unfolding r.singulars_rule
     goes_on x is =
-        rw (singulars_is token_leaves token_view said x, is)
-        (after_both (r.parameter token_leaves token_view said Singular x) (r.singulars token_leaves token_view said) ending)
+        rw (singulars_is token_leaves token_view args x, is)
+        (after_both (r.parameter token_leaves token_view args Singular x) (r.singulars token_leaves token_view args) ending)
 
     stops : (x : Numbered × State) → r.begins_parameter token_leaves x.1 ≡ false → parameters_from x ≡ ending x
     unfolding r.singulars_rule
-    stops x is = rw (singulars_is token_leaves token_view said x, is) refl
+    stops x is = rw (singulars_is token_leaves token_view args x, is) refl
 
     no_parameter : (ns : List (Noted Tok)) (ts : Tokens) → NotNext kinds.Identifier ts → NotNext kinds.Dollar ts
         → r.begins_parameter token_leaves (input conditions 0 ts ns) ≡ false
@@ -355,9 +355,9 @@ module _ (conditions : Conditions) (Hit : Option SignificantToken → Type 0) wh
     variadic_reached : (kind : ParameterKind) (before : List (Parameter Tok Tok)) (n : Counters) (ns : List (Noted Tok)) (p : Parameter Tok Tok)
         (colon : SignificantToken) {fs : List (Noted Tok)} {ts rest : Tokens} {rules : List (Broken Tok)}
         → ParameterOf itself itself MayEnter kind p fs ts (colon ∷ rest) → IsKind kinds.Colon colon → Among (broken_by before p) rules
-        → ReachesOne conditions Hit (r.variadic token_leaves token_view said kind ((before, n), input conditions 0 ts ns))
+        → ReachesOne conditions Hit (r.variadic token_leaves token_view args kind ((before, n), input conditions 0 ts ns))
         ((before ++ p ∷ [], drawn n), input conditions 0 (colon ∷ rest) (ns ++ fs)) (parameter_literals p) rules
-    unfolding r.variadic r.nothing_after
+    unfolding r.variadic r.expect_no_name
     variadic_reached kind before n ns p colon {fs = fs} {rest = rest} h is among =
         pass conditions Hit _ (parameter_reached kind before n ns h among)
         (rw (accept_left kinds.Identifier (colon ∷ rest) conditions 0 (ns ++ fs) (λ k. cc)) refl)
@@ -370,7 +370,7 @@ module _ (conditions : Conditions) (Hit : Option SignificantToken → Type 0) wh
 
     parameters_reached : (before : List (Parameter Tok Tok)) (n : Counters) (ns : List (Noted Tok)) {ps : List (Parameter Tok Tok)} {fs : List (Noted Tok)}
         {ts rest : Tokens} {rules : List (Broken Tok)} → Parameters itself itself MayEnter ps fs ts rest
-        → Among (parameters_broken (token_view conditions) said before ps) rules → ParametersReached before n ns ps fs ts rest rules
+        → Among (parameters_broken (token_view conditions) args before ps) rules → ParametersReached before n ns ps fs ts rest rules
     unfolding r.last_parameter
     parameters_reached before n ns {rest = rest} (g.none {colon = colon} is) h =
         let ts : Tokens = colon ∷ rest in
@@ -383,26 +383,26 @@ module _ (conditions : Conditions) (Hit : Option SignificantToken → Type 0) wh
     parameters_reached before n ns {ts = ts} {rest = rest} (g.more {p = p} {ps = ps} {fs = fs} {gs = gs} first others) h =
         by conditions Hit (goes_on ((before, n), input conditions 0 ts ns) (begins_one ns (parameter_starts itself itself MayEnter first)))
         (then_one conditions Hit _ _
-        (parameter_reached Singular before n ns first (parameter_first (token_view conditions) said before p ps h))
+        (parameter_reached Singular before n ns first (parameter_first (token_view conditions) args before p ps h))
         (same_one conditions Hit (λ i. ((append_assoc before (p ∷ []) ps i, after_parameters (drawn n) ps), input conditions 0 rest (append_assoc ns fs gs i)))
-        (parameters_reached (before ++ p ∷ []) (drawn n) (ns ++ fs) others (parameters_after (token_view conditions) said before p ps h))))
+        (parameters_reached (before ++ p ∷ []) (drawn n) (ns ++ fs) others (parameters_after (token_view conditions) args before p ps h))))
     parameters_reached before n ns {rest = rest} (g.plus {p = p} {fs = fs} {prefix = prefix} {colon = colon} {tokens = ts} is q is2) h =
         by conditions Hit (stops ((before, n), input conditions 0 (prefix ∷ ts) ns) (no_parameter ns (prefix ∷ ts) (λ k. cc) (λ k. cc)))
         (rw (accept_taken kinds.Plus prefix ts conditions 0 ns is)
         (then_one conditions Hit _ _
-        (variadic_reached Plus before n ns p colon q is2 (parameter_first (token_view conditions) said before p [] h))
+        (variadic_reached Plus before n ns p colon q is2 (parameter_first (token_view conditions) args before p [] h))
         (read_now conditions Hit _ refl (rw (expect_taken kinds.Colon colon rest conditions 0 (ns ++ fs) is2) refl))))
     parameters_reached before n ns {rest = rest} (g.star {p = p} {fs = fs} {prefix = prefix} {colon = colon} {tokens = ts} is q is2) h =
         by conditions Hit (stops ((before, n), input conditions 0 (prefix ∷ ts) ns) (no_parameter ns (prefix ∷ ts) (λ k. cc) (λ k. cc)))
         (rw (accept_left kinds.Plus (prefix ∷ ts) conditions 0 ns (λ k. cc), accept_taken kinds.Asterisk prefix ts conditions 0 ns is)
         (then_one conditions Hit _ _
-        (variadic_reached Star before n ns p colon q is2 (parameter_first (token_view conditions) said before p [] h))
+        (variadic_reached Star before n ns p colon q is2 (parameter_first (token_view conditions) args before p [] h))
         (read_now conditions Hit _ refl (rw (expect_taken kinds.Colon colon rest conditions 0 (ns ++ fs) is2) refl))))
 
     all_parameters_reached : (n : Counters) (ns : List (Noted Tok)) {ps : List (Parameter Tok Tok)} {fs : List (Noted Tok)} {ts rest : Tokens}
         {rules : List (Broken Tok)} → Parameters itself itself MayEnter ps fs ts rest
-        → Among (parameters_broken (token_view conditions) said [] ps) rules
-        → ReachesOne conditions Hit (r.parameters token_leaves token_view said n (input conditions 0 ts ns))
+        → Among (parameters_broken (token_view conditions) args [] ps) rules
+        → ReachesOne conditions Hit (r.parameters token_leaves token_view args n (input conditions 0 ts ns))
         ((ps, after_parameters n ps), input conditions 0 rest (ns ++ fs)) (flat_map parameter_literals ps) rules
     unfolding r.parameters
     all_parameters_reached n ns q h = parameters_reached [] n ns q h
@@ -411,9 +411,9 @@ module _ (conditions : Conditions) (Hit : Option SignificantToken → Type 0) wh
 
     -- the rules that a header breaks by its `arg` attributes and by its stars are among the rules
     pub record CoversHeader (h : Header Tok Tok Tok) (rules : List (Broken Tok)) : Type 0 where
-      pub options : Among (options_broken (token_view conditions) h.name said) rules
-      pub each : Among (parameters_broken (token_view conditions) said [] h.parameters) rules
-      pub undefined : Among (undefined_broken (token_view conditions) h.parameters said) rules
+      pub options : Among (options_broken (token_view conditions) h.name args) rules
+      pub each : Among (parameters_broken (token_view conditions) args [] h.parameters) rules
+      pub undefined : Among (undefined_broken (token_view conditions) h.parameters args) rules
       pub starred : Among (header_broken h) rules
 
     -- the header was read, with the token of its name and the numbers of its parameters
@@ -423,26 +423,26 @@ module _ (conditions : Conditions) (Hit : Option SignificantToken → Type 0) wh
     -- a header whose parameters are read, up to its end
     abbrev after_parameters_read : SignificantToken → Numbered × State → Read (ReadHeader SignificantToken Tok Tok Tok × Counters)
     after_parameters_read name ps =
-        obeying (undefined_broken (token_view ps.1.run) ps.0.0 said) ps.1 >>= λ checked.
-        both_from (λ priors others. (r.header_of token_leaves token_view said name ps.0.0 priors others, ps.0.1)) checked.1
+        obeying (undefined_broken (token_view ps.1.run) ps.0.0 args) ps.1 >>= λ checked.
+        both_from (λ priors others. (r.header_of token_leaves token_view args name ps.0.0 priors others, ps.0.1)) checked.1
 
     header_is : (n : Counters) (name : SignificantToken) (ts : Tokens) (ns : List (Noted Tok)) → IsKind kinds.Identifier name
-        → r.header token_leaves token_view said n (input conditions 0 (name ∷ ts) ns)
-        ≡ (obeying (options_broken (token_view conditions) name.tok said) (input conditions 0 ts (ns ++ flat_map rules_features said)) >>= λ options.
-        r.parameters token_leaves token_view said n options.1 >>= after_parameters_read name)
+        → r.header token_leaves token_view args n (input conditions 0 (name ∷ ts) ns)
+        ≡ (obeying (options_broken (token_view conditions) name.tok args) (input conditions 0 ts (ns ++ flat_map rules_features args)) >>= λ options.
+        r.parameters token_leaves token_view args n options.1 >>= after_parameters_read name)
     unfolding r.header r.distinct_options
     header_is n name ts ns is = rw (expect_taken kinds.Identifier name ts conditions 0 ns is) refl
 
     header_after : (name : SignificantToken) (ps : List (Parameter Tok Tok)) (n : Counters) (ns : List (Noted Tok)) {ds ss : List (Dependency Tok Tok Tok)}
         {fs : List (Noted Tok)} {ts rest : Tokens} {rules : List (Broken Tok)} → AllDependencies itself itself itself MayEnter ds ss fs ts rest
-        → Among (undefined_broken (token_view conditions) ps said) rules
+        → Among (undefined_broken (token_view conditions) ps args) rules
         → Among (flat_map dependency_broken ds ++ flat_map dependency_broken ss) rules
         → ReachesOne conditions Hit (after_parameters_read name ((ps, n), input conditions 0 ts ns))
-        ((r.header_of token_leaves token_view said name ps ds ss, n), input conditions 0 rest (ns ++ fs))
+        ((r.header_of token_leaves token_view args name ps ds ss, n), input conditions 0 rest (ns ++ fs))
         (flat_map dependency_literals ds ++ flat_map dependency_literals ss) rules
     header_after name ps n ns {ts = ts} k undefined starred =
-        then_one conditions Hit _ _ (obeying_reached (undefined_broken (token_view conditions) ps said) (input conditions 0 ts ns) undefined)
-        (both_reached (λ priors others. (r.header_of token_leaves token_view said name ps priors others, n)) ns k starred)
+        then_one conditions Hit _ _ (obeying_reached (undefined_broken (token_view conditions) ps args) (input conditions 0 ts ns) undefined)
+        (both_reached (λ priors others. (r.header_of token_leaves token_view args name ps priors others, n)) ns k starred)
 
     as_header : (noted : List (Noted Tok)) (quiet : Bool) (h : Header Tok Tok Tok) (n : Counters) (found : ReadHeader SignificantToken Tok Tok Tok) (rest : Tokens)
         (x : (ReadHeader SignificantToken Tok Tok Tok × Counters) × State)
@@ -455,11 +455,11 @@ module _ (conditions : Conditions) (Hit : Option SignificantToken → Type 0) wh
     -- a header from its name on
     pub header_reached : (quiet : Bool) (n : Counters) (ns : List (Noted Tok)) {h : Header Tok Tok Tok} {fs : List (Noted Tok)} {ts rest : Tokens}
         {rules : List (Broken Tok)} → NamedHeader itself itself itself MayEnter quiet h fs ts rest → CoversHeader h rules
-        → ReachesSome conditions Hit (r.header token_leaves token_view said n (input conditions 0 ts ns))
-        (IsAt (IsHeader quiet h n) (input conditions 0 rest (ns ++ (flat_map rules_features said ++ fs)))) (header_literals h) rules
+        → ReachesSome conditions Hit (r.header token_leaves token_view args n (input conditions 0 ts ns))
+        (IsAt (IsHeader quiet h n) (input conditions 0 rest (ns ++ (flat_map rules_features args ++ fs)))) (header_literals h) rules
     header_reached quiet n ns {h = h} {rest = rest} (g.header {ps = ps} {ds = ds} {ss = ss} {fs = fs} {gs = gs} {name = name} {tokens = ts} is q k) covers =
-        let features : List (Noted Tok) = flat_map rules_features said in
-        let found : ReadHeader SignificantToken Tok Tok Tok = r.header_of token_leaves token_view said name ps ds ss in
+        let features : List (Noted Tok) = flat_map rules_features args in
+        let found : ReadHeader SignificantToken Tok Tok Tok = r.header_of token_leaves token_view args name ps ds ss in
         let regroups : ((ns ++ features) ++ fs) ++ gs ≡ ns ++ (features ++ (fs ++ gs)) =
         append_assoc (ns ++ features) fs gs ∙ append_assoc ns features (fs ++ gs) in
         known_as conditions Hit (IsAt (IsHeader quiet h n) (input conditions 0 rest (ns ++ (features ++ (fs ++ gs)))))
@@ -469,6 +469,6 @@ module _ (conditions : Conditions) (Hit : Option SignificantToken → Type 0) wh
         (renoted conditions Hit regroups
         (by conditions Hit (header_is n name ts ns is)
         (then_one conditions Hit _ _
-        (obeying_reached (options_broken (token_view conditions) name.tok said) (input conditions 0 ts (ns ++ features)) covers.options)
+        (obeying_reached (options_broken (token_view conditions) name.tok args) (input conditions 0 ts (ns ++ features)) covers.options)
         (then_one conditions Hit _ _ (all_parameters_reached n (ns ++ features) q covers.each)
         (header_after name ps (after_parameters n ps) ((ns ++ features) ++ fs) k covers.undefined covers.starred))))))

@@ -73,7 +73,7 @@ module _ {A B : Type 0} (leaf : Tok → A) (position : Tok → B) (MayEnter : �
 no_rules : (rules : List (Broken Tok)) → Among [] rules
 no_rules rules = record { carries = λ rule c. absurd (omega (arith, c.1)) }
 
--- the second star of what was read is that of all
+-- the second star of the arguments so far is the second star of all
 pub second_among : (before : List Tok) (star : Tok) (others : List Tok) {rules : List (Broken Tok)} → Among (second_broken (before ++ star ∷ others)) rules
     → Among (second_broken (before ++ star ∷ [])) rules
 second_among [] star others {rules} h = no_rules rules
@@ -106,14 +106,14 @@ stars_more before a = filter_map-append (λ (a : ReadArgument). a.star) before (
 
 -- ---- rules of parameters after others
 
-module _ (view : LeafView Tok Tok) (said : List (ArgumentRules Tok Tok)) where
+module _ (view : LeafView Tok Tok) (args : List (ArgumentRules Tok Tok)) where
   pub parameter_first : (before : List (Parameter Tok Tok)) (p : Parameter Tok Tok) (ps : List (Parameter Tok Tok)) {rules : List (Broken Tok)}
-      → Among (parameters_broken view said before (p ∷ ps)) rules → Among (parameter_broken view said before p) rules
-  parameter_first before p ps h = among_first (parameter_broken view said before p) (parameters_broken view said (before ++ p ∷ []) ps) h
+      → Among (parameters_broken view args before (p ∷ ps)) rules → Among (parameter_broken view args before p) rules
+  parameter_first before p ps h = among_first (parameter_broken view args before p) (parameters_broken view args (before ++ p ∷ []) ps) h
 
   pub parameters_after : (before : List (Parameter Tok Tok)) (p : Parameter Tok Tok) (ps : List (Parameter Tok Tok)) {rules : List (Broken Tok)}
-      → Among (parameters_broken view said before (p ∷ ps)) rules → Among (parameters_broken view said (before ++ p ∷ []) ps) rules
-  parameters_after before p ps h = among_others (parameter_broken view said before p) (parameters_broken view said (before ++ p ∷ []) ps) h
+      → Among (parameters_broken view args before (p ∷ ps)) rules → Among (parameters_broken view args (before ++ p ∷ []) ps) rules
+  parameters_after before p ps h = among_others (parameter_broken view args before p) (parameters_broken view args (before ++ p ∷ []) ps) h
 
 -- ---- where the parts of a header begin
 

@@ -231,8 +231,8 @@ module _ {R T A B S : Type 0} (leaves : Leaves R T A B S) where
       either s (accept leaves kinds.Equals s) _ _ (accepts leaves kinds.Equals s) (there s)
       (λ equals. then equals.1 (expressions.value leaves equals.1) _ (keeps equals.1 _ (value_goes equals.1)) (λ e. there e.1))
 
-  pub nothing_after_keeps : (s : State R T B) → Keeps s (r.nothing_after leaves s)
-  unfolding r.nothing_after
+  pub nothing_after_keeps : (s : State R T B) → Keeps s (r.expect_no_name leaves s)
+  unfolding r.expect_no_name
   nothing_after_keeps s = either s (accept leaves kinds.Identifier s) _ _ (accepts leaves kinds.Identifier s) (there s) (λ name. tt)
 
   module _ (view : R → LeafView A B) (rules : List (ArgumentRules A B)) where
@@ -300,7 +300,7 @@ module _ {R T A B S : Type 0} (leaves : Leaves R T A B S) where
     unfolding r.variadic
     variadic_goes kind x =
         first x.1 (r.parameter leaves view rules kind x) _ (parameter_goes kind x) (λ p.
-        then p.1 (r.nothing_after leaves p.1) _ (nothing_after_keeps p.1) (λ end. there end.1))
+        then p.1 (r.expect_no_name leaves p.1) _ (nothing_after_keeps p.1) (λ end. there end.1))
 
     pub last_parameter_keeps : (x : ParameterPlace) → Keeps x.1 (r.last_parameter leaves view rules x)
     unfolding r.last_parameter

@@ -55,7 +55,7 @@ is_left kind s = go s.left (next_taken (kind ∷ []) s)
 
 -- ---- the stars of arguments
 
--- no second star stands in these arguments
+-- these arguments have at most one star
 abbrev AreFew : List ReadArgument → Type 0
 AreFew arguments = second_broken (map token_leaves.position (stars arguments)) ≡ []
 
@@ -68,7 +68,7 @@ starred_few : (before : List ReadArgument) (star : SignificantToken) (value : Ex
 starred_few before star value h =
     subst (λ (ts : List SignificantToken). second_broken (map token_leaves.position ts) ≡ []) (sym (stars_more before _)) h
 
--- ---- a token may stand before others
+-- ---- an optional token before others
 
 abbrev star_on : Option SignificantToken → Tokens → Tokens
 star_on None ts = ts
@@ -199,7 +199,7 @@ module _ (conditions : Conditions) where
   abbrev arguments_literals : List (DependencyArgument Tok Tok Tok) → List (Literal Tok)
   arguments_literals arguments = flat_map (λ a. expr_literals a.value) arguments
 
-  -- an argument that may stand after these, before any that may follow
+  -- an argument that can follow these, before any others
   record IsArgument (before : List ReadArgument) (s : State) (x : ReadArgument × State) : Type 0 where
     derived : Derived conditions (λ fs ts between. (more : List (DependencyArgument Tok Tok Tok)) (gs : List (Noted Tok)) (rest : Tokens)
         → DependencyArguments more gs between rest → DependencyArguments (kept x.0 ∷ more) (fs ++ gs) ts rest) (expr_literals x.0.value) 0 s x.1
@@ -237,7 +237,7 @@ module _ (conditions : Conditions) where
   abbrev ReadArguments : Type 0
   ReadArguments = Read (List ReadArgument)
 
-  -- more arguments that may stand after those before
+  -- more arguments that can follow the earlier ones
   record AreArguments (x y : DependencyPlace) : Type 0 where
     others : List ReadArgument
     all_are : y.0 ≡ x.0 ++ others
@@ -478,7 +478,7 @@ module _ (conditions : Conditions) where
 
   -- ---- parameters
 
-  -- what stands after a parameter's name
+  -- the default after the name of a parameter, if it has one
   abbrev IsDefault : State → Option (Expr Tok Tok) × State → Type 0
   IsDefault s x =
       Derived conditions (λ fs ts rest. (kind : ParameterKind) (export : Bool) (name : SignificantToken) → IsKind kinds.Identifier name
@@ -502,7 +502,7 @@ module _ (conditions : Conditions) where
       }))
 
   module _ (rules : List (ArgumentRules Tok Tok)) where
-    -- parameters that were read, and where reading stands
+    -- the parameters so far, and the counters
     abbrev ReadParameters : Type 0
     ReadParameters = List (Parameter Tok Tok) × Counters
 
@@ -646,7 +646,7 @@ module _ (conditions : Conditions) where
         → ParameterOf kind p fs tokens (colon ∷ rest) → IsKind kinds.Colon colon → Parameters (p ∷ []) fs (prefix ∷ tokens) rest)
         → (x : ReadParameters) (s : State) (t1 : Tokens) → s.left ≡ prefix ∷ t1 → Here conditions 0 s
         → IfOk (r.variadic token_leaves token_view rules kind (x, at s t1)) (AreMore Ending (x, s))
-    unfolding r.variadic r.nothing_after
+    unfolding r.variadic r.expect_no_name
     variadic_derives kind prefix_kind prefix is_prefix derive x s t1 split here =
         let P : Read ReadParameters → Type 0 = λ o. IfOk o (AreMore Ending (x, s)) in
         after_bind (r.parameter token_leaves token_view rules kind (x, at s t1)) _ P (λ e. tt) (λ p is.
@@ -742,12 +742,12 @@ module _ (conditions : Conditions) where
     unfolding r.header r.distinct_options
     header_sound n s here =
         let P : Read (ReadHeader SignificantToken Tok Tok Tok × Counters) → Type 0 = λ o. IfOk o (IsHeader s) in
-        let said : List (Noted Tok) = flat_map rules_features rules in
+        let noted_here : List (Noted Tok) = flat_map rules_features rules in
         after_expect kinds.Identifier s _ P (λ e. tt) (λ name t1 split is_name.
-        after_obeying (options_broken (token_view s.run) name.tok rules) (with said (at s t1)) _ P (λ e. tt) (λ apart.
-        after_bind (r.parameters token_leaves token_view rules n (with said (at s t1))) _ P (λ e. tt) (λ ps is.
-        let parameters = known ps (AreParameters (with said (at s t1))) is (parameters_sound n (with said (at s t1)) here) in
-        let p : Derived conditions (Parameters ps.0.0) (flat_map parameter_literals ps.0.0) 0 (with said (at s t1)) ps.1 = parameters.derived in
+        after_obeying (options_broken (token_view s.run) name.tok rules) (with noted_here (at s t1)) _ P (λ e. tt) (λ apart.
+        after_bind (r.parameters token_leaves token_view rules n (with noted_here (at s t1))) _ P (λ e. tt) (λ ps is.
+        let parameters = known ps (AreParameters (with noted_here (at s t1))) is (parameters_sound n (with noted_here (at s t1)) here) in
+        let p : Derived conditions (Parameters ps.0.0) (flat_map parameter_literals ps.0.0) 0 (with noted_here (at s t1)) ps.1 = parameters.derived in
         after_obeying (undefined_broken (token_view ps.1.run) ps.0.0 rules) ps.1 _ P (λ e. tt) (λ defined.
         after_bind (r.dependencies token_leaves ps.1) _ P (λ e. tt) (λ priors is2.
         let before = dependencies_at ps.1 priors is2 p.stays in
@@ -761,9 +761,9 @@ module _ (conditions : Conditions) where
           derives = λ quiet.
               subst (λ (ts : Tokens). NamedHeader quiet (header_of quiet (r.header_of token_leaves token_view rules name ps.0.0 priors.0 others.0)) (p.features ++ d.features) ts others.1.left)
               (sym split) (g.header is_name p.derives d.derives);
-          met = subst (λ ls. Met conditions.expander (said ++ (p.features ++ d.features)) ls s.noted others.1.noted)
+          met = subst (λ ls. Met conditions.expander (noted_here ++ (p.features ++ d.features)) ls s.noted others.1.noted)
               (sym (append_assoc (flat_map parameter_literals ps.0.0) (flat_map dependency_literals priors.0) (flat_map dependency_literals others.0)))
-              (both_met (features_met said) (both_met p.met d.met));
+              (both_met (features_met noted_here) (both_met p.met d.met));
           stays = d.stays;
           options_unbroken = subst (λ run. options_broken (token_view run) name.tok rules ≡ []) here.1 apart;
           parameters_unbroken = parameters.unbroken;

@@ -91,66 +91,66 @@ plain token = record { expanded = false; token = token }
 abbrev no_place : Unit {0}
 no_place = tt
 
--- the literal stands for an indentation
-abbrev pub SaysIndentation : List ℕ → Type 0
-SaysIndentation literal = (text : List ℕ) × (string_text literal ≡ Ok text) × IsIndentation text
+-- the literal means an indentation
+abbrev pub IsIndentationLiteral : List ℕ → Type 0
+IsIndentationLiteral literal = (text : List ℕ) × (string_text literal ≡ Ok text) × IsIndentation text
 
 not_refused : (o : Option (List ℕ)) → of_some (λ message. broken_if true (InvalidIndentation message) no_place) o ≡ [] → o ≡ None
 not_refused None e = refl
 not_refused (Some message) e = never_nil _ _ e
 
 module _ (current : VersionNumbers) (expander : Expansions) where
-  text_said : (token text : List ℕ) → string_text token ≡ Ok text
-      → of_some (text_broken current words.Indentation no_place) (quoted_text (sees expander) (plain token)) ≡ [] → SaysIndentation token
-  text_said token text is unbroken =
+  text_valid : (token text : List ℕ) → string_text token ≡ Ok text
+      → of_some (text_broken current words.Indentation no_place) (quoted_text (sees expander) (plain token)) ≡ [] → IsIndentationLiteral token
+  text_valid token text is unbroken =
       let seen : quoted_text (sees expander) (plain token) ≡ Some text = ap (λ r. text_or_none r) is in
       let refused : indentation_refusal text ≡ None = not_refused (indentation_refusal text) (ap (of_some (text_broken current words.Indentation no_place)) (sym seen) ∙ unbroken) in
       (text, is, indentation_read text refused)
 
-  plain_said : (indented : Bool) (token : List ℕ) → HasText expander (literals.Plain token)
-      → literal_broken current (sees expander) words.Indentation no_place (cond indented None (Some (plain token))) ≡ [] → SaysIndentation token
-  plain_said true token has unbroken = never_nil _ _ unbroken
-  plain_said false token has unbroken = text_said token has.text has.is unbroken
+  plain_valid : (indented : Bool) (token : List ℕ) → HasText expander (literals.Plain token)
+      → literal_broken current (sees expander) words.Indentation no_place (cond indented None (Some (plain token))) ≡ [] → IsIndentationLiteral token
+  plain_valid true token has unbroken = never_nil _ _ unbroken
+  plain_valid false token has unbroken = text_valid token has.text has.is unbroken
 
-  setting_said : (keyword : Keyword) (name : List ℕ) (value : SettingValue (List ℕ) (Unit {0}))
+  setting_valid : (keyword : Keyword) (name : List ℕ) (value : SettingValue (List ℕ) (Unit {0}))
       → setting_broken current (sees expander) (record { keyword = keyword; name = name; value = value }) ≡ [] → HaveTexts expander (setting_literals value)
-      → IfSome (indentation_literal keyword value) SaysIndentation
-  setting_said words.Indentation name (tree.Value (tree.StringLiteral false token)) unbroken texts = plain_said (kind_of token).indented token texts.0 unbroken
-  setting_said words.Indentation name (tree.Value (tree.StringLiteral true token)) unbroken texts = never_nil _ _ unbroken
-  setting_said _ name _ unbroken texts = tt
+      → IfSome (indentation_literal keyword value) IsIndentationLiteral
+  setting_valid words.Indentation name (tree.Value (tree.StringLiteral false token)) unbroken texts = plain_valid (kind_of token).indented token texts.0 unbroken
+  setting_valid words.Indentation name (tree.Value (tree.StringLiteral true token)) unbroken texts = never_nil _ _ unbroken
+  setting_valid _ name _ unbroken texts = tt
 
-  content_said : (content : Content (List ℕ) (Unit {0}) (Unit {0}) (Unit {0})) → form_broken current (sees expander) content ≡ []
-      → HaveTexts expander (content_literals content) → IfSome (indentation_in content) SaysIndentation
-  content_said (tree.Alias parts) unbroken texts = tt
-  content_said (tree.Assignment parts) unbroken texts = tt
-  content_said (tree.Function parts) unbroken texts = tt
-  content_said (tree.Import parts) unbroken texts = tt
-  content_said (tree.Module parts) unbroken texts = tt
-  content_said (tree.Recipe parts) unbroken texts = tt
-  content_said (tree.Setting parts) unbroken texts = setting_said parts.keyword parts.name parts.value unbroken texts
-  content_said (tree.Unexport name) unbroken texts = tt
+  content_valid : (content : Content (List ℕ) (Unit {0}) (Unit {0}) (Unit {0})) → form_broken current (sees expander) content ≡ []
+      → HaveTexts expander (content_literals content) → IfSome (indentation_in content) IsIndentationLiteral
+  content_valid (tree.Alias parts) unbroken texts = tt
+  content_valid (tree.Assignment parts) unbroken texts = tt
+  content_valid (tree.Function parts) unbroken texts = tt
+  content_valid (tree.Import parts) unbroken texts = tt
+  content_valid (tree.Module parts) unbroken texts = tt
+  content_valid (tree.Recipe parts) unbroken texts = tt
+  content_valid (tree.Setting parts) unbroken texts = setting_valid parts.keyword parts.name parts.value unbroken texts
+  content_valid (tree.Unexport name) unbroken texts = tt
 
-  first_said : (b : Bool) (o found : Option (List ℕ)) → IfSome o SaysIndentation → IfSome found SaysIndentation
-      → IfSome (or_else (cond b o None) found) SaysIndentation
-  first_said true None found h k = k
-  first_said true (Some literal) found h k = h
-  first_said false o found h k = k
+  first_valid : (b : Bool) (o found : Option (List ℕ)) → IfSome o IsIndentationLiteral → IfSome found IsIndentationLiteral
+      → IfSome (or_else (cond b o None) found) IsIndentationLiteral
+  first_valid true None found h k = k
+  first_valid true (Some literal) found h k = h
+  first_valid false o found h k = k
 
-  items_said : (s : Shape) → AllPrintAgain current expander s → IfSome (indentation_of s) SaysIndentation
-  items_said [] h = tt
-  items_said (Newline ∷ s) h = items_said s h.1
-  items_said (Comment text ∷ s) h = items_said s h.1
-  items_said (Construct entries content ∷ s) h =
+  items_valid : (s : Shape) → AllPrintAgain current expander s → IfSome (indentation_of s) IsIndentationLiteral
+  items_valid [] h = tt
+  items_valid (Newline ∷ s) h = items_valid s h.1
+  items_valid (Comment text ∷ s) h = items_valid s h.1
+  items_valid (Construct entries content ∷ s) h =
       let ws = rewritten_entries entries in
       let unbroken =
       nothing_in (attributes_broken (sees expander) ws ++ of_some (meaning_broken (sees expander) content) (entries_of (sees expander) ws))
       (form_broken current (sees expander) content) h.0.unbroken in
       let texts = parts (HasText expander) (written_literals ws) (content_literals content) h.0.texts in
-      first_said (is_enabled entries) (indentation_in content) (indentation_of s) (content_said content unbroken.1 texts.1) (items_said s h.1)
+      first_valid (is_enabled entries) (indentation_in content) (indentation_of s) (content_valid content unbroken.1 texts.1) (items_valid s h.1)
 
--- the literal by which a shape that derives is indented stands for an indentation
-pub indentation_said : (C : Conditions) (ts : List SignificantToken) (s : Shape) (fs : List (Noted (Unit {0}))) → ShapeDerives C ts s fs
-    → IfSome (indentation_of s) SaysIndentation
-indentation_said C ts s fs h =
-    items_said C.current C.expander s
+-- the literal that sets the indentation of a shape that derives means an indentation
+pub indentation_valid : (C : Conditions) (ts : List SignificantToken) (s : Shape) (fs : List (Noted (Unit {0}))) → ShapeDerives C ts s fs
+    → IfSome (indentation_of s) IsIndentationLiteral
+indentation_valid C ts s fs h =
+    items_valid C.current C.expander s
     (shape_again C.current C.expander h.written s h.ordered_is h.unbroken (texts_are_there C.expander _ h.cooked h.cooks))

@@ -10,7 +10,7 @@ use Rattle.justfile_model.specs.HeaderReader.{next_binding_number, expression, h
 use Rattle.justfile_model.specs.PartReader.{accept_keyword_before, after_numbered, file_path, peek_assignment, is_imported, is_module, is_set, setting_keyword, line_is, names, optional_path, setting_value}
 use Rattle.justfile_model.specs.Settings.{setting_form}
 use Rattle.justfile_model.specs.Expressions.{front}
-use Rattle.justfile_model.specs.Reader.{CommentedBody, Start, alias, allowed, any_module, any_recipe, argument_rules, assignment, at_end, attributes, before_item, body, body_after, body_line, construct, content, next_recipe_number, ended, fragment, function, has_body, import, imported, item_rest, items, items_from, items_rule, line, line_end, line_rest, line_rest_rule, lines, lines_rule, named_module, no_exclusion, no_items, no_line_rest, no_lines, on_line, optional_body, recipe, setting, some_lines, stands_alone, unexport, wordless}
+use Rattle.justfile_model.specs.Reader.{CommentedBody, Start, alias, check_allowed, any_module, any_recipe, argument_rules, assignment, at_end, attributes, before_item, body, body_after, body_line, construct, content, next_recipe_number, item_end, fragment, function, has_body, import, imported, after_item, items, items_from, items_rule, line, line_end, line_rest, line_rest_rule, lines, lines_rule, named_module, check_exclusions, no_items, no_line_rest, no_lines, any_item, optional_body, recipe, setting, some_lines, stands_alone, unexport, without_keyword}
 use Rattle.justfile_model.specs.ReaderState.{◌>>=◌, Counters, Leaves, Read, ReadError, State, Taken, accept, accept_by, accepted, prepend, at, begin_with, choose, expect, next_are, same_kind}
 use Rattle.justfile_model.specs.Recursive.{below}
 use Rattle.justfile_model.specs.Tree.{Fragment, BodyLine, Item, trimmed}
@@ -229,10 +229,10 @@ module _ {R T A B S : Type 0} (leaves : Leaves R T A B S) where
 module _ {R T A B S D W : Type 0} (leaves : Leaves R T A B S) (kept : AttributeLeaves R A B D W) where
   -- ---- items
 
-  allowed_keeps : (item : ItemKind) (ws : List W) (name : T) (s : State R T B) → Keeps s (allowed leaves kept item ws name s)
+  allowed_keeps : (item : ItemKind) (ws : List W) (name : T) (s : State R T B) → Keeps s (check_allowed leaves kept item ws name s)
   allowed_keeps item ws name s = obeying_keeps _ s
 
-  no_exclusion_keeps : (ws : List W) (name : T) (s : State R T B) → Keeps s (no_exclusion leaves kept ws name s)
+  no_exclusion_keeps : (ws : List W) (name : T) (s : State R T B) → Keeps s (check_exclusions leaves kept ws name s)
   no_exclusion_keeps ws name s = obeying_keeps _ s
 
   pub alias_goes : (ws : List W) (n : Counters) (s : State R T B) → Goes s (alias leaves kept ws n s)
@@ -241,13 +241,13 @@ module _ {R T A B S D W : Type 0} (leaves : Leaves R T A B S) (kept : AttributeL
       first s (expect leaves kinds.Identifier s) _ (expects leaves kinds.Identifier s) (λ name.
       then name.1 (expect leaves kinds.ColonEquals name.1) _ (keeps name.1 _ (expects leaves kinds.ColonEquals name.1)) (λ operator.
       then operator.1 (path leaves operator.1) _ (keeps operator.1 _ (path_goes leaves operator.1)) (λ target.
-      then target.1 (allowed leaves kept item_kinds.Alias ws name.0 target.1) _ (allowed_keeps item_kinds.Alias ws name.0 target.1) (λ checked. there checked.1))))
+      then target.1 (check_allowed leaves kept item_kinds.Alias ws name.0 target.1) _ (allowed_keeps item_kinds.Alias ws name.0 target.1) (λ checked. there checked.1))))
 
   pub function_goes : (ws : List W) (n : Counters) (s : State R T B) → Goes s (function leaves kept ws n s)
   unfolding function
   function_goes ws n s =
       first s (expect leaves kinds.Identifier s) _ (expects leaves kinds.Identifier s) (λ name.
-      then name.1 (allowed leaves kept item_kinds.Function ws name.0 name.1) _ (allowed_keeps item_kinds.Function ws name.0 name.1) (λ checked.
+      then name.1 (check_allowed leaves kept item_kinds.Function ws name.0 name.1) _ (allowed_keeps item_kinds.Function ws name.0 name.1) (λ checked.
       then checked.1 (expect leaves kinds.ParenL checked.1) _ (keeps checked.1 _ (expects leaves kinds.ParenL checked.1)) (λ opener.
       then opener.1 (names leaves (n, opener.1)) _ (keeps opener.1 _ (names_go leaves (n, opener.1))) (λ parameters.
       then parameters.1 (expect leaves kinds.ColonEquals parameters.1) _ (keeps parameters.1 _ (expects leaves kinds.ColonEquals parameters.1)) (λ operator.
@@ -257,7 +257,7 @@ module _ {R T A B S D W : Type 0} (leaves : Leaves R T A B S) (kept : AttributeL
   unfolding imported
   imported_goes optional ws n s =
       first s (file_path leaves s) _ (file_path_goes leaves s) (λ path.
-      then path.1 (allowed leaves kept item_kinds.Import ws path.0.0 path.1) _ (allowed_keeps item_kinds.Import ws path.0.0 path.1) (λ checked. there checked.1))
+      then path.1 (check_allowed leaves kept item_kinds.Import ws path.0.0 path.1) _ (allowed_keeps item_kinds.Import ws path.0.0 path.1) (λ checked. there checked.1))
 
   pub import_goes : (ws : List W) (n : Counters) (s : State R T B) → Goes s (import leaves kept ws n s)
   unfolding import
@@ -270,7 +270,7 @@ module _ {R T A B S D W : Type 0} (leaves : Leaves R T A B S) (kept : AttributeL
   named_module_goes optional ws n s =
       first s (expect leaves kinds.Identifier s) _ (expects leaves kinds.Identifier s) (λ name.
       then name.1 (optional_path leaves name.1) _ (optional_path_keeps leaves name.1) (λ path.
-      then path.1 (allowed leaves kept item_kinds.Module ws name.0 path.1) _ (allowed_keeps item_kinds.Module ws name.0 path.1) (λ checked. there checked.1)))
+      then path.1 (check_allowed leaves kept item_kinds.Module ws name.0 path.1) _ (allowed_keeps item_kinds.Module ws name.0 path.1) (λ checked. there checked.1)))
 
   pub any_module_goes : (ws : List W) (n : Counters) (s : State R T B) → Goes s (any_module leaves kept ws n s)
   unfolding any_module
@@ -283,7 +283,7 @@ module _ {R T A B S D W : Type 0} (leaves : Leaves R T A B S) (kept : AttributeL
   setting_goes ws n s =
       first s (expect leaves kinds.Identifier s) _ (expects leaves kinds.Identifier s) (λ name.
       then name.1 (setting_keyword leaves name.0 name.1) _ (keyword_at_keeps leaves name.0 name.1) (λ keyword.
-      then keyword.1 (allowed leaves kept item_kinds.Setting ws name.0 keyword.1) _ (allowed_keeps item_kinds.Setting ws name.0 keyword.1) (λ checked.
+      then keyword.1 (check_allowed leaves kept item_kinds.Setting ws name.0 keyword.1) _ (allowed_keeps item_kinds.Setting ws name.0 keyword.1) (λ checked.
       then checked.1 (setting_value leaves kept.view name.0 keyword.0 (setting_form keyword.0) checked.1) _
       (setting_value_keeps leaves kept.view name.0 keyword.0 (setting_form keyword.0) checked.1) (λ value. there value.1))))
 
@@ -291,7 +291,7 @@ module _ {R T A B S D W : Type 0} (leaves : Leaves R T A B S) (kept : AttributeL
   unfolding unexport
   unexport_goes ws n s =
       first s (expect leaves kinds.Identifier s) _ (expects leaves kinds.Identifier s) (λ name.
-      then name.1 (allowed leaves kept item_kinds.Unexport ws name.0 name.1) _ (allowed_keeps item_kinds.Unexport ws name.0 name.1) (λ checked. there checked.1))
+      then name.1 (check_allowed leaves kept item_kinds.Unexport ws name.0 name.1) _ (allowed_keeps item_kinds.Unexport ws name.0 name.1) (λ checked. there checked.1))
 
   pub assignment_goes : (eager export : Bool) (ws : List W) (n : Counters) (s : State R T B) → Goes s (assignment leaves kept eager export ws n s)
   unfolding assignment
@@ -299,7 +299,7 @@ module _ {R T A B S D W : Type 0} (leaves : Leaves R T A B S) (kept : AttributeL
       first s (expect leaves kinds.Identifier s) _ (expects leaves kinds.Identifier s) (λ name.
       then name.1 (expect leaves kinds.ColonEquals name.1) _ (keeps name.1 _ (expects leaves kinds.ColonEquals name.1)) (λ operator.
       then operator.1 (expression leaves operator.1) _ (keeps operator.1 _ (expression_goes leaves operator.1)) (λ e.
-      then e.1 (allowed leaves kept item_kinds.Assignment ws name.0 e.1) _ (allowed_keeps item_kinds.Assignment ws name.0 e.1) (λ checked.
+      then e.1 (check_allowed leaves kept item_kinds.Assignment ws name.0 e.1) _ (allowed_keeps item_kinds.Assignment ws name.0 e.1) (λ checked.
       then checked.1 (next_binding_number leaves n checked.1) _ (binding_keeps leaves n checked.1) (λ number. there number.1)))))
 
   pub recipe_goes : (quiet : Bool) (ws : List W) (n : Counters) (s : State R T B) → Goes s (recipe leaves kept quiet ws n s)
@@ -308,7 +308,7 @@ module _ {R T A B S D W : Type 0} (leaves : Leaves R T A B S) (kept : AttributeL
       let rules = argument_rules leaves kept s.run ws in
       first s (header leaves kept.view rules n s) _ (header_goes leaves kept.view rules n s) (λ h.
       then h.1 (optional_body leaves h.1) _ (optional_body_keeps leaves h.1) (λ b.
-      then b.1 (no_exclusion leaves kept ws h.0.0.name b.1) _ (no_exclusion_keeps ws h.0.0.name b.1) (λ checked.
+      then b.1 (check_exclusions leaves kept ws h.0.0.name b.1) _ (no_exclusion_keeps ws h.0.0.name b.1) (λ checked.
       then checked.1 (next_recipe_number leaves h.0.1 checked.1) _ (recipe_number_keeps leaves h.0.1 checked.1) (λ number. there number.1))))
 
   pub any_recipe_goes : (ws : List W) (n : Counters) (s : State R T B) → Goes s (any_recipe leaves kept ws n s)
@@ -316,8 +316,8 @@ module _ {R T A B S D W : Type 0} (leaves : Leaves R T A B S) (kept : AttributeL
   any_recipe_goes ws n s =
       either_goes s (accept leaves kinds.At s) _ _ (accepts leaves kinds.At s) (recipe_goes false ws n s) (λ at. keeps at.1 _ (recipe_goes true ws n at.1))
 
-  pub wordless_goes : (ws : List W) (n : Counters) (s : State R T B) → Goes s (wordless leaves kept ws n s)
-  unfolding wordless
+  pub wordless_goes : (ws : List W) (n : Counters) (s : State R T B) → Goes s (without_keyword leaves kept ws n s)
+  unfolding without_keyword
   wordless_goes ws n s =
       let G : Read R T B (Item A B ℕ S D × Counters) → Type 0 = Goes s in
       after_test (next_are leaves (kinds.Identifier ∷ kinds.ParenL ∷ []) s) _ _ G (λ _. function_goes ws n s)
@@ -350,7 +350,7 @@ module _ {R T A B S D W : Type 0} (leaves : Leaves R T A B S) (kept : AttributeL
   before_item_keeps : (opener : T) (x : List W × State R T B) → Keeps x.1 (before_item leaves kept opener x)
   before_item_keeps opener x = after_test (stands_alone leaves kept x.1) _ _ (Keeps {X = List W} x.1) (λ _. tt) (λ _. there x.1)
 
-  -- no attribute may stand before a construct
+  -- a construct can have no attributes
   pub attributes_keep : (s : State R T B) → Keeps s (attributes leaves kept s)
   unfolding attributes
   attributes_keep s = go (accept leaves kinds.BracketL s)
@@ -366,8 +366,8 @@ module _ {R T A B S D W : Type 0} (leaves : Leaves R T A B S) (kept : AttributeL
   unfolding construct
   construct_goes n s = then_goes s (attributes leaves kept s) _ (attributes_keep s) (λ ws. content_goes ws.0 n ws.1)
 
-  pub on_line_goes : (n : Counters) (s : State R T B) → Goes s (on_line leaves kept n s)
-  unfolding on_line
+  pub on_line_goes : (n : Counters) (s : State R T B) → Goes s (any_item leaves kept n s)
+  unfolding any_item
   on_line_goes n s = either_goes s (accept leaves kinds.Comment s) _ _ (accepts leaves kinds.Comment s) (construct_goes n s) (λ c. there c.1)
 
   -- the end of the file is left
@@ -380,21 +380,21 @@ module _ {R T A B S D W : Type 0} (leaves : Leaves R T A B S) (kept : AttributeL
       ending None x h = h
       ending (Some p) x h = there s
 
-  pub item_rest_keeps : (s : State R T B) → Keeps s (item_rest leaves kept s)
-  unfolding item_rest
+  pub item_rest_keeps : (s : State R T B) → Keeps s (after_item leaves kept s)
+  unfolding after_item
   item_rest_keeps s =
       either s (accept leaves kinds.Comment s) _ _ (accepts leaves kinds.Comment s) (line_end_keeps s)
       (λ c. then c.1 (line_end leaves kept c.1) _ (line_end_keeps c.1) (λ end. there end.1))
 
-  pub ended_keeps : (b : Bool) (s : State R T B) → Keeps s (ended leaves kept b s)
-  unfolding ended
+  pub ended_keeps : (b : Bool) (s : State R T B) → Keeps s (item_end leaves kept b s)
+  unfolding item_end
   ended_keeps b s = after_test b _ _ (Keeps {X = List (Item A B ℕ S D)} s) (λ _. there s) (λ _. item_rest_keeps s)
 
   pub line_goes : (n : Counters) (s : State R T B) → Goes s (line leaves kept n s)
   unfolding line
   line_goes n s =
       either_goes s (accept leaves kinds.Eol s) _ _ (accepts leaves kinds.Eol s)
-      (first s (on_line leaves kept n s) _ (on_line_goes n s) (λ i. then i.1 (ended leaves kept (has_body i.0.0) i.1) _ (ended_keeps (has_body i.0.0) i.1) (λ b. there b.1)))
+      (first s (any_item leaves kept n s) _ (on_line_goes n s) (λ i. then i.1 (item_end leaves kept (has_body i.0.0) i.1) _ (ended_keeps (has_body i.0.0) i.1) (λ b. there b.1)))
       (λ newline. there newline.1)
 
   -- ---- the rule of items
@@ -426,7 +426,7 @@ module _ {R T A B S D W : Type 0} (leaves : Leaves R T A B S) (kept : AttributeL
     unfolding items_rule
     items_go_on more m rest h1 h2 = rw (items_is n s, h1, h2) (numbered_regroups done more (items leaves kept m rest))
 
-    -- the end of the file, whatever stands after it
+    -- the end of the file, with any tokens after it
     pub items_at_end : (end : T) (rest : State R T B) → accept leaves kinds.Eof s ≡ Some (end, rest) → after_numbered done (items leaves kept n s) ≡ after_numbered done (at_end leaves kept n rest)
     unfolding items_rule
     items_at_end end rest h = rw (items_is n s, h) refl

@@ -83,7 +83,7 @@ literal_content_exact k l e =
 
 -- ---- the leaves
 
--- a leaf is no leaf of another kind
+-- a leaf isn't a leaf of another kind
 pub content_exact : CmpEqualImpliesEq content_cmp
 content_exact (token s) (token t) e = ap (λ z. token z) (token_content_exact s t e)
 content_exact (token s) (literal l) e = less_not_equal e

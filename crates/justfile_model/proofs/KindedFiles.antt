@@ -167,5 +167,5 @@ module _ (MayEnter : ℕ → Option SignificantToken → Type 0) where
     end_kinded (g.file_end kind) s = tt
 
   pub file_kinded : {all : WrittenTree} {fs : List (ConstructFeatures Tok)} {ts : Tokens} → File to_tokens MayEnter all fs ts → AllSpelled ts → KindedItems all
-  file_kinded (g.marked kind h) s = items_kinded h s.1
-  file_kinded (g.unmarked h) s = items_kinded h s
+  file_kinded (g.with_byte_order_mark kind h) s = items_kinded h s.1
+  file_kinded (g.without_byte_order_mark h) s = items_kinded h s

@@ -284,7 +284,7 @@ pairs_equal (cons e es) = λ i. e i ∷ pairs_equal es i
 pub equal_same : (t u : SignificantToken) → t ≡ u → Same t u
 equal_same t u e = record { kind = ap (λ (x : SignificantToken). x.tok.kind) e; lexeme = ap (λ (x : SignificantToken). x.tok.lexeme) e; glued = ap (λ (x : SignificantToken). x.glued) e }
 
--- a shape of what is written keeps no place
+-- a written shape keeps no positions
 abbrev pub forgotten : Maps Tok Tok ℕ Tok (List ℕ) (Unit {0}) (Unit {0}) (Unit {0})
 forgotten = record { leaf = lexeme; position = nothing; number = nothing; star = nothing }
 
@@ -319,7 +319,7 @@ module _ (MayEnter : ℕ → Option SignificantToken → Type 0) where
       let x = c.file to_lexemes MayEnter unchanged (λ t u. t ≡ u) equal_same to_tokens MayEnter forgotten alike still h ts (equal_pairs ts) in
       record { tree = x.tree; features = x.features; derives = x.derives; alike = x.alike ∙ items_itself shape; noted_alike = x.noted_alike ∙ features_itself fs }
 
--- a shape derives from tokens wherever they stand
+-- a shape derives from tokens at any positions
 pub elsewhere : (limit : ℕ) {shape : WrittenShape} {fs : List (ConstructFeatures (Unit {0}))} {ts us : Tokens} → File to_lexemes (BelowLimit limit) shape fs ts → Pairs Same ts us
     → File to_lexemes (BelowLimit limit) shape fs us
 elsewhere limit {shape} {fs} {ts} {us} h s =

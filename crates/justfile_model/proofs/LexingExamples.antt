@@ -32,7 +32,7 @@ use Rattle.justfile_model.proofs.LiteralPartLaws.{part_law}
 use Rattle.justfile_model.proofs.ModeLaws.{delimiters_law, interpolations_law, levels_law}
 use Rattle.justfile_model.proofs.PieceLaws.{inside_law, no_end_law}
 
--- ---- `"a\"b" c`: the quote after the backslash is no end
+-- ---- `"a\"b" c`: the quote after the backslash isn't an end
 
 abbrev double : StringKind
 double = record { delimiter = QuoteDouble; indented = false }

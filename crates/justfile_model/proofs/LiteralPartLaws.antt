@@ -19,7 +19,7 @@ use Rattle.justfile_model.specs.Pieces.{IsInside}
 use Rattle.justfile_model.proofs.CutLemmas.{eq_from, ne_from, raw_within}
 use Rattle.justfile_model.proofs.PieceLaws.{inside_law, no_end_law}
 
--- ---- the bytes of what ends it
+-- ---- the bytes of an end
 
 three_first : (q : ℕ) → 0 < q → (bs : List ℕ) → (eqb (get_or bs 0 0) q && eqb (get_or bs 1 0) q && eqb (get_or bs 2 0) q) ≡ true → bs ≡ q ∷ q ∷ q ∷ drop 3 bs
 three_first q some [] h = grind (arith, nat_tests)
@@ -91,7 +91,7 @@ no_delimiter k follows = by k.delimiter k.indented
 -- ---- the part
 
 module _ (k : StringKind) (format : Bool) (more whole : TokenKind) (opener : List ℕ) where
-  -- what is found before this text, of which so many bytes come before the first end
+  -- the token that is found, if `n` bytes of this text come before the first end
   found_by : List ℕ → ℕ → NextToken
   found_by text n =
       cond (eqb n (length text)) (Err (Here (unterminated k.delimiter) 0 (length opener)))

@@ -23,7 +23,7 @@ module _ {X Y Z W : Type 0} (f : Y → W) (g : X → Y) (h : Z → W) (k : X →
   option_both None = refl
   option_both (Some x) = ap Some (same x)
 
--- what stands in the elements, where it is mapped with them
+-- the parts of the elements are mapped with the elements
 pub flat_mapped : {X Y A B : Type 0} (f : X → List A) (g : Y → List B) (m : X → Y) (k : A → B) → ((x : X) → g (m x) ≡ map k (f x)) → (xs : List X) → flat_map g (map m xs) ≡ map k (flat_map f xs)
 flat_mapped f g m k same [] = refl
 flat_mapped f g m k same (x ∷ xs) = (λ i. same x i ++ flat_mapped f g m k same xs i) ∙ sym (map-append k (f x) (flat_map f xs))

@@ -66,14 +66,14 @@ module _ {A B : Type 0} (view : LeafView A B) (q : Quoted A) (keys : List (KeyAr
         value = value.is ∙ ap (λ (r : ArgumentRules A B). Some r.value) same;
       }
 
--- an argument, by what is said of expressions and of keys
+-- an argument, by the conditions on expressions and on keys
 module _ {A B : Type 0} (OfExpr : Expr A B → Type 0) (OfKey : A → Type 0) where
   abbrev pub InArgument : Argument A B → Type 0
   InArgument (tree.Positional first value) = OfExpr value
   InArgument (tree.Bare key) = OfKey key
   InArgument (tree.Keyed key value) = OfKey key × OfExpr value
 
--- what is said of expressions, of literals, and of the place of the key of a name
+-- conditions on expressions, on literals, and on the position of the key of an option's name
 module _ {A B : Type 0} (OfExpr : Expr A B → Type 0) (OfQuoted : Quoted A → Type 0) (OfWord : List ℕ → B → Type 0) where
   abbrev pub InOption : List ℕ → OptionName A B → Type 0
   InOption word tree.NoOption = Unit {0}
@@ -117,7 +117,7 @@ module _ {A B : Type 0} (OfExpr : Expr A B → Type 0) (OfQuoted : Quoted A → 
   InMeaning (tree.Cache extra inputs outputs) = InValue extra × InValue inputs × InValue outputs
   InMeaning (tree.Arg rules) = InRules rules
 
-  -- what is said of keys as they are written
+  -- conditions on written keys
   module _ (OfKey : A → Type 0) where
     abbrev InKey : KeyArgument A B → Type 0
     InKey k = OfKey k.key × InValue k.value

@@ -5,7 +5,7 @@ use Rattle.justfile_model.specs.Features.{Noted}
 use Rattle.justfile_model.specs.Literals.{Literal, Expansions}
 use Rattle.justfile_model.proofs.CookedTexts.{HasText, AllCook, both_cook}
 
--- from the one list of features to the other these were noted, and these literals have texts
+-- these features were noted between the two lists, and these literals have texts
 pub record Met (expander : Expansions) (features : List (Noted Tok)) (literals : List (Literal Tok)) (before following : List (Noted Tok)) : Type 0 where
   pub noted_is : following ≡ before ++ features
   pub cooks : AllCook expander literals

@@ -10,7 +10,7 @@ use Rattle.justfile_vocabulary.specs.declared.token_kind.TokenKind.TheVariants a
 use Rattle.justfile_model.specs.AttributeReader.{AttributeLeaves}
 use Rattle.justfile_model.specs.HeaderReader.{ReadHeader, next_binding_number, expression, header, with_bindings}
 use Rattle.justfile_model.specs.PartReader.{accept_keyword_before, after_numbered, peek_assignment, is_imported, is_module, is_set, line_is, names, setting_value}
-use Rattle.justfile_model.specs.Reader.{CommentedBody, Start, after_mark, alias, any_module, any_recipe, argument_rules, assigned, assignment, at_end, attributes, body, body_after, body_line, construct, content, next_recipe_number, end_of_tokens, ended, file, fragment, function, has_body, headed, import, imported, items, items_from, items_rule, line, line_at, line_end, line_rest, line_rest_rule, lines, lines_rule, named_module, no_exclusion, no_line_rest, no_lines, on_line, optional_body, recipe, setting, some_lines, unexport, with_recipes, wordless}
+use Rattle.justfile_model.specs.Reader.{CommentedBody, Start, after_mark, alias, any_module, any_recipe, argument_rules, assigned, assignment, at_end, attributes, body, body_after, body_line, construct, content, next_recipe_number, end_of_tokens, item_end, file, fragment, function, has_body, headed, import, imported, items, items_from, items_rule, line, line_at, line_end, line_rest, line_rest_rule, lines, lines_rule, named_module, check_exclusions, no_line_rest, no_lines, any_item, optional_body, recipe, setting, some_lines, unexport, with_recipes, without_keyword}
 use Rattle.justfile_model.specs.Expressions.{front}
 use Rattle.justfile_model.specs.Reader as r
 use Rattle.justfile_model.specs.ReaderState as taking
@@ -147,7 +147,7 @@ module _ {R T A B S D W R' T' A' B' S' D' W' : Type 0} (rel : Relations R T A B 
     at_once : AtHeader s' s'
     after_at : {p : T' × State R' T' B'} → accept other kinds.At s' ≡ Some p → AtHeader s' p.1
 
-  -- what attributes say of parameters lacks a number in the header that comes next
+  -- a parameter in the next header lacks a number
   abbrev pub LacksIn : (ws : List W') → Counters → State R' T' B' → Counters → Type 0
   LacksIn ws n s' m = LacksHeader other kept'.view (argument_rules other kept' s'.run ws) n s' m
 
@@ -162,7 +162,7 @@ module _ {R T A B S D W R' T' A' B' S' D' W' : Type 0} (rel : Relations R T A B 
     pub name : T' × State R' T' B'
     pub named : expect other kinds.Identifier s' ≡ Ok name
     pub checked : Unit {0} × State R' T' B'
-    pub allowed : r.allowed other kept' item_kinds.Function ws name.0 name.1 ≡ Ok checked
+    pub allowed : r.check_allowed other kept' item_kinds.Function ws name.0 name.1 ≡ Ok checked
     pub opener : T' × State R' T' B'
     pub opened : expect other kinds.ParenL checked.1 ≡ Ok opener
     pub lacks : LacksName other (n, opener.1) m
@@ -270,13 +270,13 @@ module _ {R T A B S D W R' T' A' B' S' D' W' : Type 0} (rel : Relations R T A B 
       (each_mapped kept.entry kept'.entry attributed.keeping.entry q)
 
   allowed_natural : (item : ItemKind) {ws : List W} {ws' : List W'} (name : T) (name' : T') → rel.token name name' → Each Keeps ws ws' → {s : State R T B}
-      {s' : State R' T' B'} → States rel s s' → Reads rel (λ x y. Unit {0}) (r.allowed one kept item ws name s) (r.allowed other kept' item ws' name' s')
+      {s' : State R' T' B'} → States rel s s' → Reads rel (λ x y. Unit {0}) (r.check_allowed one kept item ws name s) (r.check_allowed other kept' item ws' name' s')
   allowed_natural item name name' t q {s} {s'} h =
       obeying_natural rel (allowed_alike rel (kept.view s.run) (kept'.view s'.run) (attributed.keeping.sees s.run s'.run h.run) item
       (agree.position name name' t) (entries_alike s.run s'.run h.run q)) h
 
   exclusion_natural : {ws : List W} {ws' : List W'} (name : T) (name' : T') → rel.token name name' → Each Keeps ws ws' → {s : State R T B}
-      {s' : State R' T' B'} → States rel s s' → Reads rel (λ x y. Unit {0}) (no_exclusion one kept ws name s) (no_exclusion other kept' ws' name' s')
+      {s' : State R' T' B'} → States rel s s' → Reads rel (λ x y. Unit {0}) (check_exclusions one kept ws name s) (check_exclusions other kept' ws' name' s')
   exclusion_natural name name' t q {s} {s'} h =
       obeying_natural rel (exclusions_alike rel (kept.view s.run) (kept'.view s'.run) (attributed.keeping.sees s.run s'.run h.run)
       (agree.position name name' t) (entries_alike s.run s'.run h.run q)) h
@@ -311,13 +311,13 @@ module _ {R T A B S D W R' T' A' B' S' D' W' : Type 0} (rel : Relations R T A B 
 
   abbrev Rest : (quiet : Bool) → List W' → (ReadHeader T' A' B' S' × Counters) × State R' T' B' → Read R' T' B' (Item A' B' ℕ S' D' × Counters)
   Rest quiet ws h =
-      optional_body other h.1 >>= λ b. no_exclusion other kept' ws h.0.0.name b.1 >>= λ checked. next_recipe_number other h.0.1 checked.1 >>= headed other kept' quiet ws h.0.0 b.0
+      optional_body other h.1 >>= λ b. check_exclusions other kept' ws h.0.0.name b.1 >>= λ checked. next_recipe_number other h.0.1 checked.1 >>= headed other kept' quiet ws h.0.0 b.0
 
   header_carried : (m : Counters) (quiet : Bool) (ws : List W') (found : Read R' T' B' (ReadHeader T' A' B' S' × Counters)) → one.has_number m.bindings ≡ false
       → IfOk found (λ y. m.bindings < y.0.1.bindings) → AllExceed m (found >>= Rest quiet ws)
   header_carried m quiet ws (Err e) ends less = tt
   header_carried m quiet ws (Ok h) ends less =
-      exceed_after m (optional_body other h.1) _ (λ b. exceed_after m (no_exclusion other kept' ws h.0.0.name b.1) _ (λ checked.
+      exceed_after m (optional_body other h.1) _ (λ b. exceed_after m (check_exclusions other kept' ws h.0.0.name b.1) _ (λ checked.
       drawn_exceeds m h.0.1 quiet ws h.0.0 b.0 checked.1 ends less))
 
   pub recipe_natural : {ws : List W} {ws' : List W'} (quiet : Bool) (n : Counters) → Each Keeps ws ws' → {s : State R T B} {s' : State R' T' B'} → States rel s s'
@@ -331,7 +331,7 @@ module _ {R T A B S D W R' T' A' B' S' D' W' : Type 0} (rel : Relations R T A B 
       (λ x x' is is' k j. bind rel _ _ (optional_body_natural rel one other agree j) (λ b b' ls i.
       bind rel _ _ (exclusion_natural x.0.0.name x'.0.0.name k.name q i) (λ u u' c l. recipe_alike quiet n x.0 x'.0 q k ls l)))
 
-  -- the same is wanting of what is the same
+  -- a stronger lack gives the same failure
   no_recipe : {Lacking Other : Counters → Type 0} {m : Counters} {found : Read R' T' B' (Item A' B' ℕ S' D' × Counters)} → ((m : Counters) → Lacking m → Other m)
       → NoRecipe Lacking m found → NoRecipe Other m found
   no_recipe {m = m} f (no_parameter ends lacks exceeds) = no_parameter ends (f m lacks) exceeds
@@ -364,7 +364,7 @@ module _ {R T A B S D W R' T' A' B' S' D' W' : Type 0} (rel : Relations R T A B 
       attributed.commented h)
       (λ ws ws' q j. by_tests rel _ _ (same_alone j) (neither (a.extraneous (each_length q) (agree.position o.0 o'.0 t))) (both q j)))
 
-  -- a number is wanting where these counters stand
+  -- a number is missing at these counters
   abbrev NoItem : Counters → State R' T' B' → Counters → Read R' T' B' (Item A' B' ℕ S' D' × Counters) → Type 0
   NoItem n s' m found = Lacks n s' m × AllExceed m found
 
@@ -438,12 +438,12 @@ module _ {R T A B S D W R' T' A' B' S' D' W' : Type 0} (rel : Relations R T A B 
   -- a setting after its name
   abbrev OneSetting : List W → Counters → T → Keyword → State R T B → Read R T B (Item A B ℕ S D × Counters)
   OneSetting ws n name keyword s =
-      r.allowed one kept item_kinds.Setting ws name s >>= λ checked. setting_value one kept.view name keyword (setting_form keyword) checked.1 >>= λ value.
+      r.check_allowed one kept item_kinds.Setting ws name s >>= λ checked. setting_value one kept.view name keyword (setting_form keyword) checked.1 >>= λ value.
       r.constructed one kept ws (tree.Setting (record { keyword = keyword; name = one.name name; value = value.0 })) n value.1
 
   abbrev OtherSetting : List W' → Counters → T' → Keyword → State R' T' B' → Read R' T' B' (Item A' B' ℕ S' D' × Counters)
   OtherSetting ws n name keyword s =
-      r.allowed other kept' item_kinds.Setting ws name s >>= λ checked. setting_value other kept'.view name keyword (setting_form keyword) checked.1 >>= λ value.
+      r.check_allowed other kept' item_kinds.Setting ws name s >>= λ checked. setting_value other kept'.view name keyword (setting_form keyword) checked.1 >>= λ value.
       r.constructed other kept' ws (tree.Setting (record { keyword = keyword; name = other.name name; value = value.0 })) n value.1
 
   named_setting_natural : {ws : List W} {ws' : List W'} (n : Counters) → Each Keeps ws ws' → (name : T) (name' : T') → rel.token name name' → (keyword : Keyword)
@@ -522,8 +522,8 @@ module _ {R T A B S D W R' T' A' B' S' D' W' : Type 0} (rel : Relations R T A B 
       )) (assignment_natural eager export n q h)
 
   wordless_natural : {ws : List W} {ws' : List W'} (n : Counters) → Each Keeps ws ws' → {s : State R T B} {s' from : State R' T' B'} → States rel s s'
-      → attributes other kept' from ≡ Ok (ws', s') → Related rel (AlikeNumbered n) (NoItem n from) (wordless one kept ws n s) (wordless other kept' ws' n s')
-  unfolding wordless
+      → attributes other kept' from ≡ Ok (ws', s') → Related rel (AlikeNumbered n) (NoItem n from) (without_keyword one kept ws n s) (without_keyword other kept' ws' n s')
+  unfolding without_keyword
   wordless_natural n q h is =
       by_tests rel _ _ (same_next rel one other agree (kinds.Identifier ∷ kinds.ParenL ∷ []) h)
       (weaken rel (λ x y q. q) (λ m k. (function_parameter is k.ends k.lacks, k.exceeds)) (function_natural n q h))
@@ -559,12 +559,12 @@ module _ {R T A B S D W R' T' A' B' S' D' W' : Type 0} (rel : Relations R T A B 
   construct_natural n h = bind_short rel _ _ (attributes_natural h) (λ m never. absurd never) (λ ws ws' is is' q k. content_natural n q k is')
 
   pub on_line_natural : (n : Counters) {s : State R T B} {s' : State R' T' B'} → States rel s s'
-      → Related rel (AlikeNumbered n) (NoItem n s') (on_line one kept n s) (on_line other kept' n s')
-  unfolding on_line
+      → Related rel (AlikeNumbered n) (NoItem n s') (any_item one kept n s) (any_item other kept' n s')
+  unfolding any_item
   on_line_natural n h =
       pick rel _ _ (accepted rel one other agree kinds.Comment h) (construct_natural n h) (λ c c' t k. both (comment_alike n c.0 c'.0 t, refl, refl) k)
 
-  -- items that draw no number, whatever the counters
+  -- items that draw no number, at any counters
   abbrev pub Unnumbered : List (Item A B ℕ S D) → List (Item A' B' ℕ S' D') → Type 0
   Unnumbered is is' = (n : Counters) → AlikeItems rel n is is' × (counted n is ≡ n)
 
@@ -575,14 +575,14 @@ module _ {R T A B S D W R' T' A' B' S' D' W' : Type 0} (rel : Relations R T A B 
       (bind rel _ _ (expected rel one other agree kinds.Eol h) (λ x x' t k. both (λ n. (an_item a.newline no_item, refl)) k))
       (λ x x' t k. both (λ n. (no_item, refl)) h)
 
-  pub item_rest_natural : {s : State R T B} {s' : State R' T' B'} → States rel s s' → Reads rel Unnumbered (r.item_rest one kept s) (r.item_rest other kept' s')
-  unfolding r.item_rest
+  pub item_rest_natural : {s : State R T B} {s' : State R' T' B'} → States rel s s' → Reads rel Unnumbered (r.after_item one kept s) (r.after_item other kept' s')
+  unfolding r.after_item
   item_rest_natural h =
       pick rel _ _ (accepted rel one other agree kinds.Comment h) (line_end_natural h)
       (λ c c' t k. bind rel _ _ (line_end_natural k) (λ x x' q j. both (λ n. (an_item (comment_alike n c.0 c'.0 t) (q n).0, (q n).1)) j))
 
-  pub ended_natural : (b b' : Bool) {s : State R T B} {s' : State R' T' B'} → b ≡ b' → States rel s s' → Reads rel Unnumbered (ended one kept b s) (ended other kept' b' s')
-  unfolding ended
+  pub ended_natural : (b b' : Bool) {s : State R T B} {s' : State R' T' B'} → b ≡ b' → States rel s s' → Reads rel Unnumbered (item_end one kept b s) (item_end other kept' b' s')
+  unfolding item_end
   ended_natural b b' same h = by_tests rel b b' same (both (λ n. (an_item a.newline no_item, refl)) h) (item_rest_natural h)
 
   carried : (n : Counters) (found : Read R' T' B' (Item A' B' ℕ S' D' × Counters)) (f : (Item A' B' ℕ S' D' × Counters) × State R' T' B' → Read R' T' B' (List (Item A' B' ℕ S' D'))) → AllExceed n found → AllExceed n (found >>= λ i. f i >>= λ b. Ok ((i.0.0 ∷ b.0, i.0.1), b.1))
@@ -597,7 +597,7 @@ module _ {R T A B S D W R' T' A' B' S' D' W' : Type 0} (rel : Relations R T A B 
   unfolding line
   line_natural n {s} {s'} h =
       pick rel _ _ (accepted rel one other agree kinds.Eol h)
-      (bind_short rel _ _ (on_line_natural n h) (λ m k. (k.0, carried m (on_line other kept' n s') (λ i. ended other kept' (has_body i.0.0) i.1) k.1))
+      (bind_short rel _ _ (on_line_natural n h) (λ m k. (k.0, carried m (any_item other kept' n s') (λ i. item_end other kept' (has_body i.0.0) i.1) k.1))
       (λ i i' is is' q k. bind rel _ _ (ended_natural (has_body i.0.0) (has_body i'.0.0) (same_body rel q.0) k) (λ b b' u j.
       both (an_item q.0 (u (count n i.0.0)).0, q.1, q.2 ∙ sym (u (count n i.0.0)).1) j)))
       (λ x x' t k. both (an_item a.newline no_item, refl, refl) k)
@@ -606,7 +606,7 @@ module _ {R T A B S D W R' T' A' B' S' D' W' : Type 0} (rel : Relations R T A B 
   items_both no_item k = k
   items_both (an_item h hs) k = an_item h (items_both hs k)
 
-  -- all items, where the counters stand there
+  -- all items, from these counters
   abbrev pub NoFile : Counters → State R' T' B' → Counters → Read R' T' B' (List (Item A' B' ℕ S' D') × Counters) → Type 0
   NoFile n s' m found = Wants n s' m × AllExceed m found
 

@@ -150,7 +150,7 @@ module _ {R T A B S D W R' T' A' B' S' D' W' : Type 0} (rel : Relations R T A B 
   one_more : {X Y : Type 0} {Q : X → Y → Type 0} {xs : List X} {ys : List Y} {x : X} {y : Y} → Each Q xs ys → Q x y → Each Q (xs ++ x ∷ []) (ys ++ y ∷ [])
   one_more h k = each_both h (a.cons k a.nil)
 
-  -- where alike things have been read, and reading stands alike
+  -- alike elements have been read, and the states are alike
   record Stand {X Y : Type 0} (Q : X → Y → Type 0) (x : List X × State R T B) (x' : List Y × State R' T' B') : Type 0 where
     read : Each Q x.0 x'.0
     state : States rel x.1 x'.1
@@ -216,7 +216,7 @@ module _ {R T A B S D W R' T' A' B' S' D' W' : Type 0} (rel : Relations R T A B 
   kind_natural n n' t h =
       kind_by n n' (kind_named (one.see n).tok.lexeme) refl (ap (λ (x : SignificantToken). kind_named x.tok.lexeme) (sym (agree.see n n' t))) t h
 
-  -- what is kept of what is made
+  -- the kept part of an attribute that is made
   made_kept : (w : WrittenAttribute A B) (w' : WrittenAttribute A' B') {m : Made B (Entry A B)} {m' : Made B' (Entry A' B')} {s : State R T B} {s' : State R' T' B'}
       → Makes rel.position (AlikeEntry rel) m m' → ((e : Entry A B) (e' : Entry A' B') → m ≡ Ok e → m' ≡ Ok e' → AlikeEntry rel e e' → Keeps (keep w e) (keep' w' e'))
       → States rel s s' → Reads rel Keeps (read_made m s >>= λ e. Ok (keep w e.0, e.1)) (read_made m' s' >>= λ e. Ok (keep' w' e.0, e.1))
@@ -296,7 +296,7 @@ module _ {R T A B S D W R' T' A' B' S' D' W' : Type 0} (rel : Relations R T A B 
   attributes_end_natural h =
       pick rel _ _ (accepted rel one other agree kinds.Comment h) (line_end_natural absent h) (λ c c' t k. line_end_natural (present t) k)
 
-  -- a comment is put to what is kept, and what is kept stays related
+  -- adding a comment to the kept parts keeps them related
   module _ (put : List ℕ → W → W) (put' : List ℕ → W' → W') (kept : (c : List ℕ) (x : W) (x' : W') → Keeps x x' → Keeps (put c x) (put' c x')) where
     last_alike : (c : List ℕ) {ws : List W} {ws' : List W'} → Each Keeps ws ws' → Each Keeps (at_last (put c) ws) (at_last (put' c) ws')
     last_alike c a.nil = a.nil

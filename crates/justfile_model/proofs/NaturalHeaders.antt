@@ -102,7 +102,7 @@ module _ {R T A B S D R' T' A' B' S' D' : Type 0} (rel : Relations R T A B S D R
   dependency_argument_natural d h =
       pick rel _ _ (accepted rel one other agree kinds.Asterisk h) (plain_argument_natural h) (λ t t' k j. starred_argument_natural t.0 t'.0 d k j)
 
-  -- where alike arguments have been read, and reading stands alike
+  -- alike arguments have been read, and the states are alike
   pub record Stand (x : r.DependencyPlace one) (x' : r.DependencyPlace other) : Type 0 where
     pub read : Each Argued x.0 x'.0
     pub state : States rel x.1 x'.1
@@ -211,8 +211,8 @@ module _ {R T A B S D R' T' A' B' S' D' : Type 0} (rel : Relations R T A B S D R
   same_begins_parameter h = λ i. same_next rel one other agree (kinds.Identifier ∷ []) h i || same_next rel one other agree (kinds.Dollar ∷ []) h i
 
   nothing_after_natural : {s : State R T B} {s' : State R' T' B'} → States rel s s'
-      → Reads rel (λ x y. Unit {0}) (r.nothing_after one s) (r.nothing_after other s')
-  unfolding r.nothing_after
+      → Reads rel (λ x y. Unit {0}) (r.expect_no_name one s) (r.expect_no_name other s')
+  unfolding r.expect_no_name
   nothing_after_natural h =
       pick rel _ _ (accepted rel one other agree kinds.Identifier h) (both tt h) (λ n n' t k. neither (a.after_variadic (agree.position n.0 n'.0 t)))
 
@@ -281,7 +281,7 @@ module _ {R T A B S : Type 0} (leaves : Leaves R T A B S) (view : R → LeafView
 
   variadic_grows : (kind : ParameterKind) (x : r.ParameterPlace leaves view rules) → Grows x.0.1 (r.variadic leaves view rules kind x)
   unfolding r.variadic
-  variadic_grows kind x = grows_both x.0.1 (r.parameter leaves view rules kind x) _ (parameter_grows kind x) (λ p. kept_grow p (r.nothing_after leaves p.1))
+  variadic_grows kind x = grows_both x.0.1 (r.parameter leaves view rules kind x) _ (parameter_grows kind x) (λ p. kept_grow p (r.expect_no_name leaves p.1))
 
   chosen_grow : (c : Counters) (o : Taken R T B) (x : Read R T B (r.Parameters leaves view rules)) (f : T × State R T B → Read R T B (r.Parameters leaves view rules))
       → Grows c x → ((p : T × State R T B) → Grows c (f p)) → Grows c (choose o x f)
@@ -325,7 +325,7 @@ module _ {R' T' A' B' S' : Type 0} (other : Leaves R' T' A' B' S') (view' : R' �
   abbrev HeaderExceeds : Counters → Read R' T' B' (ReadHeader T' A' B' S' × Counters) → Type 0
   HeaderExceeds m found = IfOk found (λ y. m.bindings < y.0.1.bindings)
 
-  -- among the parameters that take one argument and come next, one lacks its number where the counters stand there
+  -- among the next parameters that take one argument, one lacks its number at these counters
   pub data LacksSingular : r.ParameterPlace other view' rules' → Counters → Type 0 where
     singular_lacks : {x : r.ParameterPlace other view' rules'} → (other.has_number x.0.1.bindings ≡ true → IsOk (r.parameter other view' rules' Singular x))
         → LacksSingular x x.0.1
@@ -361,7 +361,7 @@ module _ {R T A B S D R' T' A' B' S' D' : Type 0} (rel : Relations R T A B S D R
     pub same : x.1 ≡ x'.1
     pub counts : x.1 ≡ after_parameters n x.0
 
-  -- where reading stands after them
+  -- the parameters and the states after them
   pub record Places (n : Counters) (x : r.ParameterPlace one view rules) (x' : r.ParameterPlace other view' rules') : Type 0 where
     pub numbered : Numbered n x.0 x'.0
     pub state : States rel x.1 x'.1
@@ -391,7 +391,7 @@ module _ {R T A B S D R' T' A' B' S' D' : Type 0} (rel : Relations R T A B S D R
       → AlikeOption (Alike rel) e e' → rel.run run run' → AlikeParameter rel c.bindings (In kind export ps name e run c) (Other kind export ps' name' e' run' c)
   with_number kind export n c {ps} {ps'} name name' {e} {e'} run run' q t v h =
       let same_view = sees run run' h in
-      let said : AlikeOption (AlikeArgumentRules rel) (rules_for (view run) rules ps (one.name name)) (rules_for (view' run') rules' ps' (other.name name')) =
+      let ruled_alike : AlikeOption (AlikeArgumentRules rel) (rules_for (view run) rules ps (one.name name)) (rules_for (view' run') rules' ps' (other.name name')) =
       rules_for_alike rel (view run) (view' run') same_view ruled (same_names rel (view run) (view' run') same_view q)
       (same_view.bytes (one.name name) (other.name name') (agree.name name name' t)) in
       record {
@@ -399,8 +399,8 @@ module _ {R T A B S D R' T' A' B' S' D' : Type 0} (rel : Relations R T A B S D R
         export = refl;
         rules = rules_for (view run) rules ps (one.name name);
         others = rules_for (view' run') rules' ps' (other.name name');
-        ruled = said;
-        name = agree.parameter run run' name name' h t said c.bindings;
+        ruled = ruled_alike;
+        name = agree.parameter run run' name name' h t ruled_alike c.bindings;
         default = v;
       }
 
@@ -543,7 +543,7 @@ module _ {R T A B S D R' T' A' B' S' D' : Type 0} (rel : Relations R T A B S D R
         lacks = (w.same, w.reads);
         ends = subst (λ (c : Counters). one.has_number c.bindings ≡ false) (sym w.same) w.ends;
         exceeds = exceeds_after m (r.parameter other view' rules' kind x') _ (subst (λ (c : Counters). Exceeded other view' rules' c (r.parameter other view' rules' kind x')) (sym w.same) w.exceeds)
-            (λ p. kept_grow other view' rules' p (r.nothing_after other p.1));
+            (λ p. kept_grow other view' rules' p (r.expect_no_name other p.1));
       })
       (λ p p' is is' q k. bind rel _ _ (nothing_after_natural rel one other agree k) (λ u u' c j. both q j))
 

@@ -16,7 +16,7 @@ use Rattle.justfile_model.specs.Literals.{string_of}
 use Rattle.justfile_model.specs.Meaning.{quoted_text}
 use Rattle.justfile_model.specs.PartReader as r
 use Rattle.justfile_model.specs.PartReader.{accept_keyword_before, after_numbered}
-use Rattle.justfile_model.specs.ReaderState.{◌>>=◌, Counters, Leaves, NoNumber, Read, State, Taken, accept, accept_word, choose, expect, is_word, next_are}
+use Rattle.justfile_model.specs.ReaderState.{◌>>=◌, Counters, Leaves, NoNumber, Read, State, Taken, accept, accept_keyword, choose, expect, is_word, next_are}
 use Rattle.justfile_model.specs.Rules.{Broken, InvalidIndentation, Rule, broken_if}
 use Rattle.justfile_model.specs.SettingRules.{literal_broken, plain_literal, text_broken, value_broken, version_broken}
 use Rattle.justfile_model.specs.Settings.{ExpressionForm, InterpreterForm, PlainForm, SettingForm, TruthForm}
@@ -132,7 +132,7 @@ module _ {R T A B S D R' T' A' B' S' D' : Type 0} (rel : Relations R T A B S D R
   kept_if true false e h k = cc
   kept_if false true e h k = cc
 
-  -- a word that something follows is taken by both or by none
+  -- both parsers take a keyword with these next tokens, or neither does
   pub accepted_before : (word : List ℕ) (follows : State R T B → Bool) (follows' : State R' T' B' → Bool)
       → ((s : State R T B) (s' : State R' T' B') → States rel s s' → follows s ≡ follows' s') → {s : State R T B} {s' : State R' T' B'} → States rel s s'
       → Takes rel (accept_keyword_before one word follows s) (accept_keyword_before other word follows' s')
@@ -264,7 +264,7 @@ module _ {R' T' A' B' S' : Type 0} (other : Leaves R' T' A' B' S') where
   abbrev pub Higher : {X : Type 0} → Counters → Read R' T' B' (X × Counters) → Type 0
   Higher m found = IfOk found (λ y. m.bindings < y.0.1.bindings)
 
-  -- a name lacks its number where the counters stand there
+  -- a name lacks its number at these counters
   pub data LacksName : Counters × State R' T' B' → Counters → Type 0 where
     name_lacks : {x : Counters × State R' T' B'} → (other.has_number x.0.bindings ≡ true → IsOk (r.numbered_name other x.0 x.1)) → LacksName x x.0
     later_lacks : {x : Counters × State R' T' B'} {y : (A' × Counters) × State R' T' B'} {comma : T' × State R' T' B'} {m : Counters}
@@ -381,7 +381,7 @@ module _ {R T A B S D R' T' A' B' S' D' : Type 0} (rel : Relations R T A B S D R
   end_natural n h =
       bind rel _ _ (expected rel one other agree kinds.ParenR h) (λ c c' t k. both (record { names = a.no_name; same = refl; counts = refl }) k)
 
-  -- where the counters stand, names come next
+  -- names come next, from these counters
   abbrev Lacking : Counters → State R' T' B' → Counters → Read R' T' B' (List A' × Counters) → Type 0
   Lacking n s' m found = NoName (LacksName other (n, s')) m found
 

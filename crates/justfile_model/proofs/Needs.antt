@@ -20,7 +20,7 @@ use Rattle.justfile_model.proofs.Depth.{file_freed, file_raised}
 
 -- ---- the least number that passes a test
 
--- a number that passes, and none below it does
+-- a number that passes, and no number below it passes
 record Least (test : ℕ → Bool) (bound : ℕ) : Type 0 where
   number : ℕ
   within : number < bound

@@ -8,14 +8,14 @@ use Rattle.justfile_model.specs.AttributeRules.{arg_broken, has, bound_broken, e
 use Rattle.justfile_model.specs.Meaning as means
 use Rattle.justfile_model.specs.Meaning.{KeyArgument, Placed, at_key, bare_key, bare_of, bound_of, is_key, count_of, is_count, of_given, option_at, option_named, property_of, quoted, quoted_text, rules_of, text_of, value_of}
 use Rattle.justfile_model.specs.NewAttribute as new
-use Rattle.justfile_model.specs.NewAttribute.{Made, bound, check, check_bounds, check_wanted, flag, if_given, is_option, multiple, new_rules, option, option_by, option_value, or_refuse, property, required}
+use Rattle.justfile_model.specs.NewAttribute.{Made, bound, check, check_bounds, check_has_option, flag, if_given, is_option, multiple, new_rules, option, option_by, option_value, or_refuse, property, required}
 use Rattle.justfile_model.specs.Rules.{ArgAttributeMinExceedsMax, ArgAttributeRequiresOption, ArgumentCountParse, ArgumentCountValue, Broken, FlagAndPatternArgAttribute, FlagAndValueArgAttribute, FlagAttributeTakesNoValue, Rule, broken_if}
 use Rattle.justfile_model.specs.LeafView.{LeafView, or_empty}
 use Rattle.justfile_model.specs.Tree as tree
 use Rattle.justfile_model.specs.Tree.{Bound, Expr, OptionName, Quoted}
 use Rattle.justfile_model.proofs.NewAttributeSteps.{Agrees, given_is_there, if_there, last_check, last_some, last_step, parts_after, parts_are, refused_first, agreed, one_check, one_some, step, step_check, step_some, then_is, unasked}
 
--- what holds of all holds of what is found
+-- what holds for all elements holds for the element that is found
 pub found_has : {X : Type 0} (P : X → Type 0) (test : X → Bool) (xs : List X) (x : X) → AllByRecursion P xs → find test xs ≡ Some x → P x
 found_has P test [] x h e = absurd (true≢false (sym (ap is_some e)))
 found_has {X} P test (y ∷ ys) x h e = go (test y) e (found_has P test ys x h.1)
@@ -96,9 +96,9 @@ module _ {A B : Type 0} (view : LeafView A B) (at : B) (T : Type 0) where
       short_is : is_option view at argument short ≡ has view at argument keys (codes "short")
 
     wanted_as_meant : (long short : OptionName A B) → Options long short → (k : KeyArgument A B)
-        → Agrees T (check_wanted view at argument long short k) (Some tt) (wants_option view at argument keys k)
+        → Agrees T (check_has_option view at argument long short k) (Some tt) (wants_option view at argument keys k)
     wanted_as_meant long short h k =
-        subst (Agrees T (check_wanted view at argument long short k) (Some tt)) (λ i. wants (h.long_is i) (h.short_is i) k) (one_check _ _ _)
+        subst (Agrees T (check_has_option view at argument long short k) (Some tt)) (λ i. wants (h.long_is i) (h.short_is i) k) (one_check _ _ _)
 
     value_as_meant : (long short : OptionName A B) → Options long short → (k : KeyArgument A B)
         → Agrees T (option_value view at argument long short k) (value_of view k) (value_broken view at argument keys k)

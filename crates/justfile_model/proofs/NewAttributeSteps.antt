@@ -130,7 +130,7 @@ module _ {B T : Type 0} where
   if_there None h = agreed None (Some None) [] refl refl
   if_there (Some x) h = last_step (h x refl) (λ y e. then_is _ e refl)
 
-  -- of what there is no rule is said where `T` fails
+  -- if `T` fails, the rules aren't needed
   pub unasked : {X : Type 0} {m : Made B X} {o : Option X} {l : List (Broken B)} → (T → ⊥) → Agrees T m o l → Agrees T m o []
   unasked {m = Ok x} never h = record { fits = (h.fits.0, refl) }
   unasked {m = Err r} never h = record { fits = λ t. absurd (never t) }

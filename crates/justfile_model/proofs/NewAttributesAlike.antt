@@ -140,7 +140,7 @@ module _ {R T A B S D R' T' A' B' S' D' : Type 0} (rel : Relations R T A B S D R
 
       wanted_alike : {l s : OptionName A B} {l' s' : OptionName A' B'} (k : KeyArgument A B) (k' : KeyArgument A' B') → AlikeOptionName rel l l'
           → AlikeOptionName rel s s' → AlikeKey rel k k'
-          → Makes rel.position (Checks rel.position) (new.check_wanted view at argument l s k) (new.check_wanted view' at' argument' l' s' k')
+          → Makes rel.position (Checks rel.position) (new.check_has_option view at argument l s k) (new.check_has_option view' at' argument' l' s' k')
       wanted_alike k k' l s h =
           checked rel.position _ _ (λ i. not (same_is_option l i) && not (same_is_option s i)) (broken.requires_option (key_place h)) (key_place h)
 

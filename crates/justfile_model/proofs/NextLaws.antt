@@ -27,7 +27,7 @@ use Rattle.justfile_model.specs.Tok.{Tok}
 use Rattle.justfile_model.specs.declared.open_delimiter.OpenDelimiter.{OpenDelimiter}
 use Rattle.justfile_model.specs.Modes.{Mode, head_of, is_empty, innermost, innermost_of, nested}
 use Rattle.justfile_model.specs.LexicalFault.{LexicalFault, LexicalError, Here, Unclosed}
-use Rattle.justfile_model.specs.Next.{NextToken, doubled_token, fixed_token, opening, literal_part, literal_token, is_same, closing_delimiter, format_kind, brace_by, closing, line_end_token, unknown, escaped_line_end, token_by_class, token_outside_text, text_or, body_token, at_end_by, Region, InText, InInterpolation, Inline, region_by, interpolated, token_in_region, token_within_line, blanks_or, tested_blanks, is_level, begins_blank_line, layout, at_line_start, next_by, next}
+use Rattle.justfile_model.specs.Next.{NextToken, doubled_token, fixed_token, opening, literal_part, literal_token, is_same, closing_delimiter, format_kind, brace_by, closing, line_end_token, unknown, escaped_line_end, token_by_class, token_outside_text, text_or, body_token, at_end_by, Region, InText, InInterpolation, OutsideText, region_by, interpolated, token_in_region, token_within_line, blanks_or, tested_blanks, is_level, begins_blank_line, layout, at_line_start, next_by, next}
 use Rattle.justfile_model.proofs.CutLemmas.{class_fact, after_byte, run_cuts, run_positive, blank_ascii, word_ascii, first_cuts, ne_from, there, past_byte, raw_cuts, raw_stops, raw_within, delimiter_is, delimiter_last, mark_last, comment_last, body_last, run_last, word_no_newline, blank_no_newline, not_newline, is_line_feed, eq_from}
 
 -- a token takes bytes, or is the end, or closes a level
@@ -272,7 +272,7 @@ module _ (m : Mode) (rest : List ℕ) where
         by : (p : Region) → Cuts m rest (token_in_region p m rest)
         by InText = body_cuts l
         by InInterpolation = interpolated_cuts l
-        by Inline = normal_cuts l
+        by OutsideText = normal_cuts l
 
     -- layout
     blanks_cuts : 0 < length rest → (n : ℕ) → n ≤ blank_len rest → Cuts m rest (blanks_or n m rest)

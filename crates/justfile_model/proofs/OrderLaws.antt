@@ -62,7 +62,7 @@ module _ {X : Type 0} (R : X → X → Ordering) where
   Ascends [] = Unit {0}
   Ascends (x ∷ xs) = NoneBelow x xs × Ascends xs
 
-  -- ---- the same elements, whatever is compared
+  -- ---- the same elements, in any order
 
   pub placed_permutation : (x : X) (ys : List X) → IsPermutation (x ∷ ys) (placed R x ys)
   placed_permutation x [] = IsPermutation-refl (x ∷ [])

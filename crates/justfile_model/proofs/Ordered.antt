@@ -6,7 +6,7 @@ use Rattle.std.specs.Option.{option_map}
 use Rattle.justfile_model.specs.AttributeRules.{of_some}
 use Rattle.justfile_model.specs.Docs.{Nothing, documented}
 use Rattle.justfile_model.specs.Features.{ConstructFeatures, over_features, over_noted}
-use Rattle.justfile_model.specs.Files.{literals, content_bindings, item_bindings, bindings, content_recipes, item_recipes, recipes, ordered_item, if_both, with_entries, undocumented, ordered, says_doc, entries_features, construct_features, all_features, item_broken, broken}
+use Rattle.justfile_model.specs.Files.{literals, content_bindings, item_bindings, bindings, content_recipes, item_recipes, recipes, ordered_item, if_both, with_entries, undocumented, ordered, sets_doc, entries_features, construct_features, all_features, item_broken, broken}
 use Rattle.justfile_model.specs.Literals.{Expansions, Literal}
 use Rattle.justfile_model.specs.Meaning.{entries_of}
 use Rattle.justfile_model.specs.Rules.{over_broken}
@@ -32,15 +32,15 @@ module _ {A B C S : Type 0} (view : LeafView A B) where
   pub record Undocumented (written : List (WrittenItem A B C S)) (all : List (OrderedItem A B C)) : Type 0 where
     pub items : List (OrderedItem A B C)
     pub items_are : undocumented view written ≡ Some items
-    pub all_are : all ≡ documented says_doc Nothing items
+    pub all_are : all ≡ documented sets_doc Nothing items
 
   pub undocumented_of : (written : List (WrittenItem A B C S)) (all : List (OrderedItem A B C)) → ordered view written ≡ Some all → Undocumented written all
   undocumented_of written all h = go (undocumented view written) refl h
     where
-      go : (o : Option (List (OrderedItem A B C))) → undocumented view written ≡ o → option_map (documented says_doc Nothing) o ≡ Some all
+      go : (o : Option (List (OrderedItem A B C))) → undocumented view written ≡ o → option_map (documented sets_doc Nothing) o ≡ Some all
           → Undocumented written all
       go None e k = never_some all k
-      go (Some items) e k = record { items = items; items_are = e; all_are = sym (some_back (documented says_doc Nothing items) all k) }
+      go (Some items) e k = record { items = items; items_are = e; all_are = sym (some_back (documented sets_doc Nothing items) all k) }
 
   -- an item and those after it, which have a meaning
   pub record Meanings (i : WrittenItem A B C S) (items : List (WrittenItem A B C S)) (all : List (OrderedItem A B C)) : Type 0 where
@@ -96,7 +96,7 @@ starless_recipes (Setting parts) = refl
 starless_recipes (Unexport name) = refl
 starless_recipes (Recipe parts) = refl
 
--- of what has a meaning
+-- items that have a meaning
 module _ {A B C S : Type 0} (view : LeafView A B) where
   item_bindings_kept : (i : WrittenItem A B C S) (j : OrderedItem A B C) → ordered_item view i ≡ Some j → item_bindings j ≡ item_bindings i
   item_bindings_kept Newline j h = ap item_bindings (sym (some_back Newline j h))
@@ -118,7 +118,7 @@ module _ {A B C S : Type 0} (view : LeafView A B) where
   pub ordered_bindings : (items : List (WrittenItem A B C S)) (all : List (OrderedItem A B C)) → ordered view items ≡ Some all → bindings all ≡ bindings items
   ordered_bindings items all h =
       let d = undocumented_of view items all h in
-      ap bindings d.all_are ∙ documented_counts bindings bindings_count says_doc Nothing d.items ∙ undocumented_bindings items d.items d.items_are
+      ap bindings d.all_are ∙ documented_counts bindings bindings_count sets_doc Nothing d.items ∙ undocumented_bindings items d.items d.items_are
 
   undocumented_recipes : (items : List (WrittenItem A B C S)) (all : List (OrderedItem A B C)) → undocumented view items ≡ Some all
       → recipes all ≡ recipes items
@@ -130,7 +130,7 @@ module _ {A B C S : Type 0} (view : LeafView A B) where
   pub ordered_recipes : (items : List (WrittenItem A B C S)) (all : List (OrderedItem A B C)) → ordered view items ≡ Some all → recipes all ≡ recipes items
   ordered_recipes items all h =
       let d = undocumented_of view items all h in
-      ap recipes d.all_are ∙ documented_counts recipes recipes_count says_doc Nothing d.items ∙ undocumented_recipes items d.items d.items_are
+      ap recipes d.all_are ∙ documented_counts recipes recipes_count sets_doc Nothing d.items ∙ undocumented_recipes items d.items d.items_are
 
 -- ---- over other leaves
 
@@ -209,15 +209,15 @@ module _ (expander : Expansions) where
   undocumented_seen (i ∷ items) k =
       (λ j. if_both (item_seen i k.0 j) (undocumented_seen items k.1 j)) ∙ both_mapped item_shape_of (ordered_item tokens i) (undocumented tokens items)
 
-  documented_seen : (o : Option Tree) → option_map (documented says_doc Nothing) (option_map shape_of o) ≡ option_map shape_of (option_map (documented says_doc Nothing) o)
+  documented_seen : (o : Option Tree) → option_map (documented sets_doc Nothing) (option_map shape_of o) ≡ option_map shape_of (option_map (documented sets_doc Nothing) o)
   documented_seen None = refl
   documented_seen (Some items) = ap Some (documented_shape Nothing items)
 
   ordered_seen : (written : WrittenTree) → KindedItems written
       → ordered lexemes (written_shape_of written) ≡ option_map shape_of (ordered tokens written)
-  ordered_seen written k = ap (option_map (documented says_doc Nothing)) (undocumented_seen written k) ∙ documented_seen (undocumented tokens written)
+  ordered_seen written k = ap (option_map (documented sets_doc Nothing)) (undocumented_seen written k) ∙ documented_seen (undocumented tokens written)
 
-  -- what a written shape means is the shape of what the written tree means
+  -- the meaning of a written shape is the shape of the meaning of the written tree
 
   pub shape_ordered : (written : WrittenTree) (tree : Tree) → KindedItems written → ordered tokens written ≡ Some tree
       → ordered lexemes (written_shape_of written) ≡ Some (shape_of tree)
@@ -232,7 +232,7 @@ module _ (expander : Expansions) where
       go None e m = never_some shape m
       go (Some tree) e m = (tree, e, some_back (shape_of tree) shape m)
 
-  -- the one notes what the other notes
+  -- both note the same features
 
   construct_features_seen : (ws : List (WrittenAttribute Tok Tok)) (content : Content Tok Tok ℕ Tok) (f : ConstructFeatures Tok) → KindedWritten ws
       → construct_features lexemes (map (over_written_attribute lexeme nothing) ws) (over_content lexeme nothing nothing nothing content) (over_features nothing f)
@@ -256,7 +256,7 @@ module _ (expander : Expansions) where
       both_over (over_noted nothing) (construct_features tokens ws content f) (all_features tokens items fs) _ _
       (construct_features_seen ws content f k.0) (all_features_seen items fs k.1)
 
-  -- the one breaks the rules that the other breaks
+  -- both break the same rules
 
   -- where this is the running version
   module _ (current : VersionNumbers) where

@@ -8,7 +8,7 @@ use Rattle.justfile_model.specs.HeaderReader.{next_binding_number, expression, o
 use Rattle.justfile_model.specs.Literals.{string_of}
 use Rattle.justfile_model.specs.PartReader as r
 use Rattle.justfile_model.specs.PartReader.{accept_keyword_before, after_numbered}
-use Rattle.justfile_model.specs.ReaderState.{◌>>=◌, Counters, Leaves, Read, State, Taken, accept, accept_word, choose, expect, is_word}
+use Rattle.justfile_model.specs.ReaderState.{◌>>=◌, Counters, Leaves, Read, State, Taken, accept, accept_keyword, choose, expect, is_word}
 use Rattle.justfile_model.specs.Recursive.{below}
 use Rattle.justfile_model.specs.SettingRules.{value_broken}
 use Rattle.justfile_model.specs.Settings.{ExpressionForm, InterpreterForm, PlainForm, SettingForm, TruthForm}
@@ -30,7 +30,7 @@ module _ {R T A B S : Type 0} (leaves : Leaves R T A B S) where
   -- a word that something follows is a word
   pub accepts_before : (word : List ℕ) (follows : State R T B → Bool) (s : State R T B) → Takes s (accept_keyword_before leaves word follows s)
   unfolding accept_keyword_before
-  accepts_before word follows s = go (accept_word leaves word s) (accepts_word leaves word s)
+  accepts_before word follows s = go (accept_keyword leaves word s) (accepts_word leaves word s)
     where
       kept_if : (b : Bool) (w : T × State R T B) → Past s w.1 → Takes s (cond b (Some w) None)
       kept_if true w h p e =

@@ -354,6 +354,6 @@ module _ (conditions : Conditions) where
     value_sound InterpreterForm s here ends = operator_sound InterpreterForm s here
     value_sound PlainForm s here ends = operator_sound PlainForm s here
 
-    -- a keyword that is no setting has no value
+    -- a keyword that isn't a setting has no value
     pub no_value : (s : State) (P : SettingValue Tok Tok × State → Type 0) → IfOk (r.setting_value token_leaves token_view name keyword None s) P
     no_value s P = after_expect kinds.ColonEquals s _ (λ (o : Read (SettingValue Tok Tok)). IfOk o P) (λ e. tt) (λ operator ts split kind. tt)

@@ -102,7 +102,7 @@ module _ (s : RawText) where
       by (inl here) more = omega (arith, stops _ here)
       by (inr free) more = omega (arith, past_piece piece (concat pieces ++ follows) are.0 are.1 free, length-append piece (concat pieces))
 
-  -- what is read of a text
+  -- the part of a text that is read, and the rest
   record Scan (text : List ℕ) : Type 0 where
     before : List ℕ
     follows : List ℕ
@@ -137,7 +137,7 @@ module _ (s : RawText) where
       by (inl here) more = record { before = []; follows = b ∷ bs; are = refl; is_between = record { pieces = []; joined = refl; are_pieces = tt }; read = stops (b ∷ bs) here; stop = λ some. here }
       by (inr free) more = more_pieces (b ∷ take (hides s (b ∷ bs)) bs) rest (b ∷ bs) (λ e. cc e) (ap (λ xs. b ∷ xs) (take-append-drop (hides s (b ∷ bs)) bs)) (sym (first_is b bs)) free (more rest (omega (arith, length-drop (hides s (b ∷ bs)) bs)))
 
-  -- an end is no end of a text
+  -- the text isn't empty at an end
   text_left : (follows : List ℕ) → IsEnd s follows → follows ≢ []
   text_left follows e nil = no_end_in_nil s (subst (λ text. ends s text ≡ true) nil e.ends_here)
 

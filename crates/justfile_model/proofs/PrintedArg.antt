@@ -82,7 +82,7 @@ module _ (expander : Expansions) where
 
   -- ---- numbers
 
-  -- what is known of a number that is printed
+  -- facts about a printed number
   pub record NumberIs (n : ℕ) : Type 0 where
     pub cooked : string_text (fixed_text (codes "'") ++ decimal n ++ fixed_text (codes "'")) ≡ Ok (decimal n)
     pub text : quoted_text view (record { expanded = false; token = fixed_text (codes "'") ++ decimal n ++ fixed_text (codes "'") }) ≡ Some (decimal n)
@@ -200,8 +200,8 @@ module _ (expander : Expansions) where
       min_bounds = bound_back _ rules.min s.min
 
       -- the rules again
-      pub said_again : rules_of view (rules.name ∷ []) printed ≡ Some rules
-      said_again =
+      pub rules_again : rules_of view (rules.name ∷ []) printed ≡ Some rules
+      rules_again =
           bind_is _ _ rules.flag _ (ap (of_given (bare_of view)) flag_again ∙ s.flag)
           (bind_is _ _ rules.help _ (ap (of_given (property_of view)) help_again ∙ s.help)
           (bind_is _ _ rules.long _ (ap (option_at view) long_again ∙ s.long)
@@ -215,7 +215,7 @@ module _ (expander : Expansions) where
       -- ---- the rules that these keys break
 
       module _ (argument : List ℕ) (unbroken : arg_broken view tt argument keys ≡ []) where
-        -- neither `long` nor `short` is there
+        -- there is neither `long` nor `short`
         wanted : Option KeyOf → Option KeyOf → List (Broken (Unit {0}))
         wanted long short = broken_if (not (is_some long) && not (is_some short)) (ArgAttributeRequiresOption tt) tt
 

@@ -169,7 +169,7 @@ module _ {A B : Type 0} (view : LeafView A B) where
       subst (Later before) (some_back (e.first ∷ r.first) es r.gives)
       (none_found before e.first n.0, unbroken_later (before ++ e.first ∷ []) ws r.first r.is n.1)
 
-  -- attributes without duplicates have none where they stand in order
+  -- attributes without duplicates have no duplicates in content order
   pub distinct_entries : (ws : List (WrittenAttribute A B)) (es : List (Entry A B)) → all_of (entry_of view) ws ≡ Some es → duplicates_broken view [] ws ≡ []
       → Distinct excluded es
   distinct_entries ws es m h = (distinct_later [] es (unbroken_later [] ws es m h)).1
@@ -222,7 +222,7 @@ module _ (expander : Expansions) where
   all_unbroken (e ∷ es) h = λ i. h.0.unbroken i ++ all_unbroken es h.1 i
 
   module _ (ws : Written) (entries : Entries) (means : entries_of sees ws ≡ Some entries) where
-    -- what is known of entries in order
+    -- facts about entries in content order
     pub record InOrder : Type 0 where
       pub each : AllByRecursion (MeansItself expander) entries
       pub sorted : in_order (entry_cmp sees) entries ≡ entries
@@ -256,7 +256,7 @@ module _ (expander : Expansions) where
         let o = entries_in_order unbroken in
         λ i. all_unbroken entries o.each i ++ no_duplicates sees (rewritten_entries entries) entries (all_again entries o.each) o.distinct i
 
-    -- also where a construct stands after them
+    -- also before a construct
     pub construct_again : {C : Type 0} (current : VersionNumbers) (content : Content (List ℕ) (Unit {0}) C (Unit {0})) → construct_broken current sees ws content ≡ []
         → construct_broken current sees (rewritten_entries entries) content ≡ []
     construct_again current content unbroken =

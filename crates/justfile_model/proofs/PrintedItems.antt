@@ -5,8 +5,8 @@ use Rattle.std.specs.Option.{option_map}
 use Rattle.justfile_model.specs.AttributeRules.{attributes_broken, of_some}
 use Rattle.justfile_model.specs.Conditions.{VersionNumbers}
 use Rattle.justfile_model.specs.ConstructRules.{form_broken, meaning_broken}
-use Rattle.justfile_model.specs.Docs.{Before, LineEnd, Nothing, Other, comment_taken, doc_in, doc_or_comment, documented, redocumented, taken, wants_doc}
-use Rattle.justfile_model.specs.Files.{all_literals, broken, content_literals, if_both, item_broken, item_literals, ordered, ordered_item, says_doc, undocumented, with_entries, written_literals}
+use Rattle.justfile_model.specs.Docs.{Before, LineEnd, Nothing, Other, comment_taken, doc_in, doc_or_comment, documented, redocumented, taken, can_take_doc}
+use Rattle.justfile_model.specs.Files.{all_literals, broken, content_literals, if_both, item_broken, item_literals, ordered, ordered_item, sets_doc, undocumented, with_entries, written_literals}
 use Rattle.justfile_model.specs.Literals.{Expansions}
 use Rattle.justfile_model.specs.Meaning.{entries_of}
 use Rattle.justfile_model.specs.NormalShape.{normal}
@@ -87,7 +87,7 @@ module _ (current : VersionNumbers) (expander : Expansions) where
   comment_again : (text : List ℕ) → PrintsAgain (Comment text)
   comment_again text = record { means = refl; unbroken = refl; texts = tt }
 
-  -- of what an item means that breaks no rule, and whose literals have texts
+  -- the meaning of an item that breaks no rule, and whose literals have texts
   item_again : (w : WrittenItem (List ℕ) (Unit {0}) (Unit {0}) (Unit {0})) (i : ShapeItem) → ordered_item (sees expander) w ≡ Some i
       → item_broken current (sees expander) w ≡ [] → HaveTexts expander (item_literals written_literals w) → PrintsAgain i
   item_again Newline i h u t = subst PrintsAgain (some_back Newline i h) newline_again
@@ -109,7 +109,7 @@ module _ (current : VersionNumbers) (expander : Expansions) where
   abbrev pub AllPrintAgain : Shape → Type 0
   AllPrintAgain = AllByRecursion PrintsAgain
 
-  -- of what written items mean, one by one, that break no rule, and whose literals have texts
+  -- the meaning of written items, one by one, that break no rule, and whose literals have texts
   pub items_again : (written : WrittenShape) (all : Shape) → undocumented (sees expander) written ≡ Some all → broken current (sees expander) written ≡ []
       → HaveTexts expander (all_literals written) → AllPrintAgain all
   items_again [] all h u t = subst AllPrintAgain (some_back [] all h) tt
@@ -151,31 +151,31 @@ module _ (current : VersionNumbers) (expander : Expansions) where
         texts = h.texts;
       }
 
-  taken_prints : (before : Before) (comment : List ℕ) (s : Shape) → AllPrintAgain s → AllPrintAgain (taken says_doc before (Comment comment) s)
+  taken_prints : (before : Before) (comment : List ℕ) (s : Shape) → AllPrintAgain s → AllPrintAgain (taken sets_doc before (Comment comment) s)
   taken_prints before comment [] h = (comment_again comment, h)
   taken_prints before comment (Newline ∷ []) h = (comment_again comment, h)
   taken_prints before comment (Newline ∷ i ∷ s) h = by i (doc_in before comment) h
     where
-      by : (i : ShapeItem) (o : Option (List ℕ)) → AllPrintAgain (Newline ∷ i ∷ s) → AllPrintAgain (comment_taken says_doc comment i s o)
+      by : (i : ShapeItem) (o : Option (List ℕ)) → AllPrintAgain (Newline ∷ i ∷ s) → AllPrintAgain (comment_taken sets_doc comment i s o)
       by i None h = (comment_again comment, h)
       by Newline (Some doc) h = (comment_again comment, h)
       by (Comment text) (Some doc) h = (comment_again comment, h)
-      by (Construct entries content) (Some doc) h = wanted (wants_doc says_doc entries content)
+      by (Construct entries content) (Some doc) h = wanted (can_take_doc sets_doc entries content)
         where
           wanted : (b : Bool)
-              → AllPrintAgain (doc_or_comment says_doc comment (Construct entries content) s (cond b (Some (Construct entries (redocumented (Some doc) content))) None))
+              → AllPrintAgain (doc_or_comment sets_doc comment (Construct entries content) s (cond b (Some (Construct entries (redocumented (Some doc) content))) None))
           wanted true = (redocumented_again entries content (Some doc) h.1.0, h.1.1)
           wanted false = (comment_again comment, h)
   taken_prints before comment (Comment text ∷ s) h = (comment_again comment, h)
   taken_prints before comment (Construct entries content ∷ s) h = (comment_again comment, h)
 
-  pub documented_prints : (before : Before) (s : Shape) → AllPrintAgain s → AllPrintAgain (documented says_doc before s)
+  pub documented_prints : (before : Before) (s : Shape) → AllPrintAgain s → AllPrintAgain (documented sets_doc before s)
   documented_prints before [] h = tt
   documented_prints before (Newline ∷ s) h = (h.0, documented_prints LineEnd s h.1)
-  documented_prints before (Comment text ∷ s) h = taken_prints before text (documented says_doc Other s) (documented_prints Other s h.1)
+  documented_prints before (Comment text ∷ s) h = taken_prints before text (documented sets_doc Other s) (documented_prints Other s h.1)
   documented_prints before (Construct entries content ∷ s) h = (h.0, documented_prints Other s h.1)
 
-  -- of what a written shape means that breaks no rule, and whose literals have texts
+  -- the meaning of a written shape that breaks no rule, and whose literals have texts
   pub shape_again : (written : WrittenShape) (s : Shape) → ordered (sees expander) written ≡ Some s → broken current (sees expander) written ≡ []
       → HaveTexts expander (all_literals written) → AllPrintAgain s
   shape_again written s h u t =
@@ -218,7 +218,7 @@ module _ (current : VersionNumbers) (expander : Expansions) where
   rewritten_undocumented s h = items_mean (docs_written s) (docs_written_again s h)
 
   pub rewritten_means : (s : Shape) → AllPrintAgain s → SettledDocs Nothing s → ordered (sees expander) (rewritten s) ≡ Some s
-  rewritten_means s h d = ap (option_map (documented says_doc Nothing)) (rewritten_undocumented s h) ∙ ap Some (printed_docs Nothing s d)
+  rewritten_means s h d = ap (option_map (documented sets_doc Nothing)) (rewritten_undocumented s h) ∙ ap Some (printed_docs Nothing s d)
 
   pub rewritten_unbroken : (s : Shape) → AllPrintAgain s → broken current (sees expander) (rewritten s) ≡ []
   rewritten_unbroken s h = items_unbroken (docs_written s) (docs_written_again s h)

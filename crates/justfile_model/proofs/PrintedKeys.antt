@@ -75,7 +75,7 @@ join us vs ks ls p q = (λ i. p i ++ q i) ∙ sym (map-append key_argument ks ls
 
 -- ---- keys by a table
 
--- a key, with the value that it has, if it is there
+-- a key with its value, if the attribute has the key
 pub record Row : Type 0 where
   pub word : List ℕ
   pub value : Option (Option Value)

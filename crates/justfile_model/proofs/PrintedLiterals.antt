@@ -130,7 +130,7 @@ module _ {A : Type 0} (P : Literal A → Type 0) where
           (λ (w : WrittenAttribute A B). AllByRecursion (InArgument OfExpr OfKey) w.arguments) arguments_in ws
           (unflat P (λ (w : WrittenAttribute A B). flat_map argument_literals w.arguments) ws h)) m)
 
-      -- the literals of what attributes mean are among those that are written
+      -- the literals of the meaning of attributes are among the written literals
       pub literals_meant : (ws : List (WrittenAttribute A B)) (entries : List (Entry A B)) → entries_of view ws ≡ Some entries
           → OfLiterals (written_literals ws) → OfLiterals (entries_literals entries)
       literals_meant ws entries m h =

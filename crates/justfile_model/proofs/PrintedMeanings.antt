@@ -27,7 +27,7 @@ use Rattle.justfile_model.specs.Tree as tree
 use Rattle.justfile_model.specs.Tree.{Expr, Quoted, WrittenAttribute, ArgumentRules, Attribute, Entry}
 use Rattle.justfile_model.proofs.Binds.{some_back, never_some, bind_back, bind_is, never_nil, nothing_in}
 use Rattle.justfile_model.proofs.MeaningParts.{arg_meaning}
-use Rattle.justfile_model.proofs.PrintedArg.{quoted_back, Numbered, numbered, max_bounds, min_bounds, said_again, unbroken_again}
+use Rattle.justfile_model.proofs.PrintedArg.{quoted_back, Numbered, numbered, max_bounds, min_bounds, rules_again, unbroken_again}
 use Rattle.justfile_model.proofs.PrintedKeys.{Value, KeyOf, at_place, keys_of_arguments, places_of_arguments, order_of_arguments, keys_in, each_once, each_known, rules_rows, cache_rows, literal_of, signal_literal, values_of, rows_of, arguments_are}
 use Rattle.justfile_model.proofs.PrintedTexts.{quoted_signal}
 
@@ -52,7 +52,7 @@ module _ (expander : Expansions) where
   abbrev Shaped : Type 0
   Shaped = Attribute (List ℕ) (Unit {0})
 
-  -- the numbers that it says can be printed
+  -- its numbers can be printed
   abbrev pub NumbersAre : Shaped → Type 0
   NumbersAre (tree.Arg rules) = Numbered expander rules.max × Numbered expander rules.min
   NumbersAre a = Unit {0}
@@ -79,7 +79,7 @@ module _ (expander : Expansions) where
       let c = nothing_in _ _ b.0 in
       record { count = c.0; expressions = c.1; of_kind = b.1; unknown = a.1 }
 
-  -- no more than the bound
+  -- at most the bound
   at_most : (kind : AttributeKind) (es : List Value) (most : ℕ) → count_broken view tt kind (length (map at_place es)) ≡ [] → most_count kind ≡ Some most
       → length es ≤ most
   at_most kind es most h e =
@@ -291,7 +291,7 @@ module _ (expander : Expansions) where
       let unknown = each_known expander kinds.Arg (rules_rows rules) (refl, (refl, (refl, (refl, (refl, (refl, (refl, (refl, (refl, tt))))))))) in
       record {
         kind_is = refl;
-        means = ap (λ o. o >>= (λ rules. Some (tree.Arg rules))) (said_again expander q keys rules s);
+        means = ap (λ o. o >>= (λ rules. Some (tree.Arg rules))) (rules_again expander q keys rules s);
         once = each_once expander (rules_rows rules) (refl, (refl, (refl, (refl, (refl, (refl, (refl, (refl, (refl, tt)))))))));
         unbroken = λ i. of_kind i ++ unknown i;
         numbers = (numbered expander _ rules.max (max_bounds expander q keys rules s), numbered expander _ rules.min (min_bounds expander q keys rules s));

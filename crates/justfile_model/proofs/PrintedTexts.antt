@@ -36,7 +36,7 @@ digits_in (b ∷ bs) e =
     let y = and_parts (not (nat_lt b 48)) (nat_lt b 58) x.0 in
     (digit_in b (ltb-false b 48 (not_true (nat_lt b 48) y.0)) (ltb-true b 58 y.1), digits_in bs x.1)
 
--- what is known of a text that is a count
+-- facts about the text of a count
 pub record Count (text : List ℕ) : Type 0 where
   pub some : 0 < length text
   pub digits : AllDigits 10 text

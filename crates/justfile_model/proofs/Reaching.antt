@@ -92,11 +92,11 @@ module _ (conditions : Conditions) where
     pub by : {X : Type 0} {found found' : Result X ReadError} {x : X} {ls : List (Literal Tok)} → found ≡ found' → Reaches found' x ls → Reaches found x ls
     by {x = x} {ls = ls} is h = subst (λ o. Reaches o x ls) (sym is) h
 
-    -- with the same features, put together otherwise
+    -- with the same features, from an equal list
     pub renoted : {A : Type 0} {found : Read A} {e : A} {d : ℕ} {rest : Tokens} {m n : List (Noted Tok)} {ls : List (Literal Tok)} → m ≡ n → Reaches found (e, input conditions d rest m) ls → Reaches found (e, input conditions d rest n) ls
     renoted {A} {found} {e} {d} {rest} {ls = ls} same h = subst (λ (n : List (Noted Tok)). Reaches found (e, input conditions d rest n) ls) same h
 
-    -- with the same literals, put together otherwise
+    -- with the same literals, from an equal list
     pub regrouped : {X : Type 0} {found : Result X ReadError} {x : X} {ls ms : List (Literal Tok)} → ls ≡ ms → Reaches found x ls → Reaches found x ms
     regrouped {found = found} {x = x} same h = subst (λ (ls : List (Literal Tok)). Reaches found x ls) same h
 
@@ -109,7 +109,7 @@ module _ (conditions : Conditions) where
     then f {y} {ls} {ms} (is_read a is) go = subst (λ o. Reaches (o >>= f) y (ls ++ ms)) (sym is) (onto ls ms a go)
     then f {y} {ls} {ms} (is_refused h is) go = is_refused (due_first ls ms _ h) (ap (λ o. o >>= f) is)
 
-    -- no literal stands after the step
+    -- the step has no literals after it
     pub pass : {X Y : Type 0} {found : Result X ReadError} {x : X} (f : X → Result Y ReadError) {y : Y} {ls : List (Literal Tok)} → Reaches found x ls → f x ≡ Ok y → Reaches (found >>= f) y ls
     pass f (is_read a is) goes = is_read a (ap (λ o. o >>= f) is ∙ goes)
     pass f (is_refused h is) goes = is_refused h (ap (λ o. o >>= f) is)

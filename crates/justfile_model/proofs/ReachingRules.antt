@@ -16,7 +16,7 @@ use Rattle.justfile_model.proofs.Reaching as plain
 use Rattle.justfile_model.proofs.Reaching.{DueOf, Reaches, due_first, due_then, lacks_none}
 use Rattle.justfile_model.proofs.Steps.{input}
 
--- the one rules are among the others
+-- these rules are among the others
 pub record Among (rules all : List (Broken Tok)) : Type 0 where
   pub carries : (rule : Broken Tok) → Contains rules rule → Contains all rule
 
@@ -57,12 +57,12 @@ module _ (conditions : Conditions) (Hit : Option SignificantToken → Type 0) wh
       → ReachesSome found' Is ls rules → ReachesSome found Is ls rules
   by {Is = Is} {ls = ls} {rules = rules} is h = subst (λ o. ReachesSome o Is ls rules) (sym is) h
 
-  -- with the same literals, put together otherwise
+  -- with the same literals, from an equal list
   pub regrouped : {X : Type 0} {found : Result X ReadError} {Is : X → Type 0} {ls ms : List (Literal Tok)} {rules : List (Broken Tok)} → ls ≡ ms
       → ReachesSome found Is ls rules → ReachesSome found Is ms rules
   regrouped {found = found} {Is = Is} {rules = rules} same h = subst (λ ls. ReachesSome found Is ls rules) same h
 
-  -- with the same rules, put together otherwise
+  -- with the same rules, from an equal list
   pub same_rules : {X : Type 0} {found : Result X ReadError} {Is : X → Type 0} {ls : List (Literal Tok)} {rules all : List (Broken Tok)} → rules ≡ all
       → ReachesSome found Is ls rules → ReachesSome found Is ls all
   same_rules {found = found} {Is = Is} {ls = ls} same h = subst (λ rules. ReachesSome found Is ls rules) same h
@@ -113,7 +113,7 @@ module _ (conditions : Conditions) (Hit : Option SignificantToken → Type 0) wh
   then f As {ls} {ms} (is_refused {r = r} (inl h) is) go = is_refused (inl (due_first conditions Hit ls ms r h)) (ap (λ o. o >>= f) is)
   then f As (is_refused (inr h) is) go = is_refused (inr h) (ap (λ o. o >>= f) is)
 
-  -- no literal stands after the step
+  -- the step has no literals after it
   pub last : {X Y : Type 0} {found : Result X ReadError} {Is : X → Type 0} (f : X → Result Y ReadError) (As : Y → Type 0) {ls : List (Literal Tok)}
       {rules : List (Broken Tok)} → ReachesSome found Is ls rules
       → ((x : X) → Is x → AllCook conditions.expander ls → ReachesSome (f x) As [] rules) → ReachesSome (found >>= f) As ls rules
@@ -149,7 +149,7 @@ module _ (conditions : Conditions) (Hit : Option SignificantToken → Type 0) wh
       → ReachesOne found x ls rules → ReachesOne found y ls rules
   same_one {found = found} {ls = ls} {rules = rules} e h = subst (λ z. ReachesOne found z ls rules) e h
 
-  -- with the same features, put together otherwise
+  -- with the same features, from an equal list
   pub renoted : {X : Type 0} {found : Read X} {e : X} {d : ℕ} {rest : Tokens} {m n : List (Noted Tok)} {ls : List (Literal Tok)} {rules : List (Broken Tok)}
       → m ≡ n → ReachesOne found (e, input conditions d rest m) ls rules → ReachesOne found (e, input conditions d rest n) ls rules
   renoted {e = e} {d = d} {rest = rest} same h = same_one (λ i. (e, input conditions d rest (same i))) h
@@ -159,7 +159,7 @@ module _ (conditions : Conditions) (Hit : Option SignificantToken → Type 0) wh
       → ((x : X) → Is x → As x) → s ≡ t → ReachesSome found (IsAt Is s) ls rules → ReachesSome found (IsAt As t) ls rules
   read_as As {t = t} f e h = known_as (IsAt As t) (λ y is. (f y.0 is.0, is.1 ∙ e)) h
 
-  -- no literal stands after the step, and no rule is broken there
+  -- the step has no literals after it, and no rule is broken there
   pub pass : {X Y : Type 0} {found : Result X ReadError} {x : X} (f : X → Result Y ReadError) {y : Y} {ls : List (Literal Tok)} {rules : List (Broken Tok)}
       → ReachesOne found x ls rules → f x ≡ Ok y → ReachesOne (found >>= f) y ls rules
   pass f {y = y} h goes = last_one f (λ z. z ≡ y) h (λ _. read_now y refl goes)

@@ -12,11 +12,11 @@ use Rattle.justfile_model.specs.Conditions.{Conditions}
 use Rattle.justfile_model.specs.NewAttribute.{new_attribute}
 use Rattle.justfile_model.specs.Reader as reader
 use Rattle.justfile_model.specs.PartReader.{accept_keyword_before, after_numbered}
-use Rattle.justfile_model.specs.Reader.{any_recipe, assignment, at_end, attributes, body_after, construct, content, next_recipe_number, ended, item_rest, items_from, items_rule, line, line_end, on_line, optional_body, recipe, wordless}
+use Rattle.justfile_model.specs.Reader.{any_recipe, assignment, at_end, attributes, body_after, construct, content, next_recipe_number, item_end, after_item, items_from, items_rule, line, line_end, any_item, optional_body, recipe, without_keyword}
 use Rattle.justfile_model.specs.HeaderReader as headers
 use Rattle.justfile_model.specs.HeaderReader.{bare_dependency, default_value, dependencies, dependencies_rule, dependency, dependency_argument, dependency_arguments, dependency_arguments_rule, distinct_options, next_binding_number, header, last_parameter, named_parameter, parameter, parameters, parenthesized, path, path_rest, path_rest_rule, plain_argument, singulars, singulars_rule, starred_argument, subsequents, variadic}
 use Rattle.justfile_model.specs.ExpressionReader.{accept_operator, assert_rule, backtick, binary_rule, conjunct_rule, cooked, format_rule, group_rule, list_rule, literal, literal_string, name_rule, read, value_rule}
-use Rattle.justfile_model.specs.ReaderState.{AfterVariadic, BreaksRule, Extraneous, Unexpected, accept, accept_marked, accepted, accept_word, begin_with, expect, is_word, prepend, refused, same_kind}
+use Rattle.justfile_model.specs.ReaderState.{AfterVariadic, BreaksRule, Extraneous, Unexpected, accept, accept_marked, accepted, accept_keyword, begin_with, expect, is_word, prepend, refused, same_kind}
 use Rattle.justfile_model.specs.Recursive.{below, recursive, turns}
 use Rattle.justfile_model.specs.Rules.{InvalidAttribute, MappedDependencyMultipleStarredArguments, MappedDependencyWithoutStarredArgument, StarredArgumentOutsideMappedDependency, UndefinedArgAttribute}
 use Rattle.justfile_model.specs.SignificantTokens.{SignificantToken}
@@ -42,12 +42,12 @@ recipe_line = at 10 kinds.Identifier (codes "foo") ∷ at 13 kinds.Colon (codes 
 
 -- a blank line after an attribute
 blank_after : tree_of_tokens conditions (private_line (at 10 kinds.Eol (codes "\n") ∷ recipe_line)) ≡ Err (Extraneous 1 (at 0 kinds.BracketL (codes "[")).tok)
-unfolding tree_of_tokens reader.file items_from items_rule line on_line construct attributes attribute_lines attribute_lines_from bracketed attribute kind_at arguments made bracket_end attributes_end line_end_after accept begin_with expect refused same_kind below recursive turns new_attribute kind_named same_attribute
+unfolding tree_of_tokens reader.file items_from items_rule line any_item construct attributes attribute_lines attribute_lines_from bracketed attribute kind_at arguments made bracket_end attributes_end line_end_after accept begin_with expect refused same_kind below recursive turns new_attribute kind_named same_attribute
 blank_after = refl
 
--- the end of the file after an attribute is no construct
+-- the end of the file after an attribute isn't a construct
 nothing_after : tree_of_tokens conditions (private_line (at 10 kinds.Eof [] ∷ [])) ≡ Err (Unexpected (Some (at 10 kinds.Eof [])))
-unfolding tree_of_tokens reader.file items_from items_rule line on_line construct attributes attribute_lines attribute_lines_from bracketed attribute kind_at arguments made bracket_end attributes_end line_end_after accept begin_with expect refused same_kind below recursive turns new_attribute kind_named same_attribute content accept_keyword_before accept_word is_word wordless recipe any_recipe header distinct_options parameters singulars singulars_rule last_parameter dependencies dependencies_rule subsequents accepted optional_body body_after next_recipe_number ended item_rest line_end after_numbered at_end
+unfolding tree_of_tokens reader.file items_from items_rule line any_item construct attributes attribute_lines attribute_lines_from bracketed attribute kind_at arguments made bracket_end attributes_end line_end_after accept begin_with expect refused same_kind below recursive turns new_attribute kind_named same_attribute content accept_keyword_before accept_keyword is_word without_keyword recipe any_recipe header distinct_options parameters singulars singulars_rule last_parameter dependencies dependencies_rule subsequents accepted optional_body body_after next_recipe_number item_end after_item line_end after_numbered at_end
 nothing_after = refl
 
 abbrev private : WrittenAttribute Tok Tok
@@ -58,7 +58,7 @@ foo = tree.Recipe (bare_recipe (record { quiet = false; name = (at 10 kinds.Iden
 
 -- a recipe with an attribute
 on_recipe : tree_of_tokens conditions (private_line recipe_line) ≡ Ok (Construct (private ∷ []) foo ∷ tree.Newline ∷ [], [])
-unfolding tree_of_tokens reader.file items_from items_rule line on_line construct attributes attribute_lines attribute_lines_from bracketed attribute kind_at arguments made bracket_end attributes_end line_end_after accept begin_with expect refused same_kind below recursive turns new_attribute kind_named same_attribute content accept_keyword_before accept_word is_word wordless recipe any_recipe header distinct_options parameters singulars singulars_rule last_parameter dependencies dependencies_rule subsequents accepted optional_body body_after next_recipe_number ended item_rest line_end after_numbered at_end
+unfolding tree_of_tokens reader.file items_from items_rule line any_item construct attributes attribute_lines attribute_lines_from bracketed attribute kind_at arguments made bracket_end attributes_end line_end_after accept begin_with expect refused same_kind below recursive turns new_attribute kind_named same_attribute content accept_keyword_before accept_keyword is_word without_keyword recipe any_recipe header distinct_options parameters singulars singulars_rule last_parameter dependencies dependencies_rule subsequents accepted optional_body body_after next_recipe_number item_end after_item line_end after_numbered at_end
 on_recipe = refl
 
 -- `[arg('a')]` and the end of its line
@@ -70,7 +70,7 @@ arg_line ts =
 -- an attribute for a parameter that doesn't exist
 no_parameter : tree_of_tokens conditions (arg_line recipe_line)
     ≡ Err (BreaksRule (record { rule = UndefinedArgAttribute (codes "a"); token = (at 5 kinds.StringToken (codes "'a'")).tok }))
-unfolding tree_of_tokens reader.file items_from items_rule line on_line construct attributes attribute_lines attribute_lines_from bracketed attribute kind_at arguments made bracket_end attributes_end line_end_after accept begin_with expect refused same_kind below recursive turns new_attribute kind_named same_attribute content accept_keyword_before accept_word is_word wordless recipe any_recipe header distinct_options parameters singulars singulars_rule last_parameter dependencies dependencies_rule subsequents accepted optional_body body_after next_recipe_number ended item_rest line_end after_numbered at_end arguments_from argument positional placed arguments_end read value_rule conjunct_rule binary_rule accept_operator literal literal_string cooked accept_marked backtick format_rule list_rule group_rule name_rule
+unfolding tree_of_tokens reader.file items_from items_rule line any_item construct attributes attribute_lines attribute_lines_from bracketed attribute kind_at arguments made bracket_end attributes_end line_end_after accept begin_with expect refused same_kind below recursive turns new_attribute kind_named same_attribute content accept_keyword_before accept_keyword is_word without_keyword recipe any_recipe header distinct_options parameters singulars singulars_rule last_parameter dependencies dependencies_rule subsequents accepted optional_body body_after next_recipe_number item_end after_item line_end after_numbered at_end arguments_from argument positional placed arguments_end read value_rule conjunct_rule binary_rule accept_operator literal literal_string cooked accept_marked backtick format_rule list_rule group_rule name_rule
 no_parameter = refl
 
 -- `[script]` and the end of its line, and then `x := y`
@@ -82,7 +82,7 @@ script_line =
 -- an attribute that no assignment may have
 on_assignment : tree_of_tokens conditions script_line
     ≡ Err (BreaksRule (record { rule = InvalidAttribute items.Assignment attributes_of.Script; token = (at 9 kinds.Identifier (codes "x")).tok }))
-unfolding tree_of_tokens reader.file items_from items_rule line on_line construct attributes attribute_lines attribute_lines_from bracketed attribute kind_at arguments made bracket_end attributes_end line_end_after accept begin_with expect refused same_kind below recursive turns new_attribute kind_named same_attribute content accept_keyword_before accept_word is_word wordless recipe any_recipe header distinct_options parameters singulars singulars_rule last_parameter dependencies dependencies_rule subsequents accepted optional_body body_after next_recipe_number ended item_rest line_end after_numbered at_end arguments_from argument positional placed arguments_end read value_rule conjunct_rule binary_rule accept_operator literal literal_string cooked accept_marked backtick format_rule list_rule group_rule name_rule assert_rule assignment next_binding_number
+unfolding tree_of_tokens reader.file items_from items_rule line any_item construct attributes attribute_lines attribute_lines_from bracketed attribute kind_at arguments made bracket_end attributes_end line_end_after accept begin_with expect refused same_kind below recursive turns new_attribute kind_named same_attribute content accept_keyword_before accept_keyword is_word without_keyword recipe any_recipe header distinct_options parameters singulars singulars_rule last_parameter dependencies dependencies_rule subsequents accepted optional_body body_after next_recipe_number item_end after_item line_end after_numbered at_end arguments_from argument positional placed arguments_end read value_rule conjunct_rule binary_rule accept_operator literal literal_string cooked accept_marked backtick format_rule list_rule group_rule name_rule assert_rule assignment next_binding_number
 on_assignment = refl
 
 -- ---- headers
@@ -98,33 +98,33 @@ after_foo = at 20 kinds.Eof [] ∷ []
 star_without : tree_of_tokens conditions (name 0 (codes "foo") ∷ at 3 kinds.Colon (codes ":") ∷ at 5 kinds.Asterisk (codes "*") ∷ at 6 kinds.ParenL (codes "(")
     ∷ name 7 (codes "b") ∷ name 9 (codes "x") ∷ at 10 kinds.ParenR (codes ")") ∷ after_foo)
     ≡ Err (BreaksRule (record { rule = MappedDependencyWithoutStarredArgument; token = (at 5 kinds.Asterisk (codes "*")).tok }))
-unfolding tree_of_tokens reader.file items_from items_rule line on_line construct attributes accept begin_with expect refused same_kind below recursive turns content accept_keyword_before accept_word is_word wordless recipe any_recipe header distinct_options parameters singulars singulars_rule last_parameter dependencies dependencies_rule subsequents accepted optional_body body_after next_recipe_number ended item_rest line_end after_numbered at_end new_attribute kind_named same_attribute dependency bare_dependency path path_rest path_rest_rule parenthesized dependency_arguments dependency_arguments_rule dependency_argument plain_argument starred_argument prepend read value_rule conjunct_rule binary_rule accept_operator literal literal_string cooked accept_marked backtick format_rule list_rule group_rule name_rule assert_rule
+unfolding tree_of_tokens reader.file items_from items_rule line any_item construct attributes accept begin_with expect refused same_kind below recursive turns content accept_keyword_before accept_keyword is_word without_keyword recipe any_recipe header distinct_options parameters singulars singulars_rule last_parameter dependencies dependencies_rule subsequents accepted optional_body body_after next_recipe_number item_end after_item line_end after_numbered at_end new_attribute kind_named same_attribute dependency bare_dependency path path_rest path_rest_rule parenthesized dependency_arguments dependency_arguments_rule dependency_argument plain_argument starred_argument prepend read value_rule conjunct_rule binary_rule accept_operator literal literal_string cooked accept_marked backtick format_rule list_rule group_rule name_rule assert_rule
 star_without = refl
 
--- `(b *x)` has none before it
+-- `(b *x)` has no star before it
 star_outside : tree_of_tokens conditions (name 0 (codes "foo") ∷ at 3 kinds.Colon (codes ":") ∷ at 5 kinds.ParenL (codes "(")
     ∷ name 6 (codes "b") ∷ at 8 kinds.Asterisk (codes "*") ∷ name 9 (codes "x") ∷ at 10 kinds.ParenR (codes ")") ∷ after_foo)
     ≡ Err (BreaksRule (record { rule = StarredArgumentOutsideMappedDependency; token = (at 8 kinds.Asterisk (codes "*")).tok }))
-unfolding tree_of_tokens reader.file items_from items_rule line on_line construct attributes accept begin_with expect refused same_kind below recursive turns content accept_keyword_before accept_word is_word wordless recipe any_recipe header distinct_options parameters singulars singulars_rule last_parameter dependencies dependencies_rule subsequents accepted optional_body body_after next_recipe_number ended item_rest line_end after_numbered at_end new_attribute kind_named same_attribute dependency bare_dependency path path_rest path_rest_rule parenthesized dependency_arguments dependency_arguments_rule dependency_argument plain_argument starred_argument prepend read value_rule conjunct_rule binary_rule accept_operator literal literal_string cooked accept_marked backtick format_rule list_rule group_rule name_rule assert_rule
+unfolding tree_of_tokens reader.file items_from items_rule line any_item construct attributes accept begin_with expect refused same_kind below recursive turns content accept_keyword_before accept_keyword is_word without_keyword recipe any_recipe header distinct_options parameters singulars singulars_rule last_parameter dependencies dependencies_rule subsequents accepted optional_body body_after next_recipe_number item_end after_item line_end after_numbered at_end new_attribute kind_named same_attribute dependency bare_dependency path path_rest path_rest_rule parenthesized dependency_arguments dependency_arguments_rule dependency_argument plain_argument starred_argument prepend read value_rule conjunct_rule binary_rule accept_operator literal literal_string cooked accept_marked backtick format_rule list_rule group_rule name_rule assert_rule
 star_outside = refl
 
 -- `*(b *x *` is an error before what follows
 star_twice : tree_of_tokens conditions (name 0 (codes "foo") ∷ at 3 kinds.Colon (codes ":") ∷ at 5 kinds.Asterisk (codes "*") ∷ at 6 kinds.ParenL (codes "(")
     ∷ name 7 (codes "b") ∷ at 9 kinds.Asterisk (codes "*") ∷ name 10 (codes "x") ∷ at 12 kinds.Asterisk (codes "*") ∷ after_foo)
     ≡ Err (BreaksRule (record { rule = MappedDependencyMultipleStarredArguments; token = (at 12 kinds.Asterisk (codes "*")).tok }))
-unfolding tree_of_tokens reader.file items_from items_rule line on_line construct attributes accept begin_with expect refused same_kind below recursive turns content accept_keyword_before accept_word is_word wordless recipe any_recipe header distinct_options parameters singulars singulars_rule last_parameter dependencies dependencies_rule subsequents accepted optional_body body_after next_recipe_number ended item_rest line_end after_numbered at_end new_attribute kind_named same_attribute dependency bare_dependency path path_rest path_rest_rule parenthesized dependency_arguments dependency_arguments_rule dependency_argument plain_argument starred_argument prepend read value_rule conjunct_rule binary_rule accept_operator literal literal_string cooked accept_marked backtick format_rule list_rule group_rule name_rule assert_rule
+unfolding tree_of_tokens reader.file items_from items_rule line any_item construct attributes accept begin_with expect refused same_kind below recursive turns content accept_keyword_before accept_keyword is_word without_keyword recipe any_recipe header distinct_options parameters singulars singulars_rule last_parameter dependencies dependencies_rule subsequents accepted optional_body body_after next_recipe_number item_end after_item line_end after_numbered at_end new_attribute kind_named same_attribute dependency bare_dependency path path_rest path_rest_rule parenthesized dependency_arguments dependency_arguments_rule dependency_argument plain_argument starred_argument prepend read value_rule conjunct_rule binary_rule accept_operator literal literal_string cooked accept_marked backtick format_rule list_rule group_rule name_rule assert_rule
 star_twice = refl
 
 -- `foo +a b:` has a parameter after one that takes several arguments
 after_variadic : tree_of_tokens conditions (name 0 (codes "foo") ∷ at 4 kinds.Plus (codes "+") ∷ name 5 (codes "a") ∷ name 7 (codes "b") ∷ at 8 kinds.Colon (codes ":") ∷ after_foo)
     ≡ Err (AfterVariadic (name 7 (codes "b")).tok)
-unfolding tree_of_tokens reader.file items_from items_rule line on_line construct attributes accept begin_with expect refused same_kind below recursive turns content accept_keyword_before accept_word is_word wordless recipe any_recipe header distinct_options parameters singulars singulars_rule last_parameter dependencies dependencies_rule subsequents accepted optional_body body_after next_recipe_number ended item_rest line_end after_numbered at_end new_attribute kind_named same_attribute parameter named_parameter default_value next_binding_number variadic headers.nothing_after
+unfolding tree_of_tokens reader.file items_from items_rule line any_item construct attributes accept begin_with expect refused same_kind below recursive turns content accept_keyword_before accept_keyword is_word without_keyword recipe any_recipe header distinct_options parameters singulars singulars_rule last_parameter dependencies dependencies_rule subsequents accepted optional_body body_after next_recipe_number item_end after_item line_end after_numbered at_end new_attribute kind_named same_attribute parameter named_parameter default_value next_binding_number variadic headers.expect_no_name
 after_variadic = refl
 
 -- `foo: &&` requires a dependency
 none_after : tree_of_tokens conditions (name 0 (codes "foo") ∷ at 3 kinds.Colon (codes ":") ∷ at 5 kinds.AmpersandAmpersand (codes "&&") ∷ after_foo)
     ≡ Err (Unexpected (Some (at 20 kinds.Eof [])))
-unfolding tree_of_tokens reader.file items_from items_rule line on_line construct attributes accept begin_with expect refused same_kind below recursive turns content accept_keyword_before accept_word is_word wordless recipe any_recipe header distinct_options parameters singulars singulars_rule last_parameter dependencies dependencies_rule subsequents accepted optional_body body_after next_recipe_number ended item_rest line_end after_numbered at_end new_attribute kind_named same_attribute dependency bare_dependency path path_rest path_rest_rule parenthesized dependency_arguments dependency_arguments_rule dependency_argument plain_argument starred_argument prepend
+unfolding tree_of_tokens reader.file items_from items_rule line any_item construct attributes accept begin_with expect refused same_kind below recursive turns content accept_keyword_before accept_keyword is_word without_keyword recipe any_recipe header distinct_options parameters singulars singulars_rule last_parameter dependencies dependencies_rule subsequents accepted optional_body body_after next_recipe_number item_end after_item line_end after_numbered at_end new_attribute kind_named same_attribute dependency bare_dependency path path_rest path_rest_rule parenthesized dependency_arguments dependency_arguments_rule dependency_argument plain_argument starred_argument prepend
 none_after = refl
 
 abbrev whole_header : Header Tok Tok Tok
@@ -142,7 +142,7 @@ whole : tree_of_tokens conditions (at 0 kinds.At (codes "@") ∷ name 1 (codes "
     ∷ name 8 (codes "x") ∷ at 10 kinds.Asterisk (codes "*") ∷ name 11 (codes "b") ∷ at 12 kinds.Colon (codes ":") ∷ name 14 (codes "c") ∷ at 16 kinds.AmpersandAmpersand (codes "&&")
     ∷ name 18 (codes "d") ∷ at 18 kinds.ColonColon (codes "::") ∷ name 19 (codes "e") ∷ after_foo)
     ≡ Ok (Construct [] (tree.Recipe (bare_recipe whole_header None [])) ∷ [], [])
-unfolding tree_of_tokens reader.file items_from items_rule line on_line construct attributes accept begin_with expect refused same_kind below recursive turns content accept_keyword_before accept_word is_word wordless recipe any_recipe header distinct_options parameters singulars singulars_rule last_parameter dependencies dependencies_rule subsequents accepted optional_body body_after next_recipe_number ended item_rest line_end after_numbered at_end new_attribute kind_named same_attribute dependency bare_dependency path path_rest path_rest_rule parenthesized dependency_arguments dependency_arguments_rule dependency_argument plain_argument starred_argument prepend read value_rule conjunct_rule binary_rule accept_operator literal literal_string cooked accept_marked backtick format_rule list_rule group_rule name_rule assert_rule parameter named_parameter default_value next_binding_number variadic headers.nothing_after
+unfolding tree_of_tokens reader.file items_from items_rule line any_item construct attributes accept begin_with expect refused same_kind below recursive turns content accept_keyword_before accept_keyword is_word without_keyword recipe any_recipe header distinct_options parameters singulars singulars_rule last_parameter dependencies dependencies_rule subsequents accepted optional_body body_after next_recipe_number item_end after_item line_end after_numbered at_end new_attribute kind_named same_attribute dependency bare_dependency path path_rest path_rest_rule parenthesized dependency_arguments dependency_arguments_rule dependency_argument plain_argument starred_argument prepend read value_rule conjunct_rule binary_rule accept_operator literal literal_string cooked accept_marked backtick format_rule list_rule group_rule name_rule assert_rule parameter named_parameter default_value next_binding_number variadic headers.expect_no_name
 whole = refl
 
 abbrev mapped_header : Header Tok Tok Tok
@@ -163,5 +163,5 @@ mapped_header = record {
 starred_value : tree_of_tokens conditions (name 0 (codes "foo") ∷ at 3 kinds.Colon (codes ":") ∷ at 5 kinds.Asterisk (codes "*") ∷ at 6 kinds.ParenL (codes "(")
     ∷ name 7 (codes "b") ∷ at 9 kinds.Asterisk (codes "*") ∷ name 10 (codes "x") ∷ at 12 kinds.Slash (codes "/") ∷ name 14 (codes "y") ∷ at 15 kinds.ParenR (codes ")") ∷ after_foo)
     ≡ Ok (Construct [] (tree.Recipe (bare_recipe mapped_header None [])) ∷ [], [])
-unfolding tree_of_tokens reader.file items_from items_rule line on_line construct attributes accept begin_with expect refused same_kind below recursive turns content accept_keyword_before accept_word is_word wordless recipe any_recipe header distinct_options parameters singulars singulars_rule last_parameter dependencies dependencies_rule subsequents accepted optional_body body_after next_recipe_number ended item_rest line_end after_numbered at_end new_attribute kind_named same_attribute dependency bare_dependency path path_rest path_rest_rule parenthesized dependency_arguments dependency_arguments_rule dependency_argument plain_argument starred_argument prepend read value_rule conjunct_rule binary_rule accept_operator literal literal_string cooked accept_marked backtick format_rule list_rule group_rule name_rule assert_rule
+unfolding tree_of_tokens reader.file items_from items_rule line any_item construct attributes accept begin_with expect refused same_kind below recursive turns content accept_keyword_before accept_keyword is_word without_keyword recipe any_recipe header distinct_options parameters singulars singulars_rule last_parameter dependencies dependencies_rule subsequents accepted optional_body body_after next_recipe_number item_end after_item line_end after_numbered at_end new_attribute kind_named same_attribute dependency bare_dependency path path_rest path_rest_rule parenthesized dependency_arguments dependency_arguments_rule dependency_argument plain_argument starred_argument prepend read value_rule conjunct_rule binary_rule accept_operator literal literal_string cooked accept_marked backtick format_rule list_rule group_rule name_rule assert_rule
 starred_value = refl

@@ -8,7 +8,7 @@ use Rattle.justfile_model.specs.ExpressionReader.{Met, accept_operator, backtick
 use Rattle.justfile_model.specs.Literals as literals
 use Rattle.justfile_model.specs.Literals.{Literal, LiteralFault, cooked_text, string_of}
 use Rattle.justfile_model.specs.Operators.{is_at, operator_of}
-use Rattle.justfile_model.specs.ReaderState.{◌>>=◌, Leaves, Read, State, Taken, Unexpected, accept, accept_by, accept_marked, accept_word, at, choose, expect, is_word, marked_by, marks, refused, same_kind}
+use Rattle.justfile_model.specs.ReaderState.{◌>>=◌, Leaves, Read, State, Taken, Unexpected, accept, accept_by, accept_marked, accept_keyword, at, choose, expect, is_word, marked_by, marks, refused, same_kind}
 use Rattle.justfile_model.specs.SignificantTokens.{SignificantToken}
 use Rattle.justfile_model.specs.Tree.{Expr}
 
@@ -28,7 +28,7 @@ pub after_test : {X : Type 0} (b : Bool) (x y : X) (P : X → Type 0) → (b ≡
 after_test true x y P then otherwise = then refl
 after_test false x y P then otherwise = otherwise refl
 
--- what is known of an answer
+-- facts about a result
 pub known : {X E : Type 0} {found : Result X E} (x : X) (Q : X → Type 0) → found ≡ Ok x → IfOk found Q → Q x
 known {X} {E} x Q e h = let P : Result X E → Type 0 = λ o. IfOk o Q in subst P e h
 
@@ -62,7 +62,7 @@ module _ {R T B : Type 0} where
   pub after_then : (s t u : State R T B) → ItemRest s t → ItemRest t u → ItemRest s u
   after_then s t u h k = (omega (arith, h.0, k.0), k.1 ∙ h.1, k.2 ∙ h.2)
 
-  -- ---- answers
+  -- ---- results
 
   abbrev pub Goes : {X : Type 0} → State R T B → Read R T B X → Type 0
   Goes s found = IfOk found (λ x. Past s x.1)
@@ -137,8 +137,8 @@ module _ {R T A B S : Type 0} (leaves : Leaves R T A B S) where
   unfolding accept
   accepts kind s = passes (λ t. same_kind t.tok.kind kind) s s.left (omega arith)
 
-  pub accepts_word : (word : List ℕ) (s : State R T B) → Takes s (accept_word leaves word s)
-  unfolding accept_word
+  pub accepts_word : (word : List ℕ) (s : State R T B) → Takes s (accept_keyword leaves word s)
+  unfolding accept_keyword
   accepts_word word s = passes (is_word word) s s.left (omega arith)
 
   pub accepts_marked : (word : List ℕ) (kind : TokenKind) (s : State R T B) → Takes s (accept_marked leaves word kind s)

@@ -20,7 +20,7 @@ use Rattle.justfile_model.specs.Literals as literals
 use Rattle.justfile_model.specs.Literals.{Expansions, Literal, LiteralFault, cooked_text, string_of, token_of}
 use Rattle.justfile_model.specs.Operators.{binary, is_at, operator_of}
 use Rattle.justfile_model.specs.Reader.{has_body}
-use Rattle.justfile_model.specs.ReaderState.{◌>>=◌, AfterVariadic, BreaksRule, Counters, ExpectedKeyword, Extraneous, Leaves, NoNumber, NotCooked, Read, ReadError, State, Taken, TooDeep, Unexpected, UnknownSetting, accept, accept_by, accept_marked, accept_word, at, begin_with, choose, comment_in, expect, is_word, marked_by, marks, next_are, refused, same_kind, with}
+use Rattle.justfile_model.specs.ReaderState.{◌>>=◌, AfterVariadic, BreaksRule, Counters, ExpectedKeyword, Extraneous, Leaves, NoNumber, NotCooked, Read, ReadError, State, Taken, TooDeep, Unexpected, UnknownSetting, accept, accept_by, accept_marked, accept_keyword, at, begin_with, choose, comment_in, expect, is_word, marked_by, marks, next_are, refused, same_kind, with}
 use Rattle.justfile_model.specs.Rules.{Broken}
 use Rattle.justfile_model.specs.SignificantTokens.{SignificantToken}
 use Rattle.justfile_model.specs.Tree as tree
@@ -35,9 +35,9 @@ pub record Relations (R T A B S D R' T' A' B' S' D' : Type 0) : Type 1 where
   pub looser : Type 0
   pub token : T → T' → Type 0
   pub position : B → B' → Type 0
-  -- variables, and names of what is called
+  -- variables, and names of called functions
   pub name : A → A' → Type 0
-  -- a literal, by how it is asked for its text
+  -- a literal, by its kind and its lexemes
   pub literal : Literal (List ℕ) → A → A' → Type 0
   -- texts of bodies
   pub text : A → A' → Type 0
@@ -151,7 +151,7 @@ module _ {R T A B S D R' T' A' B' S' D' : Type 0} (rel : Relations R T A B S D R
   pub record AlikeParameter (number : ℕ) (p : Parameter A B) (p' : Parameter A' B') : Type 0 where
     pub kind : p.kind ≡ p'.kind
     pub export : p.export ≡ p'.export
-    -- what is said of it
+    -- the `arg` attribute of the parameter, if there is one
     pub rules : Option (ArgumentRules A B)
     pub others : Option (ArgumentRules A' B')
     pub ruled : AlikeOption AlikeArgumentRules rules others
@@ -174,7 +174,7 @@ module _ {R T A B S D R' T' A' B' S' D' : Type 0} (rel : Relations R T A B S D R
     pub path : Each rel.name d.path d'.path
     pub arguments : Each (AlikeDependencyArgument rel.star) d.arguments d'.arguments
 
-  -- a header before a body, where the counters stand before it
+  -- a header before a body, from these counters
   pub record AlikeHeader (n : Counters) (h : Header A B S) (body : List (BodyLine A B ℕ)) (h' : Header A' B' S') (body' : List (BodyLine A' B' ℕ)) : Type 0 where
     pub quiet : h.quiet ≡ h'.quiet
     pub name : rel.recipe n.recipes h.name body h'.name body'
@@ -196,7 +196,7 @@ module _ {R T A B S D R' T' A' B' S' D' : Type 0} (rel : Relations R T A B S D R
     interpreter : {e : Expr A B} {e' : Expr A' B'} {es : Exprs A B} {es' : Exprs A' B'} → Alike e e' → AlikeAll es es'
         → AlikeValue (tree.Interpreter e es) (tree.Interpreter e' es')
 
-  -- an item, where the counters stand before it
+  -- an item, from these counters
   pub data AlikeItem (n : Counters) : Item A B ℕ S D → Item A' B' ℕ S' D' → Type 0 where
     newline : AlikeItem n tree.Newline tree.Newline
     comment : {text : List ℕ} → AlikeItem n (tree.Comment text) (tree.Comment text)
@@ -217,12 +217,12 @@ module _ {R T A B S D R' T' A' B' S' D' : Type 0} (rel : Relations R T A B S D R
         → comment ≡ comment' → Each AlikeLine body body'
         → AlikeItem n (Construct d (tree.Recipe (bare_recipe h comment body))) (Construct d' (tree.Recipe (bare_recipe h' comment' body')))
 
-  -- items, where the counters stand before the first
+  -- items, from these counters
   pub data AlikeItems : Counters → List (Item A B ℕ S D) → List (Item A' B' ℕ S' D') → Type 0 where
     no_item : {n : Counters} → AlikeItems n [] []
     an_item : {n : Counters} {i : Item A B ℕ S D} {i' : Item A' B' ℕ S' D'} {is : List (Item A B ℕ S D)} {is' : List (Item A' B' ℕ S' D')} → AlikeItem n i i' → AlikeItems (count n i) is is' → AlikeItems n (i ∷ is) (i' ∷ is')
 
-  -- what a tree says of itself, both say
+  -- both trees have the same properties
 
   pub same_uncompared : {e : Expr A B} {e' : Expr A' B'} → Alike e e' → uncompared_feature e ≡ uncompared_feature e'
   same_uncompared (comparison l b r) = refl
@@ -298,7 +298,7 @@ module _ {R T A B S D R' T' A' B' S' D' : Type 0} (rel : Relations R T A B S D R
   binary_alike operators.ListConcatenation l b r = list_concatenation l b r
   binary_alike operators.Concatenation l b r = concatenation l b r
 
-  -- ---- where reading stands
+  -- ---- states
 
   abbrev pub AlikeNoted : Noted B → Noted B' → Type 0
   AlikeNoted x y = (x.0 ≡ y.0) × rel.position x.1 y.1
@@ -347,7 +347,7 @@ module _ {R T A B S D R' T' A' B' S' D' : Type 0} (rel : Relations R T A B S D R
     pub expander : c.expander ≡ c'.expander
     pub current : c.current ≡ c'.current
 
-  -- ---- answers
+  -- ---- results
 
   pub data AlikeNext : Option T → Option T' → Type 0 where
     no_next : AlikeNext None None
@@ -486,7 +486,7 @@ module _ {R T A B S D R' T' A' B' S' D' : Type 0} (rel : Relations R T A B S D R
     accepted_by test h nil = none_taken
     accepted_by test h (cons {x = t} {y = t'} k ks) = take_tested (test (one.see t)) (test (other.see t')) (ap test (agree.see t t' k)) k (at_alike h ks)
 
-    -- a comment says the same
+    -- comments have the same text
     pub same_comment : {o : Option T} {o' : Option T'} → AlikeOption rel.token o o' → option_map (comment_in one) o ≡ option_map (comment_in other) o'
     same_comment absent = refl
     same_comment (present {x = t} {y = t'} h) = ap (λ (x : SignificantToken). Some (trim_end x.tok.lexeme)) (agree.see t t' h)
@@ -495,8 +495,8 @@ module _ {R T A B S D R' T' A' B' S' D' : Type 0} (rel : Relations R T A B S D R
     unfolding accept
     accepted kind h = accepted_by (λ t. same_kind t.tok.kind kind) h h.left
 
-    pub accepted_word : (word : List ℕ) {s : State R T B} {s' : State R' T' B'} → States s s' → Takes (accept_word one word s) (accept_word other word s')
-    unfolding accept_word
+    pub accepted_word : (word : List ℕ) {s : State R T B} {s' : State R' T' B'} → States s s' → Takes (accept_keyword one word s) (accept_keyword other word s')
+    unfolding accept_keyword
     accepted_word word h = accepted_by (is_word word) h h.left
 
     marked_alike : (word : List ℕ) (kind : TokenKind) {s : State R T B} {s' : State R' T' B'} {ts : List T} {ts' : List T'} → States s s' → Each rel.token ts ts' → Takes (marked_by one word kind s ts) (marked_by other word kind s' ts')

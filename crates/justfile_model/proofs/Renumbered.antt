@@ -10,7 +10,7 @@ use Rattle.justfile_model.specs.HeaderReader as r
 use Rattle.justfile_model.specs.HeaderReader.{next_binding_number, expression, header, obeying}
 use Rattle.justfile_model.specs.PartReader.{accept_keyword_before, after_numbered, file_path, peek_assignment, is_imported, is_module, is_set, setting_keyword, line_is, names, names_end, names_rule, no_names, numbered_name, optional_path, setting_value}
 use Rattle.justfile_model.specs.Settings.{setting_form}
-use Rattle.justfile_model.specs.Reader.{Start, after_mark, alias, allowed, any_module, any_recipe, argument_rules, assignment, at_end, attributes, construct, content, next_recipe_number, end_of_tokens, ended, function, has_body, import, imported, items, items_from, items_rule, line, named_module, no_exclusion, no_items, on_line, optional_body, recipe, setting, unexport, wordless}
+use Rattle.justfile_model.specs.Reader.{Start, after_mark, alias, check_allowed, any_module, any_recipe, argument_rules, assignment, at_end, attributes, construct, content, next_recipe_number, end_of_tokens, item_end, function, has_body, import, imported, items, items_from, items_rule, line, named_module, check_exclusions, no_items, any_item, optional_body, recipe, setting, unexport, without_keyword}
 use Rattle.justfile_model.specs.Conditions.{Conditions}
 use Rattle.justfile_model.specs.Features.{Noted}
 use Rattle.justfile_model.specs.ReaderState.{◌>>=◌, Counters, accept, accepted, choose, expect, next_are}
@@ -48,14 +48,14 @@ assignments : (eager export : Bool) (ws : List ReadAttribute) (n m : Counters) (
 unfolding assignment next_binding_number
 assignments eager export ws n m s =
     bind (expect token_leaves kinds.Identifier s) _ _ (λ name. bind (expect token_leaves kinds.ColonEquals name.1) _ _ (λ operator.
-    bind (expression token_leaves operator.1) _ _ (λ e. bind (allowed token_leaves token_attributes item_kinds.Assignment ws name.0 e.1) _ _ (λ checked. both))))
+    bind (expression token_leaves operator.1) _ _ (λ e. bind (check_allowed token_leaves token_attributes item_kinds.Assignment ws name.0 e.1) _ _ (λ checked. both))))
 
 -- ---- the parameters of functions
 
 abbrev NamesPlace : Type 0
 NamesPlace = Counters × State
 
--- where a name begins, whatever the counters
+-- the start of a name, with any counters
 data BeginsName : NamesPlace → NamesPlace → Type 0 where
   begins_name : (n m : Counters) (s : State) → BeginsName (n, s) (m, s)
 
@@ -92,12 +92,12 @@ aliases : (ws : List ReadAttribute) (n m : Counters) (s : State) → Alike (alia
 unfolding alias
 aliases ws n m s =
     bind (expect token_leaves kinds.Identifier s) _ _ (λ name. bind (expect token_leaves kinds.ColonEquals name.1) _ _ (λ operator.
-    bind (r.path token_leaves operator.1) _ _ (λ target. bind (allowed token_leaves token_attributes item_kinds.Alias ws name.0 target.1) _ _ (λ checked. both))))
+    bind (r.path token_leaves operator.1) _ _ (λ target. bind (check_allowed token_leaves token_attributes item_kinds.Alias ws name.0 target.1) _ _ (λ checked. both))))
 
 functions : (ws : List ReadAttribute) (n m : Counters) (s : State) → Alike (function token_leaves token_attributes ws n s) (function token_leaves token_attributes ws m s)
 unfolding function
 functions ws n m s =
-    bind (expect token_leaves kinds.Identifier s) _ _ (λ name. bind (allowed token_leaves token_attributes item_kinds.Function ws name.0 name.1) _ _ (λ checked.
+    bind (expect token_leaves kinds.Identifier s) _ _ (λ name. bind (check_allowed token_leaves token_attributes item_kinds.Function ws name.0 name.1) _ _ (λ checked.
     bind (expect token_leaves kinds.ParenL checked.1) _ _ (λ opener. then _ _ (all_names n m opener.1) (λ ps k j t.
     bind (expect token_leaves kinds.ColonEquals t) _ _ (λ operator. bind (expression token_leaves operator.1) _ _ (λ body. both))))))
 
@@ -105,7 +105,7 @@ all_imported : (optional : Bool) (ws : List ReadAttribute) (n m : Counters) (s :
     → Alike (imported token_leaves token_attributes optional ws n s) (imported token_leaves token_attributes optional ws m s)
 unfolding imported
 all_imported optional ws n m s =
-    bind (file_path token_leaves s) _ _ (λ path. bind (allowed token_leaves token_attributes item_kinds.Import ws path.0.0 path.1) _ _ (λ checked. both))
+    bind (file_path token_leaves s) _ _ (λ path. bind (check_allowed token_leaves token_attributes item_kinds.Import ws path.0.0 path.1) _ _ (λ checked. both))
 
 imports : (ws : List ReadAttribute) (n m : Counters) (s : State) → Alike (import token_leaves token_attributes ws n s) (import token_leaves token_attributes ws m s)
 unfolding import
@@ -116,7 +116,7 @@ named_modules : (optional : Bool) (ws : List ReadAttribute) (n m : Counters) (s 
 unfolding named_module
 named_modules optional ws n m s =
     bind (expect token_leaves kinds.Identifier s) _ _ (λ name. bind (optional_path token_leaves name.1) _ _ (λ path.
-    bind (allowed token_leaves token_attributes item_kinds.Module ws name.0 path.1) _ _ (λ checked. both)))
+    bind (check_allowed token_leaves token_attributes item_kinds.Module ws name.0 path.1) _ _ (λ checked. both)))
 
 modules : (ws : List ReadAttribute) (n m : Counters) (s : State) → Alike (any_module token_leaves token_attributes ws n s) (any_module token_leaves token_attributes ws m s)
 unfolding any_module
@@ -126,13 +126,13 @@ settings : (ws : List ReadAttribute) (n m : Counters) (s : State) → Alike (set
 unfolding setting
 settings ws n m s =
     bind (expect token_leaves kinds.Identifier s) _ _ (λ name. bind (setting_keyword token_leaves name.0 name.1) _ _ (λ keyword.
-    bind (allowed token_leaves token_attributes item_kinds.Setting ws name.0 keyword.1) _ _ (λ checked.
+    bind (check_allowed token_leaves token_attributes item_kinds.Setting ws name.0 keyword.1) _ _ (λ checked.
     bind (setting_value token_leaves token_attributes.view name.0 keyword.0 (setting_form keyword.0) checked.1) _ _ (λ value. both))))
 
 unexports : (ws : List ReadAttribute) (n m : Counters) (s : State) → Alike (unexport token_leaves token_attributes ws n s) (unexport token_leaves token_attributes ws m s)
 unfolding unexport
 unexports ws n m s =
-    bind (expect token_leaves kinds.Identifier s) _ _ (λ name. bind (allowed token_leaves token_attributes item_kinds.Unexport ws name.0 name.1) _ _ (λ checked. both))
+    bind (expect token_leaves kinds.Identifier s) _ _ (λ name. bind (check_allowed token_leaves token_attributes item_kinds.Unexport ws name.0 name.1) _ _ (λ checked. both))
 
 -- ---- headers
 
@@ -159,7 +159,7 @@ module _ (view : Conditions → LeafView Tok Tok) (rules : List (ArgumentRules T
   unfolding r.parameter
   each_parameter kind ps n m s = named_parameters kind (accepted token_leaves kinds.Dollar s).0 ps n m (accepted token_leaves kinds.Dollar s).1
 
-  -- where a parameter begins, whatever the counters
+  -- the start of a parameter, with any counters
   data Stands : Place → Place → Type 0 where
     stands : (ps : List (Parameter Tok Tok)) (n m : Counters) (s : State) → Stands ((ps, n), s) ((ps, m), s)
 
@@ -186,7 +186,7 @@ module _ (view : Conditions → LeafView Tok Tok) (rules : List (ArgumentRules T
       → Alike (r.variadic token_leaves view rules kind ((ps, n), s)) (r.variadic token_leaves view rules kind ((ps, m), s))
   unfolding r.variadic
   variadics kind ps n m s =
-      then _ _ (each_parameter kind ps n m s) (λ qs k j t. bind (r.nothing_after token_leaves t) _ _ (λ end. both))
+      then _ _ (each_parameter kind ps n m s) (λ qs k j t. bind (r.expect_no_name token_leaves t) _ _ (λ end. both))
 
   last_parameters : (ps : List (Parameter Tok Tok)) (n m : Counters) (s : State)
       → Alike (r.last_parameter token_leaves view rules ((ps, n), s)) (r.last_parameter token_leaves view rules ((ps, m), s))
@@ -217,15 +217,15 @@ recipes : (quiet : Bool) (ws : List ReadAttribute) (n m : Counters) (s : State)
 unfolding recipe next_recipe_number
 recipes quiet ws n m s =
     then _ _ (headers token_attributes.view (argument_rules token_leaves token_attributes s.run ws) n m s) (λ h k j t.
-    bind (optional_body token_leaves t) _ _ (λ b. bind (no_exclusion token_leaves token_attributes ws h.name b.1) _ _ (λ checked. both)))
+    bind (optional_body token_leaves t) _ _ (λ b. bind (check_exclusions token_leaves token_attributes ws h.name b.1) _ _ (λ checked. both)))
 
 any_recipes : (ws : List ReadAttribute) (n m : Counters) (s : State)
     → Alike (any_recipe token_leaves token_attributes ws n s) (any_recipe token_leaves token_attributes ws m s)
 unfolding any_recipe
 any_recipes ws n m s = pick (accept token_leaves kinds.At s) _ _ _ _ (recipes false ws n m s) (λ at. recipes true ws n m at.1)
 
-without_word : (ws : List ReadAttribute) (n m : Counters) (s : State) → Alike (wordless token_leaves token_attributes ws n s) (wordless token_leaves token_attributes ws m s)
-unfolding wordless
+without_word : (ws : List ReadAttribute) (n m : Counters) (s : State) → Alike (without_keyword token_leaves token_attributes ws n s) (without_keyword token_leaves token_attributes ws m s)
+unfolding without_keyword
 without_word ws n m s =
     by_test (next_are token_leaves (kinds.Identifier ∷ kinds.ParenL ∷ []) s) _ _ _ _ (functions ws n m s)
     (by_test (peek_assignment token_leaves s) _ _ _ _ (assignments false false ws n m s) (any_recipes ws n m s))
@@ -253,18 +253,18 @@ constructs : (n m : Counters) (s : State) → Alike (construct token_leaves toke
 unfolding construct
 constructs n m s = bind (attributes token_leaves token_attributes s) _ _ (λ ws. contents ws.0 n m ws.1)
 
-on_lines : (n m : Counters) (s : State) → Alike (on_line token_leaves token_attributes n s) (on_line token_leaves token_attributes m s)
-unfolding on_line
+on_lines : (n m : Counters) (s : State) → Alike (any_item token_leaves token_attributes n s) (any_item token_leaves token_attributes m s)
+unfolding any_item
 on_lines n m s = pick (accept token_leaves kinds.Comment s) _ _ _ _ (constructs n m s) (λ c. both)
 
 lines : (n m : Counters) (s : State) → Alike (line token_leaves token_attributes n s) (line token_leaves token_attributes m s)
 unfolding line
 lines n m s =
     pick (accept token_leaves kinds.Eol s) _ _ _ _
-    (then _ _ (on_lines n m s) (λ i k l t. bind (ended token_leaves token_attributes (has_body i) t) _ _ (λ b. both)))
+    (then _ _ (on_lines n m s) (λ i k l t. bind (item_end token_leaves token_attributes (has_body i) t) _ _ (λ b. both)))
     (λ newline. both)
 
--- where a line begins, whatever the counters
+-- the start of a line, with any counters
 data Begins : Start token_leaves token_attributes → Start token_leaves token_attributes → Type 0 where
   begins : (n m : Counters) (s : State) → Begins (n, s) (m, s)
 
@@ -300,7 +300,7 @@ same_whole : {found found' : Read (WrittenTree × Counters)} → Alike found fou
 same_whole both = refl
 same_whole neither = refl
 
--- a file is read alike wherever the counters stand
+-- a file is read alike from any counters
 pub file_by : (n : Counters) (conditions : Conditions) (tokens : List SignificantToken) → whole (reader.file token_leaves token_attributes n (start_state conditions tokens)) ≡ tree_of_tokens conditions tokens
 unfolding reader.file tree_of_tokens
 file_by n conditions tokens = same_whole (all_items n unnumbered (after_mark token_leaves token_attributes (start_state conditions tokens)))

@@ -194,7 +194,7 @@ value_first : new_arg (keyed (codes "flag") (codes "'b'") ∷ []) ≡ Err (at (r
 unfolding new_attribute
 value_first = refl
 
--- by the key that comes first in the order of the rules, wherever it stands
+-- the key that comes first in the order of the rules is reported, at any position
 long_first : new_arg (bare (codes "multiple") ∷ keyed (codes "long") (codes "''") ∷ []) ≡ Err (at (rule.OptionNameEmpty (codes "a")) (codes "''"))
 unfolding new_attribute
 long_first = refl
@@ -274,7 +274,7 @@ arg lexeme arguments = given (codes "arg") (literal lexeme ∷ arguments)
 abbrev a_and_b : Content (List ℕ) (List ℕ) (List ℕ) (List ℕ)
 a_and_b = recipe_of (parameter Singular (codes "a") ∷ parameter Singular (codes "b") ∷ [])
 
--- of two attributes without a parameter the one with the least text is reported, at its literal
+-- of several attributes without a parameter, the one with the least text is reported, at its literal
 no_parameter : construct_broken current sees (labelled (codes "arg") (codes "'c'") ∷ labelled (codes "arg") (codes "'a'") ∷ labelled (codes "arg") (codes "'b'") ∷ [])
     (recipe_of (parameter Singular (codes "a") ∷ []))
     ≡ one (rule.UndefinedArgAttribute (codes "b")) (codes "'b'")
@@ -314,7 +314,7 @@ max_alone : construct_broken current sees (arg (codes "'a'") (keyed (codes "max"
 unfolding kind_named same_attribute
 max_alone = refl
 
--- the key of `max` before that of `min`, wherever it stands
+-- the key `max` is reported before `min`, at any position
 max_before_min : construct_broken current sees (arg (codes "'a'") (keyed (codes "min") (codes "'1'") ∷ keyed (codes "max") (codes "'2'") ∷ []) ∷ []) (recipe_of (parameter Singular (codes "a") ∷ []))
     ≡ one (rule.ArgAttributeRequiresMultipleOrVariadic (codes "max")) (codes "max")
 unfolding kind_named same_attribute
@@ -355,7 +355,7 @@ shells : construct_broken current sees (plain (codes "script") ∷ plain (codes 
 unfolding kind_named same_attribute
 shells = refl
 
--- ---- of the stars of dependencies, each of which stands for itself by a text
+-- ---- the stars of dependencies, each with a text as its token
 
 abbrev argument_of : Option (List ℕ) → (name : List ℕ) → DependencyArgument (List ℕ) (List ℕ) (List ℕ)
 argument_of star name = record { star = star; value = tree.Variable name }

@@ -12,7 +12,7 @@ use Rattle.justfile_model.specs.ConstructRules.{construct_broken, form_broken, m
 use Rattle.justfile_model.specs.ContentKeys.{entry_cmp}
 use Rattle.justfile_model.specs.ContentLeaf.{LiteralContent}
 use Rattle.justfile_model.specs.Docs.{Nothing, documented}
-use Rattle.justfile_model.specs.Files.{all_literals, argument_literals, content_literals, expr_literals, exprs_literals, ordered, parts_literals, says_doc, undocumented, written_literals}
+use Rattle.justfile_model.specs.Files.{all_literals, argument_literals, content_literals, expr_literals, exprs_literals, ordered, parts_literals, sets_doc, undocumented, written_literals}
 use Rattle.justfile_model.specs.Files.{broken as broken_of}
 use Rattle.justfile_model.specs.Literals as literals
 use Rattle.justfile_model.specs.Literals.{Literal, string_of}
@@ -292,7 +292,7 @@ module _ {A B : Type 0} (view : LeafView A B) (cooked : Literal A → Option (Li
         broken_if (is_some (at_key view (view.bytes k.key) before)) (DuplicateAttributeKey at (view.place k.key)) (view.place k.key) in
         ap (λ l. first ++ l) (repeats_same at (before ++ k ∷ []) ks)
 
-    -- what is made in the one is made in the other
+    -- what is made with one view is made with the other
     record MadeToo {X : Type 0} (Q : X → X → Type 0) (m : Made B X) (x : X) : Type 0 where
       value : X
       is : m ≡ Ok value
@@ -441,7 +441,7 @@ module _ {A B : Type 0} (view : LeafView A B) (cooked : Literal A → Option (Li
       pub means : entries_of other ws ≡ Some entries
       pub unbroken : construct_broken current other ws c ≡ []
 
-    -- whatever the attributes are
+    -- with any attributes
     form_kept : {C : Type 0} (current : VersionNumbers) (c : Content A B C B) → AllByRecursion Agreed (content_literals c)
         → form_broken current view c ≡ [] → form_broken current other c ≡ []
     form_kept current (tree.Alias parts) agreed h = h
@@ -524,6 +524,6 @@ module _ {A B : Type 0} (view : LeafView A B) (cooked : Literal A → Option (Li
         let d = undocumented_of view items all means in
         let kept = meanings_kept current items d.items agreed texts d.items_are unbroken in
         record {
-          means = ap (option_map (documented says_doc Nothing)) kept.means ∙ ap Some (sym d.all_are);
+          means = ap (option_map (documented sets_doc Nothing)) kept.means ∙ ap Some (sym d.all_are);
           unbroken = kept.unbroken;
         }

@@ -43,7 +43,7 @@ module _ {X Y Z W : Type 0} (h : X → Y) (k : Z → W) (p : X → Option Z) (q 
       within None = refl
       within (Some z) = refl
 
--- ---- what attributes say of parameters, and what is noted of it
+-- ---- `arg` attributes, and the features that they note
 
 module _ {A B C D : Type 0} (f : A → C) (g : B → D) where
   rules_in_over : (a : Attribute A B) → rules_in (over_attribute f g a) ≡ option_map (over_rules f g) (rules_in a)
@@ -240,7 +240,7 @@ module _ {A B C D : Type 0} {f : A → C} {g : B → D} {view : LeafView A B} {o
   rules_for_over : (rules : List (ArgumentRules A B)) (before : List (Parameter A B)) (name : A)
       → rules_for other (map (over_rules f g) rules) (map (over_parameter f g) before) (f name) ≡ option_map (over_rules f g) (rules_for view rules before name)
   rules_for_over rules before name =
-      (λ i. if spoken i then None else said i) ∙ within (list_any (λ (p : Parameter A B). bytes_eq (view.bytes p.name) (view.bytes name)) before)
+      (λ i. if spoken i then None else found i) ∙ within (list_any (λ (p : Parameter A B). bytes_eq (view.bytes p.name) (view.bytes name)) before)
     where
       spoken : list_any (λ (p : Parameter C D). bytes_eq (other.bytes p.name) (other.bytes (f name))) (map (over_parameter f g) before)
           ≡ list_any (λ (p : Parameter A B). bytes_eq (view.bytes p.name) (view.bytes name)) before
@@ -248,9 +248,9 @@ module _ {A B C D : Type 0} {f : A → C} {g : B → D} {view : LeafView A B} {o
           any_over (over_parameter f g) (λ (p : Parameter A B). bytes_eq (view.bytes p.name) (view.bytes name))
           (λ (p : Parameter C D). bytes_eq (other.bytes p.name) (other.bytes (f name))) (λ p. λ i. bytes_eq (sees.bytes p.name i) (sees.bytes name i)) before
 
-      said : find (λ (a : ArgumentRules C D). bytes_eq (text_of other a.name) (other.bytes (f name))) (map (over_rules f g) rules)
+      found : find (λ (a : ArgumentRules C D). bytes_eq (text_of other a.name) (other.bytes (f name))) (map (over_rules f g) rules)
           ≡ option_map (over_rules f g) (find (λ (a : ArgumentRules A B). bytes_eq (text_of view a.name) (view.bytes name)) rules)
-      said =
+      found =
           find_over (over_rules f g) (λ (a : ArgumentRules A B). bytes_eq (text_of view a.name) (view.bytes name))
           (λ (a : ArgumentRules C D). bytes_eq (text_of other a.name) (other.bytes (f name)))
           (λ a. λ i. bytes_eq (or_empty (text_over sees a.name i)) (sees.bytes name i)) rules
@@ -338,7 +338,7 @@ module _ {A B C D : Type 0} {f : A → C} {g : B → D} {view : LeafView A B} {o
       → allowed_broken other item (other.place (f name)) (map (over_entry f g) es) ≡ over (allowed_broken view item (view.place name) es)
   name_broken_over item name es = ap (λ place. allowed_broken other item place (map (over_entry f g) es)) (sees.place name) ∙ allowed_over sees item (view.place name) es
 
-  -- whatever the attributes are
+  -- with any attributes
   form_broken_over : {Z Z' : Type 0} (current : VersionNumbers) (h : Z → Z') (content : Content A B Z B)
       → form_broken current other (over_content f g h g content) ≡ over (form_broken current view content)
   form_broken_over current h (tree.Alias parts) = refl

@@ -55,7 +55,7 @@ module _ {X Y : Type 0} (h : X → Y) where
 pub both_over : {X Y : Type 0} (h : X → Y) (xs ys : List X) (xs' ys' : List Y) → xs' ≡ map h xs → ys' ≡ map h ys → xs' ++ ys' ≡ map h (xs ++ ys)
 both_over h xs ys xs' ys' p q = (λ i. p i ++ q i) ∙ sym (map-append h xs ys)
 
--- what there is
+-- the value of an option, if there is one
 pub some_over : {X Y Z W : Type 0} (h : X → Y) (k : Z → W) (p : X → List Z) (q : Y → List W) (o : Option X) (o' : Option Y)
     → o' ≡ option_map h o → ((x : X) → q (h x) ≡ map k (p x)) → of_some q o' ≡ map k (of_some p o)
 some_over {X = X} h k p q o o' e same = ap (of_some q) e ∙ within o

@@ -24,9 +24,9 @@ use Rattle.justfile_model.specs.Lexed.{end_of, IsNext, Begins, Lexed}
 use Rattle.justfile_model.specs.Tok.{Tok}
 use Rattle.justfile_model.specs.SignificantTokens.{AllSpelled, is_whitespace, significant_from, significant_tokens, Spelling}
 use Rattle.justfile_model.specs.Modes.{Mode, mode, is_empty, head_of, innermost, nested}
-use Rattle.justfile_model.specs.Next.{NextToken, doubled_token, fixed_token, opening, literal_part, literal_token, is_backtick, is_same, closing_delimiter, brace_by, closing, line_end_token, escaped_line_end, token_by_class, token_outside_text, text_or, body_token, at_end_by, Region, InText, InInterpolation, Inline, token_in_region, token_within_line, blanks_or, tested_blanks, is_level, layout, begins_blank_line, next_by, next}
+use Rattle.justfile_model.specs.Next.{NextToken, doubled_token, fixed_token, opening, literal_part, literal_token, is_backtick, is_same, closing_delimiter, brace_by, closing, line_end_token, escaped_line_end, token_by_class, token_outside_text, text_or, body_token, at_end_by, Region, InText, InInterpolation, OutsideText, token_in_region, token_within_line, blanks_or, tested_blanks, is_level, layout, begins_blank_line, next_by, next}
 
--- the bytes that are found are spelled as their kind asks for
+-- the token that is found has the spelling of its kind
 abbrev SpellsBy : List ℕ → NextToken → Type 0
 SpellsBy rest (Ok x) = Spelling x.0 (take x.1 rest)
 SpellsBy rest (Err r) = Unit {0}
@@ -171,7 +171,7 @@ module _ (m : Mode) (rest : List ℕ) where
       by : (p : Region) → Spells rest (token_in_region p m rest)
       by InText = body_spells
       by InInterpolation = if_spells (is_empty m.openers && is_interpolation_end rest) (λ _. any kinds.InterpolationEnd 2 tt) (λ _. normal_spells)
-      by Inline = normal_spells
+      by OutsideText = normal_spells
 
   blanks_spells : (n : ℕ) → Spells rest (blanks_or n m rest)
   blanks_spells zero = inside_spells
@@ -235,7 +235,7 @@ module _ (text : List ℕ) where
       within true f g = f
       within false f g = (h.0, g)
 
-  -- the significant tokens of a text are spelled as their kinds ask for
+  -- the significant tokens of a text have the spellings of their kinds
   pub lexed_spelled : (tokens : List Tok) → Lexed text tokens → AllSpelled (significant_tokens tokens)
   lexed_spelled tokens h =
       significant_spelled false tokens

@@ -19,7 +19,7 @@ use Rattle.justfile_model.specs.SignificantTokens.{SignificantToken}
 use Rattle.justfile_model.specs.Features.{Noted}
 use Rattle.justfile_model.specs.Conditions.{Conditions}
 use Rattle.justfile_model.specs.Expressions.{Tokens, IsKind, NotNext, IsWord, NotWord, IsMarked, NotMarked, operator_kind, NotCompared, NotJoined}
-use Rattle.justfile_model.specs.ReaderState.{Unexpected, ◌>>=◌, at, refused, same_kind, accept_by, accept, is_word, accept_word, marked_by, marks, accept_marked, choose, expect, begin_with, next_are}
+use Rattle.justfile_model.specs.ReaderState.{Unexpected, ◌>>=◌, at, refused, same_kind, accept_by, accept, is_word, accept_keyword, marked_by, marks, accept_marked, choose, expect, begin_with, next_are}
 use Rattle.justfile_model.specs.ExpressionReader as r
 use Rattle.justfile_model.specs.ExpressionReader.{accept_operator, met_at, operator_by}
 use Rattle.justfile_model.specs.TreeReader.{ReadError, State, Taken, token_leaves}
@@ -124,20 +124,20 @@ pub word_test : (word : List ℕ) (t : SignificantToken) → IsWord word t → i
 unfolding is_word
 word_test word t h = both_true (same_kind t.tok.kind kinds.Identifier) (bytes_eq t.tok.lexeme word) (kind_test kinds.Identifier t h.is_name) ((bytes_eq-Decides t.tok.lexeme word).1 h.spelled)
 
-pub after_word : (word : List ℕ) (s : State) (P : Taken → Type 0) → (NotWord word s.left → P None) → ((t : SignificantToken) (rest : Tokens) → s.left ≡ t ∷ rest → IsWord word t → P (Some (t, at s rest))) → P (accept_word token_leaves word s)
-unfolding accept_word
+pub after_word : (word : List ℕ) (s : State) (P : Taken → Type 0) → (NotWord word s.left → P None) → ((t : SignificantToken) (rest : Tokens) → s.left ≡ t ∷ rest → IsWord word t → P (Some (t, at s rest))) → P (accept_keyword token_leaves word s)
+unfolding accept_keyword
 after_word word s P = go s.left
   where
     go : (ts : Tokens) → (NotWord word ts → P None) → ((t : SignificantToken) (rest : Tokens) → ts ≡ t ∷ rest → IsWord word t → P (Some (t, at s rest))) → P (accept_by token_leaves (is_word word) s ts)
     go [] not_here here = not_here tt
     go (t ∷ ts) not_here here = tested t (at s ts) (IsWord word t) P (is_word word t) (word_is word t) (word_test word t) not_here (here t ts refl)
 
-pub word_taken : (word : List ℕ) (t : SignificantToken) (ts : Tokens) (C : Conditions) (d : ℕ) (ns : List (Noted Tok)) → IsWord word t → accept_word token_leaves word (input C d (t ∷ ts) ns) ≡ Some (t, input C d ts ns)
-unfolding accept_word
+pub word_taken : (word : List ℕ) (t : SignificantToken) (ts : Tokens) (C : Conditions) (d : ℕ) (ns : List (Noted Tok)) → IsWord word t → accept_keyword token_leaves word (input C d (t ∷ ts) ns) ≡ Some (t, input C d ts ns)
+unfolding accept_keyword
 word_taken word t ts C d ns e = rw (word_test word t e) refl
 
-pub word_left : (word : List ℕ) (ts : Tokens) (C : Conditions) (d : ℕ) (ns : List (Noted Tok)) → NotWord word ts → accept_word token_leaves word (input C d ts ns) ≡ None
-unfolding accept_word
+pub word_left : (word : List ℕ) (ts : Tokens) (C : Conditions) (d : ℕ) (ns : List (Noted Tok)) → NotWord word ts → accept_keyword token_leaves word (input C d ts ns) ≡ None
+unfolding accept_keyword
 word_left word [] C d ns h = refl
 word_left word (t ∷ ts) C d ns h = rw (is_false (is_word word t) (λ e. h (word_is word t e))) refl
 
@@ -184,7 +184,7 @@ marked_left word kind (m ∷ t ∷ ts) C d ns h = rw (is_false (marks word kind 
 pub after_choose : {A : Type 0} (kind : TokenKind) (s : State) (x : A) (f : SignificantToken × State → A) (P : A → Type 0) → (NotNext kind s.left → P x) → ((t : SignificantToken) (rest : Tokens) → s.left ≡ t ∷ rest → IsKind kind t → P (f (t, at s rest))) → P (choose (accept token_leaves kind s) x f)
 after_choose kind s x f P = after_accept kind s (λ o. P (choose o x f))
 
-pub after_choose_word : {A : Type 0} (word : List ℕ) (s : State) (x : A) (f : SignificantToken × State → A) (P : A → Type 0) → (NotWord word s.left → P x) → ((t : SignificantToken) (rest : Tokens) → s.left ≡ t ∷ rest → IsWord word t → P (f (t, at s rest))) → P (choose (accept_word token_leaves word s) x f)
+pub after_choose_word : {A : Type 0} (word : List ℕ) (s : State) (x : A) (f : SignificantToken × State → A) (P : A → Type 0) → (NotWord word s.left → P x) → ((t : SignificantToken) (rest : Tokens) → s.left ≡ t ∷ rest → IsWord word t → P (f (t, at s rest))) → P (choose (accept_keyword token_leaves word s) x f)
 after_choose_word word s x f P = after_word word s (λ o. P (choose o x f))
 
 pub after_choose_marked : {A : Type 0} (word : List ℕ) (kind : TokenKind) (s : State) (x : A) (f : SignificantToken × State → A) (P : A → Type 0) → (NoMark word kind s.left → P x) → ((m t : SignificantToken) (rest : Tokens) → s.left ≡ m ∷ t ∷ rest → IsMarked word kind m t → P (f (t, at s rest))) → P (choose (accept_marked token_leaves word kind s) x f)
@@ -194,7 +194,7 @@ pub expect_taken : (kind : TokenKind) (t : SignificantToken) (ts : Tokens) (C : 
 unfolding expect
 expect_taken kind t ts C d ns e = rw (accept_taken kind t ts C d ns e) refl
 
--- where the token is the one that is expected, it is read
+-- if the token is the expected one, it is read
 pub after_expect : {B : Type 0} (kind : TokenKind) (s : State) (f : SignificantToken × State → Result B ReadError) (P : Result B ReadError → Type 0) → ((e : ReadError) → P (Err e)) → ((t : SignificantToken) (rest : Tokens) → s.left ≡ t ∷ rest → IsKind kind t → P (f (t, at s rest))) → P (expect token_leaves kind s >>= f)
 unfolding expect
 after_expect kind s f P fails goes = after_accept kind s (λ o. P (choose o (Err (refused Unexpected s)) (λ x. Ok x) >>= f)) (λ not. fails _) goes

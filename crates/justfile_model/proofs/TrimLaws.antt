@@ -1,4 +1,4 @@
--- The doc of a comment has no white space at its ends, so the comment as which it is printed has the same doc.
+-- The doc of a comment has no whitespace at its ends, so the comment as which it is printed has the same doc.
 use Rattle.std.proofs.Common.{◌≡◌, ℕ, suc, Bool, true, false, cond, eqb, List, [], ◌∷◌, ◌++◌, length, get_or, drop, Option, Some, None, refl, sym, ap, ◌∙◌, subst, arith}
 use Rattle.std.specs.Prelude.{◌&&◌}
 use Rattle.std.specs.Char.{is_whitespace}
@@ -11,7 +11,7 @@ use Rattle.justfile_model.specs.Docs.{Before, Nothing, LineEnd, Other, doc_in, s
 use Rattle.justfile_model.specs.Printing.{doc_comment, fixed_text}
 use Rattle.justfile_model.proofs.Binds.{never_some, never_nil, some_back}
 
--- ---- characters without the white space at their end
+-- ---- characters without the whitespace at their end
 
 stays : (c : ℕ) (cs : List ℕ) (P : List ℕ → Type 0) → P [] → ((is_whitespace c && eqb (length (drop_trailing_whitespace cs)) 0) ≡ false → P (c ∷ drop_trailing_whitespace cs)) → P (drop_trailing_whitespace (c ∷ cs))
 stays c cs P f g = by (is_whitespace c && eqb (length (drop_trailing_whitespace cs)) 0) refl
@@ -20,7 +20,7 @@ stays c cs P f g = by (is_whitespace c && eqb (length (drop_trailing_whitespace 
     by true e = f
     by false e = g e
 
--- what stood before the white space that was dropped
+-- what stood before the whitespace that was dropped
 pub record TrimmedTo (cs ds : List ℕ) : Type 0 where
   pub dropped : List ℕ
   pub is : cs ≡ ds ++ dropped
@@ -41,7 +41,7 @@ dropped_once (c ∷ cs) =
     stays c cs (λ l. drop_trailing_whitespace l ≡ l) refl
     (λ e. ap (λ l. cond (is_whitespace c && eqb (length l) 0) [] (c ∷ l)) (dropped_once cs) ∙ ap (λ b. cond b [] (c ∷ drop_trailing_whitespace cs)) e)
 
--- ---- characters without the white space at their start
+-- ---- characters without the whitespace at their start
 
 starts : (c : ℕ) (cs : List ℕ) (P : List ℕ → Type 0) → (is_whitespace c ≡ true → P (skip_leading_whitespace cs)) → (is_whitespace c ≡ false → P (c ∷ cs))
     → P (skip_leading_whitespace (c ∷ cs))
@@ -65,11 +65,11 @@ skipped_scalars [] h = refl
 skipped_scalars (c ∷ cs) h =
     starts c cs (λ l. scalars l ≡ true) (λ e. skipped_scalars cs (and_parts (scalar c) (scalars cs) h).1) (λ e. h)
 
--- before a character that is no white space nothing is dropped
+-- nothing is dropped before a character that isn't whitespace
 kept_first : (c : ℕ) (cs : List ℕ) → is_whitespace c ≡ false → drop_trailing_whitespace (c ∷ cs) ≡ c ∷ drop_trailing_whitespace cs
 kept_first c cs e = ap (λ b. cond (b && eqb (length (drop_trailing_whitespace cs)) 0) [] (c ∷ drop_trailing_whitespace cs)) e
 
--- where the white space at the start is gone, it stays so
+-- where the whitespace at the start is gone, it stays so
 skipped_once : (cs : List ℕ) → skip_leading_whitespace (drop_trailing_whitespace (skip_leading_whitespace cs)) ≡ drop_trailing_whitespace (skip_leading_whitespace cs)
 skipped_once [] = refl
 skipped_once (c ∷ cs) =
@@ -79,7 +79,7 @@ skipped_once (c ∷ cs) =
 
 -- ---- texts
 
--- a text by its characters, which have no white space at their ends; it is not empty
+-- a text by its characters, which have no whitespace at their ends; it is not empty
 pub record IsDoc (doc : List ℕ) : Type 0 where
   pub codes_of : List ℕ
   pub scalars_are : scalars codes_of ≡ true
@@ -95,7 +95,7 @@ trim_chars bs h = ap (λ cs. encodes (drop_trailing_whitespace cs)) (chars-encod
 chars_of : (doc : List ℕ) (d : IsDoc doc) → chars doc ≡ d.codes_of
 chars_of doc d = ap chars (sym d.encodes_are) ∙ chars-encodes d.codes_of d.scalars_are
 
--- it has no white space at either end
+-- it has no whitespace at either end
 doc_trimmed : (doc : List ℕ) → IsDoc doc → trim doc ≡ doc
 doc_trimmed doc d =
     let lead : skip_leading_whitespace (chars doc) ≡ d.codes_of = ap skip_leading_whitespace (chars_of doc d) ∙ d.no_lead in
@@ -105,7 +105,7 @@ some_of : (text doc : List ℕ) → some_text text ≡ Some doc → (text ≡ do
 some_of [] doc h = never_some doc h
 some_of (b ∷ bs) doc h = let is = some_back (b ∷ bs) doc h in (is, subst (λ t. some_text t ≡ Some t) is refl)
 
--- what is trimmed of a text is a doc, if it is not empty
+-- a trimmed text is a doc, if it isn't empty
 doc_of_text : (text doc : List ℕ) → IsUtf8 text → some_text (trim text) ≡ Some doc → IsDoc doc
 doc_of_text text doc u h =
     let cs = chars text in
@@ -155,7 +155,7 @@ doc_of_comment Nothing comment doc u h = doc_of_text (drop 1 comment) doc u (not
 doc_of_comment LineEnd comment doc u h = doc_of_text (drop 1 comment) doc u h
 doc_of_comment Other comment doc u h = never_some doc h
 
--- what was taken of a comment is taken of the comment that it is printed as, where that stands after the same
+-- the doc of a comment is the doc of the comment that it is printed as, at the same place
 pub taken_again : (before : Before) (comment doc : List ℕ) → IsUtf8 (drop 1 comment) → doc_in before comment ≡ Some doc
     → doc_in before (doc_comment doc) ≡ Some doc
 taken_again Nothing comment doc u h = first_doc_again doc (doc_of_comment Nothing comment doc u h)
@@ -177,7 +177,7 @@ space_kept c cs e = ap (λ l. 35 ∷ cond (eqb (length l) 0) [] (32 ∷ l)) e �
 encoded : (cs bs : List ℕ) → encodes cs ≡ bs → encodes (35 ∷ 32 ∷ cs) ≡ 35 ∷ 32 ∷ bs
 encoded cs bs e = λ i. encode_ascii 35 (omega arith) i ++ (encode_ascii 32 (omega arith) i ++ e i)
 
--- no white space stands at its end
+-- the comment of a doc has no whitespace at its end
 pub doc_comment_trimmed : (doc : List ℕ) → IsDoc doc → trim_end (doc_comment doc) ≡ doc_comment doc
 unfolding fixed_text
 doc_comment_trimmed [] d = never_some [] d.some
@@ -198,7 +198,7 @@ unfolding fixed_text
 doc_comment_text [] d = never_some [] d.some
 doc_comment_text (b ∷ bs) d = refl
 
--- what stands around the doc in the text
+-- the text around the doc
 pub record Around (text doc : List ℕ) : Type 0 where
   pub lead : List ℕ
   pub trail : List ℕ

@@ -11,7 +11,7 @@ module _ {X : Type 0} {R : X → Type 0} (size : X → ℕ) (stop : (x : X) → 
       let t : nat_lt (size y) (size x) ≡ true = grind (arith, nat_tests) in
       ap (λ b. cond b (f y) (stop y)) t
 
-  -- what is kept by the rule for any calls that keep it holds of every answer
+  -- if the rule keeps a property that its calls have, every result has it
   module _ (P : (x : X) → R x → Type 0) (stops : (x : X) → P x (stop x)) (keeps : (f : (y : X) → R y) → ((y : X) → P y (f y)) → (x : X) → P x (rule f x)) where
     choice : (b : Bool) (y : X) (r : R y) → P y r → P y (cond b r (stop y))
     choice true y r h = h
@@ -48,7 +48,7 @@ module _ {X : Type 0} {R : X → Type 0} (size : X → ℕ) (stop : (x : X) → 
       λ y. below_alike x (turns size stop rule (size x)) (recursive size stop rule) (λ z lt. turns_alike (size x) (suc (size z)) z lt (omega arith)) y (nat_lt (size y) (size x)) refl in
       λ i. rule (λ y. same y i) x
 
--- Two recursions side by side: where related arguments have the same size, and the rules keep what is related, the answers are related.
+-- Two recursions side by side: if related arguments have the same size, and the rules keep results related, all results are related.
 module _ {X Y : Type 0} {R : X → Type 0} {S : Y → Type 0} (size : X → ℕ) (stop : (x : X) → R x) (rule : ((y : X) → R y) → (x : X) → R x)
     (size' : Y → ℕ) (stop' : (y : Y) → S y) (rule' : ((y : Y) → S y) → (x : Y) → S x)
     (Like : X → Y → Type 0) (same : (x : X) (y : Y) → Like x y → size x ≡ size' y) (P : (x : X) (y : Y) → R x → S y → Type 0) (stops : (x : X) (y : Y) → Like x y → P x y (stop x) (stop' y))

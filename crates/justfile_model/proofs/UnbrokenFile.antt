@@ -8,7 +8,7 @@ use Rattle.justfile_model.specs.Features.{Noted}
 use Rattle.justfile_model.specs.ReadAttribute.{token_view}
 use Rattle.justfile_model.specs.Reader as reader
 use Rattle.justfile_model.specs.PartReader.{after_numbered}
-use Rattle.justfile_model.specs.Reader.{Start, at_end, end_of_tokens, ended, has_body, item_rest, items, items_from, items_rule, line, line_end, no_items, on_line}
+use Rattle.justfile_model.specs.Reader.{Start, at_end, end_of_tokens, item_end, has_body, after_item, items, items_from, items_rule, line, line_end, no_items, any_item}
 use Rattle.justfile_model.specs.ReaderState.{Counters, at}
 use Rattle.justfile_model.specs.Tok.{Tok}
 use Rattle.justfile_model.specs.Tree.{WrittenTree}
@@ -35,16 +35,16 @@ module _ (conditions : Conditions) where
       after_choose kinds.Eof s _ _ P (λ _. after_expect kinds.Eol s _ P (λ e. tt) (λ t rest split kind. (newline_obeyed conditions.current (token_view conditions), tt)))
       (λ t rest split kind. tt)
 
-  item_rest_obeys : (s : State) → IfOk (item_rest token_leaves token_attributes s) Unnumbered
-  unfolding item_rest
+  item_rest_obeys : (s : State) → IfOk (after_item token_leaves token_attributes s) Unnumbered
+  unfolding after_item
   item_rest_obeys s =
       let P : Read WrittenTree → Type 0 = λ o. IfOk o Unnumbered in
       after_choose kinds.Comment s _ _ P (λ _. line_end_obeys s) (λ c rest split kind.
       after_bind (line_end token_leaves token_attributes (at s rest)) _ P (λ e. tt)
       (λ x is. (comment_obeyed conditions.current (token_view conditions) (trim_end c.tok.lexeme), known x Unnumbered is (line_end_obeys (at s rest)))))
 
-  ended_obeys : (b : Bool) (s : State) → IfOk (ended token_leaves token_attributes b s) Unnumbered
-  unfolding ended
+  ended_obeys : (b : Bool) (s : State) → IfOk (item_end token_leaves token_attributes b s) Unnumbered
+  unfolding item_end
   ended_obeys b s =
       let P : Read WrittenTree → Type 0 = λ o. IfOk o Unnumbered in
       after_test b _ _ P (λ _. (newline_obeyed conditions.current (token_view conditions), tt)) (λ _. item_rest_obeys s)
@@ -54,8 +54,8 @@ module _ (conditions : Conditions) where
   line_obeys n s here =
       let P : Read (WrittenTree × Counters) → Type 0 = λ o. IfOk o Numbered in
       after_choose kinds.Eol s _ _ P
-      (λ _. after_bind (on_line token_leaves token_attributes n s) _ P (λ e. tt) (λ i is.
-      after_bind (ended token_leaves token_attributes (has_body i.0.0) i.1) _ P (λ e. tt) (λ b is2.
+      (λ _. after_bind (any_item token_leaves token_attributes n s) _ P (λ e. tt) (λ i is.
+      after_bind (item_end token_leaves token_attributes (has_body i.0.0) i.1) _ P (λ e. tt) (λ b is2.
       ((on_line_at conditions n s i is here).obeys, known b Unnumbered is2 (ended_obeys (has_body i.0.0) i.1)))))
       (λ t rest split kind. (newline_obeyed conditions.current (token_view conditions), tt))
 

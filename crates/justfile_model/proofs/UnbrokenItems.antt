@@ -6,7 +6,7 @@ use Rattle.justfile_model.specs.Conditions.{VersionNumbers}
 use Rattle.justfile_model.specs.ConstructRules.{form_broken, meaning_broken}
 use Rattle.justfile_model.specs.ContentKeys.{entry_cmp}
 use Rattle.justfile_model.specs.Docs.{Nothing, documented}
-use Rattle.justfile_model.specs.Files.{broken, if_both, item_broken, ordered, ordered_item, says_doc, undocumented}
+use Rattle.justfile_model.specs.Files.{broken, if_both, item_broken, ordered, ordered_item, sets_doc, undocumented}
 use Rattle.justfile_model.specs.Meaning.{all_of, entry_of}
 use Rattle.justfile_model.specs.Order.{in_order}
 use Rattle.justfile_model.specs.LeafView.{LeafView}
@@ -57,5 +57,5 @@ module _ {A B C : Type 0} (current : VersionNumbers) (view : LeafView A B) where
   all_undocumented [] h = refl
   all_undocumented (i ∷ items) h = λ j. if_both (h.0.means j) (all_undocumented items h.1 j)
 
-  pub all_ordered : (items : List (WrittenItem A B C B)) (h : AllObeyed items) → ordered view items ≡ Some (documented says_doc Nothing (meanings items h))
-  all_ordered items h = ap (option_map (documented says_doc Nothing)) (all_undocumented items h)
+  pub all_ordered : (items : List (WrittenItem A B C B)) (h : AllObeyed items) → ordered view items ≡ Some (documented sets_doc Nothing (meanings items h))
+  all_ordered items h = ap (option_map (documented sets_doc Nothing)) (all_undocumented items h)

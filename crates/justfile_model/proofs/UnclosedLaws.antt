@@ -16,7 +16,7 @@ reverse_more x xs e = ap (λ front. front ++ e) (reverse-append (x ∷ []) xs) �
 reverse_pair : {A : Type 0} (x : A) (inside : List A) (y : A) (xs e : List A) → reverse (x ∷ (inside ++ (y ∷ xs))) ++ e ≡ reverse xs ++ (y ∷ (reverse inside ++ (x ∷ e)))
 reverse_pair x inside y xs e = reverse_more x (inside ++ (y ∷ xs)) e ∙ ap (λ front. front ++ (x ∷ e)) (reverse_at inside y xs) ∙ append_assoc (reverse xs) (y ∷ reverse inside) (x ∷ e)
 
--- A stack of what is open, which each token changes as it opens a thing, closes the last one, or does neither.
+-- A stack of open delimiters or levels. Each token opens one, closes the last one, or does neither.
 module _ {X : Type 0} (closer : X → TokenKind) where
   pub data Step (o : Option X) (k : TokenKind) (old new : List X) : Type 0 where
     Opens : (x : X) → o ≡ Some x → new ≡ x ∷ old → Step o k old new
@@ -66,7 +66,7 @@ module _ {X : Type 0} (opened : Tok → Option X) (closer : X → TokenKind) (ap
         let held : stack closing ≡ x ∷ stack e = balanced inside b opening at_end.1 ∙ pushed start x (stack e) (stack opening) o at_start.0 in
         ap stack same ∙ balanced us d (end ∷ closing) steps' ∙ popped end x (stack e) (stack closing) (stack (end ∷ closing)) c held at_end.0
 
-    -- what is not closed stands on the stack
+    -- the unclosed elements are on the stack
     pub unclosed_is : stack [] ≡ [] → (ts : List Tok) (xs : List X) → Unclosed opened closer ts xs → Steps (reverse ts) → stack (reverse ts) ≡ xs
     unclosed_is none ts xs (Nothing us b) steps =
         let same = append-nil (reverse ts) in
@@ -97,7 +97,7 @@ module _ {X : Type 0} (opened : Tok → Option X) (closer : X → TokenKind) (ap
       subst (Unclosed opened closer ((us ++ (start ∷ after)) ++ (t ∷ []))) same (subst (λ ts. Unclosed opened closer ts zs) (sym (append_assoc us (start ∷ after) (t ∷ []))) more)
 
   module _ (stack : List Tok → List X) where
-    -- what stands on the stack is what is not closed
+    -- the elements on the stack are unclosed
     pub unclosed_from : stack [] ≡ [] → (e : List Tok) → Steps stack e → Unclosed opened closer (reverse e) (stack e)
     unclosed_from none [] steps = subst (Unclosed opened closer []) (sym none) (Nothing [] NoTokens)
     unclosed_from none (t ∷ e) steps = subst (λ ts. Unclosed opened closer ts (stack (t ∷ e))) (sym (reverse-append (t ∷ []) e)) (by (stack e) (stack (t ∷ e)) steps.0 (unclosed_from none e steps.1))

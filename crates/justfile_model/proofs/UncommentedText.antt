@@ -39,7 +39,7 @@ text_same : (s : Shape) (indentation : List ℕ) → HasNoComments s → text s 
 text_same [] indentation none = refl
 text_same (i ∷ items) indentation none = λ j. item_same i indentation none.0 j ++ item_end i items ++ text_same items indentation none.1 j
 
--- ---- the normal shape has none either
+-- ---- the normal shape has no comments either
 
 newline_none : (s : Shape) → HasNoComments s → HasNoComments (after_newline s)
 newline_none [] none = (tt, none)

@@ -13,8 +13,8 @@ use Rattle.justfile_model.specs.ItemParts as parts
 use Rattle.justfile_model.specs.ItemParts.{EndsLine, FilePath}
 use Rattle.justfile_model.specs.PartReader as r
 use Rattle.justfile_model.specs.ReadAttribute.{ReadAttribute}
-use Rattle.justfile_model.specs.Reader.{alias, any_module, assignment, content, import, setting, unexport, wordless}
-use Rattle.justfile_model.specs.ReaderState.{Counters, accept_word}
+use Rattle.justfile_model.specs.Reader.{alias, any_module, assignment, content, import, setting, unexport, without_keyword}
+use Rattle.justfile_model.specs.ReaderState.{Counters, accept_keyword}
 use Rattle.justfile_model.specs.SignificantTokens.{SignificantToken}
 use Rattle.justfile_model.specs.Tok.{Tok}
 use Rattle.justfile_model.specs.Tree.{Expr, Parameter, Quoted}
@@ -207,7 +207,7 @@ module _ (conditions : Conditions) (ns : List (Noted Tok)) where
   other_word word other follows t ts is apart =
       rw (word_left other (t ∷ ts) conditions 0 ns (λ w. true_not_false (bytes_eq word other) ((bytes_eq-Decides word other).1 (sym is.spelled ∙ w.spelled)) apart)) refl
 
-  -- a token that is no name
+  -- a token that isn't a name
   no_name : (word : List ℕ) (follows : State → Bool) (t : SignificantToken) (ts : Tokens) → (IsKind kinds.Identifier t → ⊥)
       → r.accept_keyword_before token_leaves word follows (here (t ∷ ts)) ≡ None
   unfolding r.accept_keyword_before
@@ -217,7 +217,7 @@ module _ (conditions : Conditions) (ns : List (Noted Tok)) where
   unfollowed : (word : List ℕ) (follows : State → Bool) (t : SignificantToken) (ts : Tokens) → follows (here ts) ≡ false
       → r.accept_keyword_before token_leaves word follows (here (t ∷ ts)) ≡ None
   unfolding r.accept_keyword_before
-  unfollowed word follows t ts h = go (accept_word token_leaves word (here (t ∷ ts))) (after_word word (here (t ∷ ts)) IsFirst (λ _. tt) (λ u us split is. followed u us split))
+  unfollowed word follows t ts h = go (accept_keyword token_leaves word (here (t ∷ ts))) (after_word word (here (t ∷ ts)) IsFirst (λ _. tt) (λ u us split is. followed u us split))
     where
       -- what was taken is the first token
       IsFirst : Taken → Type 0
@@ -235,7 +235,7 @@ module _ (conditions : Conditions) (ns : List (Noted Tok)) where
 
   module _ (xs : List ReadAttribute) (n : Counters) where
     pub no_word_read : (t : SignificantToken) (ts : Tokens) → (IsKind kinds.Identifier t → ⊥)
-        → content token_leaves token_attributes xs n (here (t ∷ ts)) ≡ wordless token_leaves token_attributes xs n (here (t ∷ ts))
+        → content token_leaves token_attributes xs n (here (t ∷ ts)) ≡ without_keyword token_leaves token_attributes xs n (here (t ∷ ts))
     unfolding content
     no_word_read t ts not =
         rw (
@@ -251,7 +251,7 @@ module _ (conditions : Conditions) (ns : List (Noted Tok)) where
     pub wordless_read : (t : SignificantToken) (ts : Tokens) → r.peek_assignment token_leaves (here ts) ≡ false
         → r.line_is token_leaves (kinds.Identifier ∷ []) (here ts) ≡ false → r.is_imported token_leaves (here ts) ≡ false
         → r.is_module token_leaves (here ts) ≡ false → r.is_set token_leaves (here ts) ≡ false
-        → content token_leaves token_attributes xs n (here (t ∷ ts)) ≡ wordless token_leaves token_attributes xs n (here (t ∷ ts))
+        → content token_leaves token_attributes xs n (here (t ∷ ts)) ≡ without_keyword token_leaves token_attributes xs n (here (t ∷ ts))
     unfolding content
     wordless_read t ts a l i m s =
         rw (
@@ -265,7 +265,7 @@ module _ (conditions : Conditions) (ns : List (Noted Tok)) where
         ) refl
 
     pub none_read : (t : SignificantToken) (ts : Tokens) → NoneFollows ts
-        → content token_leaves token_attributes xs n (here (t ∷ ts)) ≡ wordless token_leaves token_attributes xs n (here (t ∷ ts))
+        → content token_leaves token_attributes xs n (here (t ∷ ts)) ≡ without_keyword token_leaves token_attributes xs n (here (t ∷ ts))
     none_read t ts none = wordless_read t ts (assigned_left ts none) (line_left ts none) (imported_left ts none) (module_left ts none) (set_left ts none)
 
     pub alias_read : (t : SignificantToken) (ts : Tokens) → IsWord (codes "alias") t → r.peek_assignment token_leaves (here ts) ≡ true

@@ -59,7 +59,7 @@ module _ {A B : Type 0} (leaf : Tok → A) (position : Tok → B) (MayEnter : �
         → AttributeOf w fs tokens (comma ∷ next) → IsKind kinds.Comma comma → Bracketed ws gs next rest
         → Bracketed (w ∷ ws) (fs ++ gs) tokens rest
 
-  -- The end of a line of attributes, with an optional comment. The comment's text has no trailing white space.
+  -- The end of a line of attributes, with an optional comment. The comment's text has no trailing whitespace.
   pub data AttributesEnd : (comment : Option (List ℕ)) → Tokens → Tokens → Type 0 where
     bare : {newline : SignificantToken} {rest : Tokens} → IsKind kinds.Eol newline
         → AttributesEnd None (newline ∷ rest) rest

@@ -17,7 +17,7 @@ use Rattle.justfile_model.specs.LeafView.{LeafView}
 use Rattle.justfile_model.specs.Tree as tree
 use Rattle.justfile_model.specs.Tree.{Argument, Entry, Expr, WrittenAttribute, bare_attribute, commented}
 
--- a broken rule as a parse error
+-- a broken rule as a read error
 abbrev pub read_made : {R T B X : Type 0} → Made B X → State R T B → Read R T B X
 read_made (Ok x) s = Ok (x, s)
 read_made (Err rule) s = Err (BreaksRule rule)

@@ -17,7 +17,7 @@ abbrev pub some_text : List ℕ → Option (List ℕ)
 some_text [] = None
 some_text (b ∷ bs) = Some (b ∷ bs)
 
--- the doc text of a comment: the text after `#`, without surrounding white space; a `#!` line at the start of a file has none
+-- the doc text of a comment: the text after `#`, without surrounding whitespace; a `#!` line at the start of a file has none
 abbrev pub doc_in : Before → (comment : List ℕ) → Option (List ℕ)
 doc_in Nothing comment = if starts_with nat_eq comment (codes "#!") then None else some_text (trim (drop 1 comment))
 doc_in LineEnd comment = some_text (trim (drop 1 comment))
@@ -62,13 +62,13 @@ module _ {A B C S D : Type 0} (has_doc : D → Bool) where
   after i = Other
 
   -- The construct can get a doc from a comment: it can have one, has none yet, and none of its attributes sets one.
-  abbrev pub wants_doc : D → Content A B C S → Bool
-  wants_doc attributes content = takes_doc content && not (has_doc attributes) && not (is_some (doc_of content))
+  abbrev pub can_take_doc : D → Content A B C S → Bool
+  can_take_doc attributes content = takes_doc content && not (has_doc attributes) && not (is_some (doc_of content))
 
   -- the item with this doc, if it can get one
   abbrev pub item_with_doc : List ℕ → Item A B C S D → Option (Item A B C S D)
   item_with_doc doc (Construct attributes content) =
-      if wants_doc attributes content then Some (Construct attributes (redocumented (Some doc) content)) else None
+      if can_take_doc attributes content then Some (Construct attributes (redocumented (Some doc) content)) else None
   item_with_doc doc i = None
 
   -- the item with its doc, or the comment and the item if it can't get the doc

@@ -13,7 +13,7 @@ use Rattle.justfile_model.specs.Expressions.{ends_open}
 use Rattle.justfile_model.specs.Literals as literals
 use Rattle.justfile_model.specs.Literals.{Literal, LiteralFault, cooked_text, string_of}
 use Rattle.justfile_model.specs.Operators.{binary, feature_of, is_at, operand, operator_of, rank, right}
-use Rattle.justfile_model.specs.ReaderState.{◌>>=◌, Leaves, NotCooked, Read, State, TooDeep, Unexpected, accept, accept_marked, accept_word, at, choose, deeper, expect, note, refused, shallower, with}
+use Rattle.justfile_model.specs.ReaderState.{◌>>=◌, Leaves, NotCooked, Read, State, TooDeep, Unexpected, accept, accept_marked, accept_keyword, at, choose, deeper, expect, note, refused, shallower, with}
 use Rattle.justfile_model.specs.Recursive.{recursive}
 
 -- what is parsed next, and the state in which it is parsed
@@ -127,7 +127,7 @@ module _ {R T A B S : Type 0} (leaves : Leaves R T A B S) where
   -- After an `else` branch that ends in a conditional without `else`, another `else` is an error.
   abbrev pub ended_by : Bool → Expr A B → State R T B → ReadExpr
   ended_by false e s = Ok (e, s)
-  ended_by true e s = choose (accept_word leaves (codes "else") s) (Ok (e, s)) (λ w. Err (Unexpected (Some w.0)))
+  ended_by true e s = choose (accept_keyword leaves (codes "else") s) (Ok (e, s)) (λ w. Err (Unexpected (Some w.0)))
 
   -- notes a condition that isn't a comparison, at its first token
   abbrev pub note_uncompared : Expr A B → (from : List T) → State R T B → State R T B
@@ -153,7 +153,7 @@ module _ {R T A B S : Type 0} (leaves : Leaves R T A B S) where
 
     unfoldable pub conjunct_rule : Bool → State R T B → ReadExpr
     conjunct_rule c s =
-        choose (accept_word leaves (codes "if") s)
+        choose (accept_keyword leaves (codes "if") s)
         (choose (accept leaves kinds.Slash s)
         (binary_rule Conjunct c s)
         (λ op. do
@@ -178,7 +178,7 @@ module _ {R T A B S : Type 0} (leaves : Leaves R T A B S) where
     -- the rest of a conditional after `else`
     unfoldable pub otherwise_rule : State R T B → ReadExpr
     otherwise_rule s =
-        choose (accept_word leaves (codes "if") s)
+        choose (accept_keyword leaves (codes "if") s)
         (do
           o ← braced_rule s
           ended_by (ends_open o.0) o.0 o.1)
@@ -188,7 +188,7 @@ module _ {R T A B S : Type 0} (leaves : Leaves R T A B S) where
     conditional_rule word s = do
       c ← condition_rule s
       b ← braced_rule c.1
-      choose (accept_word leaves (codes "else") b.1)
+      choose (accept_keyword leaves (codes "else") b.1)
           (Ok (t.If c.0 b.0, note leaves features.IfWithoutElse word b.1))
           (λ w. do
             o ← otherwise_rule w.1
@@ -263,7 +263,7 @@ module _ {R T A B S : Type 0} (leaves : Leaves R T A B S) where
           Ok (t.Call (leaves.name n.0) es.0, with (called (leaves.see n.0).tok.lexeme (leaves.position n.0)) es.1)))
 
     unfoldable pub assert_rule : State R T B → ReadExpr
-    assert_rule s = choose (accept_word leaves (codes "assert") s) (name_rule s) (λ w. do
+    assert_rule s = choose (accept_keyword leaves (codes "assert") s) (name_rule s) (λ w. do
       o ← expect leaves kinds.ParenL w.1
       c ← condition_rule o.1
       choose (accept leaves kinds.Comma c.1)

@@ -210,8 +210,8 @@ if_both (Some x) None = None
 if_both (Some x) (Some xs) = Some (x ∷ xs)
 
 -- an attribute sets the doc
-abbrev pub says_doc : {A B : Type 0} → List (Entry A B) → Bool
-says_doc entries = has_attribute Doc entries
+abbrev pub sets_doc : {A B : Type 0} → List (Entry A B) → Bool
+sets_doc entries = has_attribute Doc entries
 
 -- the features of a construct's attributes that are noted at a recipe's name
 abbrev pub entries_features : {A B C S : Type 0} → Content A B C S → List (Entry A B) → List (Noted B)
@@ -249,7 +249,7 @@ module _ {A B C S : Type 0} (view : LeafView A B) where
 
   -- a written tree with the meaning of its attributes and with its docs
   abbrev pub ordered : List (WrittenItem A B C S) → Option (List (OrderedItem A B C))
-  ordered items = option_map (documented says_doc Nothing) (undocumented items)
+  ordered items = option_map (documented sets_doc Nothing) (undocumented items)
 
 -- `current` is the current version
 module _ {A B C : Type 0} (current : VersionNumbers) (view : LeafView A B) where

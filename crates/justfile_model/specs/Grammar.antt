@@ -30,7 +30,7 @@ pub record TokenProjection (A B C S : Type 0) : Type 0 where
   pub star : Tok → S
 
 module _ {A B : Type 0} (leaf : Tok → A) (position : Tok → B) (MayEnter : ℕ → Option SignificantToken → Type 0) where
-  -- the rest of a body line: fragments, and the line's end, which is an `Eol`, or nothing at the end of the body
+  -- the rest of a body line: fragments, and the `Eol` at its end; the last line of a body can end without one, before the `Dedent`
   pub data LineRest : List (Fragment A B) → List (Noted B) → List SignificantToken → List SignificantToken → Type 0 where
     line_ends : {token : SignificantToken} {rest : List SignificantToken} → IsKind kinds.Eol token
         → LineRest [] [] (token ∷ rest) rest
@@ -45,7 +45,7 @@ module _ {A B : Type 0} (leaf : Tok → A) (position : Tok → B) (MayEnter : �
         → LineRest (tree.Interpolation e ∷ fragments) (es ++ fs) (start ∷ tokens) rest
 
 -- The tokens between the header of a recipe and its body: an optional comment, the line end, and the indent. The comment's text has no
--- trailing white space.
+-- trailing whitespace.
 pub data BeforeBody : (comment : Option (List ℕ)) → List SignificantToken → List SignificantToken → Type 0 where
   at_once : {newline indent : SignificantToken} {rest : List SignificantToken} → IsKind kinds.Eol newline → IsKind kinds.Indent indent
       → BeforeBody None (newline ∷ indent ∷ rest) rest
@@ -70,8 +70,8 @@ module _ {A B C S : Type 0} (projection : TokenProjection A B C S) (MayEnter : �
         → BodyLines lines gs between rest
         → BodyLines (Line (projection.number first.tok) (f ∷ fragments) ∷ lines) (fs ++ gs) (first ∷ tokens) rest
 
-  -- A construct on one line. The keywords at the start of a construct can also be names. The tokens after them tell which one it is, since
-  -- no header of a recipe continues like a construct that begins with a keyword.
+  -- A construct on one line. A keyword at the start of a construct can also be a name, as in `alias := x`. The tokens after it decide: a header
+  -- of a recipe never continues like a construct that begins with a keyword.
   pub data OnLine : Content A B C S → List (Noted B) → List SignificantToken → List SignificantToken → Type 0 where
     alias : {names : List A} {word name operator : SignificantToken} {tokens rest : List SignificantToken} → IsWord (codes "alias") word
         → IsKind kinds.Identifier name → IsKind kinds.ColonEquals operator → PathOf projection.leaf names tokens rest
@@ -92,20 +92,20 @@ module _ {A B C S : Type 0} (projection : TokenProjection A B C S) (MayEnter : �
     import : {path : Quoted A} {word : SignificantToken} {tokens rest : List SignificantToken} → IsWord (codes "import") word
         → FilePath projection.leaf path tokens rest
         → OnLine (tree.Import (record { optional = false; path = path })) [] (word ∷ tokens) rest
-    optional_import : {path : Quoted A} {word mark : SignificantToken} {tokens rest : List SignificantToken} → IsWord (codes "import") word
-        → IsKind kinds.QuestionMark mark → FilePath projection.leaf path tokens rest
-        → OnLine (tree.Import (record { optional = true; path = path })) [] (word ∷ mark ∷ tokens) rest
+    optional_import : {path : Quoted A} {word question_mark : SignificantToken} {tokens rest : List SignificantToken} → IsWord (codes "import") word
+        → IsKind kinds.QuestionMark question_mark → FilePath projection.leaf path tokens rest
+        → OnLine (tree.Import (record { optional = true; path = path })) [] (word ∷ question_mark ∷ tokens) rest
     module_alone : {word name : SignificantToken} {rest : List SignificantToken} → IsWord (codes "mod") word → IsKind kinds.Identifier name → EndsLine rest
         → OnLine (tree.Module (bare_module false (projection.leaf name.tok) None)) [] (word ∷ name ∷ rest) rest
     module_at : {path : Quoted A} {word name : SignificantToken} {tokens rest : List SignificantToken} → IsWord (codes "mod") word
         → IsKind kinds.Identifier name → FilePath projection.leaf path tokens rest
         → OnLine (tree.Module (bare_module false (projection.leaf name.tok) (Some path))) [] (word ∷ name ∷ tokens) rest
-    optional_module_alone : {word mark name : SignificantToken} {rest : List SignificantToken} → IsWord (codes "mod") word → IsKind kinds.QuestionMark mark
+    optional_module_alone : {word question_mark name : SignificantToken} {rest : List SignificantToken} → IsWord (codes "mod") word → IsKind kinds.QuestionMark question_mark
         → IsKind kinds.Identifier name → NoPath rest
-        → OnLine (tree.Module (bare_module true (projection.leaf name.tok) None)) [] (word ∷ mark ∷ name ∷ rest) rest
-    optional_module_at : {path : Quoted A} {word mark name : SignificantToken} {tokens rest : List SignificantToken} → IsWord (codes "mod") word
-        → IsKind kinds.QuestionMark mark → IsKind kinds.Identifier name → FilePath projection.leaf path tokens rest
-        → OnLine (tree.Module (bare_module true (projection.leaf name.tok) (Some path))) [] (word ∷ mark ∷ name ∷ tokens) rest
+        → OnLine (tree.Module (bare_module true (projection.leaf name.tok) None)) [] (word ∷ question_mark ∷ name ∷ rest) rest
+    optional_module_at : {path : Quoted A} {word question_mark name : SignificantToken} {tokens rest : List SignificantToken} → IsWord (codes "mod") word
+        → IsKind kinds.QuestionMark question_mark → IsKind kinds.Identifier name → FilePath projection.leaf path tokens rest
+        → OnLine (tree.Module (bare_module true (projection.leaf name.tok) (Some path))) [] (word ∷ question_mark ∷ name ∷ tokens) rest
     setting : {keyword : Keyword} {form : SettingForm} {value : SettingValue A B} {fs : List (Noted B)} {word name : SignificantToken}
         {tokens rest : List SignificantToken} → IsWord (codes "set") word → IsWord (keyword_text keyword) name → setting_form keyword ≡ Some form
         → ValueOf projection.leaf projection.position MayEnter form value fs tokens rest
@@ -115,8 +115,8 @@ module _ {A B C S : Type 0} (projection : TokenProjection A B C S) (MayEnter : �
     header : {h : Header A B S} {fs : List (Noted B)} {tokens rest : List SignificantToken} → HeaderOf projection.leaf projection.position projection.star MayEnter h fs tokens rest
         → OnLine (tree.Recipe (bare_recipe h None [])) fs tokens rest
 
-  -- A recipe with a body: a header and lines. Empty lines at the end are dropped, and some line is left. A comment after the header belongs
-  -- to the recipe.
+  -- A recipe with a body: a header, and lines. Empty lines at the end of the body are dropped, and at least one line remains. A comment between
+  -- the header and the body belongs to the recipe.
   pub data Block : Content A B C S → List (Noted B) → List SignificantToken → List SignificantToken → Type 0 where
     recipe : {h : Header A B S} {lines : List (BodyLine A B C)} {fs gs : List (Noted B)} {comment : Option (List ℕ)}
         {tokens next body rest : List SignificantToken} → HeaderOf projection.leaf projection.position projection.star MayEnter h fs tokens next → BeforeBody comment next body
@@ -162,8 +162,8 @@ module _ {A B C S : Type 0} (projection : TokenProjection A B C S) (MayEnter : �
 
   -- a file, which can begin with a byte order mark
   pub data File : List (WrittenItem A B C S) → List (ConstructFeatures B) → List SignificantToken → Type 0 where
-    marked : {items : List (WrittenItem A B C S)} {fs : List (ConstructFeatures B)} {token : SignificantToken} {rest : List SignificantToken} → IsKind kinds.ByteOrderMark token
+    with_byte_order_mark : {items : List (WrittenItem A B C S)} {fs : List (ConstructFeatures B)} {token : SignificantToken} {rest : List SignificantToken} → IsKind kinds.ByteOrderMark token
         → Items items fs rest
         → File items fs (token ∷ rest)
-    unmarked : {items : List (WrittenItem A B C S)} {fs : List (ConstructFeatures B)} {tokens : List SignificantToken} → Items items fs tokens
+    without_byte_order_mark : {items : List (WrittenItem A B C S)} {fs : List (ConstructFeatures B)} {tokens : List SignificantToken} → Items items fs tokens
         → File items fs tokens

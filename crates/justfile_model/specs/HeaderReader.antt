@@ -163,8 +163,8 @@ module _ {R T A B S : Type 0} (leaves : Leaves R T A B S) where
   begins_parameter s = next_are leaves (kinds.Identifier ∷ []) s || next_are leaves (kinds.Dollar ∷ []) s
 
   -- A name after a variadic parameter is an error.
-  unfoldable pub nothing_after : State R T B → Read R T B (Unit {0})
-  nothing_after s = choose (accept leaves kinds.Identifier s) (Ok (tt, s)) (λ name. Err (AfterVariadic (leaves.position name.0)))
+  unfoldable pub expect_no_name : State R T B → Read R T B (Unit {0})
+  expect_no_name s = choose (accept leaves kinds.Identifier s) (Ok (tt, s)) (λ name. Err (AfterVariadic (leaves.position name.0)))
 
   module _ (view : R → LeafView A B) (rules : List (ArgumentRules A B)) where
     -- the parameters so far, and the counters
@@ -210,7 +210,7 @@ module _ {R T A B S : Type 0} (leaves : Leaves R T A B S) where
     unfoldable pub variadic : ParameterKind → ParameterPlace → Read R T B Parameters
     variadic kind x = do
       p ← parameter kind x
-      end ← nothing_after p.1
+      end ← expect_no_name p.1
       Ok (p.0, end.1)
 
     -- the last parameter, if it is variadic

@@ -8,14 +8,14 @@ use Rattle.justfile_model.specs.LexicalFault.{Here}
 use Rattle.justfile_model.specs.Next.{NextToken, unterminated}
 use Rattle.justfile_model.specs.Pieces.{HasNoEnd, IsInside}
 
--- The token found for an opener and the text after it. A part that ends with the delimiter has the kind `whole`. One that ends with `{{`,
--- which is an end in format strings only, has the kind `more`.
-pub data IsPart (k : StringKind) (format : Bool) (more whole : TokenKind) (opener text : List ℕ) : NextToken → Type 0 where
+-- The token found for an opener and the text after it. A part that ends with the delimiter has the kind `ended`. One that ends with `{{`,
+-- which is an end in format strings only, has the kind `continued`.
+pub data IsPart (k : StringKind) (format : Bool) (continued ended : TokenKind) (opener text : List ℕ) : NextToken → Type 0 where
   EndsWithDelimiter : (inside follows : List ℕ) → text ≡ inside ++ (delimiter_text k ++ follows)
       → IsInside (Literal k format) inside (delimiter_text k ++ follows)
-      → IsPart k format more whole opener text (Ok (whole, length (opener ++ (inside ++ delimiter_text k))))
+      → IsPart k format continued ended opener text (Ok (ended, length (opener ++ (inside ++ delimiter_text k))))
   EndsWithBraces : (inside follows : List ℕ) → text ≡ inside ++ (codes "{{" ++ follows)
       → IsInside (Literal k format) inside (codes "{{" ++ follows)
-      → IsPart k format more whole opener text (Ok (more, length (opener ++ (inside ++ codes "{{"))))
+      → IsPart k format continued ended opener text (Ok (continued, length (opener ++ (inside ++ codes "{{"))))
   Unterminated : HasNoEnd (Literal k format) text
-      → IsPart k format more whole opener text (Err (Here (unterminated k.delimiter) 0 (length opener)))
+      → IsPart k format continued ended opener text (Err (Here (unterminated k.delimiter) 0 (length opener)))

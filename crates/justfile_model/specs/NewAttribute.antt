@@ -119,19 +119,19 @@ module _ {A B : Type 0} (view : LeafView A B) (at : B) where
     is_option _ = true
 
     -- an error for a key that requires `long` or `short`, if neither is set
-    abbrev pub check_wanted : (long short : OptionName A B) → KeyArgument A B → Made B (Unit {0})
-    check_wanted long short k = check (not (is_option long) && not (is_option short)) (ArgAttributeRequiresOption (view.place k.key)) (view.place k.key)
+    abbrev pub check_has_option : (long short : OptionName A B) → KeyArgument A B → Made B (Unit {0})
+    check_has_option long short k = check (not (is_option long) && not (is_option short)) (ArgAttributeRequiresOption (view.place k.key)) (view.place k.key)
 
     abbrev pub option_value : (long short : OptionName A B) → KeyArgument A B → Made B (Expr A B)
     option_value long short k = do
       value ← required k
-      wanted ← check_wanted long short k
+      wanted ← check_has_option long short k
       Ok value
 
     abbrev pub flag : (long short : OptionName A B) (has_value has_pattern : Bool) → KeyArgument A B → Made B B
     flag long short has_value has_pattern k = do
       bare ← check (is_some k.value) (FlagAttributeTakesNoValue argument) (view.place k.key)
-      wanted ← check_wanted long short k
+      wanted ← check_has_option long short k
       no_value ← check has_value (FlagAndValueArgAttribute argument) (view.place k.key)
       no_pattern ← check has_pattern (FlagAndPatternArgAttribute argument) (view.place k.key)
       Ok (view.place k.key)
@@ -139,7 +139,7 @@ module _ {A B : Type 0} (view : LeafView A B) (at : B) where
     abbrev pub multiple : (long short : OptionName A B) → KeyArgument A B → Made B B
     multiple long short k = do
       bare ← check (is_some k.value) (AttributeKeyTakesNoValue (view.place k.key)) (view.place k.key)
-      wanted ← check_wanted long short k
+      wanted ← check_has_option long short k
       Ok (view.place k.key)
 
     -- the bound of the key `max` or `min`

@@ -31,7 +31,8 @@ NextToken = Result (TokenKind × ℕ) LexicalError
 abbrev pub unknown : List ℕ → NextToken
 unknown rest = Err (Here (UnknownStartOfToken (first_char rest)) 0 (len_utf8 (first_char rest)))
 
--- Fixed tokens, by the first byte and the second.
+-- ---- fixed tokens, by the first byte and the second
+
 -- a token of one byte
 abbrev pub one_byte : TokenKind → NextToken
 one_byte kind = Ok (kind, 1)
@@ -47,7 +48,7 @@ doubled_token b kind rest =
     else if length (drop 1 rest) == 0 then Err (Here (UnexpectedEndOfToken (b ∷ [])) 1 0)
     else Err (Here (UnexpectedCharacter (b ∷ [])) 1 (len_utf8 (first_char (drop 1 rest))))
 
--- the longest fixed token that begins with this byte
+-- the longest fixed token, other than a delimiter, that begins with this byte
 unfoldable pub fixed_token : ℕ → List ℕ → NextToken
 fixed_token b rest =
     let c = slice_index rest 1 in
@@ -73,7 +74,8 @@ opening b rest =
     else if b == byte.brace_left then one_byte BraceL
     else unknown rest
 
--- Literals.
+-- ---- literals
+
 -- the fault of a literal that isn't terminated
 abbrev pub unterminated : StringDelimiter → LexicalFault
 unterminated delimiters.Backtick = UnterminatedBacktick
@@ -84,17 +86,18 @@ abbrev pub is_backtick : StringDelimiter → Bool
 is_backtick delimiters.Backtick = true
 is_backtick _ = false
 
--- A literal, or a part of a format string, with an opener and an inside of these lengths. It isn't terminated, or it ends with `{{` and
--- another part follows, or with the delimiter.
-abbrev pub literal_part_by : StringKind → (format : Bool) → (opener inside : ℕ) → (more whole : TokenKind) → List ℕ → NextToken
-literal_part_by k format opener inside more whole rest =
-    if inside == length (drop opener rest) then Err (Here (unterminated k.delimiter) 0 opener)
-    else if format && is_interpolation_start (drop inside (drop opener rest)) then Ok (more, opener + inside + 2)
-    else Ok (whole, opener + inside + delimiter_len k)
+-- A literal, or a part of a format string, with an opener and an inside of these lengths. It isn't terminated; or it ends with `{{`, another
+-- part follows, and its kind is `continued`; or it ends with the delimiter, and its kind is `ended`.
+abbrev pub literal_part_by : StringKind → (format : Bool) → (opener_len inside_len : ℕ) → (continued ended : TokenKind) → List ℕ → NextToken
+literal_part_by k format opener_len inside_len continued ended rest =
+    if inside_len == length (drop opener_len rest) then Err (Here (unterminated k.delimiter) 0 opener_len)
+    else if format && is_interpolation_start (drop inside_len (drop opener_len rest)) then Ok (continued, opener_len + inside_len + 2)
+    else Ok (ended, opener_len + inside_len + delimiter_len k)
 
 -- the same, where the inside is the text up to its first end
-unfoldable pub literal_part : StringKind → (format : Bool) → (opener : ℕ) → (more whole : TokenKind) → List ℕ → NextToken
-literal_part k format opener more whole rest = literal_part_by k format opener (raw_len (raw_texts.Literal k format) (drop opener rest)) more whole rest
+unfoldable pub literal_part : StringKind → (format : Bool) → (opener_len : ℕ) → (continued ended : TokenKind) → List ℕ → NextToken
+literal_part k format opener_len continued ended rest =
+    literal_part_by k format opener_len (raw_len (raw_texts.Literal k format) (drop opener_len rest)) continued ended rest
 
 -- a literal; directly after the identifier `f`, quotes begin a format string, and a backtick doesn't
 abbrev pub literal_token : Mode → List ℕ → NextToken
@@ -102,7 +105,8 @@ literal_token m rest =
     let k = kind_of rest in
     literal_part k (m.after_f && not (is_backtick k.delimiter)) (delimiter_len k) FormatStringStart (token_kind_of k.delimiter) rest
 
--- Closing delimiters, which have to match the innermost open one.
+-- ---- closing delimiters, which have to match the innermost open one
+
 -- the delimiters are the same; a format string has no closing delimiter
 abbrev pub is_same : Delimiter → Delimiter → Bool
 is_same Brace Brace = true
@@ -125,7 +129,7 @@ abbrev pub format_kind : Option OpenDelimiter → Option StringKind
 format_kind None = None
 format_kind (Some o) = format_string_kind o.delimiter
 
--- a closing brace, or `}}`, after which the innermost format string continues
+-- a closing brace; or, if the innermost open delimiter is a format string, its next part, which begins with `}}`
 abbrev pub brace_by : Option StringKind → Option OpenDelimiter → List ℕ → NextToken
 brace_by None last rest = closing_delimiter last Brace BraceR
 brace_by (Some k) last rest = if is_interpolation_end rest then literal_part k true 2 FormatStringContinue FormatStringEnd rest else closing_delimiter last Brace BraceR
@@ -137,6 +141,8 @@ closing last b rest =
     else if b == byte.bracket_right then closing_delimiter last Bracket BracketR
     else if b == byte.brace_right then brace_by (format_kind last) last rest
     else unknown rest
+
+-- ---- whitespace, comments, and other characters
 
 -- a line end of this many bytes, which is whitespace while a delimiter or an interpolation is open
 abbrev pub line_end_token : Mode → ℕ → NextToken
@@ -151,9 +157,13 @@ escaped_line_end rest =
     else if length (drop 1 rest) == 0 then Err (Here EscapeEndOfFile 0 1)
     else Err (Here (InvalidEscapeSequence (first_char (drop 1 rest))) 0 1)
 
+-- U+FEFF
+abbrev pub byte_order_mark : ℕ
+byte_order_mark = 65279
+
 -- a character that isn't ASCII; only the byte order mark is a token
 abbrev pub multibyte_token : List ℕ → NextToken
-multibyte_token rest = if first_char rest == 65279 then Ok (ByteOrderMark, 3) else unknown rest
+multibyte_token rest = if first_char rest == byte_order_mark then Ok (ByteOrderMark, 3) else unknown rest
 
 -- a comment, a backslash, or a character that doesn't begin a token
 abbrev pub other_token : List ℕ → NextToken
@@ -161,6 +171,8 @@ other_token rest =
     if slice_index rest 0 == byte.number_sign then Ok (Comment, raw_len raw_texts.Comment rest)
     else if slice_index rest 0 == byte.backslash then escaped_line_end rest
     else unknown rest
+
+-- ---- outside of body text, and in it
 
 -- the token at the start, outside of body text, by the class of the first byte
 unfoldable pub token_by_class : Mode → ByteClass → List ℕ → NextToken
@@ -190,6 +202,8 @@ text_or (suc n) b = Ok (Text, suc n)
 unfoldable pub body_token : List ℕ → NextToken
 body_token rest = text_or (raw_len raw_texts.Body rest) (slice_index rest 0)
 
+-- ---- the end of the text
+
 -- at the end of the text: a dedent for each open level, then `Eof`
 abbrev pub levels_end : List (List ℕ) → NextToken
 levels_end levels = if is_empty levels then Ok (Eof, 0) else Ok (Dedent, 0)
@@ -203,17 +217,19 @@ at_end_by None levels = levels_end levels
 abbrev pub end_token : Mode → NextToken
 end_token m = at_end_by m.interpolation m.levels
 
--- The regions of a line: the text of a body, an interpolation, or anything else.
+-- ---- the regions of a line
+
+-- the text of a body line, an interpolation in it, or the outside of bodies
 pub data Region : Type 0 where
   InText : Region
   InInterpolation : Region
-  Inline : Region
+  OutsideText : Region
 
 -- the region by `in_body` and the open interpolation, which takes precedence
 abbrev pub region_by : Bool → Option Tok → Region
 region_by in_body (Some t) = InInterpolation
 region_by true None = InText
-region_by false None = Inline
+region_by false None = OutsideText
 
 -- in an interpolation: `}}` ends it if no delimiter is open
 abbrev pub interpolated : Mode → List ℕ → NextToken
@@ -223,13 +239,14 @@ interpolated m rest = if is_empty m.openers && is_interpolation_end rest then Ok
 abbrev pub token_in_region : Region → Mode → List ℕ → NextToken
 token_in_region InText m rest = body_token rest
 token_in_region InInterpolation m rest = interpolated m rest
-token_in_region Inline m rest = token_outside_text m rest
+token_in_region OutsideText m rest = token_outside_text m rest
 
--- the next token after the layout tokens
+-- the next token, other than a dedent, an indent, or the blanks at the start of a line
 unfoldable pub token_within_line : Mode → List ℕ → NextToken
 token_within_line m rest = token_in_region (region_by m.in_body m.interpolation) m rest
 
--- Layout.
+-- ---- dedents, indents, and the blanks at the start of a line
+
 -- a whitespace token of this many blanks, or the next token if there are none
 abbrev pub blanks_or : ℕ → Mode → List ℕ → NextToken
 blanks_or zero m rest = token_within_line m rest

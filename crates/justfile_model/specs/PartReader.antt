@@ -11,7 +11,7 @@ use Rattle.justfile_model.specs.ExpressionReader as expressions
 use Rattle.justfile_model.specs.ExpressionReader.{cooked}
 use Rattle.justfile_model.specs.HeaderReader.{next_binding_number, expression, obeying}
 use Rattle.justfile_model.specs.Literals.{string_of}
-use Rattle.justfile_model.specs.ReaderState.{◌>>=◌, Counters, ExpectedKeyword, Leaves, Read, State, Taken, Unexpected, UnknownSetting, accept, accept_word, choose, expect, is_word, next_are, refused}
+use Rattle.justfile_model.specs.ReaderState.{◌>>=◌, Counters, ExpectedKeyword, Leaves, Read, State, Taken, Unexpected, UnknownSetting, accept, accept_keyword, choose, expect, is_word, next_are, refused}
 use Rattle.justfile_model.specs.Recursive.{recursive}
 use Rattle.justfile_model.specs.SettingRules.{value_broken}
 use Rattle.justfile_model.specs.Settings.{ExpressionForm, InterpreterForm, PlainForm, SettingForm, TruthForm}
@@ -39,7 +39,7 @@ module _ {R T A B S : Type 0} (leaves : Leaves R T A B S) where
 
   -- the next token, if it is this word and the state after it passes the test
   unfoldable pub accept_keyword_before : List ℕ → (follows : State R T B → Bool) → State R T B → Taken R T B
-  accept_keyword_before word follows s = if_follows follows (accept_word leaves word s)
+  accept_keyword_before word follows s = if_follows follows (accept_keyword leaves word s)
 
   -- NAME `:=`
   abbrev pub peek_assignment : State R T B → Bool

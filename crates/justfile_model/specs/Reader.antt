@@ -140,7 +140,7 @@ module _ {R T A B S D W : Type 0} (leaves : Leaves R T A B S) (kept : AttributeL
   abbrev pub entries_read : R → List W → List (Entry A B)
   entries_read run ws = in_order (entry_cmp (kept.view run)) (map kept.entry ws)
 
-  -- the next token ends a blank line or begins a comment
+  -- a blank line or a comment comes next
   abbrev pub stands_alone : State R T B → Bool
   stands_alone s = next_are leaves (kinds.Eol ∷ []) s || next_are leaves (kinds.Comment ∷ []) s
 
@@ -157,7 +157,7 @@ module _ {R T A B S D W : Type 0} (leaves : Leaves R T A B S) (kept : AttributeL
 
   -- ---- items
 
-  -- a comment without trailing white space
+  -- a comment without trailing whitespace
   abbrev pub comment_item : T → Item A B ℕ S D
   comment_item t = tree.Comment (comment_in leaves t)
 
@@ -170,8 +170,8 @@ module _ {R T A B S D W : Type 0} (leaves : Leaves R T A B S) (kept : AttributeL
   constructed ws content n s = Ok ((Construct (kept.attributes s.run ws) content, n), s)
 
   -- The attributes of an item of this kind with this name are allowed there.
-  abbrev pub allowed : ItemKind → List W → T → State R T B → Read R T B (Unit {0})
-  allowed item ws name s = obeying (allowed_broken (kept.view s.run) item (leaves.position name) (entries_read s.run ws)) s
+  abbrev pub check_allowed : ItemKind → List W → T → State R T B → Read R T B (Unit {0})
+  check_allowed item ws name s = obeying (allowed_broken (kept.view s.run) item (leaves.position name) (entries_read s.run ws)) s
 
   -- an alias, after its attributes and its keyword
   unfoldable pub alias : List W → Counters → State R T B → ReadItem
@@ -179,7 +179,7 @@ module _ {R T A B S D W : Type 0} (leaves : Leaves R T A B S) (kept : AttributeL
     name ← expect leaves kinds.Identifier s
     operator ← expect leaves kinds.ColonEquals name.1
     target ← path leaves operator.1
-    checked ← allowed item_kinds.Alias ws name.0 target.1
+    checked ← check_allowed item_kinds.Alias ws name.0 target.1
     constructed ws (tree.Alias (record { name = leaves.name name.0; target = target.0 })) n checked.1
 
   -- an assignment with its attributes and its number
@@ -193,7 +193,7 @@ module _ {R T A B S D W : Type 0} (leaves : Leaves R T A B S) (kept : AttributeL
     name ← expect leaves kinds.Identifier s
     operator ← expect leaves kinds.ColonEquals name.1
     e ← expression leaves operator.1
-    checked ← allowed item_kinds.Assignment ws name.0 e.1
+    checked ← check_allowed item_kinds.Assignment ws name.0 e.1
     number ← next_binding_number leaves n checked.1
     assigned eager export ws name.0 e.0 number
 
@@ -201,7 +201,7 @@ module _ {R T A B S D W : Type 0} (leaves : Leaves R T A B S) (kept : AttributeL
   unfoldable pub function : List W → Counters → State R T B → ReadItem
   function ws n s = do
     name ← expect leaves kinds.Identifier s
-    checked ← allowed item_kinds.Function ws name.0 name.1
+    checked ← check_allowed item_kinds.Function ws name.0 name.1
     opener ← expect leaves kinds.ParenL checked.1
     parameters ← names leaves (n, opener.1)
     operator ← expect leaves kinds.ColonEquals parameters.1
@@ -212,7 +212,7 @@ module _ {R T A B S D W : Type 0} (leaves : Leaves R T A B S) (kept : AttributeL
   unfoldable pub imported : (optional : Bool) → List W → Counters → State R T B → ReadItem
   imported optional ws n s = do
     path ← file_path leaves s
-    checked ← allowed item_kinds.Import ws path.0.0 path.1
+    checked ← check_allowed item_kinds.Import ws path.0.0 path.1
     constructed ws (tree.Import (record { optional = optional; path = path.0.1 })) n checked.1
 
   -- an import, after its attributes and its keyword
@@ -224,7 +224,7 @@ module _ {R T A B S D W : Type 0} (leaves : Leaves R T A B S) (kept : AttributeL
   named_module optional ws n s = do
     name ← expect leaves kinds.Identifier s
     path ← optional_path leaves name.1
-    checked ← allowed item_kinds.Module ws name.0 path.1
+    checked ← check_allowed item_kinds.Module ws name.0 path.1
     constructed ws (tree.Module (bare_module optional (leaves.name name.0) path.0)) n checked.1
 
   -- a module, after its attributes and its keyword
@@ -236,7 +236,7 @@ module _ {R T A B S D W : Type 0} (leaves : Leaves R T A B S) (kept : AttributeL
   setting ws n s = do
     name ← expect leaves kinds.Identifier s
     keyword ← setting_keyword leaves name.0 name.1
-    checked ← allowed item_kinds.Setting ws name.0 keyword.1
+    checked ← check_allowed item_kinds.Setting ws name.0 keyword.1
     value ← setting_value leaves kept.view name.0 keyword.0 (setting_form keyword.0) checked.1
     constructed ws (tree.Setting (record { keyword = keyword.0; name = leaves.name name.0; value = value.0 })) n value.1
 
@@ -244,7 +244,7 @@ module _ {R T A B S D W : Type 0} (leaves : Leaves R T A B S) (kept : AttributeL
   unfoldable pub unexport : List W → Counters → State R T B → ReadItem
   unexport ws n s = do
     name ← expect leaves kinds.Identifier s
-    checked ← allowed item_kinds.Unexport ws name.0 name.1
+    checked ← check_allowed item_kinds.Unexport ws name.0 name.1
     constructed ws (tree.Unexport (leaves.name name.0)) n checked.1
 
   -- the header of a recipe, whose name is the projection that was made at the end of the recipe
@@ -261,8 +261,8 @@ module _ {R T A B S D W : Type 0} (leaves : Leaves R T A B S) (kept : AttributeL
       Ok ((Construct (kept.attributes x.1.run ws) (tree.Recipe (recipe_kept quiet h b (leaves.recipe x.1.run h.name x.0.0 b.1))), x.0.1), x.1)
 
   -- The attributes of the recipe with this name don't exclude each other.
-  abbrev pub no_exclusion : List W → T → State R T B → Read R T B (Unit {0})
-  no_exclusion ws name s = obeying (exclusions_broken (kept.view s.run) (leaves.position name) (entries_read s.run ws)) s
+  abbrev pub check_exclusions : List W → T → State R T B → Read R T B (Unit {0})
+  check_exclusions ws name s = obeying (exclusions_broken (kept.view s.run) (leaves.position name) (entries_read s.run ws)) s
 
   -- what `arg` attributes set for parameters
   abbrev pub argument_rules : R → List W → List (ArgumentRules A B)
@@ -273,7 +273,7 @@ module _ {R T A B S D W : Type 0} (leaves : Leaves R T A B S) (kept : AttributeL
   recipe quiet ws n s = do
     h ← header leaves kept.view (argument_rules s.run ws) n s
     b ← optional_body leaves h.1
-    checked ← no_exclusion ws h.0.0.name b.1
+    checked ← check_exclusions ws h.0.0.name b.1
     number ← next_recipe_number leaves h.0.1 checked.1
     headed quiet ws h.0.0 b.0 number
 
@@ -282,8 +282,8 @@ module _ {R T A B S D W : Type 0} (leaves : Leaves R T A B S) (kept : AttributeL
   any_recipe ws n s = choose (accept leaves kinds.At s) (recipe false ws n s) (λ at. recipe true ws n at.1)
 
   -- a construct that doesn't begin with a keyword, after its attributes
-  unfoldable pub wordless : List W → Counters → State R T B → ReadItem
-  wordless ws n s =
+  unfoldable pub without_keyword : List W → Counters → State R T B → ReadItem
+  without_keyword ws n s =
       if next_are leaves (kinds.Identifier ∷ kinds.ParenL ∷ []) s then function ws n s
       else if peek_assignment leaves s then assignment false false ws n s
       else any_recipe ws n s
@@ -298,7 +298,7 @@ module _ {R T A B S D W : Type 0} (leaves : Leaves R T A B S) (kept : AttributeL
       (choose (accept_keyword_before leaves (codes "import") (is_imported leaves) s)
       (choose (accept_keyword_before leaves (codes "mod") (is_module leaves) s)
       (choose (accept_keyword_before leaves (codes "set") (is_set leaves) s)
-      (wordless ws n s)
+      (without_keyword ws n s)
       (λ word. setting ws n word.1))
       (λ word. any_module ws n word.1))
       (λ word. import ws n word.1))
@@ -313,8 +313,9 @@ module _ {R T A B S D W : Type 0} (leaves : Leaves R T A B S) (kept : AttributeL
     ws ← attributes s
     content ws.0 n ws.1
 
-  unfoldable pub on_line : Counters → State R T B → Read R T B (Item A B ℕ S D × Counters)
-  on_line n s = choose (accept leaves kinds.Comment s) (construct n s) (λ c. Ok ((comment_item c.0, n), c.1))
+  -- an item at the start of a line: a comment, or a construct
+  unfoldable pub any_item : Counters → State R T B → Read R T B (Item A B ℕ S D × Counters)
+  any_item n s = choose (accept leaves kinds.Comment s) (construct n s) (λ c. Ok ((comment_item c.0, n), c.1))
 
   -- a line end, which is an item; or the end of the file, which isn't an item and isn't taken
   unfoldable pub line_end : State R T B → Read R T B (List (Item A B ℕ S D))
@@ -326,8 +327,8 @@ module _ {R T A B S D W : Type 0} (leaves : Leaves R T A B S) (kept : AttributeL
       (λ x. Ok ([], s))
 
   -- an optional comment after an item, and the end of the line
-  unfoldable pub item_rest : State R T B → Read R T B (List (Item A B ℕ S D))
-  item_rest s =
+  unfoldable pub after_item : State R T B → Read R T B (List (Item A B ℕ S D))
+  after_item s =
       choose (accept leaves kinds.Comment s)
       (line_end s)
       (λ c. do
@@ -335,16 +336,16 @@ module _ {R T A B S D W : Type 0} (leaves : Leaves R T A B S) (kept : AttributeL
         Ok (comment_item c.0 ∷ end.0, end.1))
 
   -- the end of an item with or without a body; after a body a new line starts, so its line end is added
-  unfoldable pub ended : (has_body : Bool) → State R T B → Read R T B (List (Item A B ℕ S D))
-  ended has_body s = if has_body then Ok (tree.Newline ∷ [], s) else item_rest s
+  unfoldable pub item_end : (has_body : Bool) → State R T B → Read R T B (List (Item A B ℕ S D))
+  item_end has_body s = if has_body then Ok (tree.Newline ∷ [], s) else after_item s
 
   -- the items of a line: its end alone, or an item and the end after it
   unfoldable pub line : Counters → State R T B → Read R T B (List (Item A B ℕ S D) × Counters)
   line n s =
       choose (accept leaves kinds.Eol s)
       (do
-        i ← on_line n s
-        b ← ended (has_body i.0.0) i.1
+        i ← any_item n s
+        b ← item_end (has_body i.0.0) i.1
         Ok ((i.0.0 ∷ b.0, i.0.1), b.1))
       (λ newline. Ok ((tree.Newline ∷ [], n), newline.1))
 

@@ -1,4 +1,5 @@
--- The parts of the parser. It reads tokens from left to right, up to the first error, and collects features. It works on arbitrary tokens:
+-- The parts of the reader: its state, its errors, and how it takes tokens. It goes from left to right, up to the first error, and
+-- collects features. It works on arbitrary tokens:
 -- `Leaves` says what they are for the grammar, and what their projections to the tree are.
 use Rattle.std.specs.Prelude.{ℕ, ◌+◌, ◌-◌, Bool, true, false, ◌&&◌, List, [], ◌∷◌, ◌++◌, Option, Some, None, Result, Ok, Err, if◌then◌else◌}
 use Rattle.std.specs.Str.{bytes_eq, trim_end}
@@ -44,7 +45,7 @@ pub record Leaves (R T A B S : Type 0) : Type 0 where
   -- a counter at this value has a number left
   pub has_number : ℕ → Bool
 
--- the state of the parser: what stays fixed, the number of open expressions, the remaining tokens, and the features so far
+-- the state of the reader: what stays fixed, the number of open expressions, the remaining tokens, and the features so far
 pub record State (R T B : Type 0) : Type 0 where
   pub run : R
   pub depth : ℕ
@@ -57,7 +58,7 @@ pub record Counters : Type 0 where
   pub constants : ℕ
   pub recipes : ℕ
 
--- why tokens can't be parsed, and at which token; none at the end of the tokens
+-- why the reader can't read tokens, and at which token; none at the end of the tokens
 pub data ReadError (T B : Type 0) : Type 0 where
   -- no rule of the grammar continues with this token
   Unexpected : (token : Option T) → ReadError T B
@@ -146,7 +147,7 @@ module _ {R T B : Type 0} where
     Ok (done ++ more.0, more.1)
 
 module _ {R T A B S : Type 0} (leaves : Leaves R T A B S) where
-  -- the text of a comment, without trailing white space
+  -- the text of a comment, without trailing whitespace
   abbrev pub comment_in : T → List ℕ
   comment_in t = trim_end (leaves.see t).tok.lexeme
 
@@ -164,8 +165,8 @@ module _ {R T A B S : Type 0} (leaves : Leaves R T A B S) where
   accept kind s = accept_by (λ t. same_kind t.tok.kind kind) s s.left
 
   -- the next token if it is this word
-  unfoldable pub accept_word : List ℕ → State R T B → Taken R T B
-  accept_word word s = accept_by (is_word word) s s.left
+  unfoldable pub accept_keyword : List ℕ → State R T B → Taken R T B
+  accept_keyword word s = accept_by (is_word word) s s.left
 
   -- the string after the next token, if that token marks it; both are taken
   abbrev pub marked_by : List ℕ → TokenKind → State R T B → List T → Taken R T B

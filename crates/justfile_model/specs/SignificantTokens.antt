@@ -1,4 +1,4 @@
--- The tokens that the parser reads: all but whitespace.
+-- The tokens that the reader and the parser read: all but whitespace.
 use Rattle.std.specs.Prelude.{◌≡◌, ℕ, ◌+◌, Bool, true, false, cond, List, [], ◌∷◌, codes}
 use Rattle.std.specs.List.{AllByRecursion}
 use Rattle.justfile_vocabulary.specs.declared.token_kind.TokenKind.{TokenKind}

@@ -109,7 +109,8 @@ pub record Bound (Position : Type 0) : Type 0 where
   pub key : Position
   pub number : ℕ
 
--- what an `arg` attribute sets for a parameter
+-- What an `arg` attribute sets for a parameter, with the positions of its keys. In the code it is `ArgumentRules`, too; a parameter keeps a
+-- part of it, without positions, as `ArgAttribute`.
 pub record ArgumentRules (Leaf Position : Type 0) : Type 0 where
   pub flag : Option Position
   pub help : Option (Property Leaf Position)
@@ -222,7 +223,7 @@ pub record SettingParts (Leaf Position : Type 0) : Type 0 where
   pub name : Leaf
   pub value : SettingValue Leaf Position
 
--- a construct, which can have attributes
+-- A construct without its attributes. The content of a leaf, by which attributes are ordered, is something else: see `LeafView`.
 pub data Content (Leaf Position LineNumber Star : Type 0) : Type 0 where
   Alias : (parts : AliasParts Leaf) → Content Leaf Position LineNumber Star
   Assignment : (parts : AssignmentParts Leaf Position) → Content Leaf Position LineNumber Star
@@ -237,7 +238,7 @@ pub data Content (Leaf Position LineNumber Star : Type 0) : Type 0 where
 pub data Item (Leaf Position LineNumber Star Attributes : Type 0) : Type 0 where
   -- the end of a line, or a blank line
   Newline : Item Leaf Position LineNumber Star Attributes
-  -- a comment without trailing white space
+  -- a comment without trailing whitespace
   Comment : (text : List ℕ) → Item Leaf Position LineNumber Star Attributes
   -- a construct with its attributes
   Construct : (attributes : Attributes) (content : Content Leaf Position LineNumber Star) → Item Leaf Position LineNumber Star Attributes
@@ -316,10 +317,11 @@ abbrev pub trimmed : {A B C : Type 0} → List (BodyLine A B C) → List (BodyLi
 trimmed [] = []
 trimmed (l ∷ ls) = line_before l (trimmed ls)
 
--- the tree with other projections of its tokens
-module _ {A B C D : Type 0} (f : A → C) (g : B → D) where
+-- ---- trees with other projections of their tokens
+
+module _ {A B A' B' : Type 0} (f : A → A') (g : B → B') where
   abbrev mutual
-    pub over_expr : Expr A B → Expr C D
+    pub over_expr : Expr A B → Expr A' B'
     over_expr (Or l r) = Or (over_expr l) (over_expr r)
     over_expr (And l r) = And (over_expr l) (over_expr r)
     over_expr (Comparison l operator token r) = Comparison (over_expr l) operator (g token) (over_expr r)
@@ -341,41 +343,41 @@ module _ {A B C D : Type 0} (f : A → C) (g : B → D) where
     over_expr (Group e) = Group (over_expr e)
     over_expr (ListOf opener elements) = ListOf (g opener) (over_exprs elements)
 
-    pub over_exprs : Exprs A B → Exprs C D
+    pub over_exprs : Exprs A B → Exprs A' B'
     over_exprs none = none
     over_exprs (more e others) = more (over_expr e) (over_exprs others)
 
-    pub over_parts : Parts A B → Parts C D
+    pub over_parts : Parts A B → Parts A' B'
     over_parts (Last token) = Last (f token)
     over_parts (Continue token e parts) = Continue (f token) (over_expr e) (over_parts parts)
 
-  abbrev pub over_fragment : Fragment A B → Fragment C D
+  abbrev pub over_fragment : Fragment A B → Fragment A' B'
   over_fragment (Text token) = Text (f token)
   over_fragment (Interpolation value) = Interpolation (over_expr value)
 
-  abbrev pub over_argument : Argument A B → Argument C D
+  abbrev pub over_argument : Argument A B → Argument A' B'
   over_argument (Positional first value) = Positional (g first) (over_expr value)
   over_argument (Bare key) = Bare (f key)
   over_argument (Keyed key value) = Keyed (f key) (over_expr value)
 
-  abbrev pub over_written_attribute : WrittenAttribute A B → WrittenAttribute C D
+  abbrev pub over_written_attribute : WrittenAttribute A B → WrittenAttribute A' B'
   over_written_attribute w = record { name = f w.name; arguments = map over_argument w.arguments; comment = w.comment }
 
-  abbrev pub over_quoted : Quoted A → Quoted C
+  abbrev pub over_quoted : Quoted A → Quoted A'
   over_quoted q = record { expanded = q.expanded; token = f q.token }
 
-  abbrev pub over_option : OptionName A B → OptionName C D
+  abbrev pub over_option : OptionName A B → OptionName A' B'
   over_option NoOption = NoOption
   over_option (OwnName key) = OwnName (g key)
   over_option (Named name) = Named (over_quoted name)
 
-  abbrev pub over_property : Property A B → Property C D
+  abbrev pub over_property : Property A B → Property A' B'
   over_property p = record { key = g p.key; value = over_expr p.value }
 
-  abbrev pub over_bound : Bound B → Bound D
+  abbrev pub over_bound : Bound B → Bound B'
   over_bound b = record { key = g b.key; number = b.number }
 
-  abbrev pub over_rules : ArgumentRules A B → ArgumentRules C D
+  abbrev pub over_rules : ArgumentRules A B → ArgumentRules A' B'
   over_rules a = record {
     flag = option_map g a.flag;
     help = option_map over_property a.help;
@@ -389,7 +391,7 @@ module _ {A B C D : Type 0} (f : A → C) (g : B → D) where
     value = option_map over_expr a.value;
   }
 
-  abbrev pub over_attribute : Attribute A B → Attribute C D
+  abbrev pub over_attribute : Attribute A B → Attribute A' B'
   over_attribute (Plain kind) = Plain kind
   over_attribute (Single kind value) = Single kind (over_expr value)
   over_attribute (Texts kind texts) = Texts kind (map over_quoted texts)
@@ -398,33 +400,33 @@ module _ {A B C D : Type 0} (f : A → C) (g : B → D) where
   over_attribute (Cache extra inputs outputs) = Cache (option_map over_expr extra) (option_map over_expr inputs) (option_map over_expr outputs)
   over_attribute (Arg rules) = Arg (over_rules rules)
 
-  abbrev pub over_alias : AliasParts A → AliasParts C
+  abbrev pub over_alias : AliasParts A → AliasParts A'
   over_alias a = record { name = f a.name; target = map f a.target }
 
-  abbrev pub over_function : FunctionParts A B → FunctionParts C D
+  abbrev pub over_function : FunctionParts A B → FunctionParts A' B'
   over_function a = record { name = f a.name; parameters = map f a.parameters; body = over_expr a.body }
 
-  abbrev pub over_import : ImportParts A → ImportParts C
+  abbrev pub over_import : ImportParts A → ImportParts A'
   over_import i = record { optional = i.optional; path = over_quoted i.path }
 
-  abbrev pub over_module : ModuleParts A → ModuleParts C
+  abbrev pub over_module : ModuleParts A → ModuleParts A'
   over_module m = record { doc = m.doc; optional = m.optional; name = f m.name; path = option_map over_quoted m.path }
 
-  abbrev pub over_setting_value : SettingValue A B → SettingValue C D
+  abbrev pub over_setting_value : SettingValue A B → SettingValue A' B'
   over_setting_value (Truth value) = Truth value
   over_setting_value (Value value) = Value (over_expr value)
   over_setting_value (Interpreter command arguments) = Interpreter (over_expr command) (over_exprs arguments)
 
-  abbrev pub over_setting : SettingParts A B → SettingParts C D
+  abbrev pub over_setting : SettingParts A B → SettingParts A' B'
   over_setting s = record { keyword = s.keyword; name = f s.name; value = over_setting_value s.value }
 
-  abbrev pub over_assignment : AssignmentParts A B → AssignmentParts C D
+  abbrev pub over_assignment : AssignmentParts A B → AssignmentParts A' B'
   over_assignment a = record { eager = a.eager; export = a.export; name = f a.name; value = over_expr a.value }
 
-  abbrev pub over_parameter : Parameter A B → Parameter C D
+  abbrev pub over_parameter : Parameter A B → Parameter A' B'
   over_parameter p = record { kind = p.kind; export = p.export; name = f p.name; default = option_map over_expr p.default }
 
-  abbrev pub over_entry : Entry A B → Entry C D
+  abbrev pub over_entry : Entry A B → Entry A' B'
   over_entry e = record { name = g e.name; attribute = over_attribute e.attribute; comment = e.comment }
 
 module _ {A B C A' B' C' : Type 0} (f : A → A') (g : B → B') (h : C → C') where
@@ -466,7 +468,8 @@ module _ {A B C S A' B' C' S' : Type 0} (f : A → A') (g : B → B') (h : C →
   over_item attributes_over (Comment text) = Comment text
   over_item attributes_over (Construct attributes content) = Construct (attributes_over attributes) (over_content content)
 
--- without the tokens of stars
+-- ---- constructs without the tokens of stars, which only keep whether there is a star
+
 abbrev pub starless_argument : {A B S : Type 0} → DependencyArgument A B S → DependencyArgument A B (Unit {0})
 starless_argument a = record { star = option_map (λ star. tt) a.star; value = a.value }
 
@@ -486,6 +489,8 @@ starless (Module parts) = Module parts
 starless (Recipe parts) = Recipe (record { doc = parts.doc; header = starless_header parts.header; comment = parts.comment; body = parts.body })
 starless (Setting parts) = Setting parts
 starless (Unexport name) = Unexport name
+
+-- ---- trees and their shapes
 
 -- the projection of a leaf in a shape
 abbrev pub lexeme : Tok → List ℕ

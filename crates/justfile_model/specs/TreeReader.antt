@@ -39,7 +39,7 @@ token_attributes = record {
   attributes = λ conditions xs. map (λ (x : ReadAttribute). x.written) xs;
 }
 
--- the state of the parser, which keeps the conditions of the file
+-- the state of the reader, which keeps the conditions of the file
 abbrev pub State : Type 0
 State = reading.State Conditions SignificantToken Tok
 

@@ -19,23 +19,29 @@ pub fn content_order<A, B>()
     ensures total { (view : LeafView A B) → IsTotalOrder (entry_cmp view) }
     ensures sorted { (view : LeafView A B) (entries : List (Entry A B))
         → IsStableSort (entry_cmp view) entries (in_order (entry_cmp view) entries) }
-    ensures one { (view : LeafView A B) (entries others : List (Entry A B)) → IsStableSort (entry_cmp view) entries others
+    ensures one { (view : LeafView A B) (entries others : List (Entry A B))
+        → IsStableSort (entry_cmp view) entries others
         → others ≡ in_order (entry_cmp view) entries }
     ensures twice { (view : LeafView A B) (entries : List (Entry A B))
-        → in_order (entry_cmp view) (in_order (entry_cmp view) entries) ≡ in_order (entry_cmp view) entries }
+        → in_order (entry_cmp view) (in_order (entry_cmp view) entries)
+        ≡ in_order (entry_cmp view) entries }
 {}
 
 /// An attribute that is made from arguments is what the arguments mean, and they break no rule. If
 /// the literals among the arguments have texts, an error names a rule that is broken, and arguments
 /// that break no rule make an attribute.
 pub fn attributes_made<A, B>()
-    ensures made { (view : LeafView A B) (at : B) (kind : AttributeKind) (placed : List (Placed A B)) (keys : List (KeyArgument A B))
+    ensures made { (view : LeafView A B) (at : B) (kind : AttributeKind)
+        (placed : List (Placed A B)) (keys : List (KeyArgument A B))
         (a : Attribute A B) → new_attribute view at kind placed keys ≡ Ok a
-        → (attribute_of view kind placed keys ≡ Some a) × (arguments_broken view at kind placed keys ≡ []) }
-    ensures refused { (view : LeafView A B) (at : B) (kind : AttributeKind) (placed : List (Placed A B)) (keys : List (KeyArgument A B))
+        → (attribute_of view kind placed keys ≡ Some a)
+        × (arguments_broken view at kind placed keys ≡ []) }
+    ensures refused { (view : LeafView A B) (at : B) (kind : AttributeKind)
+        (placed : List (Placed A B)) (keys : List (KeyArgument A B))
         (r : Broken B) → new_attribute view at kind placed keys ≡ Err r → HasTexts view placed keys
         → Contains (arguments_broken view at kind placed keys) r }
-    ensures unbroken { (view : LeafView A B) (at : B) (kind : AttributeKind) (placed : List (Placed A B)) (keys : List (KeyArgument A B))
+    ensures unbroken { (view : LeafView A B) (at : B) (kind : AttributeKind)
+        (placed : List (Placed A B)) (keys : List (KeyArgument A B))
         → arguments_broken view at kind placed keys ≡ [] → HasTexts view placed keys
         → (a : Attribute A B) × (new_attribute view at kind placed keys ≡ Ok a) }
 {}

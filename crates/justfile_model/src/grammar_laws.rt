@@ -27,57 +27,78 @@ ghost use Rattle.justfile_model.specs.TreeReader.{ReadError, State, tree_of_toke
 pub fn reads()
     // A written tree is parsed exactly if the grammar derives it under the limit, and it obeys the
     // conditions.
-    ensures derives { (C : Conditions) (ts : List SignificantToken) (written : WrittenTree) (features : List (Noted Tok))
+    ensures derives { (C : Conditions) (ts : List SignificantToken) (written : WrittenTree)
+        (features : List (Noted Tok))
         → tree_of_tokens C ts ≡ Ok (written, features)
-        → (fs : List (ConstructFeatures Tok)) × File to_tokens (BelowLimit C.limit) written fs ts × Obeys C written
+        → (fs : List (ConstructFeatures Tok)) × File to_tokens (BelowLimit C.limit) written fs ts
+        × Obeys C written
         × (features ≡ all_features (views_tokens C.expander) written fs) }
-    ensures read { (C : Conditions) (ts : List SignificantToken) (written : WrittenTree) (fs : List (ConstructFeatures Tok))
+    ensures read { (C : Conditions) (ts : List SignificantToken) (written : WrittenTree)
+        (fs : List (ConstructFeatures Tok))
         → File to_tokens (BelowLimit C.limit) written fs ts → Obeys C written
         → tree_of_tokens C ts ≡ Ok (written, all_features (views_tokens C.expander) written fs) }
     // A tree is derived exactly if a written tree with its meaning is parsed.
-    ensures sound { (C : Conditions) (ts : List SignificantToken) (written : WrittenTree) (features : List (Noted Tok))
+    ensures sound { (C : Conditions) (ts : List SignificantToken) (written : WrittenTree)
+        (features : List (Noted Tok))
         → tree_of_tokens C ts ≡ Ok (written, features)
-        → (tree : Tree) × (ordered (views_tokens C.expander) written ≡ Some tree) × FileDerives C ts tree features }
-    ensures complete { (C : Conditions) (ts : List SignificantToken) (tree : Tree) (features : List (Noted Tok))
+        → (tree : Tree) × (ordered (views_tokens C.expander) written ≡ Some tree)
+        × FileDerives C ts tree features }
+    ensures complete { (C : Conditions) (ts : List SignificantToken) (tree : Tree)
+        (features : List (Noted Tok))
         → FileDerives C ts tree features
-        → (written : WrittenTree) × (ordered (views_tokens C.expander) written ≡ Some tree) × (tree_of_tokens C ts ≡ Ok (written, features)) }
+        → (written : WrittenTree) × (ordered (views_tokens C.expander) written ≡ Some tree)
+        × (tree_of_tokens C ts ≡ Ok (written, features)) }
     // If only expressions that begin at the given tokens exceed the limit, the tree is parsed, or
     // the error is the depth at one of these tokens.
-    ensures deep { (C : Conditions) (ts : List SignificantToken) (written : WrittenTree) (fs : List (ConstructFeatures Tok))
+    ensures deep { (C : Conditions) (ts : List SignificantToken) (written : WrittenTree)
+        (fs : List (ConstructFeatures Tok))
         (Hit : Option SignificantToken → Bool)
-        → File to_tokens (PastLimitAt C.limit (λ at. IsTrue (Hit at))) written fs ts → Obeys C written
-        → (tree_of_tokens C ts ≡ Ok (written, all_features (views_tokens C.expander) written fs)) ⊎ ((at : Option SignificantToken) × IsTrue (Hit at)
+        → File to_tokens (PastLimitAt C.limit (λ at. IsTrue (Hit at))) written fs ts
+        → Obeys C written
+        → (tree_of_tokens C ts ≡ Ok (written, all_features (views_tokens C.expander) written fs))
+        ⊎ ((at : Option SignificantToken) × IsTrue (Hit at)
         × (tree_of_tokens C ts ≡ Err (TooDeep at))) }
     // If the grammar derives a tree without the limit, the tree is parsed, or the error is the
     // depth at some token.
-    ensures free { (C : Conditions) (ts : List SignificantToken) (written : WrittenTree) (fs : List (ConstructFeatures Tok))
+    ensures free { (C : Conditions) (ts : List SignificantToken) (written : WrittenTree)
+        (fs : List (ConstructFeatures Tok))
         → FileTree ts written fs → Obeys C written
-        → (tree_of_tokens C ts ≡ Ok (written, all_features (views_tokens C.expander) written fs)) ⊎ ((at : Option SignificantToken) × (tree_of_tokens C ts ≡ Err (TooDeep at))) }
+        → (tree_of_tokens C ts ≡ Ok (written, all_features (views_tokens C.expander) written fs))
+        ⊎ ((at : Option SignificantToken) × (tree_of_tokens C ts ≡ Err (TooDeep at))) }
     // If only expressions that begin at the given tokens exceed the limit, an error is the first
     // literal without a text, a broken rule, or the depth at one of these tokens.
-    ensures due { (C : Conditions) (ts : List SignificantToken) (written : WrittenTree) (fs : List (ConstructFeatures Tok))
+    ensures due { (C : Conditions) (ts : List SignificantToken) (written : WrittenTree)
+        (fs : List (ConstructFeatures Tok))
         (Hit : Option SignificantToken → Bool)
         → File to_tokens (PastLimitAt C.limit (λ at. IsTrue (Hit at))) written fs ts
-        → (r : ReadError) → tree_of_tokens C ts ≡ Err r → IsDue C (λ at. IsTrue (Hit at)) written r }
+        → (r : ReadError) → tree_of_tokens C ts ≡ Err r
+        → IsDue C (λ at. IsTrue (Hit at)) written r }
     // By the grammar alone: an error is the first literal without a text, a broken rule, or the
     // depth at some token.
-    ensures refused { (C : Conditions) (ts : List SignificantToken) (written : WrittenTree) (fs : List (ConstructFeatures Tok))
+    ensures refused { (C : Conditions) (ts : List SignificantToken) (written : WrittenTree)
+        (fs : List (ConstructFeatures Tok))
         → FileTree ts written fs
         → (r : ReadError) → tree_of_tokens C ts ≡ Err r → IsDue C (λ at. Unit {0}) written r }
-    ensures one { (C : Conditions) (ts : List SignificantToken) (tree other : Tree) (features others : List (Noted Tok))
-        → FileDerives C ts tree features → FileDerives C ts other others → (tree ≡ other) × (features ≡ others) }
+    ensures one { (C : Conditions) (ts : List SignificantToken) (tree other : Tree)
+        (features others : List (Noted Tok))
+        → FileDerives C ts tree features → FileDerives C ts other others
+        → (tree ≡ other) × (features ≡ others) }
 {}
 
 /// A tree has at most as many bindings and recipes as its tokens have identifiers. The counters
 /// grow by the numbers of bindings and recipes in the tree.
 pub fn counts()
-    ensures whole { (C : Conditions) (ts : List SignificantToken) (x : WrittenTree × List (Noted Tok)) → tree_of_tokens C ts ≡ Ok x
+    ensures whole { (C : Conditions) (ts : List SignificantToken)
+        (x : WrittenTree × List (Noted Tok)) → tree_of_tokens C ts ≡ Ok x
         → bindings x.0 + recipes x.0 ≤ identifiers ts }
-    ensures bindings { (n : Counters) (s : State) (x : (WrittenTree × Counters) × State) → items token_leaves token_attributes n s ≡ Ok x
+    ensures bindings { (n : Counters) (s : State) (x : (WrittenTree × Counters) × State)
+        → items token_leaves token_attributes n s ≡ Ok x
         → x.0.1.bindings ≡ n.bindings + bindings x.0.0 }
-    ensures recipes { (n : Counters) (s : State) (x : (WrittenTree × Counters) × State) → items token_leaves token_attributes n s ≡ Ok x
+    ensures recipes { (n : Counters) (s : State) (x : (WrittenTree × Counters) × State)
+        → items token_leaves token_attributes n s ≡ Ok x
         → x.0.1.recipes ≡ n.recipes + recipes x.0.0 }
-    ensures constants { (n : Counters) (s : State) (x : (WrittenTree × Counters) × State) → items token_leaves token_attributes n s ≡ Ok x
+    ensures constants { (n : Counters) (s : State) (x : (WrittenTree × Counters) × State)
+        → items token_leaves token_attributes n s ≡ Ok x
         → x.0.1.constants ≡ n.constants }
 {}
 
@@ -120,18 +141,25 @@ pub fn needs()
 /// exactly if they derive its shape, with the same features up to the projections of their tokens.
 /// They derive at most one shape with its features. Literals have at most one list of texts.
 pub fn shapes()
-    ensures spelled { (source : List ℕ) (tokens : List Tok) → Lexed source tokens → AllSpelled (significant_tokens tokens) }
-    ensures forget { (C : Conditions) (ts : List SignificantToken) → AllSpelled ts → (tree : Tree) (features : List (Noted Tok))
+    ensures spelled { (source : List ℕ) (tokens : List Tok) → Lexed source tokens
+        → AllSpelled (significant_tokens tokens) }
+    ensures forget { (C : Conditions) (ts : List SignificantToken) → AllSpelled ts
+        → (tree : Tree) (features : List (Noted Tok))
         → FileDerives C ts tree features
         → ShapeDerives C ts (shape_of tree) (map (over_noted nothing) features) }
-    ensures lift { (C : Conditions) (ts : List SignificantToken) → AllSpelled ts → (shape : Shape) (features : List (Noted (Unit {0})))
+    ensures lift { (C : Conditions) (ts : List SignificantToken) → AllSpelled ts
+        → (shape : Shape) (features : List (Noted (Unit {0})))
         → ShapeDerives C ts shape features
-        → (tree : Tree) × (noted : List (Noted Tok)) × FileDerives C ts tree noted × (shape_of tree ≡ shape)
+        → (tree : Tree) × (noted : List (Noted Tok)) × FileDerives C ts tree noted
+        × (shape_of tree ≡ shape)
         × (map (over_noted nothing) noted ≡ features) }
-    ensures one { (C : Conditions) (ts : List SignificantToken) → AllSpelled ts → (shape other : Shape)
+    ensures one { (C : Conditions) (ts : List SignificantToken) → AllSpelled ts
+        → (shape other : Shape)
         (features others : List (Noted (Unit {0})))
-        → ShapeDerives C ts shape features → ShapeDerives C ts other others → (shape ≡ other) × (features ≡ others) }
-    ensures texts { (E : Expansions) (literals : List (Literal (List ℕ))) (texts others : List (List ℕ)) → AreCookedTexts E literals texts
+        → ShapeDerives C ts shape features → ShapeDerives C ts other others
+        → (shape ≡ other) × (features ≡ others) }
+    ensures texts { (E : Expansions) (literals : List (Literal (List ℕ)))
+        (texts others : List (List ℕ)) → AreCookedTexts E literals texts
         → AreCookedTexts E literals others → texts ≡ others }
 {}
 
@@ -148,9 +176,11 @@ pub fn normal_twice()
 /// The indentation of a file depends on its shape only, and is the same for the normal form. The
 /// literal that sets it is an indentation.
 pub fn indentations()
-    ensures shape { (tree : Tree) → indentation_of (shape_of tree) ≡ option_map lexeme (indentation_of tree) }
+    ensures shape { (tree : Tree)
+        → indentation_of (shape_of tree) ≡ option_map lexeme (indentation_of tree) }
     ensures normal { (s : Shape) → indentation_of (normal s) ≡ indentation_of s }
-    ensures said { (C : Conditions) (ts : List SignificantToken) (shape : Shape) (features : List (Noted (Unit {0})))
+    ensures literal { (C : Conditions) (ts : List SignificantToken) (shape : Shape)
+        (features : List (Noted (Unit {0})))
         → ShapeDerives C ts shape features → IfSome (indentation_of shape)
         (λ literal. (text : List ℕ) × (string_text literal ≡ Ok text) × IsIndentation text) }
 {}
@@ -158,25 +188,30 @@ pub fn indentations()
 /// Tokens that derive with an expander derive the same with an expander that has more results.
 pub fn expanders()
     ensures tree { (C : Conditions) (F : Expansions) → Within C.expander F
-        → (ts : List SignificantToken) (tree : Tree) (features : List (Noted Tok)) → FileDerives C ts tree features
+        → (ts : List SignificantToken) (tree : Tree) (features : List (Noted Tok))
+        → FileDerives C ts tree features
         → FileDerives (with_expander F C) ts tree features }
     ensures shape { (C : Conditions) (F : Expansions) → Within C.expander F
-        → (ts : List SignificantToken) (shape : Shape) (features : List (Noted (Unit {0}))) → ShapeDerives C ts shape features
+        → (ts : List SignificantToken) (shape : Shape) (features : List (Noted (Unit {0})))
+        → ShapeDerives C ts shape features
         → ShapeDerives (with_expander F C) ts shape features }
 {}
 
 /// The printed text depends on the normal shape and the indentation only.
 pub fn printing()
-    ensures { (s r : Shape) (indentation : List ℕ) → normal s ≡ normal r → text (normal s) indentation ≡ text (normal r) indentation }
+    ensures { (s r : Shape) (indentation : List ℕ) → normal s ≡ normal r
+        → text (normal s) indentation ≡ text (normal r) indentation }
 {}
 
 /// If no attribute and no recipe has a comment, the printed text is the one that ignores comments.
 pub fn uncommented()
-    ensures { (s : Shape) (indentation : List ℕ) → HasNoComments s → text (normal s) indentation ≡ uncommented_text (normal s) indentation }
+    ensures { (s : Shape) (indentation : List ℕ) → HasNoComments s
+        → text (normal s) indentation ≡ uncommented_text (normal s) indentation }
 {}
 
 /// The numbers of a parse are distinct and ascend in the order of parsing.
 pub fn numbers_rise()
-    ensures { (first : ℕ) (numbers : List ℕ) → NumbersFrom first numbers → (i j : ℕ) → i < j → j < length numbers
+    ensures { (first : ℕ) (numbers : List ℕ) → NumbersFrom first numbers → (i j : ℕ) → i < j
+        → j < length numbers
         → slice_index numbers i < slice_index numbers j }
 {}

@@ -12,13 +12,16 @@ ghost use Rattle.justfile_model.specs.Lexed.{Begins, EndsInEof, Follows, IsAnswe
 /// A text has at most one list of tokens or one fault, and never both.
 pub fn one_answer()
     ensures list { (text : List ℕ) (ts us : List Tok) → Lexed text ts → Lexed text us → ts ≡ us }
-    ensures fault { (text : List ℕ) (p q : LexicalFault) (t u : Tok) → IsFault text p t → IsFault text q u → (p ≡ q) × (t ≡ u) }
-    ensures never_both { (text : List ℕ) (ts : List Tok) (p : LexicalFault) (t : Tok) → Lexed text ts → IsFault text p t → ⊥ }
+    ensures fault { (text : List ℕ) (p q : LexicalFault) (t u : Tok) → IsFault text p t
+        → IsFault text q u → (p ≡ q) × (t ≡ u) }
+    ensures never_both { (text : List ℕ) (ts : List Tok) (p : LexicalFault) (t : Tok)
+        → Lexed text ts → IsFault text p t → ⊥ }
 {}
 
 /// The tokens of a text, concatenated, are the text.
 pub fn tiling()
-    ensures { (text : List ℕ) (ts : List Tok) → IsUtf8 text → Lexed text ts → flat_map (λ t. t.lexeme) ts ≡ text }
+    ensures { (text : List ℕ) (ts : List Tok) → IsUtf8 text → Lexed text ts
+        → flat_map (λ t. t.lexeme) ts ≡ text }
 {}
 
 /// Tokens each of which is the next one after those before it are the tokens of the text.
@@ -28,7 +31,8 @@ pub fn in_order()
 
 /// The offsets of the tokens never decrease.
 pub fn offsets_rise()
-    ensures { (text : List ℕ) (ts : List Tok) → Lexed text ts → IsNonDecreasingBy (λ t. t.offset) ts }
+    ensures { (text : List ℕ) (ts : List Tok) → Lexed text ts
+        → IsNonDecreasingBy (λ t. t.offset) ts }
 {}
 
 /// The last token is the only `Eof`. It is empty and at the end of the text.
@@ -40,7 +44,8 @@ pub fn eof_is_last()
 /// starts: at the start of the text, and after a token that ends a line. The end of a text that
 /// isn't empty is never at column 0.
 pub fn lines_start_at_column_0()
-    ensures text_left { (text : List ℕ) (earlier : List Tok) → IsUtf8 text → Begins text earlier → end_of earlier < length text
+    ensures text_left { (text : List ℕ) (earlier : List Tok) → IsUtf8 text → Begins text earlier
+        → end_of earlier < length text
         → (mode earlier).line_start ≡ (column_at text (end_of earlier) == 0) }
     ensures no_text_left { (text : List ℕ) → 0 < length text → 0 < column_at text (length text) }
 {}

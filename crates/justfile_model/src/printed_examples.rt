@@ -7,12 +7,22 @@ ghost use Rattle.justfile_model.specs.declared.parameter_kind.ParameterKind.TheV
 
 /// A header has its parameters before the colon and its dependencies after it.
 pub fn headers()
-    ensures bare { header_text (record { quiet = false; name = codes "foo"; parameters = []; priors = []; subsequents = [] }) ≡ codes "foo:" }
+    ensures bare { header_text (record {
+      quiet = false;
+      name = codes "foo";
+      parameters = [];
+      priors = [];
+      subsequents = [];
+    }) ≡ codes "foo:" }
     ensures whole { header_text (record {
       quiet = true;
       name = codes "_build";
-      parameters = record { kind = Singular; export = true; name = codes "mode"; default = Some (StringLiteral false (codes "'a'")) }
-          ∷ record { kind = Star; export = false; name = codes "args"; default = None } ∷ [];
+      parameters = record {
+        kind = Singular;
+        export = true;
+        name = codes "mode";
+        default = Some (StringLiteral false (codes "'a'"));
+      } ∷ record { kind = Star; export = false; name = codes "args"; default = None } ∷ [];
       priors = record { star = None; path = codes "dep" ∷ []; arguments = [] }
           ∷ record {
             star = Some tt;
@@ -41,21 +51,71 @@ pub fn headers()
 
 /// The keywords before an assignment, and the doc of a recipe.
 pub fn constructs()
-    ensures exported { content_text (Assignment (record { eager = false; export = true; name = codes "a"; value = Variable (codes "b") })) []
-        ≡ codes "export a := b" }
-    ensures eager { content_text (Assignment (record { eager = true; export = true; name = codes "a"; value = Variable (codes "b") })) []
-        ≡ codes "eager export a := b" }
-    ensures doc { item_text (Construct [] (Recipe (record { doc = Some (codes "bar"); header = record { quiet = false; name = codes "foo"; parameters = []; priors = []; subsequents = [] }; comment = None; body = [] }))) []
-        ≡ codes "# bar\nfoo:" }
+    ensures exported { content_text (Assignment (record {
+      eager = false;
+      export = true;
+      name = codes "a";
+      value = Variable (codes "b");
+    })) [] ≡ codes "export a := b" }
+    ensures eager { content_text (Assignment (record {
+      eager = true;
+      export = true;
+      name = codes "a";
+      value = Variable (codes "b");
+    })) [] ≡ codes "eager export a := b" }
+    ensures doc { item_text (Construct [] (Recipe (record {
+      doc = Some (codes "bar");
+      header = record {
+        quiet = false;
+        name = codes "foo";
+        parameters = [];
+        priors = [];
+        subsequents = [];
+      };
+      comment = None;
+      body = [];
+    }))) [] ≡ codes "# bar\nfoo:" }
     // A doc is printed before the attributes.
-    ensures doc_first { item_text (Construct (bare_entry tt (Plain Private) ∷ [])
-        (Recipe (record { doc = Some (codes "x"); header = record { quiet = false; name = codes "foo"; parameters = []; priors = []; subsequents = [] }; comment = None; body = [] }))) []
-        ≡ codes "# x\n[private]\nfoo:" }
+    ensures doc_first { item_text (Construct (bare_entry tt (Plain Private) ∷ []) (Recipe (record {
+      doc = Some (codes "x");
+      header = record {
+        quiet = false;
+        name = codes "foo";
+        parameters = [];
+        priors = [];
+        subsequents = [];
+      };
+      comment = None;
+      body = [];
+    }))) [] ≡ codes "# x\n[private]\nfoo:" }
     // Comments are printed at the ends of the lines of attributes and of the header.
-    ensures comments { item_text (Construct (commented_entry (codes "# a") (bare_entry tt (Plain Private)) ∷ [])
-        (Recipe (bare_recipe (record { quiet = false; name = codes "foo"; parameters = []; priors = []; subsequents = [] }) (Some (codes "# b")) (Line tt (Text (codes "x") ∷ []) ∷ [])))) (codes "  ")
+    ensures comments { item_text
+        (Construct (commented_entry (codes "# a") (bare_entry tt (Plain Private)) ∷ [])
+        (Recipe (bare_recipe (record {
+          quiet = false;
+          name = codes "foo";
+          parameters = [];
+          priors = [];
+          subsequents = [];
+        }) (Some (codes "# b")) (Line tt (Text (codes "x") ∷ []) ∷ [])))) (codes "  ")
         ≡ codes "[private] # a\nfoo: # b\n  x" }
-    ensures empty_doc { item_text (Construct [] (Recipe (record { doc = Some []; header = record { quiet = false; name = codes "foo"; parameters = []; priors = []; subsequents = [] }; comment = None; body = [] }))) []
-        ≡ codes "#\nfoo:" }
-    ensures no_doc { item_text (Construct [] (Recipe (bare_recipe (record { quiet = false; name = codes "foo"; parameters = []; priors = []; subsequents = [] }) None []))) [] ≡ codes "foo:" }
+    ensures empty_doc { item_text (Construct [] (Recipe (record {
+      doc = Some [];
+      header = record {
+        quiet = false;
+        name = codes "foo";
+        parameters = [];
+        priors = [];
+        subsequents = [];
+      };
+      comment = None;
+      body = [];
+    }))) [] ≡ codes "#\nfoo:" }
+    ensures no_doc { item_text (Construct [] (Recipe (bare_recipe (record {
+      quiet = false;
+      name = codes "foo";
+      parameters = [];
+      priors = [];
+      subsequents = [];
+    }) None []))) [] ≡ codes "foo:" }
 {}

@@ -20,7 +20,7 @@ use Rattle.justfile_item.specs.declared.item.Item.TheVariants as items
 use Rattle.justfile_model.specs.AttributeKinds.{same_attribute}
 use Rattle.justfile_model.specs.ContentKeys.{kind_of_attribute}
 use Rattle.justfile_model.specs.Docs.{LineEnd, doc_in}
-use Rattle.justfile_model.specs.Files.{says_doc}
+use Rattle.justfile_model.specs.Files.{sets_doc}
 use Rattle.justfile_model.specs.Tree as tree
 use Rattle.justfile_parse.specs.Docs.{LeafItem, comment_of, doc_before, doc_first, is_newline}
 use Rattle.justfile_parse_item.specs.Tree.{item_tree}
@@ -37,14 +37,14 @@ last_first xs n x h e =
     ap (λ (l : List Item). reverse (map item_tree l)) (take_more xs n x h ∙ ap (λ (y : Item). take n xs ++ y ∷ []) (sym e))
     ∙ ap (λ (l : List LeafItem). reverse l) (map-append item_tree (take n xs) (x ∷ [])) ∙ reverse-append (map item_tree (take n xs)) (item_tree x ∷ [])
 
-pub item_whole : (xs : List Item) (n : ℕ) (x : Item) → n < length xs → x ≡ get_or xs n x → HaveDerivedFields xs → HasDerivedItemFields x
+pub item_fields : (xs : List Item) (n : ℕ) (x : Item) → n < length xs → x ≡ get_or xs n x → HaveDerivedFields xs → HasDerivedItemFields x
 unfolding HaveDerivedFields
-item_whole xs n x h e whole = subst HasDerivedItemFields (sym e) (All-get_or HasDerivedItemFields xs n x h whole)
+item_fields xs n x h e fields = subst HasDerivedItemFields (sym e) (All-get_or HasDerivedItemFields xs n x h fields)
 
 -- the comment that an item is begins with its sign
 pub comment_begins : (xs : List Item) (n : ℕ) (x : Item) → n < length xs → x ≡ get_or xs n x → HaveDerivedFields xs → (text : List ℕ) → comment_of (item_tree x) ≡ Some text
     → IsTrue (starts_with nat_eq text (codes "#"))
-comment_begins xs n x h e whole text is = go x (item_whole xs n x h e whole) is
+comment_begins xs n x h e fields text is = go x (item_fields xs n x h e fields) is
   where
     go : (y : Item) → HasDerivedItemFields y → comment_of (item_tree y) ≡ Some text → IsTrue (starts_with nat_eq text (codes "#"))
     go (items.Comment other) w k = subst (λ (t : List ℕ). IsTrue (starts_with nat_eq t (codes "#"))) (some_is other.now text k) w
@@ -100,21 +100,21 @@ module _ (xs : List Item) (k m n : ℕ) (last : k + 1 ≡ length xs) (second : m
   pub after_other : is_newline (item_tree z) ≡ false → doc_before (map item_tree xs) ≡ None
   after_other h = doc_of_three ∙ no_start (item_tree z) others text h
 
--- ---- an item that wants a doc
+-- ---- an item that can take a doc
 
 kind_is : (a : Attribute) → same_attribute (kind_of_attribute (leaf_attribute_of a)) kinds.Doc ≡ is_of_kind kinds.Doc a
 unfolding kind_of
 kind_is a = ap (λ (k : AttributeKind). same_attribute k kinds.Doc) (sym (kind_seen a))
 
-pairs_say : (pairs : List Pair) → says_doc (map leaf_entry_of pairs) ≡ has_kind kinds.Doc (firsts pairs)
-pairs_say [] = refl
-pairs_say (p ∷ ps) = λ i. kind_is p.0 i || pairs_say ps i
+pairs_set : (pairs : List Pair) → sets_doc (map leaf_entry_of pairs) ≡ has_kind kinds.Doc (firsts pairs)
+pairs_set [] = refl
+pairs_set (p ∷ ps) = λ i. kind_is p.0 i || pairs_set ps i
 
--- neither an attribute says a doc, nor is there one yet
+-- no attribute sets a doc, and the item has none yet
 pub lacks_is : (set : AttributeSet) (doc : Option (String Global))
-    → (not (has_kind kinds.Doc (attributes_of set)) && not (is_some doc)) ≡ (true && not (says_doc (leaf_entries_of set)) && not (is_some (option_map string_bytes doc)))
-lacks_is set doc = ap (λ (c : Bool). not c && not (is_some doc)) (sym (pairs_say (written_of set))) ∙ by_doc doc
+    → (not (has_kind kinds.Doc (attributes_of set)) && not (is_some doc)) ≡ (true && not (sets_doc (leaf_entries_of set)) && not (is_some (option_map string_bytes doc)))
+lacks_is set doc = ap (λ (c : Bool). not c && not (is_some doc)) (sym (pairs_set (written_of set))) ∙ by_doc doc
   where
-    by_doc : (o : Option (String Global)) → (not (says_doc (leaf_entries_of set)) && not (is_some o)) ≡ (true && not (says_doc (leaf_entries_of set)) && not (is_some (option_map string_bytes o)))
+    by_doc : (o : Option (String Global)) → (not (sets_doc (leaf_entries_of set)) && not (is_some o)) ≡ (true && not (sets_doc (leaf_entries_of set)) && not (is_some (option_map string_bytes o)))
     by_doc None = refl
     by_doc (Some s) = refl

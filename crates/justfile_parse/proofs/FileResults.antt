@@ -19,7 +19,7 @@ use Rattle.justfile_model.specs.Expressions.{front}
 use Rattle.justfile_model.specs.Features.{Noted}
 use Rattle.justfile_recipe_header.specs.Header.{parameter_of}
 use Rattle.justfile_model.specs.Docs.{Nothing, documented}
-use Rattle.justfile_model.specs.Files.{NumbersSuffice, bindings, recipes, says_doc}
+use Rattle.justfile_model.specs.Files.{NumbersSuffice, bindings, recipes, sets_doc}
 use Rattle.justfile_model.specs.Reader as files
 use Rattle.justfile_model.specs.ReaderState as reading
 use Rattle.justfile_model.specs.ReaderState.{Counters, NoNumber}
@@ -40,7 +40,7 @@ use Rattle.justfile_model.proofs.Renumbered.{file_by, whole}
 use Rattle.justfile_token.specs.declared.compile_error_kind.CompileErrorKind.{CompileErrorKind}
 use Rattle.justfile_parse.specs.Errors.{IsAt, IsErrorOf}
 use Rattle.justfile_parse_attribute.specs.ParseErrors.{IsAfterVariadic, IsExpectedKeyword, IsExtraneous, IsUnknownSetting}
-use Rattle.justfile_parse_attribute.specs.ParseErrors.{IsParseError, IsBrokenBy}
+use Rattle.justfile_parse_attribute.specs.ParseErrors.{IsParseError, IsErrorOfRead}
 use Rattle.justfile_parse.specs.ErrorFaults.{IsFaultOfError}
 use Rattle.justfile_parse_item.specs.DerivedFields.{HaveDerivedFields}
 use Rattle.justfile_parse_attribute.specs.declared.parse_error.ParseError.{ParseError}
@@ -48,12 +48,12 @@ use Rattle.justfile_parse_attribute.specs.declared.parse_error.ParseError.TheVar
 use Rattle.justfile_parse_item.specs.Filled.{IsInTable}
 use Rattle.justfile_parse_expression.specs.TableReader as table_reader
 use Rattle.justfile_parse_item.specs.ItemTable as reader
-use Rattle.justfile_parse_item.specs.ItemTable.{ReadItems, kept}
+use Rattle.justfile_parse_item.specs.ItemTable.{ReadItems, attribute_leaves}
 use Rattle.justfile_parse_expression.specs.TableReader.{Run, State, leaves}
-use Rattle.justfile_parse.specs.MethodResults.{IsFaultOf, IsKindAt, IsNextPlace, IsRead, IsUnread, NeverEnough}
-use Rattle.justfile_parse_expression.specs.MethodResults.{IsExpressionError, literal_refusal, refusal_at}
+use Rattle.justfile_parse.specs.MethodResults.{IsFaultOfExpression, IsKindAt, IsNextPlace, IsRead, IsUnread, NeverEnough}
+use Rattle.justfile_parse_expression.specs.MethodResults.{IsExpressionError, literal_read_error, read_error_at}
 use Rattle.justfile_parse_expression.specs.Significant.{significant_of}
-use Rattle.justfile_parse_item.specs.Tree.{item_tree, numbered_tree}
+use Rattle.justfile_parse_item.specs.Tree.{item_tree, numbered_leaf}
 use Rattle.justfile_expression.specs.LeafTree.{Leaf}
 use Rattle.justfile_parse.specs.WantsNumber as wants
 use Rattle.justfile_parse.specs.WantsNumber.{AreLines, BeginsAssignment, BeginsHeader, LacksNumber, WantsNumber, a_line, at_name, at_once, binding, name_number, no_line, parameter_number, quiet, recipe_number}
@@ -64,7 +64,7 @@ use Rattle.justfile_parse_expression.specs.declared.expression_error.SyntaxError
 use Rattle.justfile_parse_expression.specs.declared.expression_error.ExpressionError.{ExpressionError}
 use Rattle.justfile_parse_expression.specs.declared.expression_error.ExpressionError.TheVariants as causes
 use Rattle.justfile_parse_expression.proofs.Cooked.{kind_is_due}
-use Rattle.justfile_parse.proofs.Held.{extraneous_held, keyword_held, literal_held, rule_held, unexpected_held, unknown_held, variadic_held}
+use Rattle.justfile_parse.proofs.ErrorTokens.{extraneous_held, keyword_held, literal_held, rule_held, unexpected_held, unknown_held, variadic_held}
 use Rattle.justfile_parse.proofs.Tables.{in_table}
 use Rattle.justfile_parse_expression.proofs.Seen.{IsEntry, Relates}
 use Rattle.justfile_parse_item.proofs.Seen.{respects, seen}
@@ -83,7 +83,7 @@ same_bindings (items.Alias b ∷ is) = ap (λ (n : ℕ). 0 + n) (same_bindings i
 same_bindings (items.Assignment b ∷ is) = ap (λ (n : ℕ). 1 + n) (same_bindings is)
 same_bindings (items.Comment text ∷ is) = ap (λ (n : ℕ). 0 + n) (same_bindings is)
 same_bindings (items.Function f ∷ is) =
-    λ i. (length-map f.parameters.items numbered_tree ∙ sym (length-map f.parameters.items function_parameter_of)) i + same_bindings is i
+    λ i. (length-map f.parameters.items numbered_leaf ∙ sym (length-map f.parameters.items function_parameter_of)) i + same_bindings is i
 same_bindings (items.Import set optional relative ∷ is) = ap (λ (n : ℕ). 0 + n) (same_bindings is)
 same_bindings (items.Module set doc name optional relative ∷ is) = ap (λ (n : ℕ). 0 + n) (same_bindings is)
 same_bindings (items.Newline ∷ is) = ap (λ (n : ℕ). 0 + n) (same_bindings is)
@@ -145,13 +145,13 @@ module _ (conditions : Conditions) (bound : ℕ) (within : conditions.limit ≤ 
     there = files.file token_leaves token_attributes n (start_state others tokens)
 
     abbrev Q : List (OrderedItem Leaf Token ℕ) × Counters → WrittenTree × Counters → Type 0
-    Q = natural.AllNumbered rel leaves token_leaves (respects conditions bound (IsInTable table) file_depth import_offsets) kept token_attributes (IsKept conditions bound (IsInTable table) file_depth import_offsets) (attributed conditions bound (IsInTable table) file_depth import_offsets) n
+    Q = natural.AllNumbered rel leaves token_leaves (respects conditions bound (IsInTable table) file_depth import_offsets) attribute_leaves token_attributes (IsKept conditions bound (IsInTable table) file_depth import_offsets) (attributed conditions bound (IsInTable table) file_depth import_offsets) n
 
     abbrev Short : Counters → Found → Type 0
-    Short = natural.NoFile rel leaves token_leaves (respects conditions bound (IsInTable table) file_depth import_offsets) kept token_attributes (IsKept conditions bound (IsInTable table) file_depth import_offsets) (attributed conditions bound (IsInTable table) file_depth import_offsets) n (files.after_mark token_leaves token_attributes (start_state others tokens))
+    Short = natural.NoFile rel leaves token_leaves (respects conditions bound (IsInTable table) file_depth import_offsets) attribute_leaves token_attributes (IsKept conditions bound (IsInTable table) file_depth import_offsets) (attributed conditions bound (IsInTable table) file_depth import_offsets) n (files.after_mark token_leaves token_attributes (start_state others tokens))
 
     related : Related rel Q Short (reader.file n begin) there
-    related = natural.file_natural rel leaves token_leaves (respects conditions bound (IsInTable table) file_depth import_offsets) kept token_attributes (IsKept conditions bound (IsInTable table) file_depth import_offsets) (attributed conditions bound (IsInTable table) file_depth import_offsets) n begin (start_state others tokens) begin_alike
+    related = natural.file_natural rel leaves token_leaves (respects conditions bound (IsInTable table) file_depth import_offsets) attribute_leaves token_attributes (IsKept conditions bound (IsInTable table) file_depth import_offsets) (attributed conditions bound (IsInTable table) file_depth import_offsets) n begin (start_state others tokens) begin_alike
 
     -- both read
     got : (found : ReadItems) (found' : Found) → Related rel Q Short found found' → (x : Pair) → found ≡ Ok x → (y : (WrittenTree × Counters) × model.State) × (found' ≡ Ok y) × Q x.0 y.0 × States rel x.1 y.1
@@ -204,16 +204,16 @@ module _ (conditions : Conditions) (bound : ℕ) (within : conditions.limit ≤ 
   -- ---- a file that is read
 
   -- docs take no number
-  docs_bindings : (is docs : List Item) → map item_tree docs ≡ documented says_doc Nothing (map item_tree is) → bindings (map item_tree is) ≡ bindings (map item_of docs)
+  docs_bindings : (is docs : List Item) → map item_tree docs ≡ documented sets_doc Nothing (map item_tree is) → bindings (map item_tree is) ≡ bindings (map item_of docs)
   docs_bindings is docs documents =
-      sym (documented_counts bindings bindings_count says_doc Nothing (map item_tree is)) ∙ ap (λ (t : List (OrderedItem Leaf Token ℕ)). bindings t) (sym documents) ∙ same_bindings docs
+      sym (documented_counts bindings bindings_count sets_doc Nothing (map item_tree is)) ∙ ap (λ (t : List (OrderedItem Leaf Token ℕ)). bindings t) (sym documents) ∙ same_bindings docs
 
-  docs_recipes : (is docs : List Item) → map item_tree docs ≡ documented says_doc Nothing (map item_tree is) → recipes (map item_tree is) ≡ recipes (map item_of docs)
+  docs_recipes : (is docs : List Item) → map item_tree docs ≡ documented sets_doc Nothing (map item_tree is) → recipes (map item_tree is) ≡ recipes (map item_of docs)
   docs_recipes is docs documents =
-      sym (documented_counts recipes recipes_count says_doc Nothing (map item_tree is)) ∙ ap (λ (t : List (OrderedItem Leaf Token ℕ)). recipes t) (sym documents) ∙ same_recipes docs
+      sym (documented_counts recipes recipes_count sets_doc Nothing (map item_tree is)) ∙ ap (λ (t : List (OrderedItem Leaf Token ℕ)). recipes t) (sym documents) ∙ same_recipes docs
 
   pub read_of : (old new : Numerator) (is docs : List Item) (features : List (ListFeature × Token)) (s : State) → reader.file (counters_of old) begin ≡ Ok ((map item_tree is, counters_of new), s) → s.noted ≡ features
-      → map item_tree docs ≡ documented says_doc Nothing (map item_tree is) → HaveDerivedFields docs → IsRead others table file_depth import_offsets tokens old new (docs, features)
+      → map item_tree docs ≡ documented sets_doc Nothing (map item_tree is) → HaveDerivedFields docs → IsRead others table file_depth import_offsets tokens old new (docs, features)
   unfolding HaveDerivedFields
   read_of old new is docs features s found noted documents whole_items =
       let n = counters_of old in
@@ -245,20 +245,20 @@ module _ (conditions : Conditions) (bound : ℕ) (within : conditions.limit ≤ 
   abbrev Holds : CompileError → Type 0
   Holds e = All (IsInTable table) (tokens_in e.kind)
 
-  error_at : (r : SyntaxError) (s : State) (e : CompileError) (e' : model.ReadError) → ReadErrors rel (refusal_at r s) e' → IsKindAt r e.kind e.token → IsNextPlace table (front s.left) e.token → IsErrorOf tokens e' e × IsInTable table e.token × Holds e
+  error_at : (r : SyntaxError) (s : State) (e : CompileError) (e' : model.ReadError) → ReadErrors rel (read_error_at r s) e' → IsKindAt r e.kind e.token → IsNextPlace table (front s.left) e.token → IsErrorOf tokens e' e × IsInTable table e.token × Holds e
   unfolding reading.refused
   error_at Unexpected s e e' (a.unexpected h) kind is = let x = place_at h e.token is in ((kind, x.0), x.1, unexpected_held (IsInTable table) e.kind e.token kind)
   error_at TooDeep s e e' (a.too_deep h) kind is =
       let x = place_at h e.token is in ((kind, x.0), x.1, subst (λ (k : CompileErrorKind). All (IsInTable table) (tokens_in k)) (sym kind) (All-nil (IsInTable table)))
 
-  literal_at : (l : LiteralError) (e' : model.ReadError) → ReadErrors rel (literal_refusal l.error) e' → IsErrorOf tokens e' l.error × IsInTable table l.error.token × Holds l.error
-  unfolding literal_refusal
+  literal_at : (l : LiteralError) (e' : model.ReadError) → ReadErrors rel (literal_read_error l.error) e' → IsErrorOf tokens e' l.error × IsInTable table l.error.token × Holds l.error
+  unfolding literal_read_error
   literal_at l e' (a.not_cooked h) =
       let due = kind_is_due l.error.kind l.is_literal in
       ((due, h.is), h.among, literal_held (IsInTable table) _ l.error.kind due)
 
   -- a rule that is broken, attributes before no construct, a name after the last parameter, one of no setting, or a word that may not stand there
-  broken_at : (error : CompileError) (r : table_reader.ReadError) (e' : model.ReadError) → IsBrokenBy {Y = Pair} (Err r) error → ReadErrors rel r e' → IsErrorOf tokens e' error × IsInTable table error.token × Holds error
+  broken_at : (error : CompileError) (r : table_reader.ReadError) (e' : model.ReadError) → IsErrorOfRead {Y = Pair} (Err r) error → ReadErrors rel r e' → IsErrorOf tokens e' error × IsInTable table error.token × Holds error
   broken_at error (reading.BreaksRule b) e' says (a.breaks h) = (
     record { rule = b; error = says; same = same_broken rel.position (λ t k h. h.is) h },
     subst (IsInTable table) (sym says.token) h.token.among,
@@ -283,16 +283,16 @@ module _ (conditions : Conditions) (bound : ℕ) (within : conditions.limit ≤ 
   broken_at error (reading.NotCooked fault at) e' says h = absurd says
   broken_at error (reading.NoNumber counters) e' says h = absurd says
 
-  no_number : (r : SyntaxError) (s : State) (m : Counters) → refusal_at r s ≡ NoNumber m → ⊥
+  no_number : (r : SyntaxError) (s : State) (m : Counters) → read_error_at r s ≡ NoNumber m → ⊥
   unfolding reading.refused
   no_number Unexpected s m e = cc
   no_number TooDeep s m e = cc
 
-  no_literal : (l : LiteralError) (m : Counters) → literal_refusal l.error ≡ NoNumber m → ⊥
-  unfolding literal_refusal
+  no_literal : (l : LiteralError) (m : Counters) → literal_read_error l.error ≡ NoNumber m → ⊥
+  unfolding literal_read_error
   no_literal l m e = cc
 
-  -- ---- a number that is wanting
+  -- ---- where numbers run out
 
   abbrev agree : a.Respects rel leaves token_leaves
   agree = respects conditions bound (IsInTable table) file_depth import_offsets
@@ -300,24 +300,24 @@ module _ (conditions : Conditions) (bound : ℕ) (within : conditions.limit ≤ 
   abbrev Keeps : Entry Leaf Token → ReadAttribute → Type 0
   Keeps = IsKept conditions bound (IsInTable table) file_depth import_offsets
 
-  abbrev keeps : natural.RespectsAttributes rel leaves token_leaves kept token_attributes Keeps
+  abbrev keeps : natural.RespectsAttributes rel leaves token_leaves attribute_leaves token_attributes Keeps
   keeps = attributed conditions bound (IsInTable table) file_depth import_offsets
 
   last : (b : ℕ) → leaves.has_number b ≡ false → b ≡ 2 ^ 32 - 1
   unfolding leaves
   last b is = grind (arith, nat_tests, is)
 
-  begins_of : {s from : model.State} → natural.AtHeader rel leaves token_leaves agree kept token_attributes Keeps keeps s from → BeginsHeader s from
+  begins_of : {s from : model.State} → natural.AtHeader rel leaves token_leaves agree attribute_leaves token_attributes Keeps keeps s from → BeginsHeader s from
   begins_of natural.at_once = at_once
   begins_of (natural.after_at is) = quiet is
 
-  begins_assignment : {s from : model.State} {is_eager is_export : Bool} → natural.AfterWord rel leaves token_leaves agree kept token_attributes Keeps keeps s is_eager is_export from
+  begins_assignment : {s from : model.State} {is_eager is_export : Bool} → natural.AfterWord rel leaves token_leaves agree attribute_leaves token_attributes Keeps keeps s is_eager is_export from
       → BeginsAssignment s is_eager is_export from
   begins_assignment natural.no_word = at_name
   begins_assignment (natural.after_eager is) = wants.eager is
   begins_assignment (natural.after_export is) = wants.export is
 
-  lacks_of : {n m : Counters} (left : model.State) → natural.Lacks rel leaves token_leaves agree kept token_attributes Keeps keeps n left m → LacksNumber left n m
+  lacks_of : {n m : Counters} (left : model.State) → natural.Lacks rel leaves token_leaves agree attribute_leaves token_attributes Keeps keeps n left m → LacksNumber left n m
   lacks_of {n} left (natural.binding {ws = ws} {rest = rest} {from = from} {eager = is_eager} {export = is_export} before after is has) =
       binding (record {
         attributes = ws;
@@ -364,14 +364,14 @@ module _ (conditions : Conditions) (bound : ℕ) (within : conditions.limit ≤ 
     left : model.State
     counters : Counters
     lines : AreLines n s counters left
-    lacks : natural.Lacks rel leaves token_leaves agree kept token_attributes Keeps keeps counters left m
+    lacks : natural.Lacks rel leaves token_leaves agree attribute_leaves token_attributes Keeps keeps counters left m
 
-  lines_of : {n m : Counters} {s : model.State} → natural.Wants rel leaves token_leaves agree kept token_attributes Keeps keeps n s m → Lines n s m
+  lines_of : {n m : Counters} {s : model.State} → natural.Wants rel leaves token_leaves agree attribute_leaves token_attributes Keeps keeps n s m → Lines n s m
   lines_of {n} (natural.here {s' = s} lacks) = record { left = s; counters = n; lines = no_line; lacks = lacks }
   lines_of (natural.later is wants) = let x = lines_of wants in record { left = x.left; counters = x.counters; lines = a_line is x.lines; lacks = x.lacks }
 
   module _ (old new : Numerator) where
-    wants_of : natural.Wants rel leaves token_leaves agree kept token_attributes Keeps keeps (counters_of old) (files.after_mark token_leaves token_attributes (start_state others tokens)) (counters_of new) → WantsNumber others tokens old new
+    wants_of : natural.Wants rel leaves token_leaves agree attribute_leaves token_attributes Keeps keeps (counters_of old) (files.after_mark token_leaves token_attributes (start_state others tokens)) (counters_of new) → WantsNumber others tokens old new
     wants_of wants = let x = lines_of wants in record { left = x.left; counters = x.counters; lines = x.lines; lacks = lacks_of x.left x.lacks }
 
     whole_of : (found : Found (counters_of old)) (t : WrittenTree) (fs : List (Noted Tok)) → whole found ≡ Ok (t, fs) → (y : (WrittenTree × Counters) × model.State) × (found ≡ Ok y) × (y.0.0 ≡ t)
@@ -384,7 +384,7 @@ module _ (conditions : Conditions) (bound : ℕ) (within : conditions.limit ≤ 
         never : (e : model.ReadError) (p : WrittenTree × List (Noted Tok)) → ◌≡◌ {A = Result (WrittenTree × List (Noted Tok)) model.ReadError} (Err e) (Ok p) → ⊥
         never e p is = cc
 
-    exceeded : (y : (WrittenTree × Counters) × model.State) (t : WrittenTree) → y.0.0 ≡ t → y.0.1 ≡ counted (counters_of old) y.0.0 → natural.Exceeds rel leaves token_leaves agree kept token_attributes Keeps keeps (counters_of new) y.0.1 → NumbersSuffice (bindings_of old) (recipes_of old) t → ⊥
+    exceeded : (y : (WrittenTree × Counters) × model.State) (t : WrittenTree) → y.0.0 ≡ t → y.0.1 ≡ counted (counters_of old) y.0.0 → natural.Exceeds rel leaves token_leaves agree attribute_leaves token_attributes Keeps keeps (counters_of new) y.0.1 → NumbersSuffice (bindings_of old) (recipes_of old) t → ⊥
     exceeded y t same counts (natural.bindings_end is less) enough =
         omega (
           arith,
@@ -407,13 +407,13 @@ module _ (conditions : Conditions) (bound : ℕ) (within : conditions.limit ≤ 
         )
 
     -- no tree has numbers enough
-    never_of : natural.AllExceed rel leaves token_leaves agree kept token_attributes Keeps keeps (counters_of new) (there (counters_of old)) → (t : WrittenTree) (fs : List (Noted Tok)) → model.tree_of_tokens others tokens ≡ Ok (t, fs) → NumbersSuffice (bindings_of old) (recipes_of old) t → ⊥
+    never_of : natural.AllExceed rel leaves token_leaves agree attribute_leaves token_attributes Keeps keeps (counters_of new) (there (counters_of old)) → (t : WrittenTree) (fs : List (Noted Tok)) → model.tree_of_tokens others tokens ≡ Ok (t, fs) → NumbersSuffice (bindings_of old) (recipes_of old) t → ⊥
     unfolding files.file
     never_of exceeds t fs is enough =
         let n = counters_of old in
         let x = whole_of (there n) t fs (file_by n others tokens ∙ is) in
         let counts = known x.0 (λ (y : (WrittenTree × Counters) × model.State). y.0.1 ≡ counted n y.0.0) x.1 (items_count token_leaves token_attributes n (files.after_mark token_leaves token_attributes (start_state others tokens))) in
-        let over = known x.0 (λ (y : (WrittenTree × Counters) × model.State). natural.Exceeds rel leaves token_leaves agree kept token_attributes Keeps keeps (counters_of new) y.0.1) x.1 exceeds in
+        let over = known x.0 (λ (y : (WrittenTree × Counters) × model.State). natural.Exceeds rel leaves token_leaves agree attribute_leaves token_attributes Keeps keeps (counters_of new) y.0.1) x.1 exceeds in
         exceeded x.0 t x.2 counts over enough
 
     same_counters : (m : Counters) → ◌≡◌ {A = table_reader.ReadError} (NoNumber (counters_of new)) (NoNumber m) → m ≡ counters_of new
@@ -430,7 +430,7 @@ module _ (conditions : Conditions) (bound : ℕ) (within : conditions.limit ≤ 
     wanting_of (wanting m is short) = subst (λ (c : Counters). Short (counters_of old) c (there (counters_of old))) (same_counters m is) short
     wanting_of (deeper at is loose) = absurd (too_deep at is)
 
-    -- where a number is wanting, no tree has numbers enough
+    -- where numbers run out, they suffice for no tree
     pub never_enough : reader.file (counters_of old) begin ≡ Err (NoNumber (counters_of new)) → (t : WrittenTree) (fs : List (Noted Tok)) → model.tree_of_tokens others tokens ≡ Ok (t, fs)
         → NumbersSuffice (bindings_of old) (recipes_of old) t → ⊥
     never_enough is t fs = never_of (wanting_of (file_lost (counters_of old) (NoNumber (counters_of new)) is)).1 t fs
@@ -438,14 +438,14 @@ module _ (conditions : Conditions) (bound : ℕ) (within : conditions.limit ≤ 
     -- ---- where the limit is the same
 
     module _ (exact : conditions.limit < bound → ⊥) (never : reader.file (counters_of old) begin ≡ Err (NoNumber (counters_of new)) → NeverEnough others tokens old) where
-      refused_of : (r : SyntaxError) (s : State) (e : CompileError) → Lost (counters_of old) (refusal_at r s) (there (counters_of old)) → IsKindAt r e.kind e.token → IsNextPlace table (front s.left) e.token → IsUnread others tokens (IsInTable table) old new (faults.Compile e)
+      refused_of : (r : SyntaxError) (s : State) (e : CompileError) → Lost (counters_of old) (read_error_at r s) (there (counters_of old)) → IsKindAt r e.kind e.token → IsNextPlace table (front s.left) e.token → IsUnread others tokens (IsInTable table) old new (faults.Compile e)
       refused_of r s e (refused e' is h) kind at =
           let x = error_at r s e e' h kind at in
           record { refusal = e'; read = sym (file_by (counters_of old) others tokens) ∙ ap (λ (r : Found (counters_of old)). whole r) is; error = x.0; among = x.1; held = x.2 }
       refused_of r s e (wanting m is short) kind at = absurd (no_number r s m is)
       refused_of r s e (deeper o is loose) kind at = absurd (exact loose)
 
-      literal_of : (l : LiteralError) (e : CompileError) → Lost (counters_of old) (literal_refusal l.error) (there (counters_of old)) → e ≡ l.error → IsUnread others tokens (IsInTable table) old new (faults.Compile e)
+      literal_of : (l : LiteralError) (e : CompileError) → Lost (counters_of old) (literal_read_error l.error) (there (counters_of old)) → e ≡ l.error → IsUnread others tokens (IsInTable table) old new (faults.Compile e)
       literal_of l e (refused e' is h) same =
           let x = literal_at l e' h in
           subst (λ (k : CompileError). IsUnread others tokens (IsInTable table) old new (faults.Compile k)) (sym same)
@@ -453,12 +453,12 @@ module _ (conditions : Conditions) (bound : ℕ) (within : conditions.limit ≤ 
       literal_of l e (wanting m is short) same = absurd (no_literal l m is)
       literal_of l e (deeper o is loose) same = absurd (exact loose)
 
-      unread_stop : (s : State) (stop : ExpressionError) (fault : Fault) → IsExpressionError stop s (reader.file (counters_of old) begin ≡ Err (NoNumber (counters_of new))) (reader.file (counters_of old) begin) → IsFaultOf table (front s.left) stop fault
+      unread_stop : (s : State) (stop : ExpressionError) (fault : Fault) → IsExpressionError stop s (reader.file (counters_of old) begin ≡ Err (NoNumber (counters_of new))) (reader.file (counters_of old) begin) → IsFaultOfExpression table (front s.left) stop fault
           → IsUnread others tokens (IsInTable table) old new fault
-      unread_stop s (causes.Refused r) (faults.Compile e) h is = refused_of r s e (file_lost (counters_of old) (refusal_at r s) h) is.0 is.1
+      unread_stop s (causes.Refused r) (faults.Compile e) h is = refused_of r s e (file_lost (counters_of old) (read_error_at r s) h) is.0 is.1
       unread_stop s (causes.Refused r) faults.Memory h is = tt
       unread_stop s (causes.Refused r) faults.Numbers h is = absurd is
-      unread_stop s (causes.Literal box) (faults.Compile e) h is = literal_of box.value e (file_lost (counters_of old) (literal_refusal box.value.error) h) is
+      unread_stop s (causes.Literal box) (faults.Compile e) h is = literal_of box.value e (file_lost (counters_of old) (literal_read_error box.value.error) h) is
       unread_stop s (causes.Literal box) faults.Memory h is = absurd is
       unread_stop s (causes.Literal box) faults.Numbers h is = absurd is
       unread_stop s causes.Memory (faults.Compile e) h is = absurd is
@@ -469,7 +469,7 @@ module _ (conditions : Conditions) (bound : ℕ) (within : conditions.limit ≤ 
       unread_stop s causes.Numbers faults.Numbers h is = (wants_of (wanting_of (file_lost (counters_of old) (NoNumber (counters_of new)) h)).0, never h)
 
       -- nothing is read where the error says that a rule is broken
-      broken_found : (error : CompileError) (found : ReadItems) → found ≡ reader.file (counters_of old) begin → IsBrokenBy found error
+      broken_found : (error : CompileError) (found : ReadItems) → found ≡ reader.file (counters_of old) begin → IsErrorOfRead found error
           → IsUnread others tokens (IsInTable table) old new (faults.Compile error)
       broken_found error (Ok x) is says = absurd says
       broken_found error (Err r) is says = go (file_lost (counters_of old) r (sym is))
@@ -478,16 +478,16 @@ module _ (conditions : Conditions) (bound : ℕ) (within : conditions.limit ≤ 
           go (refused e' there_is h) =
               let x = broken_at error r e' says h in
               record { refusal = e'; read = sym (file_by (counters_of old) others tokens) ∙ ap (λ (r : Found (counters_of old)). whole r) there_is; error = x.0; among = x.1; held = x.2 }
-          go (wanting m e short) = absurd (subst (λ (k : table_reader.ReadError). IsBrokenBy {Y = Pair} (Err k) error) e says)
+          go (wanting m e short) = absurd (subst (λ (k : table_reader.ReadError). IsErrorOfRead {Y = Pair} (Err k) error) e says)
           go (deeper o e loose) = absurd (exact loose)
 
       pub unread_of : (s : State) (error : ParseError) (fault : Fault) → IsParseError error s (reader.file (counters_of old) begin ≡ Err (NoNumber (counters_of new))) (reader.file (counters_of old) begin) → IsFaultOfError table (front s.left) error fault
           → IsUnread others tokens (IsInTable table) old new fault
-      unread_of s (errors.Unreadable stop) fault h is = unread_stop s stop fault h is
-      unread_of s (errors.BrokenRule box) (faults.Compile e) h is =
+      unread_of s (errors.Expression stop) fault h is = unread_stop s stop fault h is
+      unread_of s (errors.Compile box) (faults.Compile e) h is =
           subst (λ (k : CompileError). IsUnread others tokens (IsInTable table) old new (faults.Compile k)) (sym is) (broken_found box.value (reader.file (counters_of old) begin) refl h)
-      unread_of s (errors.BrokenRule box) faults.Memory h is = absurd is
-      unread_of s (errors.BrokenRule box) faults.Numbers h is = absurd is
+      unread_of s (errors.Compile box) faults.Memory h is = absurd is
+      unread_of s (errors.Compile box) faults.Numbers h is = absurd is
 
 -- why a file is not read
 pub unread : (conditions : Conditions) (table : List TableEntry) (file_depth : ℕ) (import_offsets : List ℕ) (old new : Numerator) (s : State) (error : ParseError) (fault : Fault)

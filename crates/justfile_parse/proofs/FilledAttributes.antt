@@ -1,5 +1,5 @@
 -- The derived values of attributes: they remain if more tokens are allowed, and the texts of their literals are right.
-use Rattle.std.proofs.Common.{◌≡◌, ℕ, Bool, true, false, List, [], ◌∷◌, ◌++◌, map, All, Option, Some, None, Ok, refl, sym, ap, ◌∙◌, subst}
+use Rattle.std.proofs.Common.{IfSome, ◌≡◌, ℕ, Bool, true, false, List, [], ◌∷◌, ◌++◌, map, All, Option, Some, None, Ok, refl, sym, ap, ◌∙◌, subst}
 use Rattle.std.specs.Prelude.{string_bytes}
 use Rattle.std.specs.Global.{Box}
 use Rattle.std.specs.List.{flat_map}
@@ -20,12 +20,12 @@ use Rattle.justfile_vocabulary.specs.declared.attribute_kind.AttributeKind.TheVa
 use Rattle.justfile_token.specs.declared.name.Name.{Name}
 use Rattle.justfile_token.specs.declared.string_literal.StringLiteral.{StringLiteral}
 use Rattle.justfile_token.specs.declared.token.Token.{Token}
-use Rattle.justfile_item.specs.Attributes.{attribute_cooked, boxed_cooked, literal_cooked, optional, option_cooked, property_cooked, set_cooked}
+use Rattle.justfile_item.specs.Attributes.{attribute_cooked, boxed_cooked, literal_cooked, optional, option_cooked, property_cooked, attributes_cooked}
 use Rattle.justfile_model.specs.Files.{attribute_literals, entries_literals, expr_literals, optional_literals, option_literals, quoted_literals}
 use Rattle.justfile_model.specs.Literals.{AreCookedTexts, Expanded, Expansions, Literal, Plain, cooked_text, over_literal, string_of}
 use Rattle.justfile_model.specs.Tok.{Tok, tok_of}
 use Rattle.justfile_model.specs.Tree.{Expr, Quoted, lexeme}
-use Rattle.justfile_parse_item.specs.Filled.{AreFilledAttributes, IfThere, IsFilledAttribute, IsFilledBoxed, IsFilledCount, IsFilledExpression, IsFilledInterpreter, IsFilledLiteral, IsFilledOption, IsFilledProperty}
+use Rattle.justfile_parse_item.specs.Filled.{AreFilledAttributes, IsFilledAttribute, IsFilledBoxed, IsFilledCount, IsFilledExpression, IsFilledInterpreter, IsFilledLiteral, IsFilledOption, IsFilledProperty}
 use Rattle.justfile_expression.specs.Expression.{expr_cooked, expr_of, literal_tok}
 use Rattle.justfile_expression.specs.declared.expression.Expression.{Expression}
 
@@ -39,17 +39,17 @@ module _ (expander : Expansions) (P Q : Token → Type 0) (weaker : (t : Token) 
   given_literals : (ls : List StringLiteral) → All (IsFilledLiteral expander P) ls → All (IsFilledLiteral expander Q) ls
   given_literals = All-weaker (IsFilledLiteral expander P) (IsFilledLiteral expander Q) given_literal
 
-  pub if_given : {X : Type 0} (A B : X → Type 0) → ((x : X) → A x → B x) → (o : Option X) → IfThere A o → IfThere B o
+  pub if_given : {X : Type 0} (A B : X → Type 0) → ((x : X) → A x → B x) → (o : Option X) → IfSome o A → IfSome o B
   if_given A B f None h = tt
   if_given A B f (Some x) h = f x h
 
-  given_value : (o : Option (Box Expression)) → IfThere (IsFilledBoxed expander P) o → IfThere (IsFilledBoxed expander Q) o
+  given_value : (o : Option (Box Expression)) → IfSome o (IsFilledBoxed expander P) → IfSome o (IsFilledBoxed expander Q)
   given_value = if_given (IsFilledBoxed expander P) (IsFilledBoxed expander Q) (λ e h. expression e.value h)
 
   given_property : (p : Name × Box Expression) → IsFilledProperty expander P p → IsFilledProperty expander Q p
   given_property p h = (weaker p.0.token h.0, expression p.1.value h.1)
 
-  given_properties : (o : Option (Name × Box Expression)) → IfThere (IsFilledProperty expander P) o → IfThere (IsFilledProperty expander Q) o
+  given_properties : (o : Option (Name × Box Expression)) → IfSome o (IsFilledProperty expander P) → IfSome o (IsFilledProperty expander Q)
   given_properties = if_given (IsFilledProperty expander P) (IsFilledProperty expander Q) given_property
 
   given_option : (key : Option Name) (l : Option StringLiteral) → IsFilledOption expander P key l → IsFilledOption expander Q key l
@@ -139,11 +139,11 @@ module _ (expander : Expansions) (P : Token → Type 0) (expression_cooks : (e :
   abbrev boxed_tree : Box Expression → Expr Tok Tok
   boxed_tree e = expr_of e.value
 
-  value_cooks : (o : Option (Box Expression)) → IfThere (IsFilledBoxed expander P) o → Cook (optional_literals expr_literals (option_map boxed_tree o)) (optional boxed_cooked o)
+  value_cooks : (o : Option (Box Expression)) → IfSome o (IsFilledBoxed expander P) → Cook (optional_literals expr_literals (option_map boxed_tree o)) (optional boxed_cooked o)
   value_cooks None h = tt
   value_cooks (Some e) h = expression_cooks e.value h
 
-  property_cooks : (o : Option (Name × Box Expression)) → IfThere (IsFilledProperty expander P) o
+  property_cooks : (o : Option (Name × Box Expression)) → IfSome o (IsFilledProperty expander P)
       → Cook (optional_literals (λ p. expr_literals p.value) (option_map (property_by expr_of literal_tok tok_of) o)) (optional property_cooked o)
   property_cooks None h = tt
   property_cooks (Some p) h = expression_cooks p.1.value h.1
@@ -153,7 +153,7 @@ module _ (expander : Expansions) (P : Token → Type 0) (expression_cooks : (e :
   option_cooks None None h = tt
   option_cooks None (Some l) h = literal_cooks l h
 
-  single_cooks : (kind : AttributeKind) (o : Option (Box Expression)) → IfThere (IsFilledBoxed expander P) o → Cook (attribute_literals (single_by expr_of literal_tok tok_of kind o)) (optional boxed_cooked o)
+  single_cooks : (kind : AttributeKind) (o : Option (Box Expression)) → IfSome o (IsFilledBoxed expander P) → Cook (attribute_literals (single_by expr_of literal_tok tok_of kind o)) (optional boxed_cooked o)
   single_cooks kind None h = tt
   single_cooks kind (Some e) h = expression_cooks e.value h
 
@@ -195,5 +195,5 @@ module _ (expander : Expansions) (P : Token → Type 0) (expression_cooks : (e :
       let Given : Pair → Type 0 = λ (p : Pair). P p.1.name.token × IsFilledAttribute expander P p.0 × HasDerivedAttributeFields p.0 in
       joined_cook expander (attribute_literals (attribute_of p.0)) _ (attribute_cooked p.0) _ (attribute_cooks p.0 (All-head Given p ps all).1) (pairs_cook ps (All-tail Given p ps all))
 
-  pub set_cooks : (set : AttributeSet) → AreFilledAttributes expander P set → Cook (entries_literals (entries_of set)) (set_cooked set)
+  pub set_cooks : (set : AttributeSet) → AreFilledAttributes expander P set → Cook (entries_literals (entries_of set)) (attributes_cooked set)
   set_cooks set = pairs_cook (written_of set)

@@ -10,9 +10,9 @@ use Rattle.std.proofs.lemmas.List.Sorted.{All-permutation, IsPermutation-swap}
 use Rattle.justfile_item.specs.declared.item.Item.{Item}
 use Rattle.justfile_item.specs.declared.item.Item.TheVariants as items
 use Rattle.justfile_model.specs.Docs.{Nothing, documented, item_with_doc, redocumented}
-use Rattle.justfile_model.specs.Files.{says_doc}
+use Rattle.justfile_model.specs.Files.{sets_doc}
 use Rattle.justfile_model.specs.Tree as tree
-use Rattle.justfile_parse.specs.Docs.{LeafItem, doc_before, doc_first, doc_taken, is_newline, says_no_doc, taken_docs, with_doc, with_item, with_items}
+use Rattle.justfile_parse.specs.Docs.{LeafItem, doc_before, doc_first, doc_taken, is_newline, item_can_take_doc, taken_docs, with_doc, with_item, with_items}
 use Rattle.justfile_parse.proofs.DocSteps.{line_end}
 use Rattle.justfile_parse.proofs.TakenDocs.{from_first}
 use Rattle.justfile_parse_item.specs.Tree.{item_tree}
@@ -48,27 +48,27 @@ module _ {X : Type 0} (xs ys : List X) (k p : ℕ) (d : X) (order : k ≤ p) (wi
 take_of_take : {X : Type 0} (n k : ℕ) (xs : List X) → n ≤ length (take k xs) → take n (take k xs) ≡ take n xs
 take_of_take n k xs h = sym (take-append-le n (take k xs) (drop k xs) h) ∙ ap (λ (l : List _). take n l) (take-append-drop k xs)
 
--- all that are there are whole, in any order
-pub swapped_whole : (xs ys : List Item) (k p : ℕ) → k < length xs → p < length xs → ys ≡ swap xs k p → HaveDerivedFields xs → HaveDerivedFields ys
+-- the derived fields of all items are right, in any order
+pub swapped_fields : (xs ys : List Item) (k p : ℕ) → k < length xs → p < length xs → ys ≡ swap xs k p → HaveDerivedFields xs → HaveDerivedFields ys
 unfolding HaveDerivedFields
-swapped_whole xs ys k p below within e h = All-permutation HasDerivedItemFields xs ys (IsPermutation-swap xs ys k p below within e) h
+swapped_fields xs ys k p below within e h = All-permutation HasDerivedItemFields xs ys (IsPermutation-swap xs ys k p below within e) h
 
-pub set_whole : (xs ys : List Item) (p : ℕ) (x : Item) → ys ≡ set xs p x → HasDerivedItemFields x → HaveDerivedFields xs → HaveDerivedFields ys
+pub set_fields : (xs ys : List Item) (p : ℕ) (x : Item) → ys ≡ set xs p x → HasDerivedItemFields x → HaveDerivedFields xs → HaveDerivedFields ys
 unfolding HaveDerivedFields
-set_whole xs ys p x e h whole = subst (All HasDerivedItemFields) (sym e) (All-set HasDerivedItemFields xs p x h whole)
+set_fields xs ys p x e h fields = subst (All HasDerivedItemFields) (sym e) (All-set HasDerivedItemFields xs p x h fields)
 
-pub cut_whole : (xs ys : List Item) (n : ℕ) → ys ≡ take n xs → HaveDerivedFields xs → HaveDerivedFields ys
+pub cut_fields : (xs ys : List Item) (n : ℕ) → ys ≡ take n xs → HaveDerivedFields xs → HaveDerivedFields ys
 unfolding HaveDerivedFields
-cut_whole xs ys n e h = subst (All HasDerivedItemFields) (sym e) (All-take HasDerivedItemFields n xs h)
+cut_fields xs ys n e h = subst (All HasDerivedItemFields) (sym e) (All-take HasDerivedItemFields n xs h)
 
 -- ---- an item that is kept
 
--- it takes no doc that is there
-pub not_wanted : (i : LeafItem) (doc : Option (List ℕ)) → says_no_doc i ≡ false → doc_taken i doc ≡ None
-not_wanted i None h = refl
-not_wanted tree.Newline (Some doc) h = refl
-not_wanted (tree.Comment text) (Some doc) h = refl
-not_wanted (tree.Construct entries content) (Some doc) h = ap (λ (b : Bool). cond b (Some (tree.Construct entries (redocumented (Some doc) content))) None) h
+-- it takes no doc before it
+pub takes_no_doc : (i : LeafItem) (doc : Option (List ℕ)) → item_can_take_doc i ≡ false → doc_taken i doc ≡ None
+takes_no_doc i None h = refl
+takes_no_doc tree.Newline (Some doc) h = refl
+takes_no_doc (tree.Comment text) (Some doc) h = refl
+takes_no_doc (tree.Construct entries content) (Some doc) h = ap (λ (b : Bool). cond b (Some (tree.Construct entries (redocumented (Some doc) content))) None) h
 
 module _ (xs : List Item) (kept place : ℕ) (x : Item) (order : kept ≤ place) (within : place < length xs) (x_is : x ≡ get_or xs place x) where
   abbrev before : List LeafItem
@@ -99,7 +99,7 @@ module _ (xs : List Item) (kept place : ℕ) (x : Item) (order : kept ≤ place)
       (ap (drop (place + 1)) e ∙ drop-set-lt (place + 1) xs kept items.Newline (omega (arith, order)))
       ∙ ap (λ (l : List LeafItem). with_items l (map item_tree (drop (place + 1) xs)))
       (map-append item_tree (take kept xs) (items.Newline ∷ [])
-      ∙ sym (ap (with_doc before tree.Newline) (not_wanted tree.Newline (doc_before before) refl))
+      ∙ sym (ap (with_doc before tree.Newline) (takes_no_doc tree.Newline (doc_before before) refl))
       ∙ ap (with_item before) (sym (line_end (item_tree x) newline)))
       ∙ sym next_taken
 
@@ -129,8 +129,8 @@ module _ (xs : List Item) (kept place : ℕ) (x : Item) (order : kept ≤ place)
         ∙ take-map item_tree n (take kept xs)
         ∙ ap (map item_tree) (take_of_take n kept xs (omega (arith, kept_count)))
 
-    pub documented_whole : HasDerivedItemFields y → HaveDerivedFields xs → HaveDerivedFields ys
-    documented_whole h whole = swapped_whole zs ys n place (omega (arith, two, order, in_zs)) in_zs e (set_whole xs zs place y zs_are h whole)
+    pub documented_fields : HasDerivedItemFields y → HaveDerivedFields xs → HaveDerivedFields ys
+    documented_fields h fields = swapped_fields zs ys n place (omega (arith, two, order, in_zs)) in_zs e (set_fields xs zs place y zs_are h fields)
 
     pub kept_documented : doc_taken (item_tree x) (doc_before before) ≡ Some (item_tree y) → taken_docs m (place + 1) ys ≡ taken_docs kept place xs
     kept_documented taken =
@@ -156,10 +156,10 @@ two_kept xs kept doc h =
     omega (arith, two_first (reverse (map item_tree all)) doc h, length-reverse (map item_tree all), length-map all item_tree, length-take kept xs)
 
 -- the doc that is found
-pub found_taken : (i with_this : LeafItem) (found : Option (List ℕ)) (doc text : List ℕ) → found ≡ Some doc → text ≡ doc → Some with_this ≡ item_with_doc says_doc text i
+pub found_taken : (i with_this : LeafItem) (found : Option (List ℕ)) (doc text : List ℕ) → found ≡ Some doc → text ≡ doc → Some with_this ≡ item_with_doc sets_doc text i
     → doc_taken i found ≡ Some with_this
 found_taken i with_this found doc text is same taken =
-    ap (doc_taken i) is ∙ ap (λ (t : List ℕ). item_with_doc says_doc t i) (sym same) ∙ sym taken
+    ap (doc_taken i) is ∙ ap (λ (t : List ℕ). item_with_doc sets_doc t i) (sym same) ∙ sym taken
 
 pub none_taken : (i : LeafItem) (found : Option (List ℕ)) → found ≡ None → doc_taken i found ≡ None
 none_taken i found h = ap (doc_taken i) h
@@ -167,7 +167,7 @@ none_taken i found h = ap (doc_taken i) h
 -- ---- when none are left
 
 pub all_taken : (all now : List Item) (kept n : ℕ) → n ≡ length now → taken_docs kept n now ≡ with_items [] (map item_tree all)
-    → map item_tree (take kept now) ≡ documented says_doc Nothing (map item_tree all)
+    → map item_tree (take kept now) ≡ documented sets_doc Nothing (map item_tree all)
 all_taken all now kept n e so_far =
     ap (λ (l : List Item). with_items (map item_tree (take kept now)) (map item_tree l)) (sym (ap (λ (m : ℕ). drop m now) e ∙ drop-length now))
     ∙ so_far ∙ from_first (map item_tree all)

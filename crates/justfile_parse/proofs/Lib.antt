@@ -3,7 +3,7 @@ pub mod DocSteps
 pub mod FormatStrings
 pub mod FilledAttributes
 pub mod FilledParts
-pub mod Held
+pub mod ErrorTokens
 pub mod KeptItems
 pub mod NotInternal
 pub mod Parsed

@@ -26,7 +26,7 @@ use Rattle.justfile_model.specs.Literals as literals
 use Rattle.justfile_model.specs.ReaderState as reader
 use Rattle.justfile_model.specs.TreeReader as model
 use Rattle.justfile_model.specs.SignificantTokens.{SignificantToken}
-use Rattle.justfile_attribute_rules.specs.RuleErrors.{SaysRule}
+use Rattle.justfile_attribute_rules.specs.RuleErrors.{IsKindOfRule}
 use Rattle.justfile_model.specs.Rules as rules
 use Rattle.justfile_model.specs.Rules.{Rule}
 use Rattle.justfile_parse.specs.Errors.{IsErrorOf, IsUnexpected}
@@ -34,7 +34,7 @@ use Rattle.justfile_parse_attribute.specs.ParseErrors.{IsAfterVariadic, IsExpect
 use Rattle.justfile_model.specs.LexicalFault.{LexicalFault, NotLexical, LexicalError, Here, Unclosed, lexical_fault_of}
 use Rattle.justfile_model.specs.LiteralText.{raw_len}
 use Rattle.justfile_model.specs.Modes.{Mode, head_of, innermost, is_empty, mode, nested}
-use Rattle.justfile_model.specs.Next.{NextToken, doubled_token, fixed_token, unterminated, literal_part, closing_delimiter, format_kind, brace_by, closing, escaped_line_end, token_by_class, text_or, body_token, at_end_by, Region, InText, InInterpolation, Inline, region_by, token_in_region, token_within_line, blanks_or, layout, next_by, next, is_same, is_backtick, begins_blank_line, is_level, tested_blanks}
+use Rattle.justfile_model.specs.Next.{NextToken, doubled_token, fixed_token, unterminated, literal_part, closing_delimiter, format_kind, brace_by, closing, escaped_line_end, token_by_class, text_or, body_token, at_end_by, Region, InText, InInterpolation, OutsideText, region_by, token_in_region, token_within_line, blanks_or, layout, next_by, next, is_same, is_backtick, begins_blank_line, is_level, tested_blanks}
 use Rattle.justfile_model.specs.Tok.{Tok}
 use Rattle.justfile_model.specs.declared.open_delimiter.OpenDelimiter.{OpenDelimiter}
 use Rattle.justfile_model.specs.declared.raw_text.RawText.TheVariants as raw_texts
@@ -137,7 +137,7 @@ module _ (rest : List ℕ) where
   unfolding body_token
   region_lexical InText m = text_lexical (raw_len raw_texts.Body rest) (get_or rest 0 0)
   region_lexical InInterpolation m = if_lexical (is_empty m.openers && is_interpolation_end rest) (token _ _) (inline_lexical m (class_of (get_or rest 0 0)))
-  region_lexical Inline m = inline_lexical m (class_of (get_or rest 0 0))
+  region_lexical OutsideText m = inline_lexical m (class_of (get_or rest 0 0))
 
   inside_lexical : (m : Mode) → Lexical (token_within_line m rest)
   unfolding token_within_line
@@ -204,11 +204,11 @@ literal_kind : (fault : literals.LiteralFault) (kind : CompileErrorKind) → IsK
 literal_kind fault (Internal message) h = cc
 literal_kind fault _ h = refl
 
-says_internal : (at : Token) (rule : Rule Token) (message : _) → SaysRule at rule (Internal message) → ⊥
+says_internal : (at : Token) (rule : Rule Token) (message : _) → IsKindOfRule at rule (Internal message) → ⊥
 says_internal at (rules.UnknownAttribute name) message h = h
 says_internal at _ message h = h
 
-rule_kind : (at : Token) (rule : Rule Token) (kind : CompileErrorKind) → SaysRule at rule kind → internal_message kind ≡ None
+rule_kind : (at : Token) (rule : Rule Token) (kind : CompileErrorKind) → IsKindOfRule at rule kind → internal_message kind ≡ None
 rule_kind at rule (Internal message) h = absurd (says_internal at rule message h)
 rule_kind at rule _ h = refl
 

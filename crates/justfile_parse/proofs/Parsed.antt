@@ -1,5 +1,5 @@
 -- What is read of a table, and what that implies for its tokens.
-use Rattle.std.proofs.Common.{◌≡◌, ◌⊎◌, ℕ, ◌+◌, ◌<◌, ◌≤◌, Bool, true, false, ◌&&◌, cond, IsTrue, rules, List, [], ◌∷◌, ◌++◌, map, length, All, Contains, Option, Some, None, Result, Ok, Err, inl, inr, refl, sym, ap, ◌∙◌, subst, arith}
+use Rattle.std.proofs.Common.{IfSome, ◌≡◌, ◌⊎◌, ℕ, ◌+◌, ◌<◌, ◌≤◌, Bool, true, false, ◌&&◌, cond, IsTrue, rules, List, [], ◌∷◌, ◌++◌, map, length, All, Contains, Option, Some, None, Result, Ok, Err, inl, inr, refl, sym, ap, ◌∙◌, subst, arith}
 use Rattle.std.specs.Prelude.{◌-◌, ◌^◌, codes, get_or, nat_eq, reverse, string_bytes}
 use Rattle.std.specs.Global.{Box}
 use Rattle.std.specs.List.{list_all, flat_map, starts_with}
@@ -28,7 +28,7 @@ use Rattle.justfile_round_trip.specs.RoundTrip.{TextDerives}
 use Rattle.justfile_round_trip.proofs.Quoted.{AreFramed, AreQuoted, IsFramed, IsQuoted, lexed_framed, lexed_quoted}
 use Rattle.justfile_line.specs.Body.{fragment_of, fragment_cooked, body_line_of, line_cooked}
 use Rattle.justfile_item.specs.Item.{header_cooked, header_of, item_of, item_cooked, priors_of, subsequents_of}
-use Rattle.justfile_recipe_header.specs.Header.{argument_cooked, boxed_of, dependency_argument_of, dependency_cooked, dependency_of, option_cooked, parameter_cooked, parameter_of}
+use Rattle.justfile_recipe_header.specs.Header.{argument_cooked, boxed_of, dependency_argument_of, dependency_cooked, dependency_of, default_cooked, parameter_cooked, parameter_of}
 use Rattle.justfile_recipe_header.specs.declared.parameter.Parameter.{Parameter}
 use Rattle.justfile_recipe_header.specs.declared.unresolved_dependency.DependencyArgument.{DependencyArgument}
 use Rattle.justfile_recipe_header.specs.declared.unresolved_dependency.UnresolvedDependency.{UnresolvedDependency}
@@ -37,7 +37,7 @@ use Rattle.justfile_attribute_set.specs.AttributeSet.{entries_of}
 use Rattle.justfile_line.specs.declared.fragment.Fragment.{Fragment}
 use Rattle.justfile_line.specs.declared.fragment.Fragment.TheVariants as fragments
 use Rattle.justfile_line.specs.declared.line.Line.{Line}
-use Rattle.justfile_item.specs.Attributes.{set_cooked}
+use Rattle.justfile_item.specs.Attributes.{attributes_cooked}
 use Rattle.justfile_item.specs.declared.item.Item.{Item}
 use Rattle.justfile_item.specs.declared.item.Item.TheVariants.{Alias, Assignment, Comment, Function, Import, Module, Newline, Recipe, Setting, Unexport}
 use Rattle.justfile_ast.specs.Ast.{features_of, tree_of}
@@ -63,7 +63,7 @@ use Rattle.justfile_model.proofs.Agreement.{complete, due, refused}
 use Rattle.justfile_model.proofs.Needs.{deep_at, only_deep, raised}
 use Rattle.justfile_model.proofs.FileObeys.{sound}
 use Rattle.justfile_model.proofs.Ordered.{ordered_bindings, ordered_recipes}
-use Rattle.justfile_parse_item.specs.Filled.{AreFilledExpressions, AreFilledParts, IfThere, IsFilledArgument, IsFilledBoxed, IsFilledDependency, IsFilledName, IsFilledParameter, IsFilledRecipe, IsFilledFragment, IsFilledOptional, IsFilledItem, IsFilledExpression, IsFilledLine, IsFilledPart, IsInTable, first_part, later_part}
+use Rattle.justfile_parse_item.specs.Filled.{AreFilledExpressions, AreFilledParts, IsFilledArgument, IsFilledBoxed, IsFilledDependency, IsFilledName, IsFilledParameter, IsFilledRecipe, IsFilledFragment, IsFilledOptional, IsFilledItem, IsFilledExpression, IsFilledLine, IsFilledPart, IsInTable, first_part, later_part}
 use Rattle.justfile_literal.specs.Literal.{IsPartOf, is_framed, is_quoted}
 use Rattle.justfile_parse.specs.Errors.{IsErrorOf, IsTooDeepError}
 use Rattle.justfile_parse_expression.specs.Literal.{is_delimited, is_sound}
@@ -76,7 +76,7 @@ use Rattle.justfile_parse.specs.WantsNumber.{WantsNumber}
 use Rattle.justfile_parse.proofs.Comments.{AreComments, lexed_comments}
 use Rattle.justfile_parse.proofs.FilledAttributes.{given_set, joined_cook, lexemes, set_cooks, string_cooks, string_tok}
 use Rattle.justfile_parse.proofs.FilledParts as parts
-use Rattle.justfile_parse.proofs.Held.{lexical_held}
+use Rattle.justfile_parse.proofs.ErrorTokens.{lexical_held}
 use Rattle.justfile_parse.proofs.NotInternal.{not_internal, not_lexical, refusal_not_internal}
 use Rattle.justfile_expression.specs.Expression.{assert_of, conditional_of, expr_of, expr_cooked, exprs_cooked, exprs_of_row, format_of, optional_cooked, join_of, literal_tok, part_tok, parts_cooked, parts_of_row}
 use Rattle.justfile_expression.specs.declared.expression.Expression.{Expression, And', Assert', Backtick, Call', Comparison', Concatenation', Conditional', FormatString', Group', Join', List', ListConcatenation', Not', Or', StringLiteral, Variable, Held-Expression-Assert-1 as OptionalExpression, None', Some', Row_of-Expression as ExpressionRow, end_of-Expression as row_end, more_of-Expression as row_more, Row_of-Expression-FormatString-1-2 as FormatRow, end_of-Expression-FormatString-1-2 as format_row_end, more_of-Expression-FormatString-1-2 as format_row_more}
@@ -187,7 +187,7 @@ module _ (expander : Expansions) (P Q : Token → Type 0) (weaker : (t : Token) 
   given_line : (l : Line) → IsFilledLine expander P l → IsFilledLine expander Q l
   given_line l = All-weaker (IsFilledFragment expander P) (IsFilledFragment expander Q) given_fragment l.fragments.items
 
-  given_default : (o : Option (Box Expression)) → IfThere (IsFilledBoxed expander P) o → IfThere (IsFilledBoxed expander Q) o
+  given_default : (o : Option (Box Expression)) → IfSome o (IsFilledBoxed expander P) → IfSome o (IsFilledBoxed expander Q)
   given_default None h = tt
   given_default (Some e) h = given_expression e.value h
 
@@ -347,7 +347,7 @@ module _ (expander : Expansions) (P : Token → Type 0) where
       joined_cook expander (fragments_literals (map fragment_of l.fragments.items)) _ (line_cooked l) _ (fragments_cook l.fragments.items (All-head (IsFilledLine expander P) l ls all))
       (lines_cook ls (All-tail (IsFilledLine expander P) l ls all))
 
-  default_cooks : (o : Option (Box Expression)) → IfThere (IsFilledBoxed expander P) o → AreCookedTexts expander (lexemes (optional_literals expr_literals (option_map boxed_of o))) (option_cooked o)
+  default_cooks : (o : Option (Box Expression)) → IfSome o (IsFilledBoxed expander P) → AreCookedTexts expander (lexemes (optional_literals expr_literals (option_map boxed_of o))) (default_cooked o)
   default_cooks None h = tt
   default_cooks (Some e) h = expression_cooks e.value h
 
@@ -382,32 +382,32 @@ module _ (expander : Expansions) (P : Token → Type 0) where
 
   item_cooks : (file_depth : ℕ) (import_offsets : List ℕ) (i : Item) → IsFilledItem expander P file_depth import_offsets i → AreCookedTexts expander (lexemes (item_literals entries_literals (item_of i))) (item_cooked i)
   item_cooks file_depth import_offsets (Alias a) h =
-      parts.bare_cook expander (entries_literals (entries_of a.attributes)) (set_cooked a.attributes) (set_cooks expander P expression_cooks a.attributes h.attributes)
+      parts.bare_cook expander (entries_literals (entries_of a.attributes)) (attributes_cooked a.attributes) (set_cooks expander P expression_cooks a.attributes h.attributes)
   item_cooks file_depth import_offsets (Assignment a) h =
-      joined_cook expander (entries_literals (entries_of a.attributes)) _ (set_cooked a.attributes) _ (set_cooks expander P expression_cooks a.attributes h.attributes) (expression_cooks a.value h.value)
+      joined_cook expander (entries_literals (entries_of a.attributes)) _ (attributes_cooked a.attributes) _ (set_cooks expander P expression_cooks a.attributes h.attributes) (expression_cooks a.value h.value)
   item_cooks file_depth import_offsets (Comment text) h = tt
   item_cooks file_depth import_offsets (Function f) h =
-      joined_cook expander (entries_literals (entries_of f.attributes)) _ (set_cooked f.attributes) _ (set_cooks expander P expression_cooks f.attributes h.attributes) (expression_cooks f.body.value h.body)
+      joined_cook expander (entries_literals (entries_of f.attributes)) _ (attributes_cooked f.attributes) _ (set_cooks expander P expression_cooks f.attributes h.attributes) (expression_cooks f.body.value h.body)
   item_cooks file_depth import_offsets (Import set optional relative) h =
-      joined_cook expander (entries_literals (entries_of set)) _ (set_cooked set) _ (set_cooks expander P expression_cooks set h.attributes_are)
+      joined_cook expander (entries_literals (entries_of set)) _ (attributes_cooked set) _ (set_cooks expander P expression_cooks set h.attributes_are)
       (parts.relative_cooks expander P expression_cooks relative h.relative_is)
   item_cooks file_depth import_offsets (Module set doc name optional relative) h =
-      joined_cook expander (entries_literals (entries_of set)) _ (set_cooked set) _ (set_cooks expander P expression_cooks set h.attributes_are)
+      joined_cook expander (entries_literals (entries_of set)) _ (attributes_cooked set) _ (set_cooks expander P expression_cooks set h.attributes_are)
       (parts.path_cooks expander P expression_cooks relative h.relative_is)
   item_cooks file_depth import_offsets Newline h = tt
   item_cooks file_depth import_offsets (Recipe r) h =
       let header = header_literals (header_of r) in
       let body = body_literals (map body_line_of r.body.items) in
       let texts = flat_map line_cooked r.body.items in
-      subst (AreCookedTexts expander (lexemes (entries_literals (entries_of r.attributes) ++ (header ++ body)))) (sym (append_assoc (set_cooked r.attributes) (header_cooked r) texts))
-      (joined_cook expander (entries_literals (entries_of r.attributes)) (header ++ body) (set_cooked r.attributes) (header_cooked r ++ texts)
+      subst (AreCookedTexts expander (lexemes (entries_literals (entries_of r.attributes) ++ (header ++ body)))) (sym (append_assoc (attributes_cooked r.attributes) (header_cooked r) texts))
+      (joined_cook expander (entries_literals (entries_of r.attributes)) (header ++ body) (attributes_cooked r.attributes) (header_cooked r ++ texts)
       (set_cooks expander P expression_cooks r.attributes h.attributes)
       (joined_cook expander header body (header_cooked r) texts (header_cooks r h) (lines_cook r.body.items h.body)))
   item_cooks file_depth import_offsets (Setting s) h =
-      joined_cook expander (entries_literals (entries_of s.attributes)) _ (set_cooked s.attributes) _ (set_cooks expander P expression_cooks s.attributes h.attributes)
+      joined_cook expander (entries_literals (entries_of s.attributes)) _ (attributes_cooked s.attributes) _ (set_cooks expander P expression_cooks s.attributes h.attributes)
       (parts.setting_cooks expander P expression_cooks s.value.value h.value)
   item_cooks file_depth import_offsets (Unexport set name) h =
-      parts.bare_cook expander (entries_literals (entries_of set)) (set_cooked set) (set_cooks expander P expression_cooks set h.attributes_are)
+      parts.bare_cook expander (entries_literals (entries_of set)) (attributes_cooked set) (set_cooks expander P expression_cooks set h.attributes_are)
 
 -- the literals' texts are theirs
 pub cooks_of : (expander : Expansions) (P : Token → Type 0) (file_depth : ℕ) (import_offsets : List ℕ) (items : List Item) → All (IsFilledItem expander P file_depth import_offsets) items → AreCookedTexts expander (lexemes (literals (map item_of items))) (flat_map item_cooked items)
@@ -483,7 +483,7 @@ module _ (conditions : Conditions) (tokens : List Token) (table : List TableEntr
       let P : List SignificantToken → Type 0 = λ ts. WantsNumber conditions ts old new in
       (subst P is h.0, λ limit tree features d enough. by_order limit tree features d enough (cases_order conditions.limit limit))
     where
-      -- under a limit that is no less
+      -- under a limit that isn't less
       under : (limit : ℕ) → conditions.limit ≤ limit → (tree : Tree) (features : List (Noted Tok)) → FileDerives (with_limit limit conditions) (significant_tokens (map tok_of tokens)) tree features
           → NumbersSuffice (bindings_of old) (recipes_of old) tree → ⊥
       under limit above tree features d enough =

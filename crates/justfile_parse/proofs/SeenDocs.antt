@@ -15,7 +15,7 @@ use Rattle.justfile_item.specs.declared.item.Item.TheVariants as items
 use Rattle.justfile_model.specs.AttributeKinds.{same_attribute}
 use Rattle.justfile_model.specs.Conditions.{Conditions}
 use Rattle.justfile_model.specs.Docs.{Before, LineEnd, Nothing, Other, comment_taken, doc_in, doc_of, doc_or_comment, documented, redocumented, taken, takes_doc}
-use Rattle.justfile_model.specs.Files.{NumbersFrom, if_both, ordered, ordered_item, says_doc, undocumented}
+use Rattle.justfile_model.specs.Files.{NumbersFrom, if_both, ordered, ordered_item, sets_doc, undocumented}
 use Rattle.justfile_model.specs.ReaderState.{Counters}
 use Rattle.justfile_model.specs.LeafView.{views_tokens}
 use Rattle.justfile_model.specs.Tok.{Tok}
@@ -33,12 +33,12 @@ use Rattle.justfile_expression.specs.LeafTree.{Leaf}
 use Rattle.justfile_parse_item.proofs.Seen as seeing
 use Rattle.justfile_parse.proofs.SeenItems.{SeenItem, item_seen, undoc}
 
--- an attribute says the doc, whatever is seen of leaves
-pairs_say : (pairs : List Pair) → says_doc (map leaf_entry_of pairs) ≡ says_doc (map entry_of pairs)
+-- an attribute sets the doc, whatever the view of leaves
+pairs_say : (pairs : List Pair) → sets_doc (map leaf_entry_of pairs) ≡ sets_doc (map entry_of pairs)
 pairs_say [] = refl
 pairs_say (p ∷ ps) = λ i. same_attribute (sym (kind_seen p.0) i) Doc || pairs_say ps i
 
-set_says : (set : AttributeSet) → says_doc (leaf_entries_of set) ≡ says_doc (sets.entries_of set)
+set_says : (set : AttributeSet) → sets_doc (leaf_entries_of set) ≡ sets_doc (sets.entries_of set)
 set_says set = pairs_say (written_of set)
 
 -- an item with this doc, if it may have one
@@ -129,7 +129,7 @@ module _ (conditions : Conditions) (bound : ℕ) (IsToken : Token → Type 0) (f
     comment : {text : List ℕ} → Docs n (tree.Comment text) (tree.Comment text)
     construct : {entries : List (Entry Leaf Token)} {others : List (Entry Tok Tok)} {content : Content Leaf Token ℕ (Unit {0})}
         {other : Content Tok Tok ℕ (Unit {0})} {t : WrittenItem Tok Tok ℕ Tok}
-        → says_doc entries ≡ says_doc others → takes_doc content ≡ takes_doc other → doc_of content ≡ doc_of other
+        → sets_doc entries ≡ sets_doc others → takes_doc content ≡ takes_doc other → doc_of content ≡ doc_of other
         → AlikeItem seen n (tree.Construct entries (redocumented None content)) t → meant t ≡ Some (tree.Construct others (redocumented None other))
         → Docs n (tree.Construct entries content) (tree.Construct others other)
 
@@ -143,7 +143,7 @@ module _ (conditions : Conditions) (bound : ℕ) (IsToken : Token → Type 0) (f
   -- a construct with this doc
   documented_construct : (doc : Option (List ℕ)) (content : Content Leaf Token ℕ (Unit {0})) (other : Content Tok Tok ℕ (Unit {0})) {n : Counters} {entries : List (Entry Leaf Token)}
       {others : List (Entry Tok Tok)} {t : WrittenItem Tok Tok ℕ Tok}
-      → says_doc entries ≡ says_doc others → takes_doc content ≡ takes_doc other
+      → sets_doc entries ≡ sets_doc others → takes_doc content ≡ takes_doc other
       → AlikeItem seen n (tree.Construct entries (redocumented None content)) t → meant t ≡ Some (tree.Construct others (redocumented None other))
       → Docs n (tree.Construct entries (redocumented doc content)) (tree.Construct others (redocumented doc other))
   documented_construct doc content other {n} {entries} {others} {t} says takes h means =
@@ -155,11 +155,11 @@ module _ (conditions : Conditions) (bound : ℕ) (IsToken : Token → Type 0) (f
   -- a construct with the doc of the comment before it, if it may have it
   construct_alike : (text doc : List ℕ) (content : Content Leaf Token ℕ (Unit {0})) (other : Content Tok Tok ℕ (Unit {0})) {n : Counters} {entries : List (Entry Leaf Token)}
       {others : List (Entry Tok Tok)} {t : WrittenItem Tok Tok ℕ Tok} {ls : List LeafItem} {us : Tree}
-      (b b' : Bool) → b ≡ b' → says_doc entries ≡ says_doc others → takes_doc content ≡ takes_doc other → doc_of content ≡ doc_of other
+      (b b' : Bool) → b ≡ b' → sets_doc entries ≡ sets_doc others → takes_doc content ≡ takes_doc other → doc_of content ≡ doc_of other
       → AlikeItem seen n (tree.Construct entries (redocumented None content)) t → meant t ≡ Some (tree.Construct others (redocumented None other))
       → AllDocs (count n (tree.Construct entries content)) ls us
-      → AllDocs n (doc_or_comment says_doc text (tree.Construct entries content) ls (cond b (Some (tree.Construct entries (redocumented (Some doc) content))) None))
-      (doc_or_comment says_doc text (tree.Construct others other) us (cond b' (Some (tree.Construct others (redocumented (Some doc) other))) None))
+      → AllDocs n (doc_or_comment sets_doc text (tree.Construct entries content) ls (cond b (Some (tree.Construct entries (redocumented (Some doc) content))) None))
+      (doc_or_comment sets_doc text (tree.Construct others other) us (cond b' (Some (tree.Construct others (redocumented (Some doc) other))) None))
   construct_alike text doc content other {n} {ls = ls} {us = us} true true same says takes docs h means hs =
       more_docs (documented_construct (Some doc) content other says takes h means) (subst (λ (c : Counters). AllDocs c ls us) (sym (count_kept n (Some doc) content)) hs)
   construct_alike text doc content other false false same says takes docs h means hs = more_docs comment (more_docs newline (more_docs (construct says takes docs h means) hs))
@@ -167,26 +167,26 @@ module _ (conditions : Conditions) (bound : ℕ) (IsToken : Token → Type 0) (f
   construct_alike text doc content other false true same says takes docs h means hs = cc
 
   item_alike : (text doc : List ℕ) {n : Counters} {l : LeafItem} {u : TreeItem} {ls : List LeafItem} {us : Tree} → Docs n l u → AllDocs (count n l) ls us
-      → AllDocs n (comment_taken says_doc text l ls (Some doc)) (comment_taken says_doc text u us (Some doc))
+      → AllDocs n (comment_taken sets_doc text l ls (Some doc)) (comment_taken sets_doc text u us (Some doc))
   item_alike text doc newline hs = more_docs comment (more_docs newline (more_docs newline hs))
   item_alike text doc comment hs = more_docs comment (more_docs newline (more_docs comment hs))
   item_alike text doc (construct {content = content} {other = other} says takes docs h means) hs =
       construct_alike text doc content other _ _ (λ i. takes i && not (says i) && not (is_some (docs i))) says takes docs h means hs
 
-  wanted_alike : (text : List ℕ) (doc : Option (List ℕ)) {n : Counters} {l : LeafItem} {u : TreeItem} {ls : List LeafItem} {us : Tree} → Docs n l u → AllDocs (count n l) ls us
-      → AllDocs n (comment_taken says_doc text l ls doc) (comment_taken says_doc text u us doc)
-  wanted_alike text None h hs = more_docs comment (more_docs newline (more_docs h hs))
-  wanted_alike text (Some doc) h hs = item_alike text doc h hs
+  doc_alike : (text : List ℕ) (doc : Option (List ℕ)) {n : Counters} {l : LeafItem} {u : TreeItem} {ls : List LeafItem} {us : Tree} → Docs n l u → AllDocs (count n l) ls us
+      → AllDocs n (comment_taken sets_doc text l ls doc) (comment_taken sets_doc text u us doc)
+  doc_alike text None h hs = more_docs comment (more_docs newline (more_docs h hs))
+  doc_alike text (Some doc) h hs = item_alike text doc h hs
 
   comment_alike : (before : Before) (text : List ℕ) {n : Counters} {ls : List LeafItem} {us : Tree} → AllDocs n ls us
-      → AllDocs n (taken says_doc before (tree.Comment text) ls) (taken says_doc before (tree.Comment text) us)
+      → AllDocs n (taken sets_doc before (tree.Comment text) ls) (taken sets_doc before (tree.Comment text) us)
   comment_alike before text no_docs = more_docs comment no_docs
   comment_alike before text (more_docs newline no_docs) = more_docs comment (more_docs newline no_docs)
-  comment_alike before text (more_docs newline (more_docs h hs)) = wanted_alike text (doc_in before text) h hs
+  comment_alike before text (more_docs newline (more_docs h hs)) = doc_alike text (doc_in before text) h hs
   comment_alike before text (more_docs comment hs) = more_docs comment (more_docs comment hs)
   comment_alike before text (more_docs (construct says takes docs h means) hs) = more_docs comment (more_docs (construct says takes docs h means) hs)
 
-  documented_alike : (before : Before) {n : Counters} {ls : List LeafItem} {us : Tree} → AllDocs n ls us → AllDocs n (documented says_doc before ls) (documented says_doc before us)
+  documented_alike : (before : Before) {n : Counters} {ls : List LeafItem} {us : Tree} → AllDocs n ls us → AllDocs n (documented sets_doc before ls) (documented sets_doc before us)
   documented_alike before no_docs = no_docs
   documented_alike before (more_docs newline hs) = more_docs newline (documented_alike LineEnd hs)
   documented_alike before (more_docs (comment {text = text}) hs) = comment_alike before text (documented_alike Other hs)
@@ -205,7 +205,7 @@ module _ (conditions : Conditions) (bound : ℕ) (IsToken : Token → Type 0) (f
   bare_is (a.module_of d h o) = refl
   bare_is (a.setting d h v) = refl
   bare_is (a.unexport d h) = refl
-  bare_is (a.recipe d h said ls) = refl
+  bare_is (a.recipe d h commented ls) = refl
 
   -- what the definitions see of an item has the doc that the parser's tree has
   redocumented_item : (i : Item) → redoc (doc_at (item_tree i)) (item_of i) ≡ item_of i
@@ -319,13 +319,13 @@ module _ (conditions : Conditions) (bound : ℕ) (IsToken : Token → Type 0) (f
   ended_item n (items.Unexport set name) (construct says takes docs h means) = ended_construct n (items.Unexport set name) docs h means
 
   ended : (n : Counters) (is : List Item) {us : Tree} → AllDocs n (map item_tree is) us → Ended n is us
-  ended n [] no_docs = record { same = refl; given = λ whole. All-nil (IsFilledItem conditions.expander IsToken file_depth import_offsets); numbered = tt; recipes_numbered = tt }
+  ended n [] no_docs = record { same = refl; given = λ fields. All-nil (IsFilledItem conditions.expander IsToken file_depth import_offsets); numbered = tt; recipes_numbered = tt }
   ended n (i ∷ is) (more_docs h hs) =
       let x = ended_item n i h in
       let y = ended (count n (item_tree i)) is hs in
       record {
         same = λ j. x.same j ∷ y.same j;
-        given = λ whole. All-cons (IsFilledItem conditions.expander IsToken file_depth import_offsets) i is (x.seen_is.given (All-head HasDerivedItemFields i is whole)) (y.given (All-tail HasDerivedItemFields i is whole));
+        given = λ fields. All-cons (IsFilledItem conditions.expander IsToken file_depth import_offsets) i is (x.seen_is.given (All-head HasDerivedItemFields i is fields)) (y.given (All-tail HasDerivedItemFields i is fields));
         numbered = x.seen_is.numbers (flat_map item_numbers is) y.numbered;
         recipes_numbered = x.seen_is.recipe_numbers (flat_map item_recipe_numbers is) y.recipes_numbered;
       }
@@ -340,14 +340,14 @@ module _ (conditions : Conditions) (bound : ℕ) (IsToken : Token → Type 0) (f
     pub recipes_numbered : NumbersFrom n.recipes (flat_map item_recipe_numbers docs)
 
   pub items_seen : (n : Counters) (is docs : List Item) {ts : WrittenTree} → AlikeItems seen n (map item_tree is) ts
-      → map item_tree docs ≡ documented says_doc Nothing (map item_tree is) → SeenItems n docs ts
+      → map item_tree docs ≡ documented sets_doc Nothing (map item_tree is) → SeenItems n docs ts
   items_seen n is docs h documents =
       let x = begun n is h in
-      let all : AllDocs n (map item_tree docs) (documented says_doc Nothing (map item_of is)) =
-      subst (λ (ls : List LeafItem). AllDocs n ls (documented says_doc Nothing (map item_of is))) (sym documents) (documented_alike Nothing x.docs) in
+      let all : AllDocs n (map item_tree docs) (documented sets_doc Nothing (map item_of is)) =
+      subst (λ (ls : List LeafItem). AllDocs n ls (documented sets_doc Nothing (map item_of is))) (sym documents) (documented_alike Nothing x.docs) in
       let y = ended n docs all in
       record {
-        same = ap (option_map (documented says_doc Nothing)) x.same ∙ ap (λ (t : Tree). Some t) y.same;
+        same = ap (option_map (documented sets_doc Nothing)) x.same ∙ ap (λ (t : Tree). Some t) y.same;
         given = y.given;
         numbered = y.numbered;
         recipes_numbered = y.recipes_numbered;

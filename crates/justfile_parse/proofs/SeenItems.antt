@@ -45,7 +45,8 @@ use Rattle.justfile_attribute_set.specs.Keys.{firsts}
 use Rattle.justfile_attribute_set.specs.Pairs.{Pair}
 use Rattle.justfile_parse_item.specs.Filled.{AreFilledAttributes, IsFilledAttribute, IsFilledItem, IsFilledLine}
 use Rattle.justfile_parse_expression.specs.TableReader.{assigned_leaf, headed_leaf}
-use Rattle.justfile_parse_item.specs.Tree.{assignment_name, item_tree, line_tree, numbered_tree, quoted_tree, recipe_header, recipe_name}
+use Rattle.justfile_attribute_rules.specs.Made.{quoted_leaf}
+use Rattle.justfile_parse_item.specs.Tree.{assignment_name, item_tree, line_tree, numbered_leaf, recipe_header, recipe_name}
 use Rattle.justfile_parse_header.specs.Tree.{name_tree, path_tree}
 use Rattle.justfile_parse_item.specs.DerivedFields.{HasDerivedSetAttributes, HasDerivedItemFields}
 use Rattle.justfile_parse_attribute.specs.DerivedAttributeFields.{HaveDerivedAttributeFields}
@@ -80,16 +81,16 @@ module _ (conditions : Conditions) (bound : ℕ) (IsToken : Token → Type 0) (f
 
   -- the attributes of a set are given, with what the tree doesn't show of them
   pairs_given : (ps : List Pair) → All IsFilledPair ps → All HasDerivedAttributeFields (firsts ps) → All (λ (p : Pair). IsToken p.1.name.token × IsFilledAttribute conditions.expander IsToken p.0 × HasDerivedAttributeFields p.0) ps
-  pairs_given [] given whole = All-nil (λ (p : Pair). IsToken p.1.name.token × IsFilledAttribute conditions.expander IsToken p.0 × HasDerivedAttributeFields p.0)
-  pairs_given (p ∷ ps) given whole =
+  pairs_given [] given fields = All-nil (λ (p : Pair). IsToken p.1.name.token × IsFilledAttribute conditions.expander IsToken p.0 × HasDerivedAttributeFields p.0)
+  pairs_given (p ∷ ps) given fields =
       let here = All-head IsFilledPair p ps given in
       All-cons (λ (p : Pair). IsToken p.1.name.token × IsFilledAttribute conditions.expander IsToken p.0 × HasDerivedAttributeFields p.0) p ps
-      (here.0, here.1, All-head HasDerivedAttributeFields p.0 (firsts ps) whole)
-      (pairs_given ps (All-tail IsFilledPair p ps given) (All-tail HasDerivedAttributeFields p.0 (firsts ps) whole))
+      (here.0, here.1, All-head HasDerivedAttributeFields p.0 (firsts ps) fields)
+      (pairs_given ps (All-tail IsFilledPair p ps given) (All-tail HasDerivedAttributeFields p.0 (firsts ps) fields))
 
-  whole_given : (set : AttributeSet) → All IsFilledPair (written_of set) → HasDerivedSetAttributes set → AreFilledAttributes conditions.expander IsToken set
+  given_fields : (set : AttributeSet) → All IsFilledPair (written_of set) → HasDerivedSetAttributes set → AreFilledAttributes conditions.expander IsToken set
   unfolding HaveDerivedAttributeFields
-  whole_given set given whole = pairs_given (written_of set) given whole
+  given_fields set given fields = pairs_given (written_of set) given fields
 
   -- ---- items
 
@@ -121,12 +122,12 @@ module _ (conditions : Conditions) (bound : ℕ) (IsToken : Token → Type 0) (f
         same =
             meant_item conditions.expander (tree.Assignment (assignment_of b.eager b.export t e)) ws (sets.entries_of b.attributes) m.0
             ∙ (λ i. Some (tree.Construct (sets.entries_of b.attributes) (tree.Assignment (assignment_of b.eager b.export ((h.tok_is ∙ ap tok_of token) i) (x.same i)))));
-        given = λ whole. record {
+        given = λ fields. record {
           among = subst IsToken token h.among;
           file_depth_is = ap (λ (x : AssignmentName). x.file_depth) same;
           prelude = ap (λ (x : AssignmentName). x.prelude) same;
-          private = whole.private;
-          attributes = whole_given b.attributes m.1 whole.attributes;
+          private = fields.private;
+          attributes = given_fields b.attributes m.1 fields.attributes;
           value = x.given;
         };
         numbers = λ more h. (number, h);
@@ -136,7 +137,7 @@ module _ (conditions : Conditions) (bound : ℕ) (IsToken : Token → Type 0) (f
   recipe_seen : (n : Counters) (r : UnresolvedRecipe) {ws : List (WrittenAttribute Tok Tok)} {h : Header Tok Tok Tok} {comment : Option (List ℕ)} {body : List (BodyLine Tok Tok ℕ)} → AreMeant conditions bound IsToken file_depth import_offsets (leaf_entries_of r.attributes) ws
       → AlikeHeader seen n (recipe_header r) (map line_tree r.body.items) h body → option_copied r.comment ≡ comment
       → Each (AlikeLine seen) (map line_tree r.body.items) body → SeenItem n (items.Recipe r) (tree.Construct ws (tree.Recipe (bare_recipe h comment body)))
-  recipe_seen n r {ws} {h} {comment} {body} means k said ls =
+  recipe_seen n r {ws} {h} {comment} {body} means k commented ls =
       let name = k.name in
       let same : recipe_name r ≡ headed_in (recipe_name r) (headed_leaf (in_run conditions bound IsToken file_depth import_offsets) name.token n.recipes) = ap (headed_in (recipe_name r)) name.is in
       let token : name.token ≡ r.name.token = ap (λ (x : RecipeName). x.name) (sym same) in
@@ -156,25 +157,25 @@ module _ (conditions : Conditions) (bound : ℕ) (IsToken : Token → Type 0) (f
       record {
         same =
             meant_item conditions.expander (tree.Recipe (bare_recipe h comment body)) ws (sets.entries_of r.attributes) m.0
-            ∙ (λ i. Some (tree.Construct (sets.entries_of r.attributes) (tree.Recipe (bare_recipe (header i) (sym said i) (x.0 i)))));
-        given = λ whole. record {
+            ∙ (λ i. Some (tree.Construct (sets.entries_of r.attributes) (tree.Recipe (bare_recipe (header i) (sym commented i) (x.0 i)))));
+        given = λ fields. record {
           among = subst IsToken token name.among;
           parameters = ps.given;
-          arg_attributes = whole.parameters;
-          priors = whole.priors;
+          arg_attributes = fields.parameters;
+          priors = fields.priors;
           dependencies = headers.both_given conditions bound IsToken file_depth import_offsets r.priors r.dependencies.items ds.1 es.1;
           body = x.1;
           file_depth_is = ap (λ (x : RecipeName). x.file_depth) same;
           import_offsets_are = ap (λ (x : RecipeName). x.import_offsets) same;
-          private = whole.private;
-          shebang = shebang_given r whole.shebang;
-          attributes = whole_given r.attributes m.1 whole.attributes;
+          private = fields.private;
+          shebang = shebang_given r fields.shebang;
+          attributes = given_fields r.attributes m.1 fields.attributes;
         };
         numbers = ps.numbers;
         recipe_numbers = λ more q. (number, q);
       }
 
-  -- the name of what draws no number, or draws it at another token
+  -- the name of what takes no number, or takes it at another token
   abbrev IsName : Leaf → Tok → Type 0
   IsName = IsLeaf (λ token. Named token None)
 
@@ -189,13 +190,13 @@ module _ (conditions : Conditions) (bound : ℕ) (IsToken : Token → Type 0) (f
         same =
             meant_item conditions.expander (tree.Alias (record { name = t; target = ts })) ws (sets.entries_of b.attributes) m.0
             ∙ (λ i. Some (tree.Construct (sets.entries_of b.attributes) (tree.Alias (record { name = x.0 i; target = y.0 i }))));
-        given = λ whole. record { among = x.1; target = y.1; attributes = whole_given b.attributes m.1 whole };
+        given = λ fields. record { among = x.1; target = y.1; attributes = given_fields b.attributes m.1 fields };
         numbers = λ more k. k;
         recipe_numbers = λ more k. k;
       }
 
   function_seen : (n : Counters) (f : FunctionDefinition) {ws : List (WrittenAttribute Tok Tok)} {t : Tok} {ts : List Tok} {e : Expr Tok Tok} → AreMeant conditions bound IsToken file_depth import_offsets (leaf_entries_of f.attributes) ws
-      → IsName (name_tree f.name) t → AlikeNames seen n.bindings (map numbered_tree f.parameters.items) ts → Alike seen (leaf_tree_of f.body.value) e
+      → IsName (name_tree f.name) t → AlikeNames seen n.bindings (map numbered_leaf f.parameters.items) ts → Alike seen (leaf_tree_of f.body.value) e
       → SeenItem n (items.Function f) (tree.Construct ws (tree.Function (record { name = t; parameters = ts; body = e })))
   function_seen n f {ws} {t} {ts} {e} means h hs v =
       let m = means f.attributes refl in
@@ -206,13 +207,13 @@ module _ (conditions : Conditions) (bound : ℕ) (IsToken : Token → Type 0) (f
         same =
             meant_item conditions.expander (tree.Function (record { name = t; parameters = ts; body = e })) ws (sets.entries_of f.attributes) m.0
             ∙ (λ i. Some (tree.Construct (sets.entries_of f.attributes) (tree.Function (record { name = x.0 i; parameters = y.same i; body = z.same i }))));
-        given = λ whole. record { among = x.1; parameters = y.given; body = z.given; attributes = whole_given f.attributes m.1 whole };
+        given = λ fields. record { among = x.1; parameters = y.given; body = z.given; attributes = given_fields f.attributes m.1 fields };
         numbers = y.numbers;
-        recipe_numbers = λ more k. subst (λ (c : ℕ). NumbersFrom c more) (parameters_recipes n (map numbered_tree f.parameters.items)) k;
+        recipe_numbers = λ more k. subst (λ (c : ℕ). NumbersFrom c more) (parameters_recipes n (map numbered_leaf f.parameters.items)) k;
       }
 
   import_seen : (n : Counters) (set : AttributeSet) (optional : Bool) (relative : StringLiteral) {ws : List (WrittenAttribute Tok Tok)} {q : Quoted Tok}
-      → AreMeant conditions bound IsToken file_depth import_offsets (leaf_entries_of set) ws → AlikeQuoted seen (quoted_tree relative) q
+      → AreMeant conditions bound IsToken file_depth import_offsets (leaf_entries_of set) ws → AlikeQuoted seen (quoted_leaf relative) q
       → SeenItem n (items.Import set optional relative) (tree.Construct ws (tree.Import (record { optional = optional; path = q })))
   import_seen n set optional relative {ws} {q} means h =
       let m = means set refl in
@@ -221,14 +222,14 @@ module _ (conditions : Conditions) (bound : ℕ) (IsToken : Token → Type 0) (f
         same =
             meant_item conditions.expander (tree.Import (record { optional = optional; path = q })) ws (sets.entries_of set) m.0
             ∙ (λ i. Some (tree.Construct (sets.entries_of set) (tree.Import (record { optional = optional; path = x.0 i }))));
-        given = λ whole. record { relative_is = x.1; attributes_are = whole_given set m.1 whole };
+        given = λ fields. record { relative_is = x.1; attributes_are = given_fields set m.1 fields };
         numbers = λ more k. k;
         recipe_numbers = λ more k. k;
       }
 
   module_seen : (n : Counters) (set : AttributeSet) (doc : Option (String Global)) (name : Name) (optional : Bool) (relative : Option StringLiteral)
       {ws : List (WrittenAttribute Tok Tok)} {t : Tok} {o : Option (Quoted Tok)} → AreMeant conditions bound IsToken file_depth import_offsets (leaf_entries_of set) ws
-      → IsName (name_tree name) t → AlikeOption (AlikeQuoted seen) (option_map quoted_tree relative) o
+      → IsName (name_tree name) t → AlikeOption (AlikeQuoted seen) (option_map quoted_leaf relative) o
       → SeenItem n (items.Module set doc name optional relative) (tree.Construct ws (tree.Module (bare_module optional t o)))
   module_seen n set doc name optional relative {ws} {t} {o} means h k =
       let m = means set refl in
@@ -238,7 +239,7 @@ module _ (conditions : Conditions) (bound : ℕ) (IsToken : Token → Type 0) (f
         same =
             meant_item conditions.expander (tree.Module (bare_module optional t o)) ws (sets.entries_of set) m.0
             ∙ (λ i. Some (tree.Construct (sets.entries_of set) (tree.Module (bare_module optional (x.0 i) (y.0 i)))));
-        given = λ whole. record { among = x.1; relative_is = y.1; attributes_are = whole_given set m.1 whole };
+        given = λ fields. record { among = x.1; relative_is = y.1; attributes_are = given_fields set m.1 fields };
         numbers = λ more k. k;
         recipe_numbers = λ more k. k;
       }
@@ -254,7 +255,7 @@ module _ (conditions : Conditions) (bound : ℕ) (IsToken : Token → Type 0) (f
         same =
             meant_item conditions.expander (tree.Setting (record { keyword = keyword_of s.value.value; name = t; value = v })) ws (sets.entries_of s.attributes) m.0
             ∙ (λ i. Some (tree.Construct (sets.entries_of s.attributes) (tree.Setting (record { keyword = keyword_of s.value.value; name = x.0 i; value = y.same i }))));
-        given = λ whole. record { among = x.1; value = y.given whole.value; attributes = whole_given s.attributes m.1 whole.attributes };
+        given = λ fields. record { among = x.1; value = y.given fields.value; attributes = given_fields s.attributes m.1 fields.attributes };
         numbers = λ more k. k;
         recipe_numbers = λ more k. k;
       }
@@ -268,7 +269,7 @@ module _ (conditions : Conditions) (bound : ℕ) (IsToken : Token → Type 0) (f
         same =
             meant_item conditions.expander (tree.Unexport t) ws (sets.entries_of set) m.0
             ∙ (λ i. Some (tree.Construct (sets.entries_of set) (tree.Unexport (x.0 i))));
-        given = λ whole. record { among = x.1; attributes_are = whole_given set m.1 whole };
+        given = λ fields. record { among = x.1; attributes_are = given_fields set m.1 fields };
         numbers = λ more k. k;
         recipe_numbers = λ more k. k;
       }
@@ -276,12 +277,12 @@ module _ (conditions : Conditions) (bound : ℕ) (IsToken : Token → Type 0) (f
   pub item_seen : (n : Counters) (i : Item) {t : WrittenItem Tok Tok ℕ Tok} → AlikeItem seen n (undoc (item_tree i)) t → SeenItem n i t
   item_seen n (items.Alias b) (a.alias means h hs) = alias_seen n b means h hs
   item_seen n (items.Assignment b) (a.assignment means h v) = assignment_seen n b means h v
-  item_seen n (items.Comment text) a.comment = record { same = refl; given = λ whole. tt; numbers = λ more h. h; recipe_numbers = λ more h. h }
+  item_seen n (items.Comment text) a.comment = record { same = refl; given = λ fields. tt; numbers = λ more h. h; recipe_numbers = λ more h. h }
   item_seen n (items.Function f) (a.function means h hs v) = function_seen n f means h hs v
   item_seen n (items.Import set optional relative) (a.import means h) = import_seen n set optional relative means h
   item_seen n (items.Module set doc name optional relative) (a.module_of means h k) = module_seen n set doc name optional relative means h k
-  item_seen n items.Newline a.newline = record { same = refl; given = λ whole. tt; numbers = λ more h. h; recipe_numbers = λ more h. h }
-  item_seen n (items.Recipe r) (a.recipe means h said ls) = recipe_seen n r means h said ls
+  item_seen n items.Newline a.newline = record { same = refl; given = λ fields. tt; numbers = λ more h. h; recipe_numbers = λ more h. h }
+  item_seen n (items.Recipe r) (a.recipe means h commented ls) = recipe_seen n r means h commented ls
   item_seen n (items.Setting s) (a.setting means h v) = set_seen n s means h v
   item_seen n (items.Unexport set name) (a.unexport means h) = unexport_seen n set name means h
 

@@ -29,7 +29,8 @@ use Rattle.justfile_expression.specs.Expression.{expr_of, exprs_of, literal_tok}
 use Rattle.justfile_expression.specs.LeafTree.{Leaf, Literal, Named, leaf_tree_of, literal_of, trees_of}
 use Rattle.justfile_expression.specs.declared.expression.Expression.{Expression}
 use Rattle.justfile_parse_item.specs.Filled.{IsFilledBoxed, IsFilledCommandLine, IsFilledExpression, IsFilledLiteral, IsFilledNumbered, IsFilledPath, IsFilledSetting}
-use Rattle.justfile_parse_item.specs.Tree.{numbered_tree, quoted_tree}
+use Rattle.justfile_attribute_rules.specs.Made.{quoted_leaf}
+use Rattle.justfile_parse_item.specs.Tree.{numbered_leaf}
 use Rattle.justfile_parse_expression.proofs.Seen as table
 use Rattle.justfile_parse_expression.proofs.Seen.{Relates}
 use Rattle.justfile_parse_item.proofs.Seen as seeing
@@ -44,13 +45,13 @@ module _ (conditions : Conditions) (bound : ℕ) (IsToken : Token → Type 0) (f
 
   -- ---- paths of files
 
-  pub relative_seen : (l : strings.StringLiteral) (q : Quoted Tok) → AlikeQuoted seen (quoted_tree l) q → (q ≡ quoted_of l) × IsFilledLiteral conditions.expander IsToken l
+  pub relative_seen : (l : strings.StringLiteral) (q : Quoted Tok) → AlikeQuoted seen (quoted_leaf l) q → (q ≡ quoted_of l) × IsFilledLiteral conditions.expander IsToken l
   relative_seen l q h = attributes.quoted_seen conditions bound IsToken file_depth import_offsets l h
 
-  pub optional_relative_seen : (o : Option strings.StringLiteral) {p : Option (Quoted Tok)} → AlikeOption (AlikeQuoted seen) (option_map quoted_tree o) p
+  pub optional_relative_seen : (o : Option strings.StringLiteral) {p : Option (Quoted Tok)} → AlikeOption (AlikeQuoted seen) (option_map quoted_leaf o) p
       → (p ≡ option_map quoted_of o) × IsFilledPath conditions.expander IsToken o
   optional_relative_seen o h =
-      attributes.if_seen conditions bound IsToken file_depth import_offsets quoted_tree quoted_of (IsFilledLiteral conditions.expander IsToken) relative_seen o h
+      attributes.if_seen conditions bound IsToken file_depth import_offsets quoted_leaf quoted_of (IsFilledLiteral conditions.expander IsToken) relative_seen o h
 
   -- ---- the parameters of functions
 
@@ -68,18 +69,18 @@ module _ (conditions : Conditions) (bound : ℕ) (IsToken : Token → Type 0) (f
     given : IsFilledNumbered conditions.expander IsToken x
     numbered : x.1.0 ≡ number
 
-  numbered_seen : (number : ℕ) (x : Name × Number) (t : Tok) → IsLeaf (λ token. Named token (Some (number_of number))) (numbered_tree x) t → SeenNumbered number x t
+  numbered_seen : (number : ℕ) (x : Name × Number) (t : Tok) → IsLeaf (λ token. Named token (Some (number_of number))) (numbered_leaf x) t → SeenNumbered number x t
   numbered_seen number x t h =
-      let n = seeing.name_seen conditions bound IsToken file_depth import_offsets (λ token. Named token (Some (number_of number))) x.0.token (numbered_tree x) t (λ token. refl) refl h in
+      let n = seeing.name_seen conditions bound IsToken file_depth import_offsets (λ token. Named token (Some (number_of number))) x.0.token (numbered_leaf x) t (λ token. refl) refl h in
       record { same = n.1; given = n.0; numbered = ap leaf_number h.is }
 
   -- names, where the counters stand before the first
   pub record SeenNames (n : Counters) (xs : List (Name × Number)) (ts : List Tok) : Type 0 where
     pub same : ts ≡ map function_parameter_of xs
     pub given : All (IsFilledNumbered conditions.expander IsToken) xs
-    pub numbers : (more : List ℕ) → NumbersFrom (after_parameters n (map numbered_tree xs)).bindings more → NumbersFrom n.bindings (map function_parameter_number xs ++ more)
+    pub numbers : (more : List ℕ) → NumbersFrom (after_parameters n (map numbered_leaf xs)).bindings more → NumbersFrom n.bindings (map function_parameter_number xs ++ more)
 
-  pub names_seen : (n : Counters) (xs : List (Name × Number)) {ts : List Tok} → AlikeNames seen n.bindings (map numbered_tree xs) ts → SeenNames n xs ts
+  pub names_seen : (n : Counters) (xs : List (Name × Number)) {ts : List Tok} → AlikeNames seen n.bindings (map numbered_leaf xs) ts → SeenNames n xs ts
   names_seen n [] a.no_name = record { same = refl; given = All-nil (IsFilledNumbered conditions.expander IsToken); numbers = λ more h. h }
   names_seen n (x ∷ xs) (a.a_name {a' = t} h hs) =
       let y = numbered_seen n.bindings x t h in
@@ -122,32 +123,32 @@ module _ (conditions : Conditions) (bound : ℕ) (IsToken : Token → Type 0) (f
     pub given : HasDerivedSettingFields s → IsFilledSetting conditions.expander IsToken s
 
   pub setting_seen : (s : Setting) {v : SettingValue Tok Tok} → AlikeValue seen (leaf_value_of s) v → SeenSetting s v
-  setting_seen (settings.AllowDuplicateRecipes value) a.truth = record { same = refl; given = λ whole. tt }
-  setting_seen (settings.AllowDuplicateVariables value) a.truth = record { same = refl; given = λ whole. tt }
-  setting_seen (settings.DefaultList value) a.truth = record { same = refl; given = λ whole. tt }
-  setting_seen (settings.DefaultScript value) a.truth = record { same = refl; given = λ whole. tt }
-  setting_seen (settings.DotenvCommand value) h = let x = boxed_seen value h in record { same = x.0; given = λ whole. x.1 }
-  setting_seen (settings.DotenvFilename value) h = let x = boxed_seen value h in record { same = x.0; given = λ whole. x.1 }
-  setting_seen (settings.DotenvLoad value) a.truth = record { same = refl; given = λ whole. tt }
-  setting_seen (settings.DotenvOverride value) a.truth = record { same = refl; given = λ whole. tt }
-  setting_seen (settings.DotenvPath value) h = let x = boxed_seen value h in record { same = x.0; given = λ whole. x.1 }
-  setting_seen (settings.DotenvRequired value) a.truth = record { same = refl; given = λ whole. tt }
-  setting_seen (settings.Export value) a.truth = record { same = refl; given = λ whole. tt }
-  setting_seen (settings.Fallback value) a.truth = record { same = refl; given = λ whole. tt }
-  setting_seen (settings.Guards value) a.truth = record { same = refl; given = λ whole. tt }
-  setting_seen (settings.IgnoreComments value) a.truth = record { same = refl; given = λ whole. tt }
-  setting_seen (settings.Indentation literal indentation) h = let x = literal_seen literal h in record { same = x.0; given = λ whole. (x.1, whole) }
-  setting_seen (settings.Lazy value) a.truth = record { same = refl; given = λ whole. tt }
-  setting_seen (settings.Lists value) a.truth = record { same = refl; given = λ whole. tt }
-  setting_seen (settings.MinimumVersion literal) h = let x = literal_seen literal h in record { same = x.0; given = λ whole. x.1 }
-  setting_seen (settings.NoCd value) a.truth = record { same = refl; given = λ whole. tt }
-  setting_seen (settings.NoExitMessage value) a.truth = record { same = refl; given = λ whole. tt }
-  setting_seen (settings.PositionalArguments value) a.truth = record { same = refl; given = λ whole. tt }
-  setting_seen (settings.Quiet value) a.truth = record { same = refl; given = λ whole. tt }
-  setting_seen (settings.ScriptInterpreter i) h = let x = command_seen i h in record { same = x.0; given = λ whole. x.1 }
-  setting_seen (settings.Shell i) h = let x = command_seen i h in record { same = x.0; given = λ whole. x.1 }
-  setting_seen (settings.Tempdir value) h = let x = boxed_seen value h in record { same = x.0; given = λ whole. x.1 }
-  setting_seen (settings.Unstable value) a.truth = record { same = refl; given = λ whole. tt }
-  setting_seen (settings.WindowsPowerShell value) a.truth = record { same = refl; given = λ whole. tt }
-  setting_seen (settings.WindowsShell i) h = let x = command_seen i h in record { same = x.0; given = λ whole. x.1 }
-  setting_seen (settings.WorkingDirectory value) h = let x = boxed_seen value h in record { same = x.0; given = λ whole. x.1 }
+  setting_seen (settings.AllowDuplicateRecipes value) a.truth = record { same = refl; given = λ fields. tt }
+  setting_seen (settings.AllowDuplicateVariables value) a.truth = record { same = refl; given = λ fields. tt }
+  setting_seen (settings.DefaultList value) a.truth = record { same = refl; given = λ fields. tt }
+  setting_seen (settings.DefaultScript value) a.truth = record { same = refl; given = λ fields. tt }
+  setting_seen (settings.DotenvCommand value) h = let x = boxed_seen value h in record { same = x.0; given = λ fields. x.1 }
+  setting_seen (settings.DotenvFilename value) h = let x = boxed_seen value h in record { same = x.0; given = λ fields. x.1 }
+  setting_seen (settings.DotenvLoad value) a.truth = record { same = refl; given = λ fields. tt }
+  setting_seen (settings.DotenvOverride value) a.truth = record { same = refl; given = λ fields. tt }
+  setting_seen (settings.DotenvPath value) h = let x = boxed_seen value h in record { same = x.0; given = λ fields. x.1 }
+  setting_seen (settings.DotenvRequired value) a.truth = record { same = refl; given = λ fields. tt }
+  setting_seen (settings.Export value) a.truth = record { same = refl; given = λ fields. tt }
+  setting_seen (settings.Fallback value) a.truth = record { same = refl; given = λ fields. tt }
+  setting_seen (settings.Guards value) a.truth = record { same = refl; given = λ fields. tt }
+  setting_seen (settings.IgnoreComments value) a.truth = record { same = refl; given = λ fields. tt }
+  setting_seen (settings.Indentation literal indentation) h = let x = literal_seen literal h in record { same = x.0; given = λ fields. (x.1, fields) }
+  setting_seen (settings.Lazy value) a.truth = record { same = refl; given = λ fields. tt }
+  setting_seen (settings.Lists value) a.truth = record { same = refl; given = λ fields. tt }
+  setting_seen (settings.MinimumVersion literal) h = let x = literal_seen literal h in record { same = x.0; given = λ fields. x.1 }
+  setting_seen (settings.NoCd value) a.truth = record { same = refl; given = λ fields. tt }
+  setting_seen (settings.NoExitMessage value) a.truth = record { same = refl; given = λ fields. tt }
+  setting_seen (settings.PositionalArguments value) a.truth = record { same = refl; given = λ fields. tt }
+  setting_seen (settings.Quiet value) a.truth = record { same = refl; given = λ fields. tt }
+  setting_seen (settings.ScriptInterpreter i) h = let x = command_seen i h in record { same = x.0; given = λ fields. x.1 }
+  setting_seen (settings.Shell i) h = let x = command_seen i h in record { same = x.0; given = λ fields. x.1 }
+  setting_seen (settings.Tempdir value) h = let x = boxed_seen value h in record { same = x.0; given = λ fields. x.1 }
+  setting_seen (settings.Unstable value) a.truth = record { same = refl; given = λ fields. tt }
+  setting_seen (settings.WindowsPowerShell value) a.truth = record { same = refl; given = λ fields. tt }
+  setting_seen (settings.WindowsShell i) h = let x = command_seen i h in record { same = x.0; given = λ fields. x.1 }
+  setting_seen (settings.WorkingDirectory value) h = let x = boxed_seen value h in record { same = x.0; given = λ fields. x.1 }

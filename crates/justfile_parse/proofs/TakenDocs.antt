@@ -3,8 +3,8 @@ use Rattle.std.proofs.Common.{◌≡◌, ◌∙◌, ℕ, Bool, true, false, cond
 use Rattle.std.proofs.lemmas.List.{append-nil, append_assoc, length-append, reverse-append}
 use Rattle.std.proofs.Math.Seq.{take-append_seam}
 use Rattle.justfile_token.specs.declared.token.Token.{Token}
-use Rattle.justfile_model.specs.Docs.{Before, LineEnd, Nothing, Other, after, comment_taken, doc_in, doc_or_comment, documented, item_with_doc, redocumented, taken, wants_doc}
-use Rattle.justfile_model.specs.Files.{says_doc}
+use Rattle.justfile_model.specs.Docs.{Before, LineEnd, Nothing, Other, after, comment_taken, doc_in, doc_or_comment, documented, item_with_doc, redocumented, taken, can_take_doc}
+use Rattle.justfile_model.specs.Files.{sets_doc}
 use Rattle.justfile_model.specs.Tree as tree
 use Rattle.justfile_model.specs.Tree.{Content, Entry, Comment, Construct, Newline}
 use Rattle.justfile_parse.specs.Docs.{LeafItem, doc_before, doc_first, doc_taken, with_doc, with_item, with_items}
@@ -14,7 +14,7 @@ abbrev Items : Type 0
 Items = List LeafItem
 
 abbrev docs_from : Before → Items → Items
-docs_from = documented says_doc
+docs_from = documented sets_doc
 
 -- ---- from the last item to the first
 
@@ -22,7 +22,7 @@ docs_from = documented says_doc
 comment_stays : (text : List ℕ) (items : Items) → docs_from Other (Comment text ∷ items) ≡ Comment text ∷ docs_from Other items
 comment_stays text items = go (docs_from Other items)
   where
-    go : (l : Items) → taken says_doc Other (Comment text) l ≡ Comment text ∷ l
+    go : (l : Items) → taken sets_doc Other (Comment text) l ≡ Comment text ∷ l
     go [] = refl
     go (Newline ∷ []) = refl
     go (Newline ∷ i ∷ l) = refl
@@ -31,29 +31,29 @@ comment_stays text items = go (docs_from Other items)
 
 before_comment : (b : Before) (text next : List ℕ) (items : Items) → docs_from b (Comment text ∷ Comment next ∷ items) ≡ Comment text ∷ docs_from Other (Comment next ∷ items)
 before_comment b text next items =
-    ap (taken says_doc b (Comment text)) (comment_stays next items) ∙ ap (λ (l : Items). Comment text ∷ l) (sym (comment_stays next items))
+    ap (taken sets_doc b (Comment text)) (comment_stays next items) ∙ ap (λ (l : Items). Comment text ∷ l) (sym (comment_stays next items))
 
--- nothing but a construct that wants a doc takes one
+-- nothing but a construct that can take a doc takes one
 before_newline : (b : Before) (text : List ℕ) (items : Items) → docs_from b (Comment text ∷ Newline ∷ Newline ∷ items) ≡ Comment text ∷ Newline ∷ Newline ∷ docs_from LineEnd items
 before_newline b text items = go (doc_in b text)
   where
-    go : (o : Option (List ℕ)) → comment_taken says_doc text Newline (docs_from LineEnd items) o ≡ Comment text ∷ Newline ∷ Newline ∷ docs_from LineEnd items
+    go : (o : Option (List ℕ)) → comment_taken sets_doc text Newline (docs_from LineEnd items) o ≡ Comment text ∷ Newline ∷ Newline ∷ docs_from LineEnd items
     go None = refl
     go (Some doc) = refl
 
 -- items that begin with none that takes a doc
 TakesNone : Items → Type 0
 TakesNone [] = Unit {0}
-TakesNone (i ∷ items) = (doc : List ℕ) → item_with_doc says_doc doc i ≡ None
+TakesNone (i ∷ items) = (doc : List ℕ) → item_with_doc sets_doc doc i ≡ None
 
-stays_before : (b : Before) (text : List ℕ) (items : Items) → TakesNone items → taken says_doc b (Comment text) (Newline ∷ items) ≡ Comment text ∷ Newline ∷ items
+stays_before : (b : Before) (text : List ℕ) (items : Items) → TakesNone items → taken sets_doc b (Comment text) (Newline ∷ items) ≡ Comment text ∷ Newline ∷ items
 unfolding TakesNone
 stays_before b text [] none = refl
 stays_before b text (i ∷ items) none = go (doc_in b text)
   where
-    go : (o : Option (List ℕ)) → comment_taken says_doc text i items o ≡ Comment text ∷ Newline ∷ i ∷ items
+    go : (o : Option (List ℕ)) → comment_taken sets_doc text i items o ≡ Comment text ∷ Newline ∷ i ∷ items
     go None = refl
-    go (Some doc) = ap (doc_or_comment says_doc text i items) (none doc)
+    go (Some doc) = ap (doc_or_comment sets_doc text i items) (none doc)
 
 not_twice : (entries : List (Entry Leaf Token)) (content : Content Leaf Token ℕ (Unit {0})) (doc : List ℕ) (b : Bool)
     → cond (true && not b && not true) (Some (Construct entries (redocumented (Some doc) content))) None ≡ None
@@ -61,18 +61,18 @@ not_twice entries content doc true = refl
 not_twice entries content doc false = refl
 
 has_doc_already : (entries : List (Entry Leaf Token)) (content : Content Leaf Token ℕ (Unit {0})) (doc other : List ℕ)
-    → item_with_doc says_doc other (Construct entries (redocumented (Some doc) content)) ≡ None
+    → item_with_doc sets_doc other (Construct entries (redocumented (Some doc) content)) ≡ None
 has_doc_already entries (tree.Alias parts) doc other = refl
 has_doc_already entries (tree.Assignment parts) doc other = refl
 has_doc_already entries (tree.Function parts) doc other = refl
 has_doc_already entries (tree.Import parts) doc other = refl
-has_doc_already entries (tree.Module parts) doc other = not_twice entries (redocumented (Some doc) (tree.Module parts)) other (says_doc entries)
-has_doc_already entries (tree.Recipe parts) doc other = not_twice entries (redocumented (Some doc) (tree.Recipe parts)) other (says_doc entries)
+has_doc_already entries (tree.Module parts) doc other = not_twice entries (redocumented (Some doc) (tree.Module parts)) other (sets_doc entries)
+has_doc_already entries (tree.Recipe parts) doc other = not_twice entries (redocumented (Some doc) (tree.Recipe parts)) other (sets_doc entries)
 has_doc_already entries (tree.Setting parts) doc other = refl
 has_doc_already entries (tree.Unexport name) doc other = refl
 
 -- what begins with a comment takes no doc
-comment_takes_none : (b : Before) (text : List ℕ) (items : Items) → TakesNone (taken says_doc b (Comment text) items)
+comment_takes_none : (b : Before) (text : List ℕ) (items : Items) → TakesNone (taken sets_doc b (Comment text) items)
 unfolding TakesNone
 comment_takes_none b text [] = λ doc. refl
 comment_takes_none b text (Newline ∷ []) = λ doc. refl
@@ -80,13 +80,13 @@ comment_takes_none b text (Comment t ∷ items) = λ doc. refl
 comment_takes_none b text (Construct entries content ∷ items) = λ doc. refl
 comment_takes_none b text (Newline ∷ i ∷ items) = go i (doc_in b text)
   where
-    go : (i : LeafItem) (o : Option (List ℕ)) → TakesNone (comment_taken says_doc text i items o)
+    go : (i : LeafItem) (o : Option (List ℕ)) → TakesNone (comment_taken sets_doc text i items o)
     go i None = λ doc. refl
     go Newline (Some doc) = λ other. refl
     go (Comment t) (Some doc) = λ other. refl
-    go (Construct entries content) (Some doc) = by (wants_doc says_doc entries content)
+    go (Construct entries content) (Some doc) = by (can_take_doc sets_doc entries content)
       where
-        by : (w : Bool) → TakesNone (doc_or_comment says_doc text (Construct entries content) items (cond w (Some (Construct entries (redocumented (Some doc) content))) None))
+        by : (w : Bool) → TakesNone (doc_or_comment sets_doc text (Construct entries content) items (cond w (Some (Construct entries (redocumented (Some doc) content))) None))
         by true = λ other. has_doc_already entries content doc other
         by false = λ other. refl
 
@@ -99,7 +99,7 @@ before_line b text next items = stays_before b text (docs_from LineEnd (Comment 
 -- what stands before an item, by those before it, of which the last comes first
 abbrev before_of : Items → Before
 before_of [] = Nothing
-before_of (i ∷ others) = after says_doc i
+before_of (i ∷ others) = after sets_doc i
 
 -- they end with no comment, nor with one and a line end
 abbrev IsSettled : Items → Type 0
@@ -186,10 +186,10 @@ none_added = record {
 module _ (items : Items) (rest : Adds items) where
   -- an item that is added as it is, before the others
   alone : (before others : Items) (i : LeafItem) → reverse before ≡ others → IsSettled (i ∷ others) → with_item before i ≡ before ++ i ∷ []
-      → with_items before (i ∷ items) ≡ before ++ i ∷ docs_from (after says_doc i) items
+      → with_items before (i ∷ items) ≡ before ++ i ∷ docs_from (after sets_doc i) items
   alone before others i e h last =
       then_with before (before ++ i ∷ []) i items _ last
-      (rest.settled (before ++ i ∷ []) (i ∷ others) (next_last before others i e) h ∙ append_assoc before (i ∷ []) (docs_from (after says_doc i) items))
+      (rest.settled (before ++ i ∷ []) (i ∷ others) (next_last before others i e) h ∙ append_assoc before (i ∷ []) (docs_from (after sets_doc i) items))
 
   newline_first : Adds (Newline ∷ items)
   newline_first = record {
@@ -233,18 +233,18 @@ module _ (items : Items) (rest : Adds items) where
       abbrev all : Items
       all = before ++ Comment text ∷ Newline ∷ []
 
-      doc_is : doc_taken first (doc_before all) ≡ item_with_doc says_doc doc first
+      doc_is : doc_taken first (doc_before all) ≡ item_with_doc sets_doc doc first
       doc_is = ap (doc_taken first) (ap doc_first (line_last before others text e) ∙ doc_here text others ∙ h)
 
-      by_wanted : (w : Bool) → wants_doc says_doc entries content ≡ w
-          → with_items all (first ∷ items) ≡ before ++ doc_or_comment says_doc text first (docs_from Other items) (cond w (Some (with_this doc)) None)
-      by_wanted true k =
+      by_can_take : (w : Bool) → can_take_doc sets_doc entries content ≡ w
+          → with_items all (first ∷ items) ≡ before ++ doc_or_comment sets_doc text first (docs_from Other items) (cond w (Some (with_this doc)) None)
+      by_can_take true k =
           let by : doc_taken first (doc_before all) ≡ Some (with_this doc) = doc_is ∙ ap (λ w. cond w (Some (with_this doc)) None) k in
           then_with all (before ++ with_this doc ∷ []) first items _
           (ap (with_doc all first) by ∙ ap (λ (l : Items). l ++ with_this doc ∷ []) (front_taken before (Comment text) Newline))
           (rest.settled (before ++ with_this doc ∷ []) (with_this doc ∷ others) (next_last before others (with_this doc) e) tt
           ∙ append_assoc before (with_this doc ∷ []) (docs_from Other items))
-      by_wanted false k =
+      by_can_take false k =
           let by : doc_taken first (doc_before all) ≡ None = doc_is ∙ ap (λ w. cond w (Some (with_this doc)) None) k in
           alone all (Newline ∷ Comment text ∷ others) first (line_last before others text e) tt (added all first by)
           ∙ append_assoc before (Comment text ∷ Newline ∷ []) (first ∷ docs_from Other items)
@@ -261,13 +261,13 @@ module _ (items : Items) (rest : Adds items) where
     }
       where
         by_doc : (before others : Items) (text : List ℕ) → reverse before ≡ others → (o : Option (List ℕ)) → doc_in (before_of others) text ≡ o
-            → with_items (before ++ Comment text ∷ Newline ∷ []) (first ∷ items) ≡ before ++ comment_taken says_doc text first (docs_from Other items) o
+            → with_items (before ++ Comment text ∷ Newline ∷ []) (first ∷ items) ≡ before ++ comment_taken sets_doc text first (docs_from Other items) o
         by_doc before others text e None h =
             let all = before ++ Comment text ∷ Newline ∷ [] in
             let last = line_last before others text e in
             alone all (Newline ∷ Comment text ∷ others) first last tt (item_added all (Newline ∷ Comment text ∷ others) first last (doc_here text others ∙ h))
             ∙ append_assoc before (Comment text ∷ Newline ∷ []) (first ∷ docs_from Other items)
-        by_doc before others text e (Some doc) h = by_wanted before others text doc e h (wants_doc says_doc entries content) refl
+        by_doc before others text e (Some doc) h = by_can_take before others text doc e h (can_take_doc sets_doc entries content) refl
 
 all_added : (items : Items) → Adds items
 all_added [] = none_added

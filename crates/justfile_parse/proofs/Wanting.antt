@@ -50,7 +50,7 @@ module _ (rules : Rules) where
   are_numbered : (x y : Place rules) → singulars x ≡ Ok y → AreNumbered rules x y
   are_numbered x y e = all_numbered (suc (length x.1.left)) x y (omega arith) e
 
-  -- after parameters that got their numbers one comes next that lacks its number, where the counters stand there
+  -- after parameters that got their numbers one comes next for which no number is left, with these counters
   record Lacking (from : Place rules) (m : Counters) : Type 0 where
     place : Place rules
     numbered : AreNumbered rules from place
@@ -95,7 +95,7 @@ module _ (rules : Rules) where
         at_end = last;
       }
 
--- after names that got their numbers one comes next that lacks its number, where the counters stand there
+-- after names that got their numbers one comes next for which no number is left, with these counters
 pub record Naming (from : NamePlace) (m : Counters) : Type 0 where
   pub place : NamePlace
   pub named : AreNamed from place
@@ -108,7 +108,7 @@ naming (parts.later_lacks is taken lacks) =
     let l = naming lacks in
     record { place = l.place; named = a_name is taken l.named; counters = l.counters; is_name = l.is_name }
 
--- a recipe whose own number is wanting
+-- a recipe that gets no number
 pub recipe_lacks : {ws : List ReadAttribute} {header : State} (n m : Counters) (s : State) → attributes_at s ≡ Ok (ws, header) → (found : Read (WrittenItem Tok Tok ℕ Tok × Counters))
     → any_recipe token_leaves token_attributes ws n header ≡ found → IsOk found → IfOk found (λ y. y.0.1 ≡ with_recipes (m.recipes + 1) m) → m.recipes ≡ 2 ^ 32 - 1
     → LacksRecipe s n m

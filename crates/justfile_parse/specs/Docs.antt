@@ -2,8 +2,8 @@
 use Rattle.std.specs.Prelude.{ℕ, Bool, true, false, ◌-◌, List, [], ◌∷◌, ◌++◌, drop, length, map, take, Option, Some, None, reverse}
 use Rattle.justfile_token.specs.declared.token.Token.{Token}
 use Rattle.justfile_item.specs.declared.item.Item.{Item}
-use Rattle.justfile_model.specs.Docs.{LineEnd, Nothing, doc_in, item_with_doc, wants_doc}
-use Rattle.justfile_model.specs.Files.{says_doc}
+use Rattle.justfile_model.specs.Docs.{LineEnd, Nothing, doc_in, item_with_doc, can_take_doc}
+use Rattle.justfile_model.specs.Files.{sets_doc}
 use Rattle.justfile_model.specs.Tree as tree
 use Rattle.justfile_model.specs.Tree.{OrderedItem}
 use Rattle.justfile_parse_item.specs.Tree.{item_tree}
@@ -21,9 +21,9 @@ comment_of (tree.Comment text) = Some text
 comment_of i = None
 
 -- whether the item can have a doc, and neither an attribute nor a comment has set it yet
-abbrev pub says_no_doc : LeafItem → Bool
-says_no_doc (tree.Construct attributes content) = wants_doc says_doc attributes content
-says_no_doc i = false
+abbrev pub item_can_take_doc : LeafItem → Bool
+item_can_take_doc (tree.Construct attributes content) = can_take_doc sets_doc attributes content
+item_can_take_doc i = false
 
 -- the doc that these items begin with, if they are in reverse order
 abbrev pub doc_first : List LeafItem → Option (List ℕ)
@@ -42,7 +42,7 @@ with_doc before i (Some documented) = take (length before - 2) before ++ documen
 
 abbrev pub doc_taken : LeafItem → Option (List ℕ) → Option LeafItem
 doc_taken i None = None
-doc_taken i (Some doc) = item_with_doc says_doc doc i
+doc_taken i (Some doc) = item_with_doc sets_doc doc i
 
 abbrev pub with_item : List LeafItem → LeafItem → List LeafItem
 with_item before i = with_doc before i (doc_taken i (doc_before before))

@@ -46,13 +46,13 @@ IsNextPlace table (Some entry) token = token ≡ entry.token.now
 IsNextPlace table None token = IsInTable table token × IsAt (map significant_of table) None token
 
 -- The fault is that of the expression error: at the next token, or for a literal. Memory can run out for the list of expected tokens.
-abbrev pub IsFaultOf : List TableEntry → (next : Option TableEntry) → ExpressionError → Fault → Type 0
-IsFaultOf table next (causes.Refused refusal) (faults.Compile e) = IsKindAt refusal e.kind e.token × IsNextPlace table next e.token
-IsFaultOf table next (causes.Refused refusal) faults.Memory = refusal ≡ Unexpected
-IsFaultOf table next (causes.Literal refused) (faults.Compile e) = e ≡ refused.value.error
-IsFaultOf table next causes.Memory faults.Memory = Unit {0}
-IsFaultOf table next causes.Numbers faults.Numbers = Unit {0}
-IsFaultOf table next _ _ = ⊥
+abbrev pub IsFaultOfExpression : List TableEntry → (next : Option TableEntry) → ExpressionError → Fault → Type 0
+IsFaultOfExpression table next (causes.Refused refusal) (faults.Compile e) = IsKindAt refusal e.kind e.token × IsNextPlace table next e.token
+IsFaultOfExpression table next (causes.Refused refusal) faults.Memory = refusal ≡ Unexpected
+IsFaultOfExpression table next (causes.Literal refused) (faults.Compile e) = e ≡ refused.value.error
+IsFaultOfExpression table next causes.Memory faults.Memory = Unit {0}
+IsFaultOfExpression table next causes.Numbers faults.Numbers = Unit {0}
+IsFaultOfExpression table next _ _ = ⊥
 
 -- The items are those of the written tree that the definitions read, the features are the ones that they read, and the numerator gave the
 -- items' numbers.

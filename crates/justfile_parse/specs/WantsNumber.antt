@@ -79,7 +79,7 @@ pub record LacksName (s : State) (old new : Counters) : Type 0 where
   pub name : SignificantToken × State
   pub name_read : reading.expect token_leaves kinds.Identifier header ≡ Ok name
   pub checked : Unit {0} × State
-  pub attributes_allowed : files.allowed token_leaves token_attributes item_kinds.Function attributes name.0 name.1 ≡ Ok checked
+  pub attributes_allowed : files.check_allowed token_leaves token_attributes item_kinds.Function attributes name.0 name.1 ≡ Ok checked
   pub opener : SignificantToken × State
   pub opener_read : reading.expect token_leaves kinds.ParenL checked.1 ≡ Ok opener
   pub place : NamePlace

@@ -7,9 +7,9 @@ ghost use Rattle.justfile_attribute_set.specs.Attributes.{has_kind};
 ghost use Rattle.justfile_vocabulary.specs.declared.attribute_kind.AttributeKind.TheVariants as kinds;
 ghost use Rattle.justfile_model.specs.Docs.{doc_in, documented, item_with_doc};
 ghost use Rattle.justfile_model.specs.Docs as before;
-ghost use Rattle.justfile_model.specs.Files.{says_doc};
+ghost use Rattle.justfile_model.specs.Files.{sets_doc};
 ghost use Rattle.justfile_item.specs.declared.item.Item.TheVariants as variants;
-ghost use Rattle.justfile_parse.specs.Docs.{comment_of, doc_before, is_newline, says_no_doc, taken_docs};
+ghost use Rattle.justfile_parse.specs.Docs.{comment_of, doc_before, is_newline, item_can_take_doc, taken_docs};
 ghost use Rattle.justfile_parse_item.specs.Tree.{item_tree};
 ghost use Rattle.justfile_parse_item.specs.DerivedFields.{HaveDerivedFields, HasDerivedItemFields};
 
@@ -29,8 +29,8 @@ pub(crate) fn take_docs<'src>(
 ) -> Result<Vec<Item<'src>>, AllocError>
     requires { HaveDerivedFields items.items }
     ensures trees { IfOk result (λ docs. map item_tree docs.items
-        ≡ documented says_doc before.Nothing (map item_tree items.entry.items)) }
-    ensures whole { IfOk result (λ docs. HaveDerivedFields docs.items) }
+        ≡ documented sets_doc before.Nothing (map item_tree items.entry.items)) }
+    ensures fields { IfOk result (λ docs. HaveDerivedFields docs.items) }
 {
     set_docs(alloc, &mut items)?;
     Ok(items)
@@ -40,8 +40,8 @@ pub(crate) fn take_docs<'src>(
 fn set_docs(alloc: Global, items: &mut Vec<Item<'_>>) -> Result<(), AllocError>
     requires { HaveDerivedFields items.old.items }
     ensures trees { OnOk result (map item_tree items.new.items
-        ≡ documented says_doc before.Nothing (map item_tree items.old.items)) }
-    ensures whole { OnOk result (HaveDerivedFields items.new.items) }
+        ≡ documented sets_doc before.Nothing (map item_tree items.old.items)) }
+    ensures fields { OnOk result (HaveDerivedFields items.new.items) }
 {
     let mut kept = 0;
     for place in 0..items.len() {
@@ -62,22 +62,22 @@ fn keep_item(
 ) -> Result<usize, AllocError>
     requires order { kept ≤ place }
     requires within { place < vec_len items.old }
-    requires whole { HaveDerivedFields items.old.items }
+    requires fields { HaveDerivedFields items.old.items }
     ensures trees { IfOk result (λ count. taken_docs count (place + 1) items.new.items
         ≡ taken_docs kept place items.old.items) }
     ensures order { IfOk result (λ count. count ≤ place + 1) }
     ensures len { vec_len items.new ≡ vec_len items.old }
-    ensures whole { HaveDerivedFields items.new.items }
+    ensures fields { HaveDerivedFields items.new.items }
 {
     if is_newline(&items[place]) {
-        end_line(&mut items[kept]);
+        make_newline(&mut items[kept]);
         return Ok(kept + 1);
     }
     move_item(alloc, items, kept, place)
 }
 
 /// Turns an item into a line end. Most are line ends already, and any other has to be dropped.
-fn end_line(item: &mut Item<'_>)
+fn make_newline(item: &mut Item<'_>)
     ensures { item.new ≡ variants.Newline }
 {
     match item {
@@ -95,13 +95,14 @@ fn move_item(
 ) -> Result<usize, AllocError>
     requires order { kept ≤ place }
     requires within { place < vec_len items.old }
-    requires whole { HaveDerivedFields items.old.items }
-    ensures trees { IfOk result (λ count. taken_docs count (place + 1) items.new.items ≡ taken_docs kept place items.old.items) }
+    requires fields { HaveDerivedFields items.old.items }
+    ensures trees { IfOk result (λ count. taken_docs count (place + 1) items.new.items
+        ≡ taken_docs kept place items.old.items) }
     ensures order { IfOk result (λ count. count ≤ place + 1) }
     ensures len { vec_len items.new ≡ vec_len items.old }
-    ensures whole { HaveDerivedFields items.new.items }
+    ensures fields { HaveDerivedFields items.new.items }
 {
-    if wants_doc(&items[place]) {
+    if can_take_doc(&items[place]) {
         if let Some(doc) = find_doc(&items[..kept]) {
             let text = doc.to_string(alloc)?;
             set_doc(&mut items[place], text);
@@ -115,11 +116,11 @@ fn move_item(
 
 /// Sets the doc of a module or recipe.
 fn set_doc(item: &mut Item<'_>, text: String)
-    requires whole { HasDerivedItemFields item.old }
-    requires wanted { says_no_doc (item_tree item.old) ≡ true }
+    requires fields { HasDerivedItemFields item.old }
+    requires takes_doc { item_can_take_doc (item_tree item.old) ≡ true }
     ensures tree { Some (item_tree item.new)
-        ≡ item_with_doc says_doc (string_bytes text) (item_tree item.old) }
-    ensures whole { HasDerivedItemFields item.new }
+        ≡ item_with_doc sets_doc (string_bytes text) (item_tree item.old) }
+    ensures fields { HasDerivedItemFields item.new }
 {
     match item {
         Item::Module { doc, .. } => *doc = Some(text),
@@ -129,8 +130,8 @@ fn set_doc(item: &mut Item<'_>, text: String)
 }
 
 /// Whether the item can have a doc, and neither an attribute nor a comment has set it yet.
-fn wants_doc(item: &Item<'_>) -> bool
-    ensures { result ≡ says_no_doc (item_tree item.now) }
+fn can_take_doc(item: &Item<'_>) -> bool
+    ensures { result ≡ item_can_take_doc (item_tree item.now) }
 {
     match item {
         Item::Module {

@@ -11,8 +11,8 @@ ghost use Rattle.justfile_parse_expression.specs.FormatStrings.{IsTable};
 ghost use Rattle.justfile_parse_item.specs.Filled.{IsInTable};
 ghost use Rattle.justfile_parse_item.specs.ItemTable as reader;
 ghost use Rattle.justfile_parse_item.specs.ItemTable.{after_mark};
-ghost use Rattle.justfile_parse.specs.MethodResults.{IsErrorAt, IsFaultOf, IsNextPlace, IsRead, IsUnread};
-ghost use Rattle.justfile_parse_item.specs.MethodResults.{IsMoved};
+ghost use Rattle.justfile_parse.specs.MethodResults.{IsErrorAt, IsFaultOfExpression, IsNextPlace, IsRead, IsUnread};
+ghost use Rattle.justfile_parse_item.specs.MethodResults.{CountersMoved};
 ghost use Rattle.justfile_parse.specs.ErrorFaults.{IsFaultOfError};
 ghost use Rattle.justfile_parse_item.specs.DerivedFields.{HaveDerivedFields};
 ghost use Rattle.justfile_parse_expression.specs.Significant.{significant_of};
@@ -70,7 +70,7 @@ impl Parser {
             (HasNoTree (conditions_of X.answer expander.now current limit) path.now src.now
             numerator.old numerator.new) }
         ensures moved { (tokens : List Tok) → Lexed src.now tokens
-            → IsMoved numerator.old numerator.new (identifiers (significant_tokens tokens)) }
+            → CountersMoved numerator.old numerator.new (identifiers (significant_tokens tokens)) }
         ensures unmoved { ((tokens : List Tok) → Lexed src.now tokens → ⊥)
             → numerator.new ≡ numerator.old }
         ensures constants { constants_of numerator.new ≡ constants_of numerator.old }
@@ -121,7 +121,7 @@ impl Parser {
         ensures unparsed { IfErr result
             (IsUnparsed (conditions_of X.answer expander.now current limit)
             (map tok_of tokens.now) (Contains tokens.now) numerator.old numerator.new) }
-        ensures moved { IsMoved numerator.old numerator.new
+        ensures moved { CountersMoved numerator.old numerator.new
             (identifiers (significant_tokens (map tok_of tokens.now))) }
     {
         let table = significant(alloc, tokens)?;
@@ -163,7 +163,7 @@ fn parse_table<'run, 'src, X: Expander>(
         numerator.old numerator.new (x.0.items, x.1.items)) }
     ensures err { IfErr result (IsUnread (conditions_of X.answer expander.now current limit)
         (map significant_of tokens.now) (IsInTable tokens.now) numerator.old numerator.new) }
-    ensures moved { IsMoved numerator.old numerator.new
+    ensures moved { CountersMoved numerator.old numerator.new
         (identifiers (map significant_of tokens.now)) }
 {
     let mut parser = ExpressionParser::new(
@@ -197,8 +197,8 @@ fn parse_file<'src, X: Expander>(
     requires { (state_of X.answer parser.old).depth ≡ 0 }
     ensures reads { ParsesCounted X.answer (λ items. map item_tree items.items) result numerator.new
         parser.old parser.new (reader.file (counters_of numerator.old)) }
-    ensures whole { IfOk result (λ items. HaveDerivedFields items.items) }
-    ensures moved { IsMoved numerator.old numerator.new
+    ensures fields { IfOk result (λ items. HaveDerivedFields items.items) }
+    ensures moved { CountersMoved numerator.old numerator.new
         (identifiers (map significant_of (state_of X.answer parser.old).left)) }
 {
     accept_byte_order_mark(parser);
@@ -212,32 +212,32 @@ fn accept_byte_order_mark<X: Expander>(parser: &mut ExpressionParser<'_, '_, X>)
     let _mark = parser.accept(TokenKind::ByteOrderMark);
 }
 
-/// Makes the fault for a parse error, where `next` is the next token and `expected_tokens` would be
-/// allowed instead.
+/// Makes the fault for a parse error, where `next` is the next token and `expected_tokens` are the
+/// kinds that were looked for there.
 fn make_fault<'src>(
     alloc: Global,
     tokens: &[TableEntry<'_, 'src>],
     next: Option<TableEntry<'_, 'src>>,
     expected_tokens: &ExpectedTokens,
-    failure: ParseError<'src>,
+    error: ParseError<'src>,
 ) -> Fault<'src>
     requires { 0 < length tokens.now }
-    ensures { IsFaultOfError tokens.now next.entry failure.entry result }
+    ensures { IsFaultOfError tokens.now next.entry error.entry result }
 {
-    match failure {
-        ParseError::Unreadable(cause) => expression_fault(
+    match error {
+        ParseError::Expression(cause) => expression_fault(
             alloc,
             tokens,
             next,
             expected_tokens,
             cause,
         ),
-        ParseError::BrokenRule(error) => Fault::Compile(Box::into_inner(error)),
+        ParseError::Compile(broken) => Fault::Compile(Box::into_inner(broken)),
     }
 }
 
 /// Makes the fault for an expression error, where `next` is the next token and `expected_tokens`
-/// would be allowed instead.
+/// are the kinds that were looked for there.
 fn expression_fault<'src>(
     alloc: Global,
     tokens: &[TableEntry<'_, 'src>],
@@ -246,11 +246,16 @@ fn expression_fault<'src>(
     cause: ExpressionError<'src>,
 ) -> Fault<'src>
     requires { 0 < length tokens.now }
-    ensures { IsFaultOf tokens.now next.entry cause.entry result }
+    ensures { IsFaultOfExpression tokens.now next.entry cause.entry result }
 {
     match cause {
-        ExpressionError::Refused(refusal) => {
-            match make_error(alloc, find_place(tokens, next), expected_tokens, refusal) {
+        ExpressionError::Refused(syntax_error) => {
+            match make_error(
+                alloc,
+                token_for_error(tokens, next),
+                expected_tokens,
+                syntax_error,
+            ) {
                 Ok(error) => Fault::Compile(error),
                 Err(_) => Fault::Memory,
             }
@@ -261,18 +266,18 @@ fn expression_fault<'src>(
     }
 }
 
-/// Makes the error for a token that is refused, where `expected_tokens` would be allowed instead.
-/// Only the list of these takes memory.
+/// Makes the error for a token that is refused, where `expected_tokens` are the kinds that were
+/// looked for there. Only the list of these takes memory.
 fn make_error<'src>(
     alloc: Global,
     token: Token<'src>,
     expected_tokens: &ExpectedTokens,
-    refusal: SyntaxError,
+    cause: SyntaxError,
 ) -> Result<CompileError<'src>, AllocError>
-    ensures error { IfOk result (IsErrorAt refusal token.entry) }
-    ensures memory { OnErr result (refusal ≡ Unexpected) }
+    ensures error { IfOk result (IsErrorAt cause token.entry) }
+    ensures memory { OnErr result (cause ≡ Unexpected) }
 {
-    let kind = match refusal {
+    let kind = match cause {
         SyntaxError::Unexpected => CompileErrorKind::UnexpectedToken {
             expected: expected_tokens.kinds(alloc)?,
             found: token.kind,
@@ -284,7 +289,7 @@ fn make_error<'src>(
 
 /// Returns the token where a syntax error is reported: the next one, or the last if none is left.
 #[tactic(auto, using(crate::proofs::Tables::in_table, crate::proofs::Tables::last_at))]
-fn find_place<'src>(
+fn token_for_error<'src>(
     tokens: &[TableEntry<'_, 'src>],
     next: Option<TableEntry<'_, 'src>>,
 ) -> Token<'src>

@@ -32,7 +32,9 @@ pub(crate) fn with_unstable<'src>(
     Ok((items, features))
 }
 
-/// Returns the unstable features that these items use, and leaves the items unchanged.
+/// Returns the unstable features that these items use, and leaves the items unchanged. It takes
+/// them by `&mut`, since the checker can't check a shared reference to a local list of items
+/// (`docs/TOOLCHAIN.md`).
 ///
 /// # Errors
 ///
@@ -46,11 +48,11 @@ fn unstable_features(
     ensures same { items.new ≡ items.old }
 {
     let mut features = BTreeSet::new(alloc);
-    let cached = are_used(items.as_slice(), UnstableFeature::CachedRecipes);
+    let cached = any_uses(items.as_slice(), UnstableFeature::CachedRecipes);
     insert_if(cached, UnstableFeature::CachedRecipes, &mut features)?;
-    let listed = are_used(items.as_slice(), UnstableFeature::ListsSetting);
+    let listed = any_uses(items.as_slice(), UnstableFeature::ListsSetting);
     insert_if(listed, UnstableFeature::ListsSetting, &mut features)?;
-    let defined = are_used(items.as_slice(), UnstableFeature::UserDefinedFunctions);
+    let defined = any_uses(items.as_slice(), UnstableFeature::UserDefinedFunctions);
     insert_if(
         defined,
         UnstableFeature::UserDefinedFunctions,
@@ -75,11 +77,11 @@ fn insert_if(
 
 /// Whether one of the items uses the feature.
 #[tactic(auto, using(crate::proofs::UsedFeatures::none_here, crate::proofs::UsedFeatures::found_here, crate::proofs::UsedFeatures::none_left))]
-fn are_used(items: &[Item<'_>], feature: UnstableFeature) -> bool
+fn any_uses(items: &[Item<'_>], feature: UnstableFeature) -> bool
     ensures { result ≡ list_any (uses_feature feature) items.now }
 {
     for item in items {
-        if is_used(item, feature) {
+        if uses_feature(item, feature) {
             return true;
         }
     }
@@ -87,7 +89,7 @@ fn are_used(items: &[Item<'_>], feature: UnstableFeature) -> bool
 }
 
 /// Whether an item uses the feature.
-fn is_used(item: &Item<'_>, feature: UnstableFeature) -> bool
+fn uses_feature(item: &Item<'_>, feature: UnstableFeature) -> bool
     ensures { result ≡ uses_feature feature item.now }
 {
     match feature {

@@ -13,7 +13,7 @@ use Rattle.justfile_parse_attribute.specs.ParseErrors.{IsParseError}
 use Rattle.justfile_parse_attribute.specs.AttributeTable.{Entries}
 use Rattle.justfile_parse_expression.specs.TableReader.{Read, State, accept, expect, leaves}
 use Rattle.justfile_parse_attribute.specs.declared.parse_error.ParseError.{ParseError}
-use Rattle.justfile_parse_attribute.specs.declared.parse_error.ParseError.TheVariants.{Unreadable, BrokenRule}
+use Rattle.justfile_parse_attribute.specs.declared.parse_error.ParseError.TheVariants.{Expression, Compile}
 use Rattle.justfile_parse_expression.specs.declared.significant.TableEntry.{TableEntry}
 use Rattle.justfile_parse_expression.specs.declared.expression_error.ExpressionError.TheVariants as causes
 use Rattle.justfile_parse_attribute.proofs.AttributeSteps.{broken_first}
@@ -30,11 +30,11 @@ module _ {X : Type 0} where
 
   -- where a step stops, so does all
   stops_first : (found : Read (List X × Bool)) (next : (List X × Bool) × State → Read (List X)) (failure : ParseError) (s : State) → IsParseError failure s ⊥ found → IsParseError failure s ⊥ (found >>= next)
-  stops_first found next (BrokenRule error) s h = broken_first found next error.value h
-  stops_first found next (Unreadable (causes.Refused refusal)) s h = ap (λ (o : Read (List X × Bool)). o >>= next) h
-  stops_first found next (Unreadable (causes.Literal refused)) s h = ap (λ (o : Read (List X × Bool)). o >>= next) h
-  stops_first found next (Unreadable causes.Memory) s h = tt
-  stops_first found next (Unreadable causes.Numbers) s h = absurd h
+  stops_first found next (Compile error) s h = broken_first found next error.value h
+  stops_first found next (Expression (causes.Refused refusal)) s h = ap (λ (o : Read (List X × Bool)). o >>= next) h
+  stops_first found next (Expression (causes.Literal refused)) s h = ap (λ (o : Read (List X × Bool)). o >>= next) h
+  stops_first found next (Expression causes.Memory) s h = tt
+  stops_first found next (Expression causes.Numbers) s h = absurd h
 
   module _ (whole : List X × State → Read (List X)) (step : List X → State → Read (List X × Bool)) (law : (x : List X × State) → whole x ≡ (step x.0 x.1 >>= by_last whole)) where
     module _ (before : List X) (s : State) (all : Read (List X)) (so_far : whole (before, s) ≡ all) where

@@ -26,13 +26,13 @@ use Rattle.justfile_parse_attribute.specs.AttributeTable as r
 use Rattle.justfile_parse_attribute.specs.AttributeTable.{Arguments, meaning_in, meaning_kept, view_of, then_last}
 use Rattle.justfile_parse_attribute.specs.AddedAttributes.{AddsEntry, ChecksLast, IsAdded}
 use Rattle.justfile_parse_attribute.specs.Attributes.{entry_of_pair}
-use Rattle.justfile_parse_attribute.specs.ParseErrors.{IsParseError, IsErrorOfFault, IsBrokenBy}
-use Rattle.justfile_parse_expression.specs.MethodResults.{refusal_at}
+use Rattle.justfile_parse_attribute.specs.ParseErrors.{IsParseError, IsErrorOfFault, IsErrorOfRead}
+use Rattle.justfile_parse_expression.specs.MethodResults.{read_error_at}
 use Rattle.justfile_parse_attribute.specs.AttributeTable.{Entries}
 use Rattle.justfile_parse_expression.specs.TableReader.{Read, State, accept, expect, leaves}
 use Rattle.justfile_parse_expression.specs.View.{tokens_left, state_of}
 use Rattle.justfile_parse_attribute.specs.declared.parse_error.ParseError.{ParseError}
-use Rattle.justfile_parse_attribute.specs.declared.parse_error.ParseError.TheVariants.{Unreadable, BrokenRule}
+use Rattle.justfile_parse_attribute.specs.declared.parse_error.ParseError.TheVariants.{Expression, Compile}
 use Rattle.justfile_parse_expression.specs.declared.parser.ExpressionParser.{ExpressionParser}
 use Rattle.justfile_parse_expression.specs.declared.significant.TableEntry.{TableEntry}
 use Rattle.justfile_parse_expression.specs.declared.expression_error.SyntaxError.TheVariants as refusals
@@ -44,7 +44,7 @@ use Rattle.justfile_written.specs.Written.{uncommented}
 use Rattle.justfile_written.specs.declared.written.Written.{Written}
 
 -- a rule that is broken first is broken
-pub broken_first : {X Y : Type 0} (found : Read X) (next : X × State → Read Y) (e : CompileError) → IsBrokenBy found e → IsBrokenBy (found >>= next) e
+pub broken_first : {X Y : Type 0} (found : Read X) (next : X × State → Read Y) (e : CompileError) → IsErrorOfRead found e → IsErrorOfRead (found >>= next) e
 broken_first (Ok x) next e h = absurd h
 broken_first (Err (reading.Unexpected t)) next e h = absurd h
 broken_first (Err (reading.TooDeep t)) next e h = absurd h
@@ -56,38 +56,38 @@ broken_first (Err (reading.UnknownSetting name)) next e h = h
 broken_first (Err (reading.ExpectedKeyword expected t)) next e h = h
 broken_first (Err (reading.NoNumber counters)) next e h = absurd h
 
--- reading halts where its first part halts
+-- reading stops where its first part stops
 fails_first : {X Y : Type 0} (failure : ParseError) (s : State) (found : Read X) (next : X × State → Read Y) → IsParseError failure s ⊥ found → IsParseError failure s ⊥ (found >>= next)
-fails_first (BrokenRule error) s found next h = broken_first found next error.value h
-fails_first (Unreadable (causes.Refused refusal)) s found next h = rw h refl
-fails_first (Unreadable (causes.Literal refused)) s found next h = rw h refl
-fails_first (Unreadable causes.Memory) s found next h = tt
-fails_first (Unreadable causes.Numbers) s found next h = absurd h
+fails_first (Compile error) s found next h = broken_first found next error.value h
+fails_first (Expression (causes.Refused refusal)) s found next h = rw h refl
+fails_first (Expression (causes.Literal refused)) s found next h = rw h refl
+fails_first (Expression causes.Memory) s found next h = tt
+fails_first (Expression causes.Numbers) s found next h = absurd h
 
--- reading halts for the fault of a rule
+-- reading stops if a rule is broken
 pub fails_for : (Y : Type 0) (rule : Rule Token) (token : Token) (fault : Fault) (failure : ParseError) (s : State)
     → IsErrorOfFault failure fault → IsFaultOfRule rule token fault
     → IsParseError {Y = Y} failure s ⊥ (Err (reading.BreaksRule (record { rule = rule; token = token })))
-fails_for Y rule token (faults.Compile e) (BrokenRule error) s h k = rw h k
-fails_for Y rule token faults.Memory (BrokenRule error) s h k = absurd h
-fails_for Y rule token faults.Numbers (BrokenRule error) s h k = absurd h
-fails_for Y rule token fault (Unreadable causes.Memory) s h k = tt
-fails_for Y rule token (faults.Compile e) (Unreadable causes.Numbers) s h k = absurd h
-fails_for Y rule token faults.Memory (Unreadable causes.Numbers) s h k = absurd h
-fails_for Y rule token faults.Numbers (Unreadable causes.Numbers) s h k = absurd k
-fails_for Y rule token (faults.Compile e) (Unreadable (causes.Refused r)) s h k = absurd h
-fails_for Y rule token faults.Memory (Unreadable (causes.Refused r)) s h k = absurd h
-fails_for Y rule token faults.Numbers (Unreadable (causes.Refused r)) s h k = absurd h
-fails_for Y rule token (faults.Compile e) (Unreadable (causes.Literal r)) s h k = absurd h
-fails_for Y rule token faults.Memory (Unreadable (causes.Literal r)) s h k = absurd h
-fails_for Y rule token faults.Numbers (Unreadable (causes.Literal r)) s h k = absurd h
+fails_for Y rule token (faults.Compile e) (Compile error) s h k = rw h k
+fails_for Y rule token faults.Memory (Compile error) s h k = absurd h
+fails_for Y rule token faults.Numbers (Compile error) s h k = absurd h
+fails_for Y rule token fault (Expression causes.Memory) s h k = tt
+fails_for Y rule token (faults.Compile e) (Expression causes.Numbers) s h k = absurd h
+fails_for Y rule token faults.Memory (Expression causes.Numbers) s h k = absurd h
+fails_for Y rule token faults.Numbers (Expression causes.Numbers) s h k = absurd k
+fails_for Y rule token (faults.Compile e) (Expression (causes.Refused r)) s h k = absurd h
+fails_for Y rule token faults.Memory (Expression (causes.Refused r)) s h k = absurd h
+fails_for Y rule token faults.Numbers (Expression (causes.Refused r)) s h k = absurd h
+fails_for Y rule token (faults.Compile e) (Expression (causes.Literal r)) s h k = absurd h
+fails_for Y rule token faults.Memory (Expression (causes.Literal r)) s h k = absurd h
+fails_for Y rule token faults.Numbers (Expression (causes.Literal r)) s h k = absurd h
 
 -- where nothing comes next no expression is read
 pub none_before : {X : Type 0} (answer : X → List ℕ → Result (List ℕ) (List ℕ)) (p q : ExpressionParser X) (s : State) → front (state_of answer p).left ≡ None → tokens_left q < tokens_left p
-    → ◌≡◌ {A = Read (Argument Leaf Token)} (Err (reading.Unexpected None)) (Err (refusal_at refusals.Unexpected s))
+    → ◌≡◌ {A = Read (Argument Leaf Token)} (Err (reading.Unexpected None)) (Err (read_error_at refusals.Unexpected s))
 none_before answer p q s h k = go (state_of answer p).left (left_is answer p) h
   where
-    go : (l : List TableEntry) → length l ≡ tokens_left p → front l ≡ None → ◌≡◌ {A = Read (Argument Leaf Token)} (Err (reading.Unexpected None)) (Err (refusal_at refusals.Unexpected s))
+    go : (l : List TableEntry) → length l ≡ tokens_left p → front l ≡ None → ◌≡◌ {A = Read (Argument Leaf Token)} (Err (reading.Unexpected None)) (Err (read_error_at refusals.Unexpected s))
     go [] e h = absurd (omega (arith, e, k))
     go (t ∷ ts) e h = cc
 
@@ -165,16 +165,16 @@ made_first made next faults.Numbers h = absurd h
 made_first (Ok x) next (faults.Compile e) h = absurd h
 made_first (Err broken) next (faults.Compile e) h = h
 
--- reading halts where nothing is made
+-- reading stops where nothing is made
 refused_fails : {X Y : Type 0} (made : Made Token X) (next : X × State → Read Y) (fault : Fault) (failure : ParseError) (s : State)
     → IsErrorOfFault failure fault → IsRefusedBy made fault → IsParseError failure s ⊥ (attributes.read_made made s >>= next)
 refused_fails (Ok x) next (faults.Compile e) failure s h k = absurd k
 refused_fails (Err broken) next fault failure s h k = fails_for _ broken.rule broken.token fault failure s h k
-refused_fails made next faults.Memory (Unreadable causes.Memory) s h k = tt
-refused_fails made next faults.Memory (Unreadable causes.Numbers) s h k = absurd h
-refused_fails made next faults.Memory (Unreadable (causes.Refused r)) s h k = absurd h
-refused_fails made next faults.Memory (Unreadable (causes.Literal r)) s h k = absurd h
-refused_fails made next faults.Memory (BrokenRule error) s h k = absurd h
+refused_fails made next faults.Memory (Expression causes.Memory) s h k = tt
+refused_fails made next faults.Memory (Expression causes.Numbers) s h k = absurd h
+refused_fails made next faults.Memory (Expression (causes.Refused r)) s h k = absurd h
+refused_fails made next faults.Memory (Expression (causes.Literal r)) s h k = absurd h
+refused_fails made next faults.Memory (Compile error) s h k = absurd h
 refused_fails made next faults.Numbers failure s h k = absurd k
 
 module _ (pairs : List (Attribute × Written)) (name : Name) (kind : AttributeKind) (all : Arguments) (s : State) where
@@ -205,7 +205,7 @@ module _ (pairs : List (Attribute × Written)) (name : Name) (kind : AttributeKi
       let e = uncommented (h.attribute, name) in
       record { attribute = h.attribute; is_made = rw (h.is_made, checks pairs e h.added) refl; added = h.added }
 
-  -- reading halts where no entry is added, and else goes on
+  -- reading stops where no entry is added, and goes on otherwise
   pub entry_fails : (fault : Fault) (error : ParseError) (later : List (Attribute × Written)) → AddsEntry (Err fault) entry_made name pairs later → IsErrorOfFault error fault
       → IsParseError error s ⊥ (r.one_made before name.token kind all s)
   unfolding r.one_made

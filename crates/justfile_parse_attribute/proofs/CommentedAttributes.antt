@@ -44,7 +44,7 @@ line_attributes None pairs = refl
 line_attributes (Some comment) pairs = last_attribute comment pairs
 
 -- the attributes stay as they are
-pub whole_commented : (comment : Option Comment) (old new : List Pair) → new ≡ line_commented comment old → KeepsDerivedPairFields old new
+pub commented_fields : (comment : Option Comment) (old new : List Pair) → new ≡ line_commented comment old → KeepsDerivedPairFields old new
 unfolding KeepsDerivedPairFields HaveDerivedAttributeFields
-whole_commented comment old new h whole =
+commented_fields comment old new h whole =
     subst (All HasDerivedAttributeFields) (sym (ap (map attribute_of) h ∙ line_attributes comment old)) whole

@@ -12,7 +12,7 @@ use Rattle.std.proofs.lemmas.List.Elements.{All-contains, All-contains_itself, A
 use Rattle.std.proofs.lemmas.Map.Views.{All-values-insert_entry}
 use Rattle.std.proofs.lemmas.Slice.Eq.{bytes_eq-Decides}
 use denote.Ref.{Bor}
-use Rattle.justfile_attribute_rules.specs.Keys.{AreKeyed, IsPut, KeyMap, key_argument, key_arguments, key_text, text_order}
+use Rattle.justfile_attribute_rules.specs.Keys.{AreKeyed, IsInserted, KeyMap, key_argument, key_arguments, key_text, text_order}
 use Rattle.justfile_attribute_rules.specs.Made.{placed_leaf, placed_leaves}
 use Rattle.justfile_attribute_rules.proofs.PutKeys.{IsKeyed, Stored, none_keyed, stays_keyed, tied}
 use Rattle.justfile_vocabulary.specs.declared.attribute_kind.AttributeKind.{AttributeKind}
@@ -159,7 +159,7 @@ none_put all m e = record {
   back = rw e tt;
 }
 
-pub one_put : (all before front : List Given) (g : Given) (m n : KeyMap) → IsTrue (are_keys_distinct all) → ArePut all before m → before ≡ front ++ g ∷ [] → IsPut g m n → ArePut all front n
+pub one_put : (all before front : List Given) (g : Given) (m n : KeyMap) → IsTrue (are_keys_distinct all) → ArePut all before m → before ≡ front ++ g ∷ [] → IsInserted g m n → ArePut all front n
 unfolding AreKeyed are_keys_distinct
 one_put all before front g m n distinct h e p =
     let keyed = recursion_from_All IsKeyed m.entries h.keyed in

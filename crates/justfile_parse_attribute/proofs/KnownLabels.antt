@@ -317,7 +317,7 @@ module _ (a : Attribute) (written : Written) (pairs : List Pair) where
 pub line_noted : {Y : Type 0} (key : String Y) (text : List ℕ) (line : ℕ) (m n : BTreeMap (String Y) ℕ) → string_bytes key ≡ text → Updates string_cmp m n key (Some line) → IsNoted text line m n
 line_noted key text line m n is h = λ q. btree_map_updates_text (string_bytes key) m n (Some line) h q ∙ ap (λ t. cond (bytes_eq t q) (Some line) (get_by_text m q)) is
 
--- running out of memory is no refusal
+-- running out of memory isn't a refusal
 pub memory_checked : (line : Option ℕ) (rule : Token → Rule Token) (at : Token) → ChecksLine line rule at (Err faults.Memory)
 memory_checked None rule at = tt
 memory_checked (Some line) rule at = λ first h. tt

@@ -43,24 +43,24 @@ IsExpectedKeyword expected found kind = ⊥
 
 -- Nothing is read because a rule is broken, no construct follows the attributes, a name follows a variadic parameter, a setting is unknown,
 -- or a word isn't one of the allowed ones; and the error tells which.
-abbrev pub IsBrokenBy : {Y : Type 0} → Result Y table.ReadError → CompileError → Type 0
-IsBrokenBy (Err (reading.BreaksRule broken)) e = IsErrorOfRule broken e
-IsBrokenBy (Err (reading.Extraneous count opener)) e = IsExtraneous count e.kind × (e.token ≡ opener)
-IsBrokenBy (Err (reading.AfterVariadic name)) e = IsAfterVariadic name e.kind × (e.token ≡ name)
-IsBrokenBy (Err (reading.UnknownSetting name)) e = IsUnknownSetting name e.kind × (e.token ≡ name)
-IsBrokenBy (Err (reading.ExpectedKeyword expected found)) e = IsExpectedKeyword expected found e.kind × (e.token ≡ found)
-IsBrokenBy _ e = ⊥
+abbrev pub IsErrorOfRead : {Y : Type 0} → Result Y table.ReadError → CompileError → Type 0
+IsErrorOfRead (Err (reading.BreaksRule broken)) e = IsErrorOfRule broken e
+IsErrorOfRead (Err (reading.Extraneous count opener)) e = IsExtraneous count e.kind × (e.token ≡ opener)
+IsErrorOfRead (Err (reading.AfterVariadic name)) e = IsAfterVariadic name e.kind × (e.token ≡ name)
+IsErrorOfRead (Err (reading.UnknownSetting name)) e = IsUnknownSetting name e.kind × (e.token ≡ name)
+IsErrorOfRead (Err (reading.ExpectedKeyword expected found)) e = IsExpectedKeyword expected found e.kind × (e.token ≡ found)
+IsErrorOfRead _ e = ⊥
 
 -- The fault tells why the tokens are refused, or memory ran out.
 abbrev pub IsFaultOf : table.ReadError → Fault → Type 0
-IsFaultOf refusal (faults.Compile e) = IsBrokenBy {Y = Unit {0}} (Err refusal) e
+IsFaultOf refusal (faults.Compile e) = IsErrorOfRead {Y = Unit {0}} (Err refusal) e
 IsFaultOf refusal faults.Memory = Unit {0}
 IsFaultOf refusal faults.Numbers = ⊥
 
 -- The error is that of the definitions: the tokens can't be read, or a rule is broken.
 abbrev pub IsParseError : {Y : Type 0} → ParseError → State → (IsShort : Type 0) → Result Y table.ReadError → Type 0
-IsParseError (errors.Unreadable cause) s IsShort found = IsExpressionError cause s IsShort found
-IsParseError (errors.BrokenRule error) s IsShort found = IsBrokenBy found error.value
+IsParseError (errors.Expression cause) s IsShort found = IsExpressionError cause s IsShort found
+IsParseError (errors.Compile error) s IsShort found = IsErrorOfRead found error.value
 
 -- What was returned, mapped by `view`, and the state after it are what the definitions read; an error is theirs.
 abbrev pub ReadsRuled : {X Y : Type 0} → (X → Y) → Result X ParseError → State → Read Y → Type 0
@@ -78,10 +78,10 @@ ChecksRules rules result = (s : State) → ReadsRuled (λ _. tt) result s (obeyi
 
 -- the parse error for the fault of making an attribute
 abbrev pub IsErrorOfFault : ParseError → Fault → Type 0
-IsErrorOfFault (errors.BrokenRule error) (faults.Compile e) = error.value ≡ e
-IsErrorOfFault (errors.Unreadable causes.Memory) (faults.Compile e) = Unit {0}
-IsErrorOfFault (errors.Unreadable causes.Memory) faults.Memory = Unit {0}
-IsErrorOfFault (errors.Unreadable causes.Numbers) faults.Numbers = Unit {0}
+IsErrorOfFault (errors.Compile error) (faults.Compile e) = error.value ≡ e
+IsErrorOfFault (errors.Expression causes.Memory) (faults.Compile e) = Unit {0}
+IsErrorOfFault (errors.Expression causes.Memory) faults.Memory = Unit {0}
+IsErrorOfFault (errors.Expression causes.Numbers) faults.Numbers = Unit {0}
 IsErrorOfFault _ _ = ⊥
 
 -- the fault of a name after a variadic parameter

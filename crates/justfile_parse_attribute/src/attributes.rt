@@ -31,13 +31,13 @@ use justfile_written::Written;
 /// # Errors
 ///
 /// The tokens aren't lines of attributes, an attribute breaks a rule, or memory runs out.
-#[tactic(auto, using(crate::proofs::AttributeLoops::lines_end, crate::proofs::AttributeLoops::lines_go_on, crate::proofs::DerivedFieldsKept::then_whole))]
+#[tactic(auto, using(crate::proofs::AttributeLoops::lines_end, crate::proofs::AttributeLoops::lines_go_on, crate::proofs::DerivedFieldsKept::then_fields))]
 pub fn parse_attributes<'src, X: Expander>(
     parser: &mut ExpressionParser<'_, 'src, X>,
 ) -> Result<Vec<(Attribute<'src>, Written<'src>)>, ParseError<'src>>
     ensures reads { ParsesRuled X.answer (λ pairs. map entry_of_pair pairs.items) result
         parser.old parser.new reader.attribute_lines }
-    ensures whole { IfOk result (λ pairs. HaveDerivedPairFields pairs.items) }
+    ensures fields { IfOk result (λ pairs. HaveDerivedPairFields pairs.items) }
     ensures progress { OnOk result (tokens_left parser.new ≤ tokens_left parser.old) }
 {
     let mut attributes = ReadAttributes::new(parser.alloc);
@@ -50,7 +50,7 @@ pub fn parse_attributes<'src, X: Expander>(
 
 /// Parses a line of attributes if an opening bracket comes next, and appends them to `attributes`.
 /// Returns whether there are no more lines.
-#[tactic(auto, using(crate::proofs::AttributeSteps::broken_first, crate::proofs::DerivedFieldsKept::same_whole), unfolding(crate::specs::AttributeTable::line_step))]
+#[tactic(auto, using(crate::proofs::AttributeSteps::broken_first, crate::proofs::DerivedFieldsKept::same_fields), unfolding(crate::specs::AttributeTable::line_step))]
 fn parse_next_line<'src, X: Expander>(
     parser: &mut ExpressionParser<'_, 'src, X>,
     attributes: &mut ReadAttributes<'src>,
@@ -58,7 +58,7 @@ fn parse_next_line<'src, X: Expander>(
     ensures reads { ParsesRuled X.answer
         (λ is_last. (map entry_of_pair attributes.new.pairs.items, is_last)) result
         parser.old parser.new (reader.line_step (map entry_of_pair attributes.old.pairs.items)) }
-    ensures whole { OnOk result
+    ensures fields { OnOk result
         (KeepsDerivedPairFields attributes.old.pairs.items attributes.new.pairs.items) }
     ensures progress { OnOk result (tokens_left parser.new ≤ tokens_left parser.old) }
     ensures shrinks { IfOk result (λ is_last. is_last ≡ false
@@ -72,7 +72,7 @@ fn parse_next_line<'src, X: Expander>(
 }
 
 /// Parses a line of attributes after its opening bracket, and appends them to `attributes`.
-#[tactic(auto, using(crate::proofs::AttributeSteps::broken_first, crate::proofs::DerivedFieldsKept::both_whole), unfolding(crate::specs::AttributeTable::attribute_line))]
+#[tactic(auto, using(crate::proofs::AttributeSteps::broken_first, crate::proofs::DerivedFieldsKept::both_fields), unfolding(crate::specs::AttributeTable::attribute_line))]
 fn parse_attribute_line<'src, X: Expander>(
     parser: &mut ExpressionParser<'_, 'src, X>,
     attributes: &mut ReadAttributes<'src>,
@@ -80,28 +80,31 @@ fn parse_attribute_line<'src, X: Expander>(
     ensures reads { ParsesRuled X.answer
         (λ _. map entry_of_pair attributes.new.pairs.items) result parser.old parser.new
         (reader.attribute_line (map entry_of_pair attributes.old.pairs.items)) }
-    ensures whole { OnOk result
+    ensures fields { OnOk result
         (KeepsDerivedPairFields attributes.old.pairs.items attributes.new.pairs.items) }
     ensures progress { OnOk result (tokens_left parser.new < tokens_left parser.old) }
 {
     parse_bracketed(parser, attributes)?;
     let comment = parse_attributes_end(parser)?;
-    give_comment(attributes, comment);
+    attach_comment(attributes, comment);
     Ok(())
 }
 
 /// Attaches the comment after a line of attributes, if there is one, to the last attribute of the
 /// line.
-fn give_comment<'src>(attributes: &mut ReadAttributes<'src>, comment: Option<TableEntry<'_, 'src>>)
+fn attach_comment<'src>(
+    attributes: &mut ReadAttributes<'src>,
+    comment: Option<TableEntry<'_, 'src>>,
+)
     ensures entries { map entry_of_pair attributes.new.pairs.items
         ≡ reader.commented_by comment.entry (map entry_of_pair attributes.old.pairs.items) }
-    ensures whole { KeepsDerivedPairFields attributes.old.pairs.items attributes.new.pairs.items }
+    ensures fields { KeepsDerivedPairFields attributes.old.pairs.items attributes.new.pairs.items }
 {
-    attributes.add_comment(comment_text(comment));
+    attributes.attach_comment(comment_text(comment));
 }
 
 /// Parses the attributes of a bracket and its closing delimiter, and appends them to `attributes`.
-#[tactic(auto, using(crate::proofs::AttributeLoops::bracket_ends, crate::proofs::AttributeLoops::bracket_goes_on, crate::proofs::DerivedFieldsKept::same_whole, crate::proofs::DerivedFieldsKept::both_whole))]
+#[tactic(auto, using(crate::proofs::AttributeLoops::bracket_ends, crate::proofs::AttributeLoops::bracket_goes_on, crate::proofs::DerivedFieldsKept::same_fields, crate::proofs::DerivedFieldsKept::both_fields))]
 fn parse_bracketed<'src, X: Expander>(
     parser: &mut ExpressionParser<'_, 'src, X>,
     attributes: &mut ReadAttributes<'src>,
@@ -109,7 +112,7 @@ fn parse_bracketed<'src, X: Expander>(
     ensures reads { ParsesRuled X.answer
         (λ _. map entry_of_pair attributes.new.pairs.items) result parser.old parser.new
         (λ s. reader.bracketed (map entry_of_pair attributes.old.pairs.items, s)) }
-    ensures whole { OnOk result
+    ensures fields { OnOk result
         (KeepsDerivedPairFields attributes.old.pairs.items attributes.new.pairs.items) }
     ensures progress { OnOk result (tokens_left parser.new < tokens_left parser.old) }
 {
@@ -130,7 +133,7 @@ fn parse_next_attribute<'src, X: Expander>(
     ensures reads { ParsesRuled X.answer
         (λ is_last. (map entry_of_pair attributes.new.pairs.items, is_last)) result
         parser.old parser.new (reader.bracket_step (map entry_of_pair attributes.old.pairs.items)) }
-    ensures whole { OnOk result
+    ensures fields { OnOk result
         (KeepsDerivedPairFields attributes.old.pairs.items attributes.new.pairs.items) }
     ensures progress { OnOk result (tokens_left parser.new < tokens_left parser.old) }
 {
@@ -164,14 +167,14 @@ fn parse_line_end_after<'run, 'src, X: Expander>(
         (reader.line_end_after comment.entry) }
     ensures progress { OnOk result (tokens_left parser.new < tokens_left parser.old) }
 {
-    want_line_end(parser);
+    add_expected_end(parser);
     parser.expect(TokenKind::Eol)?;
     Ok(comment)
 }
 
 /// Adds the end of the file to the expected tokens, as after other lines. If the file ends here,
 /// adds what a construct begins with, because one has to follow the attributes.
-fn want_line_end<X: Expander>(parser: &ExpressionParser<'_, '_, X>) {
+fn add_expected_end<X: Expander>(parser: &ExpressionParser<'_, '_, X>) {
     parser.expected_tokens.add(TokenKind::Eof);
     if parser.probe_if(TokenKind::Eof).is_some() {
         parser.expected_tokens.add_all(&[
@@ -192,7 +195,7 @@ fn parse_attribute<'src, X: Expander>(
     ensures reads { ParsesRuled X.answer
         (λ _. map entry_of_pair attributes.new.pairs.items) result parser.old parser.new
         (reader.one_attribute (map entry_of_pair attributes.old.pairs.items)) }
-    ensures whole { OnOk result
+    ensures fields { OnOk result
         (KeepsDerivedPairFields attributes.old.pairs.items attributes.new.pairs.items) }
     ensures progress { OnOk result (tokens_left parser.new < tokens_left parser.old) }
 {
@@ -241,7 +244,7 @@ fn push_attribute<'src, X: Expander>(
         result (state_of X.answer parser.now)
         (reader.one_made (map entry_of_pair attributes.old.pairs.items) name.entry.token kind
         (arguments_of arguments.entry) (state_of X.answer parser.now)) }
-    ensures whole { OnOk result
+    ensures fields { OnOk result
         (KeepsDerivedPairFields attributes.old.pairs.items attributes.new.pairs.items) }
 {
     match attributes.push(parser.alloc, name, kind, arguments) {
@@ -412,7 +415,7 @@ fn parse_positional<'src, X: Expander>(
 {
     let (first, value) = parse_placed(parser)?;
     if arguments.has_key() {
-        return Err(rule_error(parser.alloc, after_key(first)));
+        return Err(rule_error(parser.alloc, after_key_error(first)));
     }
     arguments.push_positional(first, value)?;
     Ok(())
@@ -444,7 +447,7 @@ fn peek_key<X: Expander>(parser: &ExpressionParser<'_, '_, X>) -> bool
 }
 
 /// Makes the fault for a positional argument after a keyword argument.
-fn after_key<'src>(first: Token<'src>) -> Fault<'src>
+fn after_key_error<'src>(first: Token<'src>) -> Fault<'src>
     ensures { IsFaultOfRule AttributePositionalFollowsKeyword first.entry result }
 {
     Fault::Compile(first.error(CompileErrorKind::AttributePositionalFollowsKeyword))

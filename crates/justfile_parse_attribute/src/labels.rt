@@ -99,7 +99,7 @@ fn note_line(alloc: Global, lines: &mut LineMap, text: &str, line: usize) -> Res
 /// Returns the label of an `arg` or `group`: the literal whose text no other attribute of its kind
 /// may have. `None` for the other kinds.
 #[tactic(auto, using(crate::proofs::RepeatedAttributes::single_label, crate::proofs::RepeatedAttributes::script_label))]
-pub(crate) fn repeat_key<'run, 'src>(
+pub(crate) fn find_label<'run, 'src>(
     attribute: &'run Attribute<'src>,
 ) -> Option<&'run StringLiteral<'src>>
     ensures { option_map (λ l. quoted_leaf l.now) result

@@ -39,7 +39,8 @@ pub(crate) fn push_made<'src>(
     ensures added { Adds result (new.new_attribute views_leaves name.entry.token
         kind (by_position (arguments_of arguments.entry)) (by_key (arguments_of arguments.entry)))
         name.entry attributes.old.items attributes.new.items }
-    ensures whole { OnOk result (KeepsDerivedPairFields attributes.old.items attributes.new.items) }
+    ensures fields { OnOk result
+        (KeepsDerivedPairFields attributes.old.items attributes.new.items) }
     ensures kept { OnErr result (attributes.new.items ≡ attributes.old.items) }
 {
     match new_attribute(alloc, name, kind, arguments) {
@@ -82,7 +83,7 @@ fn new_attribute<'src>(
 ) -> CompileResult<'src, Attribute<'src>>
     ensures made { Makes leaf_attribute_of result (new.new_attribute views_leaves name.entry.token
         kind (by_position (arguments_of arguments.entry)) (by_key (arguments_of arguments.entry))) }
-    ensures whole { IfOk result HasDerivedAttributeFields }
+    ensures fields { IfOk result HasDerivedAttributeFields }
 {
     let Arguments {
         positional,

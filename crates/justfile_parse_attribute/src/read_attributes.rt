@@ -67,7 +67,7 @@ impl<'src> ReadAttributes<'src> {
             (new_entry views_leaves (map entry_of_pair self.old.pairs.items) name.entry.token kind
             (by_position (arguments_of arguments.entry)) (by_key (arguments_of arguments.entry)))
             name.entry self.old.pairs.items self.new.pairs.items }
-        ensures whole { OnOk result
+        ensures fields { OnOk result
             (KeepsDerivedPairFields self.old.pairs.items self.new.pairs.items) }
     {
         let count = self.pairs.len();
@@ -89,10 +89,10 @@ impl<'src> ReadAttributes<'src> {
 
     /// Attaches the comment after a line of attributes, if there is one, to the last attribute.
     #[tactic(auto, using(crate::proofs::KnownLabels::commented_known))]
-    pub(crate) fn add_comment(&mut self, comment: Option<&'src str>)
+    pub(crate) fn attach_comment(&mut self, comment: Option<&'src str>)
         ensures { self.new.pairs.items ≡ line_commented comment.entry self.old.pairs.items }
     {
-        comment_pairs(&mut self.pairs, comment);
+        attach_to_last(&mut self.pairs, comment);
     }
 
     /// Returns the attributes, each with its name and its comment.
@@ -122,7 +122,7 @@ fn push_checked<'src>(
     ensures added { AddsEntry result (new_entry views_leaves (map entry_of_pair pairs.old.items)
         name.entry.token kind (by_position (arguments_of arguments.entry))
         (by_key (arguments_of arguments.entry))) name.entry pairs.old.items pairs.new.items }
-    ensures whole { OnOk result (KeepsDerivedPairFields pairs.old.items pairs.new.items) }
+    ensures fields { OnOk result (KeepsDerivedPairFields pairs.old.items pairs.new.items) }
     ensures known { OnOk result (AreKnown labels.new (map entry_of_pair pairs.new.items)) }
     ensures kept { OnErr result (AreSame labels.old labels.new) }
     ensures begins { take (length pairs.old.items) pairs.new.items ≡ pairs.old.items }
@@ -134,7 +134,7 @@ fn push_checked<'src>(
 }
 
 /// Attaches a comment, if there is one, to the last attribute.
-fn comment_pairs<'src>(
+fn attach_to_last<'src>(
     pairs: &mut Vec<(Attribute<'src>, Written<'src>)>,
     comment: Option<&'src str>,
 )

@@ -16,7 +16,7 @@ ghost use Rattle.justfile_expression.specs.Content.{literal_content};
 ghost use Rattle.justfile_expression.specs.LeafViews.{views_leaves};
 ghost use Rattle.justfile_vocabulary.specs.declared.attribute_kind.AttributeKind.TheVariants.{Arg};
 
-use crate::labels::{Labels, repeat_key};
+use crate::labels::{Labels, find_label};
 use justfile_attribute::Attribute;
 use justfile_token::{CompileErrorKind, CompileResult, Fault, Name, StringLiteral};
 use justfile_vocabulary::AttributeKind;
@@ -67,11 +67,11 @@ fn check_next<'src>(
         ++ entry_of_pair (attribute.now, written.entry) ∷ [])) }
     ensures kept { OnErr result (AreSame labels.old labels.new) }
 {
-    match repeat_key(attribute) {
+    match find_label(attribute) {
         None => check_kind(before, attribute, written),
         Some(literal) => {
-            let is_arg = is_argument(attribute);
-            check_label(alloc, labels, is_arg, literal, written.name)
+            let arg = is_arg(attribute);
+            add_label(alloc, labels, arg, literal, written.name)
         }
     }
 }
@@ -83,7 +83,7 @@ fn check_next<'src>(
 ///
 /// `Compile` at its name if the label is repeated; `Memory` if memory runs out.
 #[tactic(auto, using(crate::proofs::KnownLabels::memory_checked))]
-fn check_label<'src>(
+fn add_label<'src>(
     alloc: Global,
     labels: &mut Labels,
     is_arg: bool,
@@ -95,7 +95,7 @@ fn check_label<'src>(
         name.entry.token.line labels.old labels.new) }
     ensures kept { OnErr result (AreSame labels.old labels.new) }
 {
-    match find_label(alloc, labels, is_arg, literal, name) {
+    match check_new_label(alloc, labels, is_arg, literal, name) {
         Ok(()) => {
             labels.note(alloc, is_arg, literal.cooked.as_str(), name.line)?;
             Ok(())
@@ -109,7 +109,7 @@ fn check_label<'src>(
 /// # Errors
 ///
 /// `Compile` at its name if the label is repeated; `Memory` if memory runs out.
-fn find_label<'src>(
+fn check_new_label<'src>(
     alloc: Global,
     labels: &Labels,
     is_arg: bool,
@@ -185,7 +185,7 @@ fn repeated_group_error<'src>(
 
 /// Whether the attribute is an `arg`.
 #[tactic(auto, using(justfile_attribute::proofs::Ordered::kind_seen), unfolding(justfile_model::specs::AttributeKinds::same_attribute))]
-fn is_argument(attribute: &Attribute<'_>) -> bool
+fn is_arg(attribute: &Attribute<'_>) -> bool
     ensures { result ≡ same_attribute (kind_of_attribute (leaf_attribute_of attribute.now)) Arg }
 {
     attribute.kind() == AttributeKind::Arg
@@ -223,7 +223,7 @@ fn check_once<'src>(
     attribute: &Attribute<'src>,
     written: Written<'src>,
 ) -> CompileResult<'src>
-    requires repeat_key { label_of views_leaves (leaf_attribute_of attribute.now) ≡ None }
+    requires unlabelled { label_of views_leaves (leaf_attribute_of attribute.now) ≡ None }
     requires once { is_repeatable (kind_of_attribute (leaf_attribute_of attribute.now)) ≡ false }
     ensures { Makes (λ _. tt) result (check_repeated views_leaves (map entry_of_pair before.now)
         (entry_of_pair (attribute.now, written.entry))) }

@@ -7,8 +7,8 @@ use Rattle.justfile_model.specs.Tree as t
 use Rattle.justfile_model.specs.declared.level.Level.TheVariants.{Conjunct}
 use Rattle.justfile_parse_expression.specs.Chains.{BranchTree, ElseIf, End, Tree, branch, branches, last_branch, link_of, row_closed, row_tree}
 use Rattle.justfile_parse_expression.specs.TableReader as r
-use Rattle.justfile_parse_expression.specs.TableReader.{Read, ReadExpr, ReadError, State, accept_word, braced, condition, leaves, read}
-use Rattle.justfile_parse_expression.specs.MethodResults.{IsExpressionError, literal_refusal, refusal_at}
+use Rattle.justfile_parse_expression.specs.TableReader.{Read, ReadExpr, ReadError, State, accept_keyword, braced, condition, leaves, read}
+use Rattle.justfile_parse_expression.specs.MethodResults.{IsExpressionError, literal_read_error, read_error_at}
 use Rattle.justfile_parse_expression.specs.declared.expression.Link.{Link}
 use Rattle.justfile_parse_expression.specs.declared.significant.TableEntry.{TableEntry}
 use Rattle.justfile_parse_expression.specs.declared.expression_error.ExpressionError.{ExpressionError}
@@ -48,8 +48,8 @@ conditional_is w s =
     rules.conditional_is w s
     ∙ bind_alike (condition s) _ _ (λ c.
     bind_alike (braced c.1) _ _ (λ b.
-    choose_after (accept_word (codes "else") b.1) _ _ _ _ refl (λ e.
-    else_after c.0 b.0 (accept_word (codes "if") e.1) (last_branch e.1)))
+    choose_after (accept_keyword (codes "else") b.1) _ _ _ _ refl (λ e.
+    else_after c.0 b.0 (accept_keyword (codes "if") e.1) (last_branch e.1)))
     ∙ bound (braced c.1) _ after)
     ∙ bound (condition s) _ after
 
@@ -74,7 +74,7 @@ module _ (w : TableEntry) (s : State) (ls : List Link) (l : Link) where
 
   -- where a branch stops, the conditional does
   pub stops : (stop : ExpressionError) (left : State) (found : ReadExpr) → with_row Conjunct ls (branches (link_of l) w s) ≡ found → IsExpressionError stop left ⊥ (branch w s) → IsExpressionError stop left ⊥ found
-  stops (Refused refusal) left found is h = sym is ∙ fails (refusal_at refusal left) h
-  stops (Literal refused) left found is h = sym is ∙ fails (literal_refusal refused.value.error) h
+  stops (Refused refusal) left found is h = sym is ∙ fails (read_error_at refusal left) h
+  stops (Literal refused) left found is h = sym is ∙ fails (literal_read_error refused.value.error) h
   stops Memory left found is h = tt
   stops Numbers left found is h = absurd h

@@ -11,8 +11,8 @@ use Rattle.justfile_model.specs.declared.level.Level.TheVariants.{Expression, Di
 use Rattle.justfile_model.specs.declared.operator.Operator.{Operator}
 use Rattle.justfile_parse_expression.specs.Chains.{StepTree, Last, Next, Tree, link, link_by, link_of, operand_step, row, row_closed, row_tree, step}
 use Rattle.justfile_parse_expression.specs.TableReader as r
-use Rattle.justfile_parse_expression.specs.TableReader.{At, Read, ReadExpr, ReadError, State, accept, accept_operator, accept_word, enter, is_within, leaves, operation, read, value}
-use Rattle.justfile_parse_expression.specs.MethodResults.{IsExpressionError, literal_refusal, refusal_at}
+use Rattle.justfile_parse_expression.specs.TableReader.{At, Read, ReadExpr, ReadError, State, accept, accept_operator, accept_keyword, enter, is_within, leaves, operation, read, value}
+use Rattle.justfile_parse_expression.specs.MethodResults.{IsExpressionError, literal_read_error, read_error_at}
 use Rattle.justfile_parse_expression.specs.declared.expression.Link.{Link}
 use Rattle.justfile_parse_expression.specs.declared.significant.TableEntry.{TableEntry}
 use Rattle.justfile_parse_expression.specs.declared.expression_error.ExpressionError.{ExpressionError}
@@ -77,7 +77,7 @@ if_after (Some w) x y h = last_after Conjunct (read (r.Conditional w.0 w.1)) (λ
 
 conjunct_after : (s : State) → read (At Conjunct false s) ≡ (operand_step s >>= after Conjunct)
 unfolding operand_step
-conjunct_after s = conjunct_is false s ∙ if_after (accept_word (codes "if") s) _ _ (slash_after (accept kinds.Slash s) _ _ (operand_after Conjunct (value s)))
+conjunct_after s = conjunct_is false s ∙ if_after (accept_keyword (codes "if") s) _ _ (slash_after (accept kinds.Slash s) _ _ (operand_after Conjunct (value s)))
 
 disjunct_after : (s : State) → read (At Disjunct false s) ≡ (step Disjunct s >>= after Disjunct)
 unfolding expressions.binary_rule operation enter step
@@ -121,7 +121,7 @@ module _ (k : Level) (s : State) (ls : List Link) (l : Link) where
 
   -- where a step stops, the row does
   pub stops : (stop : ExpressionError) (left : State) (found : ReadExpr) → with_row k ls (row k (link_of l) s) ≡ found → IsExpressionError stop left ⊥ (step k s) → IsExpressionError stop left ⊥ found
-  stops (Refused refusal) left found is h = sym is ∙ fails (refusal_at refusal left) h
-  stops (Literal refused) left found is h = sym is ∙ fails (literal_refusal refused.value.error) h
+  stops (Refused refusal) left found is h = sym is ∙ fails (read_error_at refusal left) h
+  stops (Literal refused) left found is h = sym is ∙ fails (literal_read_error refused.value.error) h
   stops Memory left found is h = tt
   stops Numbers left found is h = absurd h

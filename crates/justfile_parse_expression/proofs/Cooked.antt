@@ -24,7 +24,7 @@ use Rattle.justfile_model.specs.Literals.{Expansions, LiteralFault, Unasked, coo
 use Rattle.justfile_model.specs.Tree as tree
 use Rattle.justfile_parse_expression.specs.Fault.{IsLiteralFault, is_literal_kind, literal_fault}
 use Rattle.justfile_parse_expression.specs.Literal.{is_delimited, is_sound}
-use Rattle.justfile_parse_expression.specs.MethodResults.{IsExpressionError, IsErrorOfLiteral, literal_refusal}
+use Rattle.justfile_parse_expression.specs.MethodResults.{IsExpressionError, IsErrorOfLiteral, literal_read_error}
 use Rattle.justfile_parse_expression.specs.declared.significant.TableEntry.{TableEntry}
 use Rattle.justfile_expression.specs.LeafTree.{Command, Literal, literal_of}
 use Rattle.justfile_parse_expression.specs.View.{state_at, state_of}
@@ -66,7 +66,7 @@ command_is_literal expander token fault h = is_literal (cooked_text expander (li
 
 text_refused : {A : Type 0} (make : List ℕ → A) (s : State) (text : Result (List ℕ) LiteralFault) (entry : TableEntry) (fault : Fault) (stop : ExpressionError) → IsTextFault text entry.token.now fault → IsErrorOfLiteral stop fault
     → IsExpressionError stop s ⊥ (by_text leaves make (entry, s) text)
-unfolding literal_refusal leaves
+unfolding literal_read_error leaves
 text_refused make s text entry (faults.Compile error) (causes.Literal x) h is =
     let refusal : CompileError → ReadError = λ e. NotCooked (literal_fault e.kind) e.token in
     let there : NotCooked h.fault entry.token.now ≡ refusal error

@@ -8,7 +8,7 @@ use Rattle.justfile_model.specs.ExpressionReader as expressions
 use Rattle.justfile_model.specs.ReaderState.{◌>>=◌, choose}
 use Rattle.justfile_parse_expression.specs.TableReader as r
 use Rattle.justfile_parse_expression.specs.TableReader.{Read, ReadError, State, accept, element, leaves, read}
-use Rattle.justfile_parse_expression.specs.MethodResults.{IsExpressionError, literal_refusal, refusal_at}
+use Rattle.justfile_parse_expression.specs.MethodResults.{IsExpressionError, literal_read_error, read_error_at}
 use Rattle.justfile_expression.specs.LeafTree.{Leaf, leaf_tree_of, trees_of}
 use Rattle.justfile_parse_expression.specs.declared.significant.TableEntry.{TableEntry}
 use Rattle.justfile_parse_expression.specs.declared.expression_error.ExpressionError.{ExpressionError}
@@ -71,7 +71,7 @@ module _ (c : TokenKind) where
 
     -- where an element stops, the sequence does
     pub stops : (stop : ExpressionError) (left : State) (found : Read (Exprs Leaf Token)) → accept c s ≡ None → with_front es (read (r.Sequence c s)) ≡ found → IsExpressionError stop left ⊥ (element c s) → IsExpressionError stop left ⊥ found
-    stops (Refused refusal) left found closed is h = sym is ∙ fails (refusal_at refusal left) closed h
-    stops (Literal refused) left found closed is h = sym is ∙ fails (literal_refusal refused.value.error) closed h
+    stops (Refused refusal) left found closed is h = sym is ∙ fails (read_error_at refusal left) closed h
+    stops (Literal refused) left found closed is h = sym is ∙ fails (literal_read_error refused.value.error) closed h
     stops Memory left found closed is h = tt
     stops Numbers left found closed is h = absurd h

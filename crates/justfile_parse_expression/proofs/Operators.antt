@@ -15,7 +15,7 @@ use Rattle.justfile_vocabulary.specs.declared.list_feature.ListFeature.TheVarian
 use Rattle.justfile_model.specs.declared.operator.Operator.{Operator}
 use Rattle.justfile_parse_expression.specs.Chains.{row}
 use Rattle.justfile_parse_expression.specs.TableReader as r
-use Rattle.justfile_parse_expression.specs.TableReader.{At, Read, ReadExpr, ReadError, State, accept, accept_word, enter, front_operator, is_within, leaves, literal, operation, operations, read, value}
+use Rattle.justfile_parse_expression.specs.TableReader.{At, Read, ReadExpr, ReadError, State, accept, accept_keyword, enter, front_operator, is_within, leaves, literal, operation, operations, read, value}
 use Rattle.justfile_expression.specs.LeafTree.{Leaf}
 use Rattle.justfile_parse_expression.specs.declared.significant.TableEntry.{TableEntry}
 use Rattle.justfile_model.proofs.ExpressionReading as laws
@@ -74,7 +74,7 @@ level_is Value c s h = absurd (no_operators h)
     no_operators h = cc
 
 pub conjunct_is : (c : Bool) (s : State) → read (At Conjunct c s)
-    ≡ choose {X = ReadExpr} (accept_word (codes "if") s)
+    ≡ choose {X = ReadExpr} (accept_keyword (codes "if") s)
     (choose {X = ReadExpr} (accept kinds.Slash s)
     (value s >>= operation Conjunct c)
     (λ op. row Conjunct (t.Root op.0.token.now) op.1))
@@ -82,7 +82,7 @@ pub conjunct_is : (c : Bool) (s : State) → read (At Conjunct c s)
 unfolding expressions.conjunct_rule expressions.binary_rule operation leaves row
 conjunct_is c s =
     laws.level_is leaves Conjunct c s
-    ∙ choose_alike (accept_word (codes "if") s) _ _ _ _
+    ∙ choose_alike (accept_keyword (codes "if") s) _ _ _ _
     (choose_alike (accept kinds.Slash s) _ _ _ _ (ap (λ (f : ReadExpr). f >>= operation Conjunct c) (laws.level_is leaves Value c s)) (λ op. refl))
     (λ w. refl)
 

@@ -8,7 +8,7 @@ use Rattle.justfile_expression.specs.declared.expression.Expression.{Expression}
 use Rattle.justfile_model.specs.ExpressionReader as expressions
 use Rattle.justfile_model.specs.ReaderState.{◌>>=◌}
 use Rattle.justfile_parse_expression.specs.TableReader.{At, Read, ReadExpr, ReadError, State, format_parts, leaves, pair, part, read}
-use Rattle.justfile_parse_expression.specs.MethodResults.{IsExpressionError, literal_refusal, refusal_at}
+use Rattle.justfile_parse_expression.specs.MethodResults.{IsExpressionError, literal_read_error, read_error_at}
 use Rattle.justfile_expression.specs.LeafTree.{Leaf, Literal, format_string_tree, literal_of, parts_tree, leaf_tree_of}
 use Rattle.justfile_model.specs.declared.level.Level.TheVariants as levels
 use Rattle.justfile_parse_expression.specs.declared.expression_error.ExpressionError.{ExpressionError}
@@ -135,7 +135,7 @@ module _ (start : List ℕ) where
 
     -- where a pair stops, the format string does
     pub stops_at : (stop : ExpressionError) (left : State) (found : Read (Leaf → Expr Leaf Token)) → with_front ps (pairs start s) ≡ found → IsExpressionError stop left ⊥ (pair start s) → IsExpressionError stop left ⊥ found
-    stops_at (causes.Refused refusal) left found is h = sym is ∙ fails (refusal_at refusal left) h
-    stops_at (causes.Literal refused) left found is h = sym is ∙ fails (literal_refusal refused.value.error) h
+    stops_at (causes.Refused refusal) left found is h = sym is ∙ fails (read_error_at refusal left) h
+    stops_at (causes.Literal refused) left found is h = sym is ∙ fails (literal_read_error refused.value.error) h
     stops_at causes.Memory left found is h = tt
     stops_at causes.Numbers left found is h = absurd h

@@ -13,7 +13,7 @@ use Rattle.justfile_model.specs.ReaderState.{at, is_word, marks, same_kind, with
 use Rattle.justfile_parse_expression.specs.Chains.{bare}
 use Rattle.justfile_parse_expression.specs.Plain.{is_markable, is_opening, is_plain, is_unmarking}
 use Rattle.justfile_parse_expression.specs.Significant.{significant_of}
-use Rattle.justfile_parse_expression.specs.TableReader.{Run, State, accept, accept_marked, accept_word, leaves, name, value}
+use Rattle.justfile_parse_expression.specs.TableReader.{Run, State, accept, accept_marked, accept_keyword, leaves, name, value}
 use Rattle.justfile_parse_expression.specs.View.{state_at}
 use Rattle.justfile_parse_expression.specs.declared.significant.TableEntry.{TableEntry}
 use Rattle.justfile_parse_expression.proofs.Negations.{bare_is}
@@ -22,7 +22,7 @@ use Rattle.justfile_parse_expression.proofs.Rest.{state_here}
 -- where no other form of a value begins
 name_is : (s : State) → accept kinds.Bang s ≡ None → accept kinds.StringToken s ≡ None
     → accept_marked (codes "x") kinds.StringToken s ≡ None → accept_marked (codes "f") kinds.StringToken s ≡ None
-    → accept kinds.Backtick s ≡ None → accept_marked (codes "f") kinds.FormatStringStart s ≡ None → accept_word (codes "assert") s ≡ None
+    → accept kinds.Backtick s ≡ None → accept_marked (codes "f") kinds.FormatStringStart s ≡ None → accept_keyword (codes "assert") s ≡ None
     → value s ≡ name s
 unfolding bare expressions.literal expressions.format_rule expressions.assert_rule
 name_is s bang string expanded single backtick format word = bare_is s bang ∙ rw (string, expanded, single, backtick, format, word) refl
@@ -34,8 +34,8 @@ module _ (m : TableEntry) (s : State) where
   unfolding reading.accept leaves
   kind_left kind k is other = ap (λ (b : Bool). cond {A = Option (TableEntry × State)} b (Some (m, s)) None) (ap (λ (x : TokenKind). same_kind x kind) is ∙ other)
 
-  word_left : (word : List ℕ) → is_word word (significant_of m) ≡ false → accept_word word (with_next m s) ≡ None
-  unfolding reading.accept_word leaves
+  word_left : (word : List ℕ) → is_word word (significant_of m) ≡ false → accept_keyword word (with_next m s) ≡ None
+  unfolding reading.accept_keyword leaves
   word_left word other = ap (λ (b : Bool). cond {A = Option (TableEntry × State)} b (Some (m, s)) None) other
 
   marked_left : (word : List ℕ) (kind : TokenKind) (t : TableEntry) → marks word kind (significant_of m) (significant_of t) ≡ false → accept_marked word kind (with_next m (with_next t s)) ≡ None

@@ -14,7 +14,7 @@ use Rattle.justfile_model.specs.ExpressionReader as expressions
 use Rattle.justfile_model.specs.ExpressionReader.{by_text}
 use Rattle.justfile_model.specs.ReaderState.{◌>>=◌, choose}
 use Rattle.justfile_parse_expression.specs.TableReader as r
-use Rattle.justfile_parse_expression.specs.TableReader.{At, Read, ReadExpr, State, accept, accept_word, assert, braced, condition, enclosed, expect, format_parts, format_string, group, leaves, list, literal_string, name, note_first, part, part_by, read, string_leaf, whole_format_string}
+use Rattle.justfile_parse_expression.specs.TableReader.{At, Read, ReadExpr, State, accept, accept_keyword, assert, braced, condition, enclosed, expect, format_parts, format_string, group, leaves, list, literal_string, name, note_first, part, part_by, read, string_leaf, whole_format_string}
 use Rattle.justfile_expression.specs.LeafTree.{Leaf}
 use Rattle.justfile_model.specs.declared.level.Level.TheVariants.{Expression}
 use Rattle.justfile_parse_expression.specs.declared.significant.TableEntry.{TableEntry}
@@ -69,7 +69,7 @@ unfolding expressions.group_rule enclosed
 group_is s = choose_alike (accept kinds.ParenL s) _ _ _ _ refl (λ o. closed_by kinds.ParenR t.Group (read (At Expression false o.1)))
 
 pub assert_is : (s : State) → assert s
-    ≡ choose {X = ReadExpr} (accept_word (codes "assert") s) (name s) (λ w.
+    ≡ choose {X = ReadExpr} (accept_keyword (codes "assert") s) (name s) (λ w.
     expect kinds.ParenL w.1 >>= λ o.
     condition o.1 >>= λ c.
     choose {X = ReadExpr} (accept kinds.Comma c.1)
@@ -77,7 +77,7 @@ pub assert_is : (s : State) → assert s
     (λ comma. enclosed kinds.ParenR comma.1 >>= then_made (t.AssertMessage w.0.token.now c.0)))
 unfolding expressions.assert_rule enclosed leaves
 assert_is s =
-    choose_alike (accept_word (codes "assert") s) _ _ _ _ refl (λ w.
+    choose_alike (accept_keyword (codes "assert") s) _ _ _ _ refl (λ w.
     bind_alike (expect kinds.ParenL w.1) _ _ (λ o. bind_alike (condition o.1) _ _ (λ c.
     choose_alike (accept kinds.Comma c.1) _ _ _ _ refl (λ comma. closed_by kinds.ParenR (t.AssertMessage w.0.token.now c.0) (read (At Expression false comma.1))))))
 

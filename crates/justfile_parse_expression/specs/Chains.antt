@@ -15,9 +15,9 @@ use Rattle.justfile_model.specs.declared.level.Level.{Level}
 use Rattle.justfile_model.specs.declared.level.Level.TheVariants.{Compared, Conjunct, Value}
 use Rattle.justfile_model.specs.declared.operator.Operator.{Operator}
 use Rattle.justfile_parse_expression.specs.TableReader as r
-use Rattle.justfile_parse_expression.specs.TableReader.{At, Read, ReadExpr, State, accept, accept_operator, accept_word, braced, condition, enter, leaves, literal, read, value}
-use Rattle.justfile_parse_expression.specs.declared.expression.Branch as arms
-use Rattle.justfile_parse_expression.specs.declared.expression.Branch.TheVariants as branch_variants
+use Rattle.justfile_parse_expression.specs.TableReader.{At, Read, ReadExpr, State, accept, accept_operator, accept_keyword, braced, condition, enter, leaves, literal, read, value}
+use Rattle.justfile_parse_expression.specs.declared.conditional.Branch as arms
+use Rattle.justfile_parse_expression.specs.declared.conditional.Branch.TheVariants as branch_variants
 use Rattle.justfile_parse_expression.specs.declared.expression.Link as links
 use Rattle.justfile_parse_expression.specs.declared.expression.Link.TheVariants as link_variants
 use Rattle.justfile_parse_expression.specs.declared.expression.Step as steps
@@ -62,7 +62,7 @@ link k l = link_by false l (accept_operator k l.1)
 -- an operand and the operator after it, if there is one; or a prefix operator
 unfoldable pub operand_step : State → Read StepTree
 operand_step s =
-    choose {X = Read StepTree} (accept_word (codes "if") s)
+    choose {X = Read StepTree} (accept_keyword (codes "if") s)
     (choose {X = Read StepTree} (accept kinds.Slash s)
     (value s >>= link Conjunct)
     (λ op. Ok (Next (tree.Root op.0.token.now), op.1)))
@@ -98,10 +98,10 @@ unfoldable pub branch : (word : TableEntry) → State → Read BranchTree
 branch word s =
     condition s >>= λ c.
     braced c.1 >>= λ b.
-    choose {X = Read BranchTree} (accept_word (codes "else") b.1)
+    choose {X = Read BranchTree} (accept_keyword (codes "else") b.1)
     (Ok (End (tree.If c.0 b.0), with (noted features.IfWithoutElse word.token.now) b.1))
     (λ e.
-    choose {X = Read BranchTree} (accept_word (codes "if") e.1)
+    choose {X = Read BranchTree} (accept_keyword (codes "if") e.1)
     (last_branch e.1 >>= λ o. Ok (End (tree.IfElse c.0 b.0 o.0), o.1))
     (λ i. Ok (ElseIf (tree.IfElse c.0 b.0) i.0, i.1)))
 

@@ -15,19 +15,19 @@ use Rattle.justfile_parse_expression.specs.declared.expression_error.ExpressionE
 use Rattle.justfile_parse_expression.specs.declared.expression_error.ExpressionError.TheVariants as causes
 
 -- the read error of a literal, from its compile error
-unfoldable pub literal_refusal : CompileError → table.ReadError
-literal_refusal error = state.NotCooked (literal_fault error.kind) error.token
+unfoldable pub literal_read_error : CompileError → table.ReadError
+literal_read_error error = state.NotCooked (literal_fault error.kind) error.token
 
 -- the read error at the next entry
-abbrev pub refusal_at : SyntaxError → State → table.ReadError
-refusal_at Unexpected s = refused state.Unexpected s
-refusal_at TooDeep s = refused state.TooDeep s
+abbrev pub read_error_at : SyntaxError → State → table.ReadError
+read_error_at Unexpected s = refused state.Unexpected s
+read_error_at TooDeep s = refused state.TooDeep s
 
 -- The error is that of the definitions: the next entry or a literal is refused, or no number is left. Running out of memory implies
 -- nothing.
 abbrev pub IsExpressionError : {Y : Type 0} → ExpressionError → State → (IsShort : Type 0) → Result Y table.ReadError → Type 0
-IsExpressionError (causes.Refused refusal) s IsShort found = found ≡ Err (refusal_at refusal s)
-IsExpressionError (causes.Literal refused) s IsShort found = found ≡ Err (literal_refusal refused.value.error)
+IsExpressionError (causes.Refused refusal) s IsShort found = found ≡ Err (read_error_at refusal s)
+IsExpressionError (causes.Literal refused) s IsShort found = found ≡ Err (literal_read_error refused.value.error)
 IsExpressionError causes.Memory s IsShort found = Unit {0}
 IsExpressionError causes.Numbers s IsShort found = IsShort
 
@@ -51,7 +51,7 @@ abbrev pub UnlessMemory : {X : Type 0} → Result X ExpressionError → (X → T
 UnlessMemory (Ok x) Holds = Holds x
 UnlessMemory (Err cause) Holds = cause ≡ causes.Memory
 
--- the parse error for the fault of a literal
+-- the expression error is that of the fault of a literal, or memory or numbers ran out
 abbrev pub IsErrorOfLiteral : ExpressionError → Fault → Type 0
 IsErrorOfLiteral (causes.Literal refused) (faults.Compile error) = refused.value.error ≡ error
 IsErrorOfLiteral causes.Memory (faults.Compile error) = Unit {0}

@@ -13,7 +13,7 @@ is_markable kind = same_kind kind kinds.StringToken || same_kind kind kinds.Form
 abbrev pub is_opening : TokenKind → Bool
 is_opening kind = same_kind kind kinds.ParenL || same_kind kind kinds.BracketL
 
--- a name that is no mark and not `assert`
+-- a name that is neither a mark nor `assert`
 abbrev pub is_unmarking : TableEntry → (second : TokenKind) → Bool
 is_unmarking entry second = not (is_markable second) && not (is_word (codes "assert") (significant_of entry))
 

@@ -104,8 +104,8 @@ read = expressions.read leaves
 abbrev pub accept : TokenKind → State → Option (TableEntry × State)
 accept = reading.accept leaves
 
-abbrev pub accept_word : List ℕ → State → Option (TableEntry × State)
-accept_word = reading.accept_word leaves
+abbrev pub accept_keyword : List ℕ → State → Option (TableEntry × State)
+accept_keyword = reading.accept_keyword leaves
 
 abbrev pub accept_marked : List ℕ → TokenKind → State → Option (TableEntry × State)
 accept_marked = reading.accept_marked leaves
@@ -177,7 +177,7 @@ enclosed closing s = do
 abbrev pub condition : State → ReadExpr
 condition = expressions.condition leaves
 
--- records a condition that isn't a comparison, at its first entry
+-- notes a condition that isn't a comparison, at its first entry
 abbrev pub note_first : Expr Leaf Token → (first : Option TableEntry) → State → State
 note_first e None s = s
 note_first e (Some first) s = with (uncompared e first.token.now) s

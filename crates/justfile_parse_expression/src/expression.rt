@@ -1,35 +1,26 @@
-//! How expressions are parsed.
+//! How expressions are parsed: the operators of each level and their operands.
 //!
 //! Constructs that can nest to the right without limit are parsed in loops, as a row of links: each
 //! link holds what comes before its right side.
 ghost use Rattle.std.specs.Prelude.{◌≡◌, ◌<◌, ◌≤◌, IsTrue, false, Ok, OnOk, IfSome, IfNone, Some, None};
-ghost use Rattle.justfile_token.specs.StringKind.{kind_of};
-ghost use Rattle.justfile_token.specs.Token.{lexeme_of};
-ghost use Rattle.justfile_vocabulary.specs.declared.token_kind.TokenKind.TheVariants as kinds;
-ghost use Rattle.justfile_model.specs.Expressions.{ends_open};
-ghost use Rattle.justfile_model.specs.Tree as tree;
-ghost use Rattle.justfile_parse_expression.specs.FormatStrings.{IsEndedAt, IsEndedFrom};
-ghost use Rattle.justfile_parse_expression.specs.Literal.{IsOf};
 ghost use Rattle.justfile_model.specs.ExpressionReader.{closed};
 ghost use Rattle.justfile_model.specs.Operators.{is_binary};
 ghost use Rattle.justfile_parse_expression.specs.Chains as chains;
-ghost use Rattle.justfile_parse_expression.specs.Chains.{branch_of, link_of, negated, row_closed, row_tree, step_of};
+ghost use Rattle.justfile_parse_expression.specs.Chains.{link_of, row_closed, row_tree, step_of};
 ghost use Rattle.justfile_parse_expression.specs.TableReader as reader;
-ghost use Rattle.justfile_parse_expression.specs.MethodResults.{Reads, UnlessMemory};
+ghost use Rattle.justfile_parse_expression.specs.MethodResults.{UnlessMemory};
 ghost use Rattle.justfile_parse_expression.specs.ParsedResults.{Parses};
-ghost use Rattle.justfile_expression.specs.LeafTree.{Literal, Named, format_string_tree, literal_of, leaf_tree_of, trees_of};
+ghost use Rattle.justfile_expression.specs.LeafTree.{leaf_tree_of};
 ghost use Rattle.justfile_model.specs.declared.level.Level.TheVariants as levels;
 
 use crate::expression_error::{ExpressionError, SyntaxError};
-use crate::feature::find_function_feature;
-use crate::literal::find_kind;
 use crate::operator::{find_feature, find_left_level, find_operator, is_at, make_operation};
-use crate::parser::{ExpressionParser, is_word};
+use crate::parser::ExpressionParser;
 use crate::significant::TableEntry;
-use justfile_expression::{Expression, ListFeature};
+use justfile_expression::Expression;
 use justfile_model::{Level, Operator};
-use justfile_token::{Expander, Name, StringLiteral, Token};
-use justfile_vocabulary::{FormatStringPart, Keyword, TokenKind};
+use justfile_token::{Expander, Token};
+use justfile_vocabulary::{Keyword, TokenKind};
 
 /// The usual limit of depth: how many expressions may be nested in one another.
 pub const RECURSION_LIMIT: usize = 256;
@@ -60,13 +51,6 @@ pub(crate) enum Step<'run, 'src> {
     Next(Link<'run, 'src>),
 }
 
-/// What comes next in a conditional: its end, or a branch and the `if` after it.
-#[derive(Drop)]
-pub(crate) enum Branch<'run, 'src> {
-    Last(Box<Expression<'src>>),
-    Next(Link<'run, 'src>, TableEntry<'run, 'src>),
-}
-
 impl<'run, 'src, X: Expander> ExpressionParser<'run, 'src, X> {
     ghost use Rattle.justfile_parse_expression.specs.View.{Moves, tokens_left, state_of};
 
@@ -87,7 +71,7 @@ impl<'run, 'src, X: Expander> ExpressionParser<'run, 'src, X> {
     /// condition.
     #[cycle(expression)]
     #[tactic(auto, using(crate::proofs::Operators::level_is))]
-    fn parse_level(
+    pub(crate) fn parse_level(
         &mut self,
         level: Level,
         condition: bool,
@@ -171,8 +155,8 @@ impl<'run, 'src, X: Expander> ExpressionParser<'run, 'src, X> {
         }
     }
 
-    /// Parses an operand and the operator after it, if there is one. An `if` begins a conditional
-    /// where a `/` may begin a path.
+    /// Parses an operand and the operator after it, if there is one. Where a `/` may come first, an
+    /// `if` begins a conditional.
     #[cycle(expression)]
     #[tactic(auto, unfolding(crate::specs::Chains::operand_step))]
     fn parse_operand(&mut self) -> Result<Step<'run, 'src>, ExpressionError<'src>>
@@ -296,83 +280,10 @@ impl<'run, 'src, X: Expander> ExpressionParser<'run, 'src, X> {
         Ok(expression)
     }
 
-    /// Parses the condition of an `if` or `assert`.
-    #[cycle(expression)]
-    #[tactic(auto, using(crate::proofs::Rules::note_is), unfolding(justfile_model::specs::ExpressionReader::condition_rule))]
-    fn parse_condition(&mut self) -> Result<Box<Expression<'src>>, ExpressionError<'src>>
-        ensures reads { Parses X.answer (λ e. leaf_tree_of e.value) result self.old self.new
-            reader.condition }
-        ensures progress { OnOk result (tokens_left self.new < tokens_left self.old) }
-    {
-        let first = self.peek_front();
-        let condition = self.parse_level(Level::Expression, true)?;
-        self.note_condition(&condition, first)?;
-        Ok(condition)
-    }
-
-    /// Parses an expression between braces.
-    #[cycle(expression)]
-    #[tactic(auto, using(crate::proofs::Rules::braced_is))]
-    fn parse_braced(&mut self) -> Result<Box<Expression<'src>>, ExpressionError<'src>>
-        ensures reads { Parses X.answer (λ e. leaf_tree_of e.value) result self.old self.new
-            reader.braced }
-        ensures progress { OnOk result (tokens_left self.new < tokens_left self.old) }
-    {
-        self.expect(TokenKind::BraceL)?;
-        self.parse_enclosed(TokenKind::BraceR)
-    }
-
-    /// Parses a conditional, after its `if`.
-    #[cycle(expression)]
-    #[tactic(auto, using(crate::proofs::Branches::conditional_is))]
-    #[inline(never)]
-    fn parse_conditional(
-        &mut self,
-        word: TableEntry<'run, 'src>,
-    ) -> Result<Box<Expression<'src>>, ExpressionError<'src>>
-        ensures reads { Parses X.answer (λ e. leaf_tree_of e.value) result self.old self.new
-            (λ s. reader.read (reader.Conditional word.entry s)) }
-        ensures progress { OnOk result (tokens_left self.new < tokens_left self.old) }
-    {
-        match self.parse_branch(word)? {
-            Branch::Last(last) => Ok(last),
-            Branch::Next(link, next) => self.parse_branches(link, next),
-        }
-    }
-
-    /// Parses the conditional that is the `else` branch of a link, after its `if`, and joins it
-    /// with the link. Such branches can follow one another in any number.
-    #[cycle(expression)]
-    #[tactic(auto, using(crate::proofs::Chains::begins, crate::proofs::Branches::goes_on, crate::proofs::Branches::ends, crate::proofs::Branches::stops))]
-    #[inline(never)]
-    fn parse_branches(
-        &mut self,
-        first: Link<'run, 'src>,
-        word: TableEntry<'run, 'src>,
-    ) -> Result<Box<Expression<'src>>, ExpressionError<'src>>
-        ensures reads { Parses X.answer (λ e. leaf_tree_of e.value) result self.old self.new
-            (chains.branches (link_of first.entry) word.entry) }
-        ensures progress { OnOk result (tokens_left self.new < tokens_left self.old) }
-    {
-        let mut row = Vec::new(self.alloc);
-        let mut link = first;
-        let mut word = word;
-        'branches: loop {
-            match self.parse_branch(word)? {
-                Branch::Last(last) => return self.join_row(row, link, last, Level::Conjunct),
-                Branch::Next(next, after) => {
-                    row.push(link)?;
-                    link = next;
-                    word = after;
-                }
-            }
-        }
-    }
-
     /// Joins the links of a row with its last expression, from the last link to the first. Closes
     /// the expression that each link is part of.
     #[tactic(auto, using(crate::proofs::Chains::row_pushed, crate::proofs::Chains::closed_pushed))]
-    fn join_row(
+    pub(crate) fn join_row(
         &mut self,
         row: Vec<Link<'run, 'src>>,
         link: Link<'run, 'src>,
@@ -412,446 +323,7 @@ impl<'run, 'src, X: Expander> ExpressionParser<'run, 'src, X> {
         self.box_expression(make_link(link, rhs))
     }
 
-    /// Parses the next part of a conditional, after an `if`.
-    #[cycle(expression)]
-    #[tactic(auto, unfolding(crate::specs::Chains::branch))]
-    fn parse_branch(
-        &mut self,
-        word: TableEntry<'run, 'src>,
-    ) -> Result<Branch<'run, 'src>, ExpressionError<'src>>
-        ensures reads { Parses X.answer branch_of result self.old self.new
-            (chains.branch word.entry) }
-        ensures progress { OnOk result (tokens_left self.new < tokens_left self.old) }
-    {
-        let condition = self.parse_condition()?;
-        let then = self.parse_braced()?;
-        let Some(_else) = self.accept_keyword(Keyword::Else) else {
-            self.note(ListFeature::IfWithoutElse, *word.token)?;
-            return self.end_if(condition, then);
-        };
-        let Some(word) = self.accept_keyword(Keyword::If) else {
-            let otherwise = self.parse_last_branch()?;
-            return self.end_else(condition, then, otherwise);
-        };
-        Ok(Branch::Next(Link::Branch { condition, then }, word))
-    }
-
-    /// Makes a conditional without `else`.
-    fn end_if(
-        &self,
-        condition: Box<Expression<'src>>,
-        then: Box<Expression<'src>>,
-    ) -> Result<Branch<'run, 'src>, ExpressionError<'src>>
-        ensures { UnlessMemory result (λ branch. branch_of branch ≡ chains.End
-            (tree.If (leaf_tree_of condition.entry.value) (leaf_tree_of then.entry.value))) }
-    {
-        let end = self.box_expression(Expression::Conditional {
-            condition,
-            then,
-            otherwise: None,
-        })?;
-        Ok(Branch::Last(end))
-    }
-
-    /// Makes a conditional whose `else` branch is in braces.
-    fn end_else(
-        &self,
-        condition: Box<Expression<'src>>,
-        then: Box<Expression<'src>>,
-        otherwise: Box<Expression<'src>>,
-    ) -> Result<Branch<'run, 'src>, ExpressionError<'src>>
-        ensures { UnlessMemory result (λ branch. branch_of branch
-            ≡ chains.End (tree.IfElse (leaf_tree_of condition.entry.value)
-            (leaf_tree_of then.entry.value) (leaf_tree_of otherwise.entry.value))) }
-    {
-        let end = self.box_expression(Expression::Conditional {
-            condition,
-            then,
-            otherwise: Some(otherwise),
-        })?;
-        Ok(Branch::Last(end))
-    }
-
-    /// Parses the `else` branch of a conditional, after `else`, if it is in braces.
-    #[cycle(expression)]
-    #[tactic(auto, unfolding(crate::specs::Chains::last_branch))]
-    fn parse_last_branch(&mut self) -> Result<Box<Expression<'src>>, ExpressionError<'src>>
-        ensures reads { Parses X.answer (λ e. leaf_tree_of e.value) result self.old self.new
-            chains.last_branch }
-        ensures progress { OnOk result (tokens_left self.new < tokens_left self.old) }
-    {
-        let otherwise = self.parse_braced()?;
-        self.expect_closed(&otherwise)?;
-        Ok(otherwise)
-    }
-
-    /// Parses what can be on either side of an operator: a value after `!`, or a value without
-    /// operators outside of delimiters. The first two tokens of most values tell that they are a name
-    /// or a later form.
-    ///
-    /// # Errors
-    ///
-    /// The tokens are refused, a literal has no text, or memory runs out.
-    #[cycle(expression)]
-    #[inline(never)]
-    pub fn parse_value(&mut self) -> Result<Box<Expression<'src>>, ExpressionError<'src>>
-        ensures reads { Parses X.answer (λ e. leaf_tree_of e.value) result self.old self.new
-            reader.value }
-        ensures progress { OnOk result (tokens_left self.new < tokens_left self.old) }
-    {
-        if self.is_plain() {
-            return self.parse_name();
-        }
-        self.parse_any_value()
-    }
-
-    /// Parses any value. Each of the methods below takes one form of value, and leaves the others to
-    /// the next method.
-    #[cycle(expression)]
-    #[tactic(auto, using(crate::proofs::Negations::bare_is))]
-    #[inline(never)]
-    fn parse_any_value(&mut self) -> Result<Box<Expression<'src>>, ExpressionError<'src>>
-        ensures reads { Parses X.answer (λ e. leaf_tree_of e.value) result self.old self.new
-            reader.value }
-        ensures progress { OnOk result (tokens_left self.new < tokens_left self.old) }
-    {
-        let Some(_bang) = self.probe_if(TokenKind::Bang) else {
-            return self.parse_bare();
-        };
-        self.parse_negation()
-    }
-
-    /// Parses a value after any number of `!`.
-    #[cycle(expression)]
-    #[tactic(auto, unfolding(crate::specs::Chains::negation))]
-    #[inline(never)]
-    fn parse_negation(&mut self) -> Result<Box<Expression<'src>>, ExpressionError<'src>>
-        ensures reads { Parses X.answer (λ e. leaf_tree_of e.value) result self.old self.new
-            reader.value }
-        ensures progress { OnOk result (tokens_left self.new < tokens_left self.old) }
-    {
-        let count = self.accept_bangs()?;
-        let operand = self.parse_bare()?;
-        self.negate(operand, count)
-    }
-
-    /// Takes the `!` that come next, and returns how many there are.
-    #[tactic(auto, using(crate::proofs::Negations::begins, crate::proofs::Negations::goes_on, crate::proofs::Negations::ends))]
-    fn accept_bangs(&mut self) -> Result<usize, ExpressionError<'src>>
-        ensures reads { UnlessMemory result (λ count. reader.value (state_of X.answer self.old)
-            ≡ chains.negation count (state_of X.answer self.new)) }
-        ensures progress { tokens_left self.new ≤ tokens_left self.old }
-    {
-        let most = self.count_left();
-        let mut count = 0;
-        while let Some(bang) = self.accept_unrecorded(TokenKind::Bang) {
-            self.note(ListFeature::NegationOperator, *bang.token)?;
-            prove!(count < most);
-            count += 1;
-        }
-        Ok(count)
-    }
-
-    /// Negates a value `count` times.
-    fn negate(
-        &self,
-        operand: Box<Expression<'src>>,
-        count: usize,
-    ) -> Result<Box<Expression<'src>>, ExpressionError<'src>>
-        ensures { UnlessMemory result (λ e. leaf_tree_of e.value
-            ≡ negated count (leaf_tree_of operand.entry.value)) }
-    {
-        let mut whole = operand;
-        for _bang in 0..count {
-            whole = self.box_expression(Expression::Not { operand: whole })?;
-        }
-        Ok(whole)
-    }
-
-    /// Parses a value without `!` before it.
-    #[cycle(expression)]
-    #[tactic(auto, unfolding(crate::specs::Chains::bare))]
-    #[inline(always)]
-    fn parse_bare(&mut self) -> Result<Box<Expression<'src>>, ExpressionError<'src>>
-        ensures reads { Parses X.answer (λ e. leaf_tree_of e.value) result self.old self.new
-            chains.bare }
-        ensures progress { OnOk result (tokens_left self.new < tokens_left self.old) }
-    {
-        match self.parse_literal()? {
-            Some(literal) => Ok(literal),
-            None => self.parse_format(),
-        }
-    }
-
-    /// Parses a format string with interpolations, or another value.
-    #[cycle(expression)]
-    #[tactic(auto, unfolding(justfile_model::specs::ExpressionReader::format_rule))]
-    #[inline(never)]
-    fn parse_format(&mut self) -> Result<Box<Expression<'src>>, ExpressionError<'src>>
-        ensures reads { Parses X.answer (λ e. leaf_tree_of e.value) result self.old self.new
-            reader.format }
-        ensures progress { OnOk result (tokens_left self.new < tokens_left self.old) }
-    {
-        match self.accept_marked(Keyword::F, TokenKind::FormatStringStart) {
-            Some(start) => self.parse_format_string(start),
-            None => self.parse_assert(),
-        }
-    }
-
-    /// Parses a format string, after its start.
-    #[cycle(expression)]
-    #[tactic(auto, using(crate::proofs::Cooked::framed_start, crate::proofs::Rules::format_string_is))]
-    #[inline(never)]
-    fn parse_format_string(
-        &mut self,
-        start: TableEntry<'run, 'src>,
-    ) -> Result<Box<Expression<'src>>, ExpressionError<'src>>
-        requires start { IsOf kinds.FormatStringStart start }
-        requires ended { IsEndedFrom (kind_of (lexeme_of start.token.now))
-            (state_of X.answer self.old) }
-        ensures reads { Parses X.answer (λ e. leaf_tree_of e.value) result self.old self.new
-            (λ s. reader.format_string (start.entry, s)) }
-        ensures progress { OnOk result (tokens_left self.new < tokens_left self.old) }
-    {
-        let literal = self.cook_part(start, find_kind(start), FormatStringPart::Start)?;
-        let expressions = self.parse_parts(start)?;
-        self.box_expression(make_format_string(literal, expressions))
-    }
-
-    /// Parses the expressions after the start of a format string, each with the part after it.
-    #[cycle(expression)]
-    #[tactic(auto, using(crate::proofs::Parts::begins, crate::proofs::Parts::goes_on, crate::proofs::Parts::ends, crate::proofs::Parts::stops_at))]
-    fn parse_parts(
-        &mut self,
-        start: TableEntry<'run, 'src>,
-    ) -> Result<Vec<(Expression<'src>, StringLiteral<'src>)>, ExpressionError<'src>>
-        requires ended { IsEndedFrom (kind_of (lexeme_of start.token.now))
-            (state_of X.answer self.old) }
-        ensures reads { Parses X.answer (λ parts. format_string_tree parts.items) result
-            self.old self.new (reader.format_parts (lexeme_of start.entry.token.now)) }
-        ensures progress { OnOk result (tokens_left self.new < tokens_left self.old) }
-    {
-        let mut parts = Vec::new(self.alloc);
-        'parts: loop {
-            let (expression, literal, is_last) = self.parse_pair(start)?;
-            parts.push((expression, literal))?;
-            if is_last {
-                return Ok(parts);
-            }
-        }
-    }
-
-    /// Parses an expression of a format string and the part after it. Also returns whether that
-    /// part is the last.
-    #[cycle(expression)]
-    #[tactic(auto, unfolding(crate::specs::TableReader::pair))]
-    fn parse_pair(
-        &mut self,
-        start: TableEntry<'run, 'src>,
-    ) -> Result<(Expression<'src>, StringLiteral<'src>, bool), ExpressionError<'src>>
-        requires ended { IsEndedFrom (kind_of (lexeme_of start.token.now))
-            (state_of X.answer self.old) }
-        ensures reads { Parses X.answer (λ x. (leaf_tree_of x.0, Literal (literal_of x.1), x.2))
-            result self.old self.new (reader.pair (lexeme_of start.entry.token.now)) }
-        ensures progress { OnOk result (tokens_left self.new < tokens_left self.old) }
-    {
-        let expression = self.parse_level(Level::Expression, false)?;
-        let (literal, is_last) = self.parse_part(start)?;
-        Ok((Box::into_inner(expression), literal, is_last))
-    }
-
-    /// Parses an assertion, or another value.
-    #[cycle(expression)]
-    #[tactic(auto, using(crate::proofs::Rules::assert_is))]
-    fn parse_assert(&mut self) -> Result<Box<Expression<'src>>, ExpressionError<'src>>
-        ensures reads { Parses X.answer (λ e. leaf_tree_of e.value) result self.old self.new
-            reader.assert }
-        ensures progress { OnOk result (tokens_left self.new < tokens_left self.old) }
-    {
-        let Some(word) = self.accept_keyword(Keyword::Assert) else {
-            return self.parse_name();
-        };
-        let name = Name::from_identifier(*word.token);
-        self.expect(TokenKind::ParenL)?;
-        let condition = self.parse_condition()?;
-        let Some(_comma) = self.accept(TokenKind::Comma) else {
-            self.expect(TokenKind::ParenR)?;
-            return self.box_expression(Expression::Assert {
-                condition,
-                message: None,
-                name,
-            });
-        };
-        let message = Some(self.parse_enclosed(TokenKind::ParenR)?);
-        self.box_expression(Expression::Assert {
-            condition,
-            message,
-            name,
-        })
-    }
-
-    /// Parses a call or a variable, or another value.
-    #[cycle(expression)]
-    #[tactic(auto, unfolding(justfile_model::specs::ExpressionReader::name_rule, crate::specs::TableReader::call, crate::specs::TableReader::leaves))]
-    #[inline(always)]
-    fn parse_name(&mut self) -> Result<Box<Expression<'src>>, ExpressionError<'src>>
-        ensures reads { Parses X.answer (λ e. leaf_tree_of e.value) result self.old self.new
-            reader.name }
-        ensures progress { OnOk result (tokens_left self.new < tokens_left self.old) }
-    {
-        let Some(entry) = self.accept_unrecorded(TokenKind::Identifier) else {
-            return self.parse_group();
-        };
-        let Some(_opening) = self.accept(TokenKind::ParenL) else {
-            return self.box_variable(entry);
-        };
-        self.parse_call(entry)
-    }
-
-    /// A variable in a box of its own.
-    #[inline(never)]
-    fn box_variable(
-        &self,
-        entry: TableEntry<'run, 'src>,
-    ) -> Result<Box<Expression<'src>>, ExpressionError<'src>>
-        requires { entry.token.now.kind ≡ kinds.Identifier }
-        ensures { UnlessMemory result (λ e. leaf_tree_of e.value
-            ≡ tree.Variable (Named entry.entry.token.now None)) }
-    {
-        self.box_expression(Expression::Variable {
-            name: Name::from_identifier(*entry.token),
-            number: None,
-        })
-    }
-
-    /// A call of this name, after its opening parenthesis.
-    #[cycle(expression)]
-    #[tactic(auto, unfolding(crate::specs::TableReader::call))]
-    #[inline(never)]
-    fn parse_call(
-        &mut self,
-        entry: TableEntry<'run, 'src>,
-    ) -> Result<Box<Expression<'src>>, ExpressionError<'src>>
-        requires { entry.token.now.kind ≡ kinds.Identifier }
-        ensures reads { Reads (λ e. leaf_tree_of e.value) result (state_of X.answer self.new)
-            (reader.call entry.entry (state_of X.answer self.old)) }
-        ensures progress { OnOk result (tokens_left self.new < tokens_left self.old) }
-    {
-        let arguments = self.parse_sequence(TokenKind::ParenR)?;
-        self.note_if(find_function_feature(entry.token.lexeme()), *entry.token)?;
-        let name = Name::from_identifier(*entry.token);
-        self.box_expression(make_call(name, arguments))
-    }
-
-    /// Parses an expression in parentheses, or a list.
-    #[cycle(expression)]
-    #[tactic(auto, using(crate::proofs::Rules::group_is))]
-    #[inline(never)]
-    fn parse_group(&mut self) -> Result<Box<Expression<'src>>, ExpressionError<'src>>
-        ensures reads { Parses X.answer (λ e. leaf_tree_of e.value) result self.old self.new
-            reader.group }
-        ensures progress { OnOk result (tokens_left self.new < tokens_left self.old) }
-    {
-        let Some(_opening) = self.accept_unrecorded(TokenKind::ParenL) else {
-            return self.parse_list();
-        };
-        let contents = self.parse_enclosed(TokenKind::ParenR)?;
-        self.box_expression(Expression::Group { contents })
-    }
-
-    /// Parses a list.
-    #[cycle(expression)]
-    #[tactic(auto, unfolding(justfile_model::specs::ExpressionReader::list_rule, crate::specs::TableReader::leaves))]
-    fn parse_list(&mut self) -> Result<Box<Expression<'src>>, ExpressionError<'src>>
-        ensures reads { Parses X.answer (λ e. leaf_tree_of e.value) result self.old self.new
-            reader.list }
-        ensures progress { OnOk result (tokens_left self.new < tokens_left self.old) }
-    {
-        let Some(opener) = self.accept_unrecorded(TokenKind::BracketL) else {
-            self.expected_tokens.add_value();
-            return Err(ExpressionError::Refused(SyntaxError::Unexpected));
-        };
-        self.note(ListFeature::ListLiteral, *opener.token)?;
-        let elements = self.parse_sequence(TokenKind::BracketR)?;
-        self.box_expression(make_list(*opener.token, elements))
-    }
-
-    /// Parses expressions separated by commas, and the closing delimiter.
-    ///
-    /// # Errors
-    ///
-    /// The tokens are refused, a literal has no text, or memory runs out.
-    #[cycle(expression)]
-    #[tactic(auto, using(crate::proofs::Elements::begins, crate::proofs::Elements::goes_on, crate::proofs::Elements::closes, crate::proofs::Elements::closes_last))]
-    #[inline(never)]
-    pub fn parse_sequence(
-        &mut self,
-        closing: TokenKind,
-    ) -> Result<Vec<Expression<'src>>, ExpressionError<'src>>
-        ensures reads { Parses X.answer (λ es. trees_of es.items) result self.old self.new
-            (λ s. reader.read (reader.Sequence closing s)) }
-        ensures progress { OnOk result (tokens_left self.new < tokens_left self.old) }
-    {
-        // most lists and calls have at most two elements
-        let mut elements = Vec::with_capacity(self.alloc, 2)?;
-        'elements: loop {
-            if let Some(_closing) = self.accept(closing) {
-                return Ok(elements);
-            }
-            let (element, is_last) = self.parse_element(closing)?;
-            elements.push(Box::into_inner(element))?;
-            if is_last {
-                return Ok(elements);
-            }
-        }
-    }
-
-    /// Parses an element of a sequence. Also returns whether the sequence is closed after it.
-    ///
-    /// # Errors
-    ///
-    /// The tokens are refused, a literal has no text, or memory runs out.
-    #[cycle(expression)]
-    #[tactic(auto, unfolding(justfile_model::specs::ExpressionReader::element_rule))]
-    #[inline(always)]
-    pub fn parse_element(
-        &mut self,
-        closing: TokenKind,
-    ) -> Result<(Box<Expression<'src>>, bool), ExpressionError<'src>>
-        ensures reads { Parses X.answer (λ x. (leaf_tree_of x.0.value, x.1)) result
-            self.old self.new (reader.element closing) }
-        ensures progress { OnOk result (tokens_left self.new < tokens_left self.old) }
-    {
-        let element = self.parse_level(Level::Expression, false)?;
-        if let Some(_comma) = self.accept(TokenKind::Comma) {
-            return Ok((element, false));
-        }
-        self.expect(closing)?;
-        Ok((element, true))
-    }
-
-    /// Parses the part of a format string after an expression. Also returns whether it is the last.
-    #[tactic(auto, using(crate::proofs::Cooked::framed_continue, crate::proofs::FormatStrings::last_ended, crate::proofs::Rules::part_is))]
-    fn parse_part(
-        &mut self,
-        start: TableEntry<'run, 'src>,
-    ) -> Result<(StringLiteral<'src>, bool), ExpressionError<'src>>
-        requires ended { IsEndedAt (kind_of (lexeme_of start.token.now))
-            (state_of X.answer self.old) }
-        ensures reads { Parses X.answer (λ x. (Literal (literal_of x.0), x.1)) result
-            self.old self.new (reader.part (lexeme_of start.entry.token.now)) }
-        ensures progress { OnOk result (tokens_left self.new < tokens_left self.old) }
-    {
-        if let Some(entry) = self.accept(TokenKind::FormatStringContinue) {
-            let literal = self.cook_part(entry, find_kind(start), FormatStringPart::Continue)?;
-            return Ok((literal, false));
-        }
-        let entry = self.expect(TokenKind::FormatStringEnd)?;
-        let literal = self.cook_part(entry, find_kind(start), FormatStringPart::End)?;
-        Ok((literal, true))
-    }
-
-    /// Opens an expression.
+    /// Opens an expression if this is the level of whole expressions; operands aren't counted.
     ///
     /// # Errors
     ///
@@ -871,7 +343,7 @@ impl<'run, 'src, X: Expander> ExpressionParser<'run, 'src, X> {
         Ok(())
     }
 
-    /// Closes an expression.
+    /// Closes an expression if this is the level of whole expressions.
     #[tactic(auto, unfolding(crate::specs::View::state_at, crate::specs::View::state_of, crate::specs::View::tokens_left))]
     fn leave(&mut self, level: Level)
         ensures closed { state_of X.answer self.new ≡ closed level (state_of X.answer self.old) }
@@ -920,25 +392,6 @@ impl<'run, 'src, X: Expander> ExpressionParser<'run, 'src, X> {
     {
         find_operator(self.peek()?.token.kind)
     }
-
-    /// Refuses an `else` after a branch that ends in a conditional without `else`.
-    #[tactic(auto, unfolding(justfile_model::specs::ReaderState::accept_word, justfile_model::specs::ReaderState::refused, crate::specs::TableReader::leaves))]
-    fn expect_closed(&self, branch: &Expression<'src>) -> Result<(), ExpressionError<'src>>
-        ensures reads { Reads (λ _. leaf_tree_of branch.now) result (state_of X.answer self.now)
-            (reader.ended_by (ends_open (leaf_tree_of branch.now)) (leaf_tree_of branch.now)
-            (state_of X.answer self.now)) }
-    {
-        if !ends_open(branch) {
-            return Ok(());
-        }
-        match self.peek() {
-            Some(entry) if is_word(entry, Keyword::Else.lexeme()) => {
-                self.expected_tokens.add_operators_to(Level::Expression);
-                Err(ExpressionError::Refused(SyntaxError::Unexpected))
-            }
-            _ => Ok(()),
-        }
-    }
 }
 
 /// Makes the expression that consists of a link and its right side.
@@ -962,62 +415,4 @@ fn make_link<'src>(link: Link<'_, 'src>, rhs: Box<Expression<'src>>) -> Expressi
             otherwise: Some(rhs),
         },
     }
-}
-
-/// Whether the expression is a conditional whose chain of `else` branches ends in a conditional
-/// without `else`.
-#[tactic(auto, using(crate::proofs::Shapes::assert_ends, crate::proofs::Shapes::format_ends, crate::proofs::Shapes::join_ends))]
-fn ends_open(expression: &Expression<'_>) -> bool
-    ensures { result ≡ ends_open (leaf_tree_of expression.now) }
-{
-    let mut last = expression;
-    'branches: loop {
-        match last {
-            Expression::Conditional { otherwise, .. } => match otherwise {
-                None => return true,
-                Some(other) => last = &**other,
-            },
-            Expression::And { .. }
-            | Expression::Assert { .. }
-            | Expression::Backtick { .. }
-            | Expression::Call { .. }
-            | Expression::Comparison { .. }
-            | Expression::Concatenation { .. }
-            | Expression::FormatString { .. }
-            | Expression::Group { .. }
-            | Expression::Join { .. }
-            | Expression::List { .. }
-            | Expression::ListConcatenation { .. }
-            | Expression::Not { .. }
-            | Expression::Or { .. }
-            | Expression::StringLiteral { .. }
-            | Expression::Variable { .. } => return false,
-        }
-    }
-}
-
-#[tactic(auto, using(crate::proofs::Rows::call_is))]
-fn make_call<'src>(name: Name<'src>, arguments: Vec<Expression<'src>>) -> Expression<'src>
-    ensures { leaf_tree_of result
-        ≡ tree.Call (Named name.entry.token None) (trees_of arguments.entry.items) }
-{
-    Expression::Call { name, arguments }
-}
-
-#[tactic(auto, using(crate::proofs::Rows::list_is))]
-fn make_list<'src>(opener: Token<'src>, elements: Vec<Expression<'src>>) -> Expression<'src>
-    ensures { leaf_tree_of result ≡ tree.ListOf opener.entry (trees_of elements.entry.items) }
-{
-    Expression::List { elements, opener }
-}
-
-#[tactic(auto, using(crate::proofs::Rows::format_is))]
-pub(crate) fn make_format_string<'src>(
-    start: StringLiteral<'src>,
-    expressions: Vec<(Expression<'src>, StringLiteral<'src>)>,
-) -> Expression<'src>
-    ensures { leaf_tree_of result
-        ≡ format_string_tree expressions.entry.items (Literal (literal_of start.entry)) }
-{
-    Expression::FormatString { start, expressions }
 }

@@ -14,7 +14,7 @@ use justfile_token::{Expander, Token};
 impl<'src, X: Expander> ExpressionParser<'_, 'src, X> {
     ghost use Rattle.justfile_parse_expression.specs.View.{tokens_left, state_of};
 
-    /// Records a condition that isn't a comparison, at its first token.
+    /// Notes a condition that isn't a comparison, at its first token.
     pub(crate) fn note_condition(
         &mut self,
         condition: &Expression<'src>,
@@ -30,7 +30,7 @@ impl<'src, X: Expander> ExpressionParser<'_, 'src, X> {
         }
     }
 
-    /// Records the use of a feature, if there is one.
+    /// Notes the use of a feature, if there is one.
     #[tactic(auto, using(crate::proofs::Rest::with_none))]
     pub(crate) fn note_if(
         &mut self,
@@ -47,7 +47,7 @@ impl<'src, X: Expander> ExpressionParser<'_, 'src, X> {
         }
     }
 
-    /// Records the use of a feature that needs the setting `lists`.
+    /// Notes the use of a feature that needs the setting `lists`.
     ///
     /// # Errors
     ///

@@ -2,6 +2,7 @@
 //! how expressions are parsed.
 #![tactic(auto)]
 
+mod conditional;
 mod expected_tokens;
 mod expression;
 mod expression_error;
@@ -10,6 +11,7 @@ mod literal;
 mod operator;
 mod parser;
 pub mod significant;
+mod value;
 
 pub use crate::expected_tokens::ExpectedTokens;
 pub use crate::expression::RECURSION_LIMIT;

@@ -10,10 +10,10 @@ ghost use Rattle.justfile_parse_expression.specs.MethodResults.{Reads, IsErrorOf
 ghost use Rattle.justfile_parse_expression.specs.ParsedResults.{Parses};
 ghost use Rattle.justfile_expression.specs.LeafTree.{Literal, literal_of, leaf_tree_of};
 
-use crate::expression::make_format_string;
 use crate::expression_error::{ExpressionError, LiteralError};
 use crate::parser::ExpressionParser;
 use crate::significant::TableEntry;
+use crate::value::make_format_string;
 use justfile_expression::Expression;
 use justfile_literal::{command, format_part, string_literal};
 use justfile_token::{Expander, Fault, StringKind, StringLiteral};

@@ -41,6 +41,7 @@ pub(crate) fn find_operator(kind: TokenKind) -> Option<Operator>
     }
 }
 
+/// Whether the operator is one of this level.
 pub(crate) fn is_at(level: Level, operator: Operator) -> bool
     ensures { result ≡ operators.is_at level operator }
 {

@@ -25,11 +25,13 @@ use std::alloc::Global;
 
 /// Reads a table of significant tokens from left to right.
 ///
-/// The beginning of a method's name says what it does with the next tokens: `peek_` looks at them
-/// and takes none, `accept_` takes what the name says if it comes next, `expect_` does so and
-/// refuses anything else, and `parse_` parses a construct, or returns why it can't. These methods
-/// add each kind of token that they look for and don't find to `expected_tokens`. `probe_` is
-/// `peek_`, and `take_` is `accept_`, without adding to `expected_tokens`.
+/// The beginning of a method's name says what it does with the next tokens: `peek_` and `probe_`
+/// look at them and take none, `accept_` takes what the name says if it comes next, `expect_` takes
+/// it and refuses anything else, and `parse_` parses a construct, or returns why it can't.
+///
+/// If `peek_if`, `peek_kinds`, `accept` or `expect` don't find the kind of token that they look
+/// for, they add it to `expected_tokens`. `probe_if`, `probe_kinds` and `accept_unrecorded` add
+/// nothing, nor do the methods for keywords, marks and operators.
 #[derive(Drop)]
 pub struct ExpressionParser<'run, 'src, X> {
     pub alloc: Global,
@@ -49,7 +51,7 @@ pub struct ExpressionParser<'run, 'src, X> {
     /// The index of the next token.
     pub(crate) next: usize,
     pub tokens: &'run [TableEntry<'run, 'src>],
-    /// The kinds of tokens that would be allowed in place of the next token.
+    /// The kinds that were looked for at the next token and not found.
     pub expected_tokens: ExpectedTokens,
     ghost within: { next ≤ length tokens.now },
     ghost shallow: { depth ≤ limit },
@@ -127,11 +129,11 @@ impl<'run, 'src, X: Expander> ExpressionParser<'run, 'src, X> {
     }
 
     /// Takes the next token if it is this keyword.
-    #[tactic(auto, unfolding(crate::specs::TableReader::leaves, justfile_model::specs::ReaderState::accept_word, crate::specs::View::state_of, crate::specs::View::tokens_left))]
+    #[tactic(auto, unfolding(crate::specs::TableReader::leaves, justfile_model::specs::ReaderState::accept_keyword, crate::specs::View::state_of, crate::specs::View::tokens_left))]
     #[inline(always)]
     pub fn accept_keyword(&mut self, keyword: Keyword) -> Option<TableEntry<'run, 'src>>
         ensures takes { Takes result (state_of X.answer self.new)
-            (reader.accept_word (keyword_text keyword) (state_of X.answer self.old)) }
+            (reader.accept_keyword (keyword_text keyword) (state_of X.answer self.old)) }
         ensures moves { Moves result self.old self.new }
         ensures kind { IfSome result (λ entry. entry.token.now.kind ≡ kinds.Identifier) }
     {
@@ -146,11 +148,11 @@ impl<'run, 'src, X: Expander> ExpressionParser<'run, 'src, X> {
     }
 
     /// Whether the next token is this keyword.
-    #[tactic(auto, unfolding(crate::specs::TableReader::leaves, justfile_model::specs::ReaderState::accept_word))]
+    #[tactic(auto, unfolding(crate::specs::TableReader::leaves, justfile_model::specs::ReaderState::accept_keyword))]
     #[inline(always)]
     pub fn peek_keyword(&self, keyword: Keyword) -> bool
         ensures { result
-            ≡ is_some (reader.accept_word (keyword_text keyword) (state_of X.answer self.now)) }
+            ≡ is_some (reader.accept_keyword (keyword_text keyword) (state_of X.answer self.now)) }
     {
         match self.peek() {
             Some(entry) => is_word(entry, keyword.lexeme()),
@@ -337,12 +339,12 @@ impl<'run, 'src, X: Expander> ExpressionParser<'run, 'src, X> {
         if self.probe_kinds(kinds) {
             return true;
         }
-        self.want_first(kinds);
+        self.add_first(kinds);
         false
     }
 
     /// Adds the first of these kinds to the expected tokens.
-    fn want_first(&self, kinds: &[TokenKind]) {
+    fn add_first(&self, kinds: &[TokenKind]) {
         if let Some(kind) = kinds.first() {
             self.expected_tokens.add(*kind);
         }

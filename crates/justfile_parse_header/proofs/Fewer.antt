@@ -27,19 +27,19 @@ use Rattle.justfile_parse_expression.specs.declared.significant.TableEntry.{Tabl
 use Rattle.justfile_parse_expression.proofs.Anywhere.{agree, entries_are, rel, state_alike, state_seen}
 use Rattle.justfile_parse_expression.proofs.FormatStrings.{IsExpected, IsNext, Taken, accepted, expected}
 use Rattle.justfile_parse_expression.proofs.Seen.{Meanings}
-use Rattle.justfile_parse_header.specs.Counting.{names}
+use Rattle.justfile_parse_header.specs.Counting.{identifiers_left}
 use Rattle.justfile_expression.specs.LeafTree.{Leaf}
 
 abbrev pub Fewer : {A : Type 0} → State → Read A → Type 0
-Fewer s found = IfOk found (λ x. names x.1 ≤ names s)
+Fewer s found = IfOk found (λ x. identifiers_left x.1 ≤ identifiers_left s)
 
 -- what is known where something is read
-pub fewer_at : {A : Type 0} (s : State) (found : Read A) (x : A × State) → Fewer s found → found ≡ Ok x → names x.1 ≤ names s
-fewer_at s found x h is = known x (λ x. names x.1 ≤ names s) is h
+pub fewer_at : {A : Type 0} (s : State) (found : Read A) (x : A × State) → Fewer s found → found ≡ Ok x → identifiers_left x.1 ≤ identifiers_left s
+fewer_at s found x h is = known x (λ x. identifiers_left x.1 ≤ identifiers_left s) is h
 
 -- ---- tokens that are taken
 
-pub fewer : (e : TableEntry) (s rest : State) → s.left ≡ e ∷ rest.left → names rest ≤ names s
+pub fewer : (e : TableEntry) (s rest : State) → s.left ≡ e ∷ rest.left → identifiers_left rest ≤ identifiers_left s
 fewer e s rest split = omega (arith, ap (λ (es : List TableEntry). identifiers (map significant_of es)) split)
 
 pub expect_fewer : (kind : TokenKind) (s : State) → Fewer {A = TableEntry} s (expect kind s)
@@ -50,19 +50,19 @@ expect_fewer kind s = go (expect kind s) (expected kind s)
     go (Err f) h = tt
 
 -- a name that is taken is one less
-pub name_fewer : (s : State) (x : TableEntry × State) → expect kinds.Identifier s ≡ Ok x → names x.1 + 1 ≤ names s
+pub name_fewer : (s : State) (x : TableEntry × State) → expect kinds.Identifier s ≡ Ok x → identifiers_left x.1 + 1 ≤ identifiers_left s
 name_fewer s x is =
     let h = subst (IsExpected kinds.Identifier s.left) is (expected kinds.Identifier s) in
     omega (arith, ap (λ (es : List TableEntry). identifiers (map significant_of es)) h.0, counts_one x.0.token.now.kind h.1)
 
-pub accept_fewer : (kind : TokenKind) (s : State) (x : TableEntry × State) → accept kind s ≡ Some x → names x.1 ≤ names s
+pub accept_fewer : (kind : TokenKind) (s : State) (x : TableEntry × State) → accept kind s ≡ Some x → identifiers_left x.1 ≤ identifiers_left s
 accept_fewer kind s x is =
     let h = subst (IsNext kind s s.left) is (accepted kind s) in
     fewer x.0 s x.1 h.0
 
 -- what is noted takes none
-pub noted_names : (features : List (ListFeature × Token)) (s noted : State) → noted ≡ with features s → names noted ≡ names s
-noted_names features s noted is = ap (λ (t : State). names t) is
+pub noted_names : (features : List (ListFeature × Token)) (s noted : State) → noted ≡ with features s → identifiers_left noted ≡ identifiers_left s
+noted_names features s noted is = ap (λ (t : State). identifiers_left t) is
 
 -- ---- one step after another
 

@@ -27,7 +27,7 @@ use Rattle.justfile_parse_header.specs.HeaderTable.{Rules}
 use Rattle.justfile_parse_header.specs.ArgNames.{AreFirsts, Firsts, IsPut, IsPutAt, attribute_at, first_at}
 use Rattle.justfile_parse_header.specs.Tree.{parameter_tree}
 use Rattle.justfile_parse_header.proofs.ReadNames.{among_names}
-use Rattle.justfile_parse_header.proofs.ArgRules.{keyed_rest, rules_left, speaks_begins, speaks_here, speaks_later}
+use Rattle.justfile_parse_header.proofs.ArgAttributes.{keyed_rest, rules_left, rules_named_begin, rules_named_here, rules_named_later}
 use Rattle.justfile_expression.specs.LeafViews.{views_leaves}
 use Rattle.justfile_expression.specs.LeafTree.{Named}
 
@@ -66,24 +66,24 @@ free_put text a old new free updates name =
     go true same = none (first_at old name) (subst (λ t. is_some (first_at old t) ≡ false) ((bytes_eq-Decides text name).0 same) free)
     go false apart = or_none (attribute_at old name)
 
--- it is put at the name of which it speaks
-spoken_put : (text : List ℕ) (a : Attribute) (old new : Firsts) → ((name : List ℕ) → bytes_eq text name ≡ is_of name (leaf_attribute_of a)) → IsPutAt text a old new → IsPut a old new
+-- it is put at the name that it has
+named_put : (text : List ℕ) (a : Attribute) (old new : Firsts) → ((name : List ℕ) → bytes_eq text name ≡ is_of name (leaf_attribute_of a)) → IsPutAt text a old new → IsPut a old new
 unfolding IsPutAt IsPut
-spoken_put text a old new same h name = h name ∙ ap (λ b. option_or (attribute_at old name) (cond b (Some a) None)) (same name)
+named_put text a old new same h name = h name ∙ ap (λ b. option_or (attribute_at old name) (cond b (Some a) None)) (same name)
 
 pub then_put : {E : Type 0} (text : List ℕ) (a : Attribute) (old new : Firsts) → ((name : List ℕ) → bytes_eq text name ≡ is_of name (leaf_attribute_of a))
     → (result : Result (Unit {0}) E) → OnOk result (IsPutAt text a old new) → OnOk result (IsPut a old new)
 then_put text a old new same (Err e) h = tt
-then_put text a old new same (Ok u) h = spoken_put text a old new same h
+then_put text a old new same (Ok u) h = named_put text a old new same h
 
--- one that speaks of none
+-- an attribute without a name isn't put anywhere
 pub unnamed_put : (a : Attribute) (old : Firsts) → ((name : List ℕ) → is_of name (leaf_attribute_of a) ≡ false) → IsPut a old old
 unfolding IsPut
 unnamed_put a old none name = or_none (attribute_at old name) ∙ ap (λ b. option_or (attribute_at old name) (cond b (Some a) None)) (sym (none name))
 
 -- ---- one after another
 
--- what an attribute says, or else the rest
+-- the rules of an attribute, or else the rest
 abbrev rules_or : Option Attribute → (rest : Option Rules) → Option Rules
 rules_or None rest = rest
 rules_or (Some a) rest = rules_in (leaf_attribute_of a)
@@ -100,10 +100,10 @@ keyed_same : (o : Option (Bor Attribute)) → IsKeyedSome (option_map (λ (a : B
 keyed_same None h = h
 keyed_same (Some a) h = h
 
--- At each name is the first attribute so far that speaks of it, and others are left.
+-- At each name is the first attribute so far that has it. Those in `left` come later.
 pub record AreFirstsBefore (rules : List Rules) (found : Firsts) (left : List Attribute) : Type 0 where
   pub rules_at : (name : List ℕ) → rules_or (attribute_at found name) (rules_named (rules_left left) name) ≡ rules_named rules name
-  pub whole : (name : List ℕ) → IsKeyedSome (attribute_at found name)
+  pub found_keyed : (name : List ℕ) → IsKeyedSome (attribute_at found name)
   pub keyed : AreKeyed left
 
 none_at : (found : Firsts) → found.entries ≡ [] → (name : List ℕ) → attribute_at found name ≡ None
@@ -113,8 +113,8 @@ none_at found e name =
 pub firsts_begin : (ps : List Pair) (found : Firsts) (left : List Attribute) → found.entries ≡ [] → left ≡ firsts ps → AreKeyed left
     → AreFirstsBefore (arg_rules (map leaf_entry_of ps)) found left
 firsts_begin ps found left none is keyed = record {
-  rules_at = λ name. ap (λ o. rules_or o (rules_named (rules_left left) name)) (none_at found none name) ∙ speaks_begins name ps left is;
-  whole = λ name. subst IsKeyedSome (sym (none_at found none name)) tt;
+  rules_at = λ name. ap (λ o. rules_or o (rules_named (rules_left left) name)) (none_at found none name) ∙ rules_named_begin name ps left is;
+  found_keyed = λ name. subst IsKeyedSome (sym (none_at found none name)) tt;
   keyed = keyed;
 }
 
@@ -122,7 +122,7 @@ pub firsts_end : (rules : List Rules) (found : Firsts) (left : List Attribute) �
 unfolding AreFirsts
 firsts_end rules found left none h name = (
   rules_same (first_at found name) ∙ sym (ap (λ l. rules_or (attribute_at found name) (rules_named (rules_left l) name)) none) ∙ h.rules_at name,
-  keyed_same (first_at found name) (h.whole name),
+  keyed_same (first_at found name) (h.found_keyed name),
 )
 
 module _ (rules : List Rules) (found : Firsts) (left : List Attribute) (a : Attribute) (rest : List Attribute) (is : left ≡ a ∷ rest)
@@ -133,14 +133,14 @@ module _ (rules : List Rules) (found : Firsts) (left : List Attribute) (a : Attr
   abbrev put : (is_named : Bool) → Option Attribute
   put is_named = cond is_named (Some a) None
 
-  -- what it says comes before the rest
+  -- its rules come before the rest
   first_rules : (name : List ℕ) (o : Option Attribute) → rules_or (option_or o (put (is_of name (leaf_attribute_of a)))) (later name) ≡ rules_or o (rules_named (rules_left (a ∷ rest)) name)
   first_rules name (Some b) = refl
   first_rules name None = go (is_of name (leaf_attribute_of a)) refl
     where
       go : (b : Bool) → is_of name (leaf_attribute_of a) ≡ b → rules_or (put b) (later name) ≡ rules_named (rules_left (a ∷ rest)) name
-      go true named = sym (speaks_here name a rest named)
-      go false named = sym (speaks_later name a rest named)
+      go true named = sym (rules_named_here name a rest named)
+      go false named = sym (rules_named_later name a rest named)
 
   first_keyed : (o : Option Attribute) (is_named : Bool) → IsKeyedSome o → IsKeyed a → IsKeyedSome (option_or o (put is_named))
   first_keyed (Some b) is_named h k = h
@@ -156,16 +156,16 @@ module _ (rules : List Rules) (found : Firsts) (left : List Attribute) (a : Attr
   firsts_go_on new h = record {
     rules_at = λ name. ap (λ o. rules_or o (later name)) (h name) ∙ first_rules name (attribute_at found name)
         ∙ ap (λ l. rules_or (attribute_at found name) (rules_named (rules_left l) name)) (sym is) ∙ so_far.rules_at name;
-    whole = λ name. subst IsKeyedSome (sym (h name)) (first_keyed (attribute_at found name) (is_of name (leaf_attribute_of a)) (so_far.whole name) keyed_here);
+    found_keyed = λ name. subst IsKeyedSome (sym (h name)) (first_keyed (attribute_at found name) (is_of name (leaf_attribute_of a)) (so_far.found_keyed name) keyed_here);
     keyed = keyed_rest left a rest is so_far.keyed;
   }
 
 -- ---- the attribute of a name
 
 module _ (rules : List Rules) (found : Firsts) (are : AreFirsts found rules) where
-  pub first_whole : (name : List ℕ) → IsKeyedOption (first_at found name)
+  pub first_is_keyed : (name : List ℕ) → IsKeyedOption (first_at found name)
   unfolding AreFirsts
-  first_whole name = (are name).1
+  first_is_keyed name = (are name).1
 
   module _ (ps : List Parameter) (names : BTreeSet (Bor (List ℕ))) (named : AreNames (map parameter_tree ps) names) (name : Token) (text : List ℕ) (e : text ≡ lexeme_of name) where
     abbrev among : Bool
@@ -174,11 +174,11 @@ module _ (rules : List Rules) (found : Firsts) (are : AreFirsts found rules) whe
     rules_are : (is : Bool) → among ≡ is → cond is None (rules_named rules (lexeme_of name)) ≡ rules_for views_leaves rules (map parameter_tree ps) (Named name None)
     rules_are is h = ap (λ b. cond b None (rules_named rules (lexeme_of name))) (sym (among_names ps names text name is named e h))
 
-    -- nothing is said of a name that was there before
+    -- a name that was there before has no rules
     pub named_before : among ≡ true → None ≡ rules_for views_leaves rules (map parameter_tree ps) (Named name None)
     named_before = rules_are true
 
-    -- of another one, what the first attribute says that speaks of it
+    -- any other name has the rules of the first attribute that has it
     pub named_first : among ≡ false → (other : List ℕ) → other ≡ lexeme_of name → (result : Option (Bor Attribute)) → result ≡ first_at found other
         → rules_by result ≡ rules_for views_leaves rules (map parameter_tree ps) (Named name None)
     unfolding AreFirsts

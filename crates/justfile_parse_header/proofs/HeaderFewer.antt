@@ -12,7 +12,7 @@ use Rattle.justfile_model.proofs.ReadingSteps.{after_test}
 use Rattle.justfile_model.proofs.Turns.{recursive_keeps}
 use Rattle.justfile_parse_expression.specs.TableReader.{At, Read, State, expect, leaves, next_are, read, value}
 use Rattle.justfile_parse_expression.specs.declared.significant.TableEntry.{TableEntry}
-use Rattle.justfile_parse_header.specs.Counting.{names}
+use Rattle.justfile_parse_header.specs.Counting.{identifiers_left}
 use Rattle.justfile_parse_header.specs.HeaderTable as reader
 use Rattle.justfile_parse_header.specs.HeaderTable.{LeafDependency, StarredArgument}
 use Rattle.justfile_parse_header.proofs.Fewer.{Fewer, after_fewer, either_fewer, expect_fewer, expression_fewer, fewer_at, then_fewer, value_fewer}
@@ -136,8 +136,8 @@ subsequents_fewer s =
 
 -- ---- after those that were read before
 
-pub priors_fewer : (done all : Dependencies) (s rest : State) → prepend done (reader.dependencies s) ≡ Ok (all, rest) → names rest ≤ names s
+pub priors_fewer : (done all : Dependencies) (s rest : State) → prepend done (reader.dependencies s) ≡ Ok (all, rest) → identifiers_left rest ≤ identifiers_left s
 priors_fewer done all s rest is = fewer_at s (prepend done (reader.dependencies s)) (all, rest) (after_fewer done s (reader.dependencies s) (dependencies_fewer s)) is
 
-pub others_fewer : (done all : Dependencies) (s rest : State) → prepend done (reader.subsequents s) ≡ Ok (all, rest) → names rest ≤ names s
+pub others_fewer : (done all : Dependencies) (s rest : State) → prepend done (reader.subsequents s) ≡ Ok (all, rest) → identifiers_left rest ≤ identifiers_left s
 others_fewer done all s rest is = fewer_at s (prepend done (reader.subsequents s)) (all, rest) (after_fewer done s (reader.subsequents s) (subsequents_fewer s)) is

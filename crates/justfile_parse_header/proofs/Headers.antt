@@ -13,17 +13,17 @@ use Rattle.justfile_model.specs.ReaderState.{Counters, prepend, with}
 use Rattle.justfile_parse_expression.specs.TableReader.{Read, ReadError, State, expect, leaves}
 use Rattle.justfile_parse_expression.specs.declared.significant.TableEntry.{TableEntry}
 use Rattle.justfile_parse_header.specs.HeaderTable as reader
-use Rattle.justfile_parse_header.specs.HeaderTable.{LeafDependency, LeafParameter, ReadHeader, Rules}
+use Rattle.justfile_parse_header.specs.HeaderTable.{LeafDependency, LeafParameter, LeafHeader, Rules}
 use Rattle.justfile_parse_header.specs.Tree.{dependency_tree}
 
-abbrev Dependencies : Type 0
+abbrev pub Dependencies : Type 0
 Dependencies = List LeafDependency
 
 -- where the rules of attributes are noted
 abbrev pub ruled : List Rules → State → State
 ruled rules s = with (flat_map rules_features rules) s
 
-abbrev pub parts : TableEntry → List LeafParameter → (priors subsequents : Dependencies) → ReadHeader
+abbrev pub parts : TableEntry → List LeafParameter → (priors subsequents : Dependencies) → LeafHeader
 parts name ps priors others = record { name = name; parameters = ps; priors = priors; subsequents = others }
 
 -- what is refused after others is refused
@@ -78,7 +78,7 @@ module _ (rules : List Rules) (n : Counters) (s : State) where
   unfolding headers.header
   name_fails e h = rw h refl
 
-  module _ (name : TableEntry) (s1 : State) (named : expect kinds.Identifier s ≡ Ok (name, s1)) where
+  module _ {name : TableEntry} {s1 : State} (named : expect kinds.Identifier s ≡ Ok (name, s1)) where
     pub options_fail : (e : ReadError) → obeying (reader.same_options name.token.now rules) (ruled rules s1) ≡ Err e → reader.header rules n s ≡ Err e
     unfolding headers.header headers.distinct_options leaves
     options_fail e h = rw (named, h) refl
@@ -88,7 +88,7 @@ module _ (rules : List Rules) (n : Counters) (s : State) where
       unfolding headers.header headers.distinct_options leaves
       parameters_fail e h = rw (named, distinct, h) refl
 
-      module _ (ps : List LeafParameter) (m : Counters) (s2 : State) (taken : reader.parameters rules n (ruled rules s1) ≡ Ok ((ps, m), s2)) where
+      module _ {ps : List LeafParameter} {m : Counters} {s2 : State} (taken : reader.parameters rules n (ruled rules s1) ≡ Ok ((ps, m), s2)) where
         pub undefined_fail : (e : ReadError) → obeying (reader.undefined ps rules) s2 ≡ Err e → reader.header rules n s ≡ Err e
         unfolding headers.header headers.distinct_options leaves
         undefined_fail e h = rw (named, distinct, taken, h) refl
@@ -98,7 +98,7 @@ module _ (rules : List Rules) (n : Counters) (s : State) where
           unfolding headers.header headers.distinct_options leaves
           priors_fail e h = let k = sym (after_begin (reader.dependencies s2)) ∙ h in rw (named, distinct, taken, defined, k) refl
 
-          module _ (priors : List UnresolvedDependency) (s3 : State) (before : prepend [] (reader.dependencies s2) ≡ Ok (map dependency_tree priors, s3)) where
+          module _ (priors : List UnresolvedDependency) {s3 : State} (before : prepend [] (reader.dependencies s2) ≡ Ok (map dependency_tree priors, s3)) where
             pub others_fail : (done : Dependencies) (e : ReadError) → prepend done (reader.subsequents s3) ≡ Err e → reader.header rules n s ≡ Err e
             unfolding headers.header headers.distinct_options leaves
             others_fail done e h =
@@ -106,7 +106,7 @@ module _ (rules : List Rules) (n : Counters) (s : State) where
                 let j = refused_after done (reader.subsequents s3) e h in
                 rw (named, distinct, taken, defined, k, j) refl
 
-            -- the dependencies are those before `&&`, so many, and those after it
+            -- the first `count` dependencies come before `&&`, and the others after it
             pub header_read : (all : List UnresolvedDependency) (s4 : State) → prepend (map dependency_tree priors) (reader.subsequents s3) ≡ Ok (map dependency_tree all, s4) → (count : ℕ)
                 → count ≡ length priors → reader.header rules n s ≡ Ok ((parts name ps (map dependency_tree (take count all)) (map dependency_tree (drop count all)), m), s4)
             unfolding headers.header headers.distinct_options leaves

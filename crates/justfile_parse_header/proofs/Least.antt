@@ -19,7 +19,7 @@ use Rattle.justfile_model.specs.Tree.{Quoted}
 use Rattle.justfile_parse_header.specs.Arguments.{least_undefined, lesser_of, undefined_in}
 use Rattle.justfile_parse_header.specs.HeaderTable.{LeafParameter, Rules}
 use Rattle.justfile_parse_header.specs.Options.{of_rules}
-use Rattle.justfile_parse_header.proofs.ArgRules.{rules_left, rules_kept}
+use Rattle.justfile_parse_header.proofs.ArgAttributes.{rules_left, rules_kept}
 use Rattle.justfile_expression.specs.LeafViews.{views_leaves}
 use Rattle.justfile_expression.specs.LeafTree.{Leaf}
 
@@ -103,7 +103,7 @@ one_more a others false = go (least (λ (r : Rules). Text r.name) others)
     go (Some b) = ap Some (named_lesser a (Some b))
 
 module _ (parameters : List LeafParameter) where
-  -- the argument with the least text that these attributes speak of and that is no parameter
+  -- the least name in these attributes, as text, that isn't the name of a parameter
   abbrev pub least_in : List Attribute → Option (Quoted Leaf)
   least_in [] = None
   least_in (a ∷ others) = lesser_of (undefined_in parameters (leaf_attribute_of a)) (least_in others)

@@ -1,5 +1,4 @@
 pub mod Dependencies
-pub mod Draws
 pub mod Fewer
 pub mod Firsts
 pub mod HeaderErrors
@@ -11,7 +10,8 @@ pub mod Parameters
 pub mod Paths
 pub mod ReadNames
 pub mod SameOptions
-pub mod ArgRules
+pub mod ArgAttributes
+pub mod BindingNumbers
 pub mod Stars
 pub mod Texts
 pub mod Undefined

@@ -21,61 +21,61 @@ use Rattle.justfile_parse_attribute.specs.ParseErrors.{IsParseError}
 use Rattle.justfile_parse_attribute.specs.declared.parse_error.ParseError.{ParseError}
 use Rattle.justfile_parse_expression.specs.TableReader.{Read, ReadError, State, accept, expect, leaves}
 use Rattle.justfile_parse_expression.specs.declared.significant.TableEntry.{TableEntry}
-use Rattle.justfile_parse_header.specs.Counting.{TookBindingNumbers, counters_of, names}
+use Rattle.justfile_parse_header.specs.Counting.{TookBindingNumbers, counters_of, identifiers_left}
 use Rattle.justfile_parse_header.specs.HeaderTable as reader
 use Rattle.justfile_parse_header.specs.HeaderTable.{LeafParameter, Rules}
 use Rattle.justfile_parse_header.specs.ArgAttribute.{HaveDerivedFieldsAfter, HaveDerivedParameterFields, HasArgAttribute, HasDerivedParameterFields, KeepsDerivedParameterFields, arg_attribute_broken}
 use Rattle.justfile_parse_header.specs.Tree.{parameter_tree, value_tree}
-use Rattle.justfile_parse_header.proofs.Draws.{both_drawn, none_drawn}
+use Rattle.justfile_parse_header.proofs.BindingNumbers.{took_both, took_none}
 use Rattle.justfile_parse_header.proofs.HeaderErrors.{failed}
 use Rattle.justfile_expression.specs.LeafViews.{views_leaves}
 use Rattle.justfile_expression.specs.LeafTree.{Named}
 use Rattle.justfile_expression.specs.declared.expression.Expression.{Expression}
 
--- ---- whole ones
+-- ---- derived fields
 
-whole_after : (rules : List Rules) (before : List LeafParameter) (ps : List Parameter) (p : Parameter) → HaveDerivedFieldsAfter rules before ps
+fields_after : (rules : List Rules) (before : List LeafParameter) (ps : List Parameter) (p : Parameter) → HaveDerivedFieldsAfter rules before ps
     → HasDerivedParameterFields rules (before ++ map parameter_tree ps) p → HaveDerivedFieldsAfter rules before (ps ++ p ∷ [])
-whole_after rules before [] p h k = (subst (λ (l : List LeafParameter). HasDerivedParameterFields rules l p) (append-nil before) k, tt)
-whole_after rules before (q ∷ qs) p h k =
+fields_after rules before [] p h k = (subst (λ (l : List LeafParameter). HasDerivedParameterFields rules l p) (append-nil before) k, tt)
+fields_after rules before (q ∷ qs) p h k =
     let one = parameter_tree q ∷ [] in (
       h.0,
-      whole_after rules (before ++ one) qs p h.1 (subst (λ (l : List LeafParameter). HasDerivedParameterFields rules l p) (sym (append_assoc before one (map parameter_tree qs))) k),
+      fields_after rules (before ++ one) qs p h.1 (subst (λ (l : List LeafParameter). HasDerivedParameterFields rules l p) (sym (append_assoc before one (map parameter_tree qs))) k),
     )
 
-pub none_whole : (rules : List Rules) → HaveDerivedParameterFields rules []
+pub none_fields : (rules : List Rules) → HaveDerivedParameterFields rules []
 unfolding HaveDerivedParameterFields
-none_whole rules = tt
+none_fields rules = tt
 
-pub same_whole : (rules : List Rules) (ps : List Parameter) → KeepsDerivedParameterFields rules ps ps
+pub same_fields : (rules : List Rules) (ps : List Parameter) → KeepsDerivedParameterFields rules ps ps
 unfolding KeepsDerivedParameterFields
-same_whole rules ps h = h
+same_fields rules ps h = h
 
-pub both_whole : (rules : List Rules) (old between new : List Parameter) → KeepsDerivedParameterFields rules old between → KeepsDerivedParameterFields rules between new
+pub both_fields : (rules : List Rules) (old between new : List Parameter) → KeepsDerivedParameterFields rules old between → KeepsDerivedParameterFields rules between new
     → KeepsDerivedParameterFields rules old new
 unfolding KeepsDerivedParameterFields
-both_whole rules old between new h k w = k (h w)
+both_fields rules old between new h k w = k (h w)
 
-pub then_whole : (rules : List Rules) (old new : List Parameter) → HaveDerivedParameterFields rules old → KeepsDerivedParameterFields rules old new → HaveDerivedParameterFields rules new
+pub then_fields : (rules : List Rules) (old new : List Parameter) → HaveDerivedParameterFields rules old → KeepsDerivedParameterFields rules old new → HaveDerivedParameterFields rules new
 unfolding KeepsDerivedParameterFields
-then_whole rules old new h k = k h
+then_fields rules old new h k = k h
 
--- one more that is whole
-pub pushed_whole : (rules : List Rules) (old new : List Parameter) (p : Parameter) → new ≡ old ++ p ∷ [] → HasDerivedParameterFields rules (map parameter_tree old) p
+-- one more parameter, whose derived fields are right
+pub pushed_fields : (rules : List Rules) (old new : List Parameter) (p : Parameter) → new ≡ old ++ p ∷ [] → HasDerivedParameterFields rules (map parameter_tree old) p
     → KeepsDerivedParameterFields rules old new
 unfolding HaveDerivedParameterFields KeepsDerivedParameterFields
-pushed_whole rules old new p e h k = subst (HaveDerivedParameterFields rules) (sym e) (whole_after rules [] old p k h)
+pushed_fields rules old new p e h k = subst (HaveDerivedParameterFields rules) (sym e) (fields_after rules [] old p k h)
 
 -- ---- a loop
 
 -- from one place to another these parameters were read
 pub record IsReadTo (rules : List Rules) (s q : State) (first next : Numerator) (old done : List Parameter) : Type 0 where
   pub read : reader.singulars rules ((map parameter_tree done, counters_of next), q) ≡ reader.singulars rules ((map parameter_tree old, counters_of first), s)
-  pub drawn : TookBindingNumbers first next (names s) (names q)
-  pub whole : KeepsDerivedParameterFields rules old done
+  pub numbers : TookBindingNumbers first next (identifiers_left s) (identifiers_left q)
+  pub fields : KeepsDerivedParameterFields rules old done
 
 pub begins : (rules : List Rules) (s : State) (first : Numerator) (old : List Parameter) → IsReadTo rules s s first first old old
-begins rules s first old = record { read = refl; drawn = none_drawn first (names s) (names s) (omega arith); whole = same_whole rules old }
+begins rules s first old = record { read = refl; numbers = took_none first (identifiers_left s) (identifiers_left s) (omega arith); fields = same_fields rules old }
 
 module _ (rules : List Rules) (s q : State) (first next : Numerator) (old done : List Parameter) (so_far : IsReadTo rules s q first next old done) where
   pub ends : reader.begins_parameter q ≡ false → reader.singulars rules ((map parameter_tree old, counters_of first), s) ≡ Ok ((map parameter_tree done, counters_of next), q)
@@ -84,36 +84,36 @@ module _ (rules : List Rules) (s q : State) (first next : Numerator) (old done :
   module _ (another : reader.begins_parameter q ≡ true) where
     pub goes_on : (then : Numerator) (new : List Parameter) (rest : State)
         → reader.parameter rules Singular ((map parameter_tree done, counters_of next), q) ≡ Ok ((map parameter_tree new, counters_of then), rest)
-        → TookBindingNumbers next then (names q) (names rest) → KeepsDerivedParameterFields rules done new → IsReadTo rules s rest first then old new
-    goes_on then new rest is drawn whole = record {
+        → TookBindingNumbers next then (identifiers_left q) (identifiers_left rest) → KeepsDerivedParameterFields rules done new → IsReadTo rules s rest first then old new
+    goes_on then new rest is numbers fields = record {
       read = sym (laws.singulars_go_on leaves view_of rules ((map parameter_tree done, counters_of next), q) ((map parameter_tree new, counters_of then), rest) another is) ∙ so_far.read;
-      drawn = both_drawn first next then (names s) (names q) (names rest) so_far.drawn drawn;
-      whole = both_whole rules old done new so_far.whole whole;
+      numbers = took_both first next then (identifiers_left s) (identifiers_left q) (identifiers_left rest) so_far.numbers numbers;
+      fields = both_fields rules old done new so_far.fields fields;
     }
 
     fails : (e : ReadError) → reader.parameter rules Singular ((map parameter_tree done, counters_of next), q) ≡ Err e
         → reader.singulars rules ((map parameter_tree old, counters_of first), s) ≡ Err e
     fails e h = sym so_far.read ∙ laws.singulars_fail leaves view_of rules ((map parameter_tree done, counters_of next), q) e another h
 
-    -- a parameter is refused, or wants a number
+    -- a parameter is refused, or no number is left for it
     pub errs : (error : ParseError) (left : State) (wanting : ReadError)
         → IsParseError error left (reader.parameter rules Singular ((map parameter_tree done, counters_of next), q) ≡ Err wanting) (reader.parameter rules Singular ((map parameter_tree done, counters_of next), q))
         → IsParseError error left (reader.singulars rules ((map parameter_tree old, counters_of first), s) ≡ Err wanting) (reader.singulars rules ((map parameter_tree old, counters_of first), s))
     errs error left wanting h = failed (reader.parameter rules Singular ((map parameter_tree done, counters_of next), q)) (reader.singulars rules ((map parameter_tree old, counters_of first), s)) fails error left _ _ (fails wanting) h
 
--- ---- what is said of one
+-- ---- the `arg` attribute of a parameter
 
--- what is broken by what is said of a parameter is what it breaks
+-- the rules that the `arg` attribute of a parameter breaks are those that the parameter breaks
 arg_attribute_is : (rules : List Rules) (before : List LeafParameter) (kind : ParameterKind) (export : Bool) (token : Token) (default : Option (Box Expression)) (found : Option Rules)
     → found ≡ rules_for views_leaves rules before (Named token None)
     → arg_attribute_broken token (is_some default) kind found ≡ reader.broken_by rules before (record { kind = kind; export = export; name = Named token None; default = value_tree default })
 arg_attribute_is rules before kind export token None found is = rw is refl
 arg_attribute_is rules before kind export token (Some e) found is = rw is refl
 
--- a parameter has what is said of the first of its name
-pub named_whole : (rules : List Rules) (before : List LeafParameter) (p : Parameter) (found : Option Rules) (token : Token) → found ≡ rules_for views_leaves rules before (Named token None)
+-- a parameter with what its `arg` attribute sets has its derived fields
+pub named_fields : (rules : List Rules) (before : List LeafParameter) (p : Parameter) (found : Option Rules) (token : Token) → found ≡ rules_for views_leaves rules before (Named token None)
     → p.name.token ≡ token → HasArgAttribute found p → HasDerivedParameterFields rules before p
-named_whole rules before p found token is same its_rules =
+named_fields rules before p found token is same its_rules =
     subst (λ (t : Token). HasArgAttribute (rules_for views_leaves rules before (Named t None)) p) (sym same) (subst (λ (f : Option Rules). HasArgAttribute f p) is its_rules)
 
 -- ---- exported or not
@@ -137,13 +137,13 @@ module _ (rules : List Rules) (kind : ParameterKind) (export : Bool) (before : L
   unfolding headers.named_parameter
   name_fails e h = rw h refl
 
-  module _ (name : TableEntry) (s1 : State) (named : expect kinds.Identifier s ≡ Ok (name, s1)) where
+  module _ {name : TableEntry} {s1 : State} (named : expect kinds.Identifier s ≡ Ok (name, s1)) where
     pub default_fails : (e : ReadError) → reader.default_value s1 ≡ Err e → Found ≡ Err e
     unfolding headers.named_parameter
     default_fails e h = rw (named, h) refl
 
-    module _ (default : Option (Box Expression)) (s2 : State) (valued : reader.default_value s1 ≡ Ok (value_tree default, s2)) (has : Bool) (has_is : has ≡ is_some default)
-        (its_rules : Option Rules) (is : its_rules ≡ rules_for views_leaves rules (map parameter_tree before) (Named name.token.now None)) where
+    module _ (default : Option (Box Expression)) {s2 : State} (valued : reader.default_value s1 ≡ Ok (value_tree default, s2)) {has : Bool} (has_is : has ≡ is_some default)
+        {its_rules : Option Rules} (is : its_rules ≡ rules_for views_leaves rules (map parameter_tree before) (Named name.token.now None)) where
       broken_is : arg_attribute_broken name.token.now has kind its_rules ≡ reader.broken_by rules (map parameter_tree before) (record { kind = kind; export = export; name = Named name.token.now None; default = value_tree default })
       broken_is = ap (λ (b : Bool). arg_attribute_broken name.token.now b kind its_rules) has_is ∙ arg_attribute_is rules (map parameter_tree before) kind export name.token.now default its_rules is
 

@@ -7,7 +7,7 @@ use Rattle.justfile_vocabulary.specs.declared.token_kind.TokenKind.TheVariants a
 use Rattle.justfile_model.specs.HeaderReader as headers
 use Rattle.justfile_model.specs.ReaderState.{prepend}
 use Rattle.justfile_model.proofs.HeaderReading as laws
-use Rattle.justfile_parse_expression.specs.MethodResults.{IsExpressionError, literal_refusal, refusal_at}
+use Rattle.justfile_parse_expression.specs.MethodResults.{IsExpressionError, literal_read_error, read_error_at}
 use Rattle.justfile_parse_expression.specs.TableReader.{State, accept, expect, leaves}
 use Rattle.justfile_parse_expression.specs.declared.significant.TableEntry.{TableEntry}
 use Rattle.justfile_parse_expression.specs.declared.expression_error.ExpressionError.{ExpressionError}
@@ -46,7 +46,7 @@ module _ (s q : State) (done : List Name) (so_far : prepend (map name_tree done)
         ∙ so_far
 
     pub path_stops : (stop : ExpressionError) (left : State) → IsExpressionError stop left ⊥ (expect kinds.Identifier next) → IsExpressionError stop left ⊥ (path s)
-    path_stops (Refused r) left h = sym so_far ∙ laws.path_rest_fail leaves (map name_tree done) q colons next (refusal_at r left) taken h
-    path_stops (Literal refused) left h = sym so_far ∙ laws.path_rest_fail leaves (map name_tree done) q colons next (literal_refusal refused.value.error) taken h
+    path_stops (Refused r) left h = sym so_far ∙ laws.path_rest_fail leaves (map name_tree done) q colons next (read_error_at r left) taken h
+    path_stops (Literal refused) left h = sym so_far ∙ laws.path_rest_fail leaves (map name_tree done) q colons next (literal_read_error refused.value.error) taken h
     path_stops Memory left h = tt
     path_stops Numbers left h = absurd h

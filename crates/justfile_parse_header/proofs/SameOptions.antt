@@ -27,7 +27,7 @@ use Rattle.justfile_parse_header.specs.HeaderTable.{Rules}
 use Rattle.justfile_parse_header.specs.OptionRules.{long_step, longs_from, option_step, short_step, shorts_from, then_option}
 use Rattle.justfile_parse_header.specs.Options.{Meant, called, character_of, long_in, of_rules, short_in}
 use Rattle.justfile_parse_header.proofs.HeaderErrors.{first_errs}
-use Rattle.justfile_parse_header.proofs.ArgRules.{rules_left, rules_kept}
+use Rattle.justfile_parse_header.proofs.ArgAttributes.{rules_left, rules_kept}
 use Rattle.justfile_expression.specs.LeafViews.{views_leaves}
 use Rattle.justfile_expression.specs.LeafTree.{Leaf}
 

@@ -75,14 +75,14 @@ abbrev RefusesStar : Rule Token → TableEntry → Fault → Type 0
 RefusesStar rule star fault = IsFaultOfRule rule star.token.now fault
 
 module _ (star : TableEntry) (e : CompileError) (at_star : e.token ≡ star.token.now) where
-  pub says_second : e.kind ≡ errors.MappedDependencyMultipleStarredArguments → RefusesStar MappedDependencyMultipleStarredArguments star (faults.Compile e)
-  says_second h = record { token = at_star; says = rw h tt }
+  pub refuses_second : e.kind ≡ errors.MappedDependencyMultipleStarredArguments → RefusesStar MappedDependencyMultipleStarredArguments star (faults.Compile e)
+  refuses_second h = record { token = at_star; says = rw h tt }
 
-  pub says_missing : e.kind ≡ errors.MappedDependencyWithoutStarredArgument → RefusesStar MappedDependencyWithoutStarredArgument star (faults.Compile e)
-  says_missing h = record { token = at_star; says = rw h tt }
+  pub refuses_missing : e.kind ≡ errors.MappedDependencyWithoutStarredArgument → RefusesStar MappedDependencyWithoutStarredArgument star (faults.Compile e)
+  refuses_missing h = record { token = at_star; says = rw h tt }
 
-  pub says_outside : e.kind ≡ errors.StarredArgumentOutsideMappedDependency → RefusesStar StarredArgumentOutsideMappedDependency star (faults.Compile e)
-  says_outside h = record { token = at_star; says = rw h tt }
+  pub refuses_outside : e.kind ≡ errors.StarredArgumentOutsideMappedDependency → RefusesStar StarredArgumentOutsideMappedDependency star (faults.Compile e)
+  refuses_outside h = record { token = at_star; says = rw h tt }
 
 module _ (s : State) where
   abbrev second_checked : List TableEntry → Read (Unit {0})

@@ -28,8 +28,8 @@ LeafDependency = Dependency Leaf Token (Unit {0})
 abbrev pub StarredArgument : Type 0
 StarredArgument = tree.DependencyArgument Leaf Token TableEntry
 
-abbrev pub ReadHeader : Type 0
-ReadHeader = headers.ReadHeader TableEntry Leaf Token (Unit {0})
+abbrev pub LeafHeader : Type 0
+LeafHeader = headers.ReadHeader TableEntry Leaf Token (Unit {0})
 
 -- ---- numbers
 
@@ -98,8 +98,8 @@ default_value = headers.default_value leaves
 abbrev pub begins_parameter : State → Bool
 begins_parameter = headers.begins_parameter leaves
 
-abbrev pub nothing_after : State → Read (Unit {0})
-nothing_after = headers.nothing_after leaves
+abbrev pub expect_no_name : State → Read (Unit {0})
+expect_no_name = headers.expect_no_name leaves
 
 -- parameters, and the counters after them
 abbrev pub Parameters : Type 0
@@ -137,5 +137,5 @@ same_options recipe rules = options_broken views_leaves recipe rules
 abbrev pub undefined : List LeafParameter → List Rules → List (Broken Token)
 undefined parameters rules = undefined_broken views_leaves parameters rules
 
-abbrev pub header : List Rules → Counters → State → Read (ReadHeader × Counters)
+abbrev pub header : List Rules → Counters → State → Read (LeafHeader × Counters)
 header = headers.header leaves view_of

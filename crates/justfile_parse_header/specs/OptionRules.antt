@@ -19,7 +19,7 @@ use Rattle.justfile_expression.specs.LeafViews.{views_leaves}
 abbrev pub features_in : Meant → List (Noted Token)
 features_in a = of_rules [] rules_features (rules_in a)
 
--- where a number is recorded, if it is set
+-- where a bound is noted, if it is set
 abbrev pub bound_place_in : (name : Token) (key : Option Name) (number : Option ℕ) → Option Token
 bound_place_in name key None = None
 bound_place_in name (Some key) (Some number) = Some key.token

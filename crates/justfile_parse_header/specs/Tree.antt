@@ -60,7 +60,7 @@ rules_of attributes = arg_rules (leaf_entries_of attributes)
 -- ---- headers
 
 -- a header, its dependencies split into those before `&&` and those after it
-abbrev pub header_tree : Header → reader.ReadHeader
+abbrev pub header_tree : Header → reader.LeafHeader
 header_tree h = record {
   name = h.name;
   parameters = map parameter_tree h.parameters.items;

@@ -133,7 +133,7 @@ fn find_short(attribute: &Attribute<'_>) -> Option<char>
     ensures { result
         ≡ option_map (λ option. option.0) (short_in (leaf_attribute_of attribute.now)) }
 {
-    let (character, _place) = find_short_option(attribute)?;
+    let (character, _token) = find_short_option(attribute)?;
     Some(character)
 }
 
@@ -149,9 +149,9 @@ pub(crate) fn find_short_option<'src>(attribute: &Attribute<'src>) -> Option<(ch
             short_key,
             ..
         } => {
-            let (text, place) = find_option(name, short, *short_key)?;
+            let (text, token) = find_option(name, short, *short_key)?;
             let character = text.chars().next()?;
-            Some((character, place))
+            Some((character, token))
         }
         _ => None,
     }
@@ -163,7 +163,7 @@ fn copy_long(alloc: Global, attribute: &Attribute<'_>) -> Result<Option<String>,
         ≡ option_map (λ option. option.0) (long_in (leaf_attribute_of attribute.now))) }
 {
     match find_long(attribute) {
-        Some((text, _place)) => Ok(Some(text.to_string(alloc)?)),
+        Some((text, _token)) => Ok(Some(text.to_string(alloc)?)),
         None => Ok(None),
     }
 }

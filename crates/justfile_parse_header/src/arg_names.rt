@@ -15,7 +15,7 @@ pub(crate) type Firsts<'run, 'src> = BTreeMap<&'run str, &'run Attribute<'src>>;
 
 /// Attributes, and the first `arg` attribute for each name.
 #[derive(Drop)]
-pub(crate) struct ArgRules<'run, 'src> {
+pub(crate) struct ArgAttributes<'run, 'src> {
     pub(crate) attributes: &'run AttributeSet<'src>,
     pub(crate) firsts: Firsts<'run, 'src>,
 }

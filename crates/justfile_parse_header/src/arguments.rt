@@ -14,7 +14,7 @@ ghost use Rattle.justfile_parse_header.specs.Tree.{parameter_tree, rules_of};
 ghost use Rattle.justfile_expression.specs.LeafViews.{views_leaves};
 ghost use Rattle.justfile_expression.specs.LeafTree.{Named};
 
-use crate::arg_names::{ArgRules, find_first};
+use crate::arg_names::{ArgAttributes, find_first};
 use crate::read_parameters::ReadParameters;
 use justfile_attribute::Attribute;
 use justfile_attribute_set::AttributeSet;
@@ -27,8 +27,8 @@ use std::collections::BTreeSet;
 
 /// Returns the `arg` attribute of the parameter with this name, if it has one. It belongs to the
 /// first parameter with its name, so a parameter that repeats a name from `before` has none.
-pub(crate) fn find_rules<'run, 'src>(
-    arg_attributes: &ArgRules<'run, 'src>,
+pub(crate) fn find_arg<'run, 'src>(
+    arg_attributes: &ArgAttributes<'run, 'src>,
     before: &ReadParameters<'src>,
     name: Token<'src>,
 ) -> Option<&'run Attribute<'src>>

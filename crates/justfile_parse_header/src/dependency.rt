@@ -47,7 +47,7 @@ pub(crate) fn parse_subsequents<'src, X: Expander>(
     let priors = dependencies.len();
     parse_dependencies(parser, dependencies)?;
     if dependencies.len() == priors {
-        return Err(ParseError::Unreadable(ExpressionError::Refused(SyntaxError::Unexpected)));
+        return Err(ParseError::Expression(ExpressionError::Refused(SyntaxError::Unexpected)));
     }
     Ok(())
 }
@@ -130,7 +130,7 @@ fn parse_parenthesized<'run, 'src, X: Expander>(
     let recipe = parse_namepath(parser)?;
     let arguments = parse_arguments(parser)?;
     check_stars(parser.alloc, star, arguments.as_slice())?;
-    let arguments = keep_arguments(parser.alloc, arguments)?;
+    let arguments = tree_arguments(parser.alloc, arguments)?;
     Ok(UnresolvedDependency { arguments, recipe })
 }
 
@@ -193,7 +193,7 @@ fn parse_starred<'run, 'src, X: Expander>(
         (reader.starred_argument (map read_argument before.now) star.entry) }
     ensures progress { OnOk result (tokens_left parser.new < tokens_left parser.old) }
 {
-    check_first(parser.alloc, before, star)?;
+    refuse_second(parser.alloc, before, star)?;
     let value = parser.parse_value()?;
     Ok(ReadArgument {
         star: Some(star),
@@ -202,7 +202,7 @@ fn parse_starred<'run, 'src, X: Expander>(
 }
 
 /// Refuses a star that isn't the first.
-fn check_first<'run, 'src>(
+fn refuse_second<'run, 'src>(
     alloc: Global,
     before: &[ReadArgument<'run, 'src>],
     star: TableEntry<'run, 'src>,
@@ -243,8 +243,8 @@ fn find_second<'run, 'src>(
     found.then_some(star)
 }
 
-/// Refuses a star before the parentheses without a star in them, and a star in them without one
-/// before.
+/// Refuses a star before the parentheses if no argument has one, and a star of an argument if none
+/// is before the parentheses.
 fn check_stars<'run, 'src>(
     alloc: Global,
     star: Option<TableEntry<'run, 'src>>,
@@ -286,8 +286,9 @@ fn find_star<'run, 'src>(arguments: &[ReadArgument<'run, 'src>]) -> Option<Table
     None
 }
 
-/// Turns parsed arguments into those of the tree.
-fn keep_arguments<'src>(
+/// Turns parsed arguments into those of a dependency, which keep of a star only whether it is
+/// present.
+fn tree_arguments<'src>(
     alloc: Global,
     arguments: Vec<ReadArgument<'_, 'src>>,
 ) -> Result<Vec<DependencyArgument<'src>>, AllocError>

@@ -4,14 +4,14 @@ ghost use Rattle.justfile_attribute_set.specs.AttributeSet.{attributes_of};
 ghost use Rattle.justfile_vocabulary.specs.declared.token_kind.TokenKind.TheVariants as kinds;
 ghost use Rattle.justfile_parse_expression.specs.View.{tokens_left, state_of};
 ghost use Rattle.justfile_parse_header.specs.Arguments.{AreKeyed};
-ghost use Rattle.justfile_parse_header.specs.Counting.{TookBindingNumbers, counters_of, names, names_after_header, ParsesCounted};
+ghost use Rattle.justfile_parse_header.specs.Counting.{TookBindingNumbers, counters_of, identifiers_left, identifiers_left_after_header, ParsesCounted};
 ghost use Rattle.justfile_parse_header.specs.HeaderTable as reader;
 ghost use Rattle.justfile_parse_header.specs.ArgAttribute.{HaveDerivedParameterFields};
 ghost use Rattle.justfile_parse_header.specs.Tree.{header_tree, rules_of};
 
 use crate::arguments::check_defined;
 use crate::dependency::{parse_dependencies, parse_subsequents};
-use crate::options::{check_options, note_rules};
+use crate::options::{check_options, note_arg_attributes};
 use crate::parameter::parse_parameters;
 use justfile_attribute_set::AttributeSet;
 use justfile_parse_attribute::ParseError;
@@ -47,17 +47,17 @@ pub fn parse_header<'run, 'src, X: Expander>(
     requires { AreKeyed (attributes_of attributes.now) }
     ensures reads { ParsesCounted X.answer header_tree result numerator.new parser.old parser.new
         (reader.header (rules_of attributes.now) (counters_of numerator.old)) }
-    ensures whole { IfOk result
+    ensures fields { IfOk result
         (λ header. HaveDerivedParameterFields (rules_of attributes.now) header.parameters.items) }
-    ensures drawn { TookBindingNumbers numerator.old numerator.new
-        (names (state_of X.answer parser.old))
-        (names_after_header result (state_of X.answer parser.new)) }
+    ensures numbers { TookBindingNumbers numerator.old numerator.new
+        (identifiers_left (state_of X.answer parser.old))
+        (identifiers_left_after_header result (state_of X.answer parser.new)) }
     ensures priors { IfOk result (λ header. header.priors ≤ length header.dependencies.items) }
     ensures named { IfOk result (λ header. header.name.token.now.kind ≡ kinds.Identifier) }
     ensures progress { OnOk result (tokens_left parser.new < tokens_left parser.old) }
 {
     let name = parser.expect(TokenKind::Identifier)?;
-    note_rules(attributes, parser)?;
+    note_arg_attributes(attributes, parser)?;
     check_options(attributes, parser.alloc, *name.token)?;
     let parameters = parse_parameters(attributes, parser, numerator)?;
     check_defined(attributes, parser.alloc, parameters.as_slice())?;

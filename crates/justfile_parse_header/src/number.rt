@@ -1,7 +1,7 @@
 //! Numbers of bindings.
 ghost use Rattle.std.specs.Prelude.{◌≡◌, OnErr};
 ghost use Rattle.justfile_parse_expression.specs.TableReader.{State};
-ghost use Rattle.justfile_parse_header.specs.Counting.{ReadsNumbered, counters_of};
+ghost use Rattle.justfile_parse_header.specs.Counting.{ReadsCountedExpression, counters_of};
 ghost use Rattle.justfile_parse_header.specs.HeaderTable as reader;
 
 use justfile_parse_expression::ExpressionError;
@@ -14,7 +14,7 @@ use justfile_vocabulary::{Number, Numerator};
 /// `Numbers` if the counter has reached its maximum.
 #[tactic(auto, unfolding(justfile_model::specs::HeaderReader::next_binding_number, justfile_parse_expression::specs::TableReader::leaves))]
 pub fn next_binding_number<'src>(numerator: &mut Numerator) -> Result<Number, ExpressionError<'src>>
-    ensures reads { (s : State) → ReadsNumbered (λ number. number.0) result numerator.new s
+    ensures reads { (s : State) → ReadsCountedExpression (λ number. number.0) result numerator.new s
         (reader.next_binding_number (counters_of numerator.old) s) }
     ensures unmoved { OnErr result (numerator.new ≡ numerator.old) }
 {

@@ -29,9 +29,9 @@ use justfile_vocabulary::Switch;
 use std::alloc::Global;
 use std::collections::BTreeSet;
 
-/// Records what the `arg` attributes use that needs the setting `lists`.
-#[tactic(auto, using(crate::proofs::ArgRules::noting_begins, crate::proofs::ArgRules::noting_goes_on, crate::proofs::ArgRules::noting_ends))]
-pub(crate) fn note_rules<'src, X: Expander>(
+/// Notes what the `arg` attributes use that needs the setting `lists`.
+#[tactic(auto, using(crate::proofs::ArgAttributes::noting_begins, crate::proofs::ArgAttributes::noting_goes_on, crate::proofs::ArgAttributes::noting_ends))]
+pub(crate) fn note_arg_attributes<'src, X: Expander>(
     attributes: &AttributeSet<'src>,
     parser: &mut ExpressionParser<'_, 'src, X>,
 ) -> Result<(), ExpressionError<'src>>
@@ -48,7 +48,7 @@ pub(crate) fn note_rules<'src, X: Expander>(
     }
 }
 
-/// Records what an attribute uses that needs the setting `lists`, at its keys.
+/// Notes what an attribute uses that needs the setting `lists`, at its keys.
 fn note_attribute<'src, X: Expander>(
     attribute: &Attribute<'src>,
     parser: &mut ExpressionParser<'_, 'src, X>,
@@ -73,19 +73,19 @@ fn note_attribute<'src, X: Expander>(
             note_at(
                 parser,
                 ListFeature::ArgMax,
-                find_place(name.token, *max_key, *max),
+                find_bound_token(name.token, *max_key, *max),
             )?;
             note_at(
                 parser,
                 ListFeature::ArgMin,
-                find_place(name.token, *min_key, *min),
+                find_bound_token(name.token, *min_key, *min),
             )
         }
         _ => Ok(()),
     }
 }
 
-/// Records a feature at a key, if there is one.
+/// Notes a feature at a key, if there is one.
 #[tactic(auto, using(justfile_parse_expression::proofs::Rest::with_none))]
 fn note_at<'src, X: Expander>(
     parser: &mut ExpressionParser<'_, 'src, X>,
@@ -102,9 +102,9 @@ fn note_at<'src, X: Expander>(
     }
 }
 
-/// Returns where a number is recorded, if it is set: at its key, or at the name of the argument if
+/// Returns where a bound is noted, if it is set: at its key, or at the name of the argument if
 /// it has no key.
-fn find_place<'src>(
+fn find_bound_token<'src>(
     name: Token<'src>,
     key: Option<Name<'src>>,
     number: Option<u64>,
@@ -164,11 +164,11 @@ fn check_long<'run, 'src>(
         (then_option (texts_in before.old) (long_in (leaf_attribute_of attribute.now)))
         (texts_in before.new)) }
 {
-    let Some((option, place)) = find_long(attribute) else {
+    let Some((option, token)) = find_long(attribute) else {
         return Ok(());
     };
     if is_among(before, option) {
-        return Err(rule_error(alloc, same_long_error(alloc, recipe, option, place)));
+        return Err(rule_error(alloc, same_long_error(alloc, recipe, option, token)));
     }
     add_text(before, option)?;
     Ok(())
@@ -179,12 +179,12 @@ fn same_long_error<'src>(
     alloc: Global,
     recipe: Token<'src>,
     option: &str,
-    place: Token<'src>,
+    token: Token<'src>,
 ) -> Fault<'src>
-    ensures { IsFaultOfRule (DuplicateLongOption option.now recipe.entry) place.entry result }
+    ensures { IsFaultOfRule (DuplicateLongOption option.now recipe.entry) token.entry result }
 {
     match option.to_string(alloc) {
-        Ok(option) => Fault::Compile(place.error(CompileErrorKind::DuplicateOption {
+        Ok(option) => Fault::Compile(token.error(CompileErrorKind::DuplicateOption {
             recipe: recipe.lexeme(),
             option: Switch::Long(option),
         })),
@@ -221,21 +221,21 @@ fn check_short<'src>(
     ensures { (s : State) → ReadsRuled (λ _. before.new.items) result s
         (short_step recipe.entry before.old.items (leaf_attribute_of attribute.now) s) }
 {
-    let Some((option, place)) = find_short_option(attribute) else {
+    let Some((option, token)) = find_short_option(attribute) else {
         return Ok(());
     };
     if before.as_slice().contains(&option) {
-        return Err(rule_error(alloc, same_short_error(recipe, option, place)));
+        return Err(rule_error(alloc, same_short_error(recipe, option, token)));
     }
     before.push(option)?;
     Ok(())
 }
 
 /// Makes the fault for a short option whose name is taken.
-fn same_short_error<'src>(recipe: Token<'src>, option: char, place: Token<'src>) -> Fault<'src>
-    ensures { IsFaultOfRule (DuplicateShortOption option recipe.entry) place.entry result }
+fn same_short_error<'src>(recipe: Token<'src>, option: char, token: Token<'src>) -> Fault<'src>
+    ensures { IsFaultOfRule (DuplicateShortOption option recipe.entry) token.entry result }
 {
-    Fault::Compile(place.error(CompileErrorKind::DuplicateOption {
+    Fault::Compile(token.error(CompileErrorKind::DuplicateOption {
         recipe: recipe.lexeme(),
         option: Switch::Short(option),
     }))

@@ -5,21 +5,20 @@ ghost use Rattle.justfile_attribute_rules.specs.Made.{IsFaultOfRule};
 ghost use Rattle.justfile_attribute_set.specs.AttributeSet.{attributes_of};
 ghost use Rattle.justfile_token.specs.Token.{lexeme_of};
 ghost use Rattle.justfile_model.specs.NewAttribute as new;
-ghost use Rattle.justfile_model.specs.RecipeRules.{is_variadic};
 ghost use Rattle.justfile_model.specs.Rules.{ArgAttributeRequiresMultipleOrVariadic, FlagWithDefault};
 ghost use Rattle.justfile_parse_attribute.specs.ParseErrors.{IsAfterVariadicFault, ReadsRuled, ChecksRules};
 ghost use Rattle.justfile_parse_expression.specs.ParsedResults.{Parses};
 ghost use Rattle.justfile_parse_expression.specs.View.{tokens_left, state_of};
 ghost use Rattle.justfile_parse_header.specs.Arguments.{AreKeyed, rules_by, IsKeyedOption};
-ghost use Rattle.justfile_parse_header.specs.Counting.{TookBindingNumbers, counters_of, names, names_after, ParsesCounted};
+ghost use Rattle.justfile_parse_header.specs.Counting.{TookBindingNumbers, counters_of, identifiers_left, identifiers_left_after, ParsesCounted};
 ghost use Rattle.justfile_parse_header.specs.HeaderTable as reader;
 ghost use Rattle.justfile_parse_header.specs.ArgAttribute.{HaveDerivedParameterFields, KeepsDerivedParameterFields, arg_attribute_broken};
 ghost use Rattle.justfile_parse_header.specs.ArgNames.{AreFirsts};
 ghost use Rattle.justfile_parse_header.specs.Tree.{parameter_tree, rules_of, value_tree};
 
 use crate::arg_attribute::{copy_arg_attribute, find_bound_key, is_flag, is_multiple};
-use crate::arg_names::{ArgRules, find_firsts};
-use crate::arguments::find_rules;
+use crate::arg_names::{ArgAttributes, find_firsts};
+use crate::arguments::find_arg;
 use crate::number::next_binding_number;
 use crate::read_parameters::ReadParameters;
 use justfile_attribute::Attribute;
@@ -43,14 +42,15 @@ pub(crate) fn parse_parameters<'src, X: Expander>(
     ensures reads { ParsesCounted X.answer (λ parameters. map parameter_tree parameters.items)
         result numerator.new parser.old parser.new
         (reader.parameters (rules_of attributes.now) (counters_of numerator.old)) }
-    ensures whole { IfOk result
+    ensures fields { IfOk result
         (λ parameters. HaveDerivedParameterFields (rules_of attributes.now) parameters.items) }
-    ensures drawn { TookBindingNumbers numerator.old numerator.new
-        (names (state_of X.answer parser.old)) (names_after result (state_of X.answer parser.new)) }
+    ensures numbers { TookBindingNumbers numerator.old numerator.new
+        (identifiers_left (state_of X.answer parser.old))
+        (identifiers_left_after result (state_of X.answer parser.new)) }
     ensures progress { OnOk result (tokens_left parser.new < tokens_left parser.old) }
 {
     let firsts = find_firsts(attributes, parser.alloc)?;
-    let arg_attributes = ArgRules { attributes, firsts };
+    let arg_attributes = ArgAttributes { attributes, firsts };
     let mut parameters = ReadParameters::new(parser.alloc);
     parse_singulars(&arg_attributes, parser, numerator, &mut parameters)?;
     parse_last(&arg_attributes, parser, numerator, &mut parameters)?;
@@ -60,7 +60,7 @@ pub(crate) fn parse_parameters<'src, X: Expander>(
 
 /// Parses parameters that take one argument, and appends them to `parameters`.
 fn parse_singulars<'src, X: Expander>(
-    arg_attributes: &ArgRules<'_, 'src>,
+    arg_attributes: &ArgAttributes<'_, 'src>,
     parser: &mut ExpressionParser<'_, 'src, X>,
     numerator: &mut Numerator,
     parameters: &mut ReadParameters<'src>,
@@ -70,11 +70,12 @@ fn parse_singulars<'src, X: Expander>(
         result numerator.new parser.old parser.new
         (λ s. reader.singulars (rules_of arg_attributes.now.attributes.now)
         ((map parameter_tree parameters.old.list.items, counters_of numerator.old), s)) }
-    ensures whole { OnOk result
+    ensures fields { OnOk result
         (KeepsDerivedParameterFields (rules_of arg_attributes.now.attributes.now)
         parameters.old.list.items parameters.new.list.items) }
-    ensures drawn { TookBindingNumbers numerator.old numerator.new
-        (names (state_of X.answer parser.old)) (names_after result (state_of X.answer parser.new)) }
+    ensures numbers { TookBindingNumbers numerator.old numerator.new
+        (identifiers_left (state_of X.answer parser.old))
+        (identifiers_left_after result (state_of X.answer parser.new)) }
     ensures progress { OnOk result (tokens_left parser.new ≤ tokens_left parser.old) }
 {
     'parameters: loop {
@@ -102,7 +103,7 @@ fn begins_parameter<X: Expander>(parser: &ExpressionParser<'_, '_, X>) -> bool
 /// `parameters`.
 #[tactic(auto, unfolding(justfile_model::specs::HeaderReader::last_parameter))]
 fn parse_last<'src, X: Expander>(
-    arg_attributes: &ArgRules<'_, 'src>,
+    arg_attributes: &ArgAttributes<'_, 'src>,
     parser: &mut ExpressionParser<'_, 'src, X>,
     numerator: &mut Numerator,
     parameters: &mut ReadParameters<'src>,
@@ -112,11 +113,12 @@ fn parse_last<'src, X: Expander>(
         result numerator.new parser.old parser.new
         (λ s. reader.last_parameter (rules_of arg_attributes.now.attributes.now)
         ((map parameter_tree parameters.old.list.items, counters_of numerator.old), s)) }
-    ensures whole { OnOk result
+    ensures fields { OnOk result
         (KeepsDerivedParameterFields (rules_of arg_attributes.now.attributes.now)
         parameters.old.list.items parameters.new.list.items) }
-    ensures drawn { TookBindingNumbers numerator.old numerator.new
-        (names (state_of X.answer parser.old)) (names_after result (state_of X.answer parser.new)) }
+    ensures numbers { TookBindingNumbers numerator.old numerator.new
+        (identifiers_left (state_of X.answer parser.old))
+        (identifiers_left_after result (state_of X.answer parser.new)) }
     ensures progress { OnOk result (tokens_left parser.new ≤ tokens_left parser.old) }
 {
     if let Some(_plus) = parser.accept(TokenKind::Plus) {
@@ -143,7 +145,7 @@ fn parse_last<'src, X: Expander>(
 /// Parses a variadic parameter, and appends it to `parameters`. No name may follow it.
 #[tactic(auto, unfolding(justfile_model::specs::HeaderReader::variadic))]
 fn parse_variadic<'src, X: Expander>(
-    arg_attributes: &ArgRules<'_, 'src>,
+    arg_attributes: &ArgAttributes<'_, 'src>,
     parser: &mut ExpressionParser<'_, 'src, X>,
     numerator: &mut Numerator,
     parameters: &mut ReadParameters<'src>,
@@ -154,11 +156,12 @@ fn parse_variadic<'src, X: Expander>(
         result numerator.new parser.old parser.new
         (λ s. reader.variadic (rules_of arg_attributes.now.attributes.now) kind
         ((map parameter_tree parameters.old.list.items, counters_of numerator.old), s)) }
-    ensures whole { OnOk result
+    ensures fields { OnOk result
         (KeepsDerivedParameterFields (rules_of arg_attributes.now.attributes.now)
         parameters.old.list.items parameters.new.list.items) }
-    ensures drawn { TookBindingNumbers numerator.old numerator.new
-        (names (state_of X.answer parser.old)) (names_after result (state_of X.answer parser.new)) }
+    ensures numbers { TookBindingNumbers numerator.old numerator.new
+        (identifiers_left (state_of X.answer parser.old))
+        (identifiers_left_after result (state_of X.answer parser.new)) }
     ensures progress { OnOk result (tokens_left parser.new < tokens_left parser.old) }
 {
     parse_parameter(arg_attributes, parser, numerator, parameters, kind)?;
@@ -166,12 +169,12 @@ fn parse_variadic<'src, X: Expander>(
 }
 
 /// Refuses a name after a variadic parameter.
-#[tactic(auto, unfolding(justfile_model::specs::HeaderReader::nothing_after, justfile_parse_expression::specs::TableReader::leaves))]
+#[tactic(auto, unfolding(justfile_model::specs::HeaderReader::expect_no_name, justfile_parse_expression::specs::TableReader::leaves))]
 fn expect_no_name<'src, X: Expander>(
     parser: &ExpressionParser<'_, 'src, X>,
 ) -> Result<(), ParseError<'src>>
     ensures { ReadsRuled (λ _. tt) result (state_of X.answer parser.now)
-        (reader.nothing_after (state_of X.answer parser.now)) }
+        (reader.expect_no_name (state_of X.answer parser.now)) }
 {
     match parser.probe_if(TokenKind::Identifier) {
         None => Ok(()),
@@ -190,7 +193,7 @@ fn after_variadic_error<'src>(name: Token<'src>) -> Fault<'src>
 
 /// Parses a parameter with or without `$` before it, and appends it to `parameters`.
 fn parse_parameter<'src, X: Expander>(
-    arg_attributes: &ArgRules<'_, 'src>,
+    arg_attributes: &ArgAttributes<'_, 'src>,
     parser: &mut ExpressionParser<'_, 'src, X>,
     numerator: &mut Numerator,
     parameters: &mut ReadParameters<'src>,
@@ -201,11 +204,12 @@ fn parse_parameter<'src, X: Expander>(
         result numerator.new parser.old parser.new
         (λ s. reader.parameter (rules_of arg_attributes.now.attributes.now) kind
         ((map parameter_tree parameters.old.list.items, counters_of numerator.old), s)) }
-    ensures whole { OnOk result
+    ensures fields { OnOk result
         (KeepsDerivedParameterFields (rules_of arg_attributes.now.attributes.now)
         parameters.old.list.items parameters.new.list.items) }
-    ensures drawn { TookBindingNumbers numerator.old numerator.new
-        (names (state_of X.answer parser.old)) (names_after result (state_of X.answer parser.new)) }
+    ensures numbers { TookBindingNumbers numerator.old numerator.new
+        (identifiers_left (state_of X.answer parser.old))
+        (identifiers_left_after result (state_of X.answer parser.new)) }
     ensures progress { OnOk result (tokens_left parser.new < tokens_left parser.old) }
 {
     match parser.accept(TokenKind::Dollar) {
@@ -216,7 +220,7 @@ fn parse_parameter<'src, X: Expander>(
 
 /// Parses a parameter from its name on, and appends it to `parameters`.
 fn parse_named<'src, X: Expander>(
-    arg_attributes: &ArgRules<'_, 'src>,
+    arg_attributes: &ArgAttributes<'_, 'src>,
     parser: &mut ExpressionParser<'_, 'src, X>,
     numerator: &mut Numerator,
     parameters: &mut ReadParameters<'src>,
@@ -228,18 +232,19 @@ fn parse_named<'src, X: Expander>(
         result numerator.new parser.old parser.new
         (reader.named_parameter (rules_of arg_attributes.now.attributes.now) kind export
         (map parameter_tree parameters.old.list.items, counters_of numerator.old)) }
-    ensures whole { OnOk result
+    ensures fields { OnOk result
         (KeepsDerivedParameterFields (rules_of arg_attributes.now.attributes.now)
         parameters.old.list.items parameters.new.list.items) }
-    ensures drawn { TookBindingNumbers numerator.old numerator.new
-        (names (state_of X.answer parser.old)) (names_after result (state_of X.answer parser.new)) }
+    ensures numbers { TookBindingNumbers numerator.old numerator.new
+        (identifiers_left (state_of X.answer parser.old))
+        (identifiers_left_after result (state_of X.answer parser.new)) }
     ensures progress { OnOk result (tokens_left parser.new < tokens_left parser.old) }
 {
     let name = parser.expect(TokenKind::Identifier)?;
     let default = parse_default(parser)?;
-    let rules = find_rules(arg_attributes, parameters, *name.token);
-    check_arg_attribute(rules, parser.alloc, *name.token, default.is_some(), kind)?;
-    let arg_attribute = copy_arg_attribute(parser.alloc, rules)?;
+    let arg = find_arg(arg_attributes, parameters, *name.token);
+    check_arg_attribute(arg, parser.alloc, *name.token, default.is_some(), kind)?;
+    let arg_attribute = copy_arg_attribute(parser.alloc, arg)?;
     let number = next_binding_number(numerator)?;
     parameters.push(Parameter {
         default,
@@ -291,22 +296,12 @@ fn check_arg_attribute<'src>(
     if is_flag(attribute) && has_default {
         return Err(rule_error(alloc, flag_with_default_error(alloc, name)));
     }
-    if is_multiple(attribute) || is_variadic(kind) {
+    if is_multiple(attribute) || kind.is_variadic() {
         return Ok(());
     }
     match find_bound_key(attribute) {
         Some(key) => Err(rule_error(alloc, bound_alone_error(key))),
         None => Ok(()),
-    }
-}
-
-/// Whether a parameter of this kind takes several arguments.
-fn is_variadic(kind: ParameterKind) -> bool
-    ensures { result ≡ is_variadic kind }
-{
-    match kind {
-        ParameterKind::Plus | ParameterKind::Star => true,
-        ParameterKind::Singular => false,
     }
 }
 

@@ -7,7 +7,7 @@ use Rattle.justfile_model.proofs.Natural as natural
 use Rattle.justfile_model.proofs.Related as a
 use Rattle.justfile_model.proofs.Related.{States}
 use Rattle.justfile_parse_expression.specs.TableReader.{Run, State, leaves}
-use Rattle.justfile_parse_item.specs.ItemTable.{kept}
+use Rattle.justfile_parse_item.specs.ItemTable.{attribute_leaves}
 use Rattle.justfile_expression.specs.LeafTree.{Leaf}
 use Rattle.justfile_parse_expression.proofs.Seen.{Relates}
 use Rattle.justfile_parse_item.proofs.Seen.{respects, seen}
@@ -27,7 +27,7 @@ module _ (run : Run) where
   abbrev pub Keeps : Entry Leaf Token → ReadAttribute → Type 0
   Keeps = IsKept run.conditions run.conditions.limit Any run.file_depth run.import_offsets
 
-  abbrev pub keeps : natural.RespectsAttributes rel leaves token_leaves kept token_attributes Keeps
+  abbrev pub keeps : natural.RespectsAttributes rel leaves token_leaves attribute_leaves token_attributes Keeps
   keeps = attributed run.conditions run.conditions.limit Any run.file_depth run.import_offsets
 
 pub state_alike : (s : State) → States (rel s.run) s (state_seen s)

@@ -12,7 +12,7 @@ use Rattle.justfile_model.specs.Reader as files
 use Rattle.justfile_model.specs.ReaderState.{◌>>=◌, Unexpected, prepend, at, choose, refused}
 use Rattle.justfile_parse_expression.specs.TableReader.{Read, ReadError, State, accept, enclosed, expect, leaves, next_are, read, At}
 use Rattle.justfile_parse_item.specs.ItemTable.{body, body_after, optional_body, body_line, fragment, line_rest, lines}
-use Rattle.justfile_parse_expression.specs.MethodResults.{IsExpressionError, literal_refusal, refusal_at}
+use Rattle.justfile_parse_expression.specs.MethodResults.{IsExpressionError, literal_read_error, read_error_at}
 use Rattle.justfile_parse_item.specs.Tree.{fragment_tree, line_tree}
 use Rattle.justfile_expression.specs.LeafTree.{Leaf, Text}
 use Rattle.justfile_model.specs.declared.level.Level.TheVariants as levels
@@ -47,8 +47,8 @@ module _ {Z T : Type 0} (view : Z → T) (whole : State → Read (List T)) (s q 
 
   -- a part is refused
   stops : (found : Read T) (stop : ExpressionError) (left : State) → ((e : ReadError) → found ≡ Err e → prepend (map view done) (whole q) ≡ Err e) → IsExpressionError stop left ⊥ found → IsExpressionError stop left ⊥ (whole s)
-  stops found (Refused r) left step h = sym so_far ∙ step (refusal_at r left) h
-  stops found (Literal refused) left step h = sym so_far ∙ step (literal_refusal refused.value.error) h
+  stops found (Refused r) left step h = sym so_far ∙ step (read_error_at r left) h
+  stops found (Literal refused) left step h = sym so_far ∙ step (literal_read_error refused.value.error) h
   stops found Memory left step h = tt
   stops found Numbers left step h = h
 

@@ -7,8 +7,8 @@ use Rattle.justfile_attribute.proofs.Ordered.{kind_seen}
 use Rattle.justfile_attribute.specs.New.{HasDerivedAttributeFields}
 use Rattle.justfile_attribute.specs.declared.attribute.Attribute.{Attribute}
 use Rattle.justfile_attribute_rules.specs.Made.{IsRefusedBy}
-use Rattle.justfile_attribute_rules.specs.RuleErrors.{SaysRule}
-use Rattle.justfile_attribute_set.specs.AttributeSet.{IsInvalidBy, SaysInvalid}
+use Rattle.justfile_attribute_rules.specs.RuleErrors.{IsKindOfRule}
+use Rattle.justfile_attribute_set.specs.AttributeSet.{IsInvalidBy, NamesInvalid}
 use Rattle.justfile_attribute_set.specs.Attributes.{has_kind, kind_of}
 use Rattle.justfile_attribute_set.specs.Keys.{firsts}
 use Rattle.justfile_attribute_set.specs.Pairs.{Pair, leaf_entry_of, pair_cmp}
@@ -32,7 +32,7 @@ use Rattle.justfile_model.specs.Reader as files
 use Rattle.justfile_model.specs.ReaderState as reading
 use Rattle.justfile_model.specs.Rules.{Broken, InvalidAttribute}
 use Rattle.justfile_model.specs.Tree.{Entry}
-use Rattle.justfile_parse_item.specs.Exclusions.{SaysFirst}
+use Rattle.justfile_parse_item.specs.Exclusions.{IsKindOfFirst}
 use Rattle.justfile_parse_item.specs.ExtraneousFault.{IsExtraneousFault}
 use Rattle.justfile_parse_item.specs.ItemTable as reader
 use Rattle.justfile_written.specs.declared.written.Written.{Written}
@@ -50,39 +50,39 @@ use Rattle.justfile_parse_expression.specs.declared.expression_error.ExpressionE
 use Rattle.justfile_expression.specs.LeafViews.{views_leaves}
 use Rattle.justfile_expression.specs.LeafTree.{Leaf}
 
--- reading halts for the fault of a rule
+-- reading stops if a rule is broken
 pub rule_fails : (X Y : Type 0) (rule : Broken Token) (fault : Fault) (failure : ParseError) (s : State) → IsErrorOfFault failure fault → IsRefusedBy {Y = X} (Err rule) fault
     → IsParseError {Y = Y} failure s ⊥ (Err (reading.BreaksRule rule))
-rule_fails X Y rule (faults.Compile e) (errors.BrokenRule error) s h k = rw h k
-rule_fails X Y rule faults.Memory (errors.BrokenRule error) s h k = absurd h
-rule_fails X Y rule faults.Numbers (errors.BrokenRule error) s h k = absurd h
-rule_fails X Y rule fault (errors.Unreadable causes.Memory) s h k = tt
-rule_fails X Y rule (faults.Compile e) (errors.Unreadable causes.Numbers) s h k = absurd h
-rule_fails X Y rule faults.Memory (errors.Unreadable causes.Numbers) s h k = absurd h
-rule_fails X Y rule faults.Numbers (errors.Unreadable causes.Numbers) s h k = absurd k
-rule_fails X Y rule (faults.Compile e) (errors.Unreadable (causes.Refused r)) s h k = absurd h
-rule_fails X Y rule faults.Memory (errors.Unreadable (causes.Refused r)) s h k = absurd h
-rule_fails X Y rule faults.Numbers (errors.Unreadable (causes.Refused r)) s h k = absurd h
-rule_fails X Y rule (faults.Compile e) (errors.Unreadable (causes.Literal r)) s h k = absurd h
-rule_fails X Y rule faults.Memory (errors.Unreadable (causes.Literal r)) s h k = absurd h
-rule_fails X Y rule faults.Numbers (errors.Unreadable (causes.Literal r)) s h k = absurd h
+rule_fails X Y rule (faults.Compile e) (errors.Compile error) s h k = rw h k
+rule_fails X Y rule faults.Memory (errors.Compile error) s h k = absurd h
+rule_fails X Y rule faults.Numbers (errors.Compile error) s h k = absurd h
+rule_fails X Y rule fault (errors.Expression causes.Memory) s h k = tt
+rule_fails X Y rule (faults.Compile e) (errors.Expression causes.Numbers) s h k = absurd h
+rule_fails X Y rule faults.Memory (errors.Expression causes.Numbers) s h k = absurd h
+rule_fails X Y rule faults.Numbers (errors.Expression causes.Numbers) s h k = absurd k
+rule_fails X Y rule (faults.Compile e) (errors.Expression (causes.Refused r)) s h k = absurd h
+rule_fails X Y rule faults.Memory (errors.Expression (causes.Refused r)) s h k = absurd h
+rule_fails X Y rule faults.Numbers (errors.Expression (causes.Refused r)) s h k = absurd h
+rule_fails X Y rule (faults.Compile e) (errors.Expression (causes.Literal r)) s h k = absurd h
+rule_fails X Y rule faults.Memory (errors.Expression (causes.Literal r)) s h k = absurd h
+rule_fails X Y rule faults.Numbers (errors.Expression (causes.Literal r)) s h k = absurd h
 
--- reading halts for attributes before no construct
+-- reading stops if a blank line or a comment follows the attributes
 pub extraneous_fails : (Y : Type 0) (count : ℕ) (opener : Token) (fault : Fault) (failure : ParseError) (s : State) → IsErrorOfFault failure fault → IsExtraneousFault count opener fault
     → IsParseError {Y = Y} failure s ⊥ (Err (reading.Extraneous count opener))
-extraneous_fails Y count opener (faults.Compile e) (errors.BrokenRule error) s h k = rw h k
-extraneous_fails Y count opener faults.Memory (errors.BrokenRule error) s h k = absurd h
-extraneous_fails Y count opener faults.Numbers (errors.BrokenRule error) s h k = absurd h
-extraneous_fails Y count opener fault (errors.Unreadable causes.Memory) s h k = tt
-extraneous_fails Y count opener (faults.Compile e) (errors.Unreadable causes.Numbers) s h k = absurd h
-extraneous_fails Y count opener faults.Memory (errors.Unreadable causes.Numbers) s h k = absurd h
-extraneous_fails Y count opener faults.Numbers (errors.Unreadable causes.Numbers) s h k = absurd k
-extraneous_fails Y count opener (faults.Compile e) (errors.Unreadable (causes.Refused r)) s h k = absurd h
-extraneous_fails Y count opener faults.Memory (errors.Unreadable (causes.Refused r)) s h k = absurd h
-extraneous_fails Y count opener faults.Numbers (errors.Unreadable (causes.Refused r)) s h k = absurd h
-extraneous_fails Y count opener (faults.Compile e) (errors.Unreadable (causes.Literal r)) s h k = absurd h
-extraneous_fails Y count opener faults.Memory (errors.Unreadable (causes.Literal r)) s h k = absurd h
-extraneous_fails Y count opener faults.Numbers (errors.Unreadable (causes.Literal r)) s h k = absurd h
+extraneous_fails Y count opener (faults.Compile e) (errors.Compile error) s h k = rw h k
+extraneous_fails Y count opener faults.Memory (errors.Compile error) s h k = absurd h
+extraneous_fails Y count opener faults.Numbers (errors.Compile error) s h k = absurd h
+extraneous_fails Y count opener fault (errors.Expression causes.Memory) s h k = tt
+extraneous_fails Y count opener (faults.Compile e) (errors.Expression causes.Numbers) s h k = absurd h
+extraneous_fails Y count opener faults.Memory (errors.Expression causes.Numbers) s h k = absurd h
+extraneous_fails Y count opener faults.Numbers (errors.Expression causes.Numbers) s h k = absurd k
+extraneous_fails Y count opener (faults.Compile e) (errors.Expression (causes.Refused r)) s h k = absurd h
+extraneous_fails Y count opener faults.Memory (errors.Expression (causes.Refused r)) s h k = absurd h
+extraneous_fails Y count opener faults.Numbers (errors.Expression (causes.Refused r)) s h k = absurd h
+extraneous_fails Y count opener (faults.Compile e) (errors.Expression (causes.Literal r)) s h k = absurd h
+extraneous_fails Y count opener faults.Memory (errors.Expression (causes.Literal r)) s h k = absurd h
+extraneous_fails Y count opener faults.Numbers (errors.Expression (causes.Literal r)) s h k = absurd h
 
 -- ---- the attributes of an item of a kind
 
@@ -94,21 +94,21 @@ module _ (item : ItemKind) (ws : Entries) (name : TableEntry) (s : State) (entri
   abbrev refusing : Found → Read (Unit {0})
   refusing o = obeying (of_some (λ (e : Entry Leaf Token). record { rule = InvalidAttribute item (kind_of_attribute e.attribute); token = name.token.now } ∷ []) o) s
 
-  allowed_is : reader.allowed item ws name s ≡ refusing (first_invalid views_leaves item entries)
+  allowed_is : reader.check_allowed item ws name s ≡ refusing (first_invalid views_leaves item entries)
   unfolding leaves
   allowed_is =
       ap (λ (es : Entries). refusing (first_invalid views_leaves item (in_content_order es))) (map-id ws)
       ∙ ap (λ (es : Entries). refusing (first_invalid views_leaves item es)) (sym is)
 
-  pub is_allowed : first_invalid views_leaves item entries ≡ None → reader.allowed item ws name s ≡ Ok (tt, s)
+  pub is_allowed : first_invalid views_leaves item entries ≡ None → reader.check_allowed item ws name s ≡ Ok (tt, s)
   is_allowed h = allowed_is ∙ ap refusing h
 
-  says : (kind : AttributeKind) (said : CompileErrorKind) → SaysInvalid item name.token.now kind said → SaysRule name.token.now (InvalidAttribute item kind) said
+  says : (kind : AttributeKind) (error_kind : CompileErrorKind) → NamesInvalid item name.token.now kind error_kind → IsKindOfRule name.token.now (InvalidAttribute item kind) error_kind
   says kind (error_kinds.InvalidAttribute item' text kind') h = h
   says kind _ h = absurd h
 
   pub is_disallowed : (e : CompileError) (error : ParseError) → IsInvalidBy (first_invalid views_leaves item entries) item name.token.now e
-      → IsErrorOfFault error (faults.Compile e) → IsParseError error s ⊥ (reader.allowed item ws name s)
+      → IsErrorOfFault error (faults.Compile e) → IsParseError error s ⊥ (reader.check_allowed item ws name s)
   is_disallowed e error invalid h = subst (λ (f : Read (Unit {0})). IsParseError error s ⊥ f) (sym allowed_is) (go (first_invalid views_leaves item entries) invalid)
     where
       go : (o : Found) → IsInvalidBy o item name.token.now e → IsParseError error s ⊥ (refusing o)
@@ -128,28 +128,28 @@ has_seen kind (p ∷ ps) =
     ∙ ap (λ (k : AttributeKind). same_attribute k kind || has_attribute kind (map leaf_entry_of ps)) (kind_seen p.0)
 
 -- each attribute that was read is as the parser makes it
-pub whole_pairs : (pairs : List Pair) → HaveDerivedPairFields pairs → All (λ (p : Pair). HasDerivedAttributeFields p.0) pairs
+pub pair_fields : (pairs : List Pair) → HaveDerivedPairFields pairs → All (λ (p : Pair). HasDerivedAttributeFields p.0) pairs
 unfolding HaveDerivedAttributeFields
-whole_pairs [] h = All-nil (λ (p : Pair). HasDerivedAttributeFields p.0)
-whole_pairs (p ∷ ps) h =
-    All-cons (λ (q : Pair). HasDerivedAttributeFields q.0) p ps (All-head HasDerivedAttributeFields p.0 (firsts ps) h) (whole_pairs ps (All-tail HasDerivedAttributeFields p.0 (firsts ps) h))
+pair_fields [] h = All-nil (λ (p : Pair). HasDerivedAttributeFields p.0)
+pair_fields (p ∷ ps) h =
+    All-cons (λ (q : Pair). HasDerivedAttributeFields q.0) p ps (All-head HasDerivedAttributeFields p.0 (firsts ps) h) (pair_fields ps (All-tail HasDerivedAttributeFields p.0 (firsts ps) h))
 
 -- what the tree doesn't show of the pairs that were read, it doesn't show of the set
-pub set_whole : (pairs ordered : List Pair) → ordered ≡ in_order pair_cmp pairs → HaveDerivedPairFields pairs → HaveDerivedAttributeFields (firsts ordered)
+pub set_fields : (pairs ordered : List Pair) → ordered ≡ in_order pair_cmp pairs → HaveDerivedPairFields pairs → HaveDerivedAttributeFields (firsts ordered)
 unfolding HaveDerivedAttributeFields
-set_whole pairs ordered e h =
+set_fields pairs ordered e h =
     subst (λ (ps : List Pair). All HasDerivedAttributeFields (firsts ps)) (sym e)
     (All-map-IsPermutation (λ (p : Pair). p.0) HasDerivedAttributeFields pairs (in_order pair_cmp pairs) (in_order_permutation pair_cmp pairs) h)
 
 module _ (recipe : Token) where
-  -- reading halts for the first rule that is broken
-  pub is_excluded : (bs : List (Broken Token)) (kind : CompileErrorKind) (e : CompileError) (error : ParseError) (s : State) → SaysFirst recipe bs (Some kind)
+  -- reading stops at the first rule that is broken
+  pub is_excluded : (bs : List (Broken Token)) (kind : CompileErrorKind) (e : CompileError) (error : ParseError) (s : State) → IsKindOfFirst recipe bs (Some kind)
       → e.kind ≡ kind → e.token ≡ recipe → IsErrorOfFault error (faults.Compile e) → IsParseError error s ⊥ (obeying bs s)
   is_excluded [] kind e error s first is at h = absurd first
   is_excluded (b ∷ bs) kind e error s first is at h =
       rule_fails (Unit {0}) (Unit {0} × State) b (faults.Compile e) error s h (record {
         token = at ∙ sym first.1;
-        says = subst (λ (k : CompileErrorKind). SaysRule b.token b.rule k) (sym is) (subst (λ (t : Token). SaysRule t b.rule kind) (sym first.1) first.0);
+        says = subst (λ (k : CompileErrorKind). IsKindOfRule b.token b.rule k) (sym is) (subst (λ (t : Token). IsKindOfRule t b.rule kind) (sym first.1) first.0);
       })
 
 -- ---- the attributes before a construct
@@ -164,7 +164,7 @@ module _ (s : State) (opener : TableEntry) (next : State) (opened : tokens.accep
     unfolding leaves
     stand_alone h = before_is ∙ rw (read, h) refl
 
-    -- reading halts for attributes before no construct
+    -- reading stops if a blank line or a comment follows the attributes
     pub fails_alone : (pairs : List (Attribute × Written)) → ws ≡ map entry_of_pair pairs → reader.stands_alone rest ≡ true → (count : ℕ) → count ≡ length pairs
         → (fault : Fault) (error : ParseError) → IsErrorOfFault error fault → IsExtraneousFault count opener.token.now fault → IsParseError error rest ⊥ (reader.item_attributes s)
     fails_alone pairs is alone count e fault error h k =

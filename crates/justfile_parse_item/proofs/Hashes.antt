@@ -28,7 +28,7 @@ hash_stays rest =
     ap (λ (cs : List ℕ). encodes (drop_trailing_whitespace cs)) (chars_hash rest)
     ∙ ap (λ (front : List ℕ). front ++ encodes (drop_trailing_whitespace (chars rest))) (encode_ascii 35 (omega arith))
 
--- a text that begins so does without the white space at its end
+-- a text that begins so does without the whitespace at its end
 pub still_hash : (text trimmed : List ℕ) → trimmed ≡ trim_end text → IsTrue (starts_with nat_eq text (codes "#")) → IsTrue (starts_with nat_eq trimmed (codes "#"))
 still_hash text trimmed e h =
     let is = starts_is Decides-eqb text (codes "#") (starts_with nat_eq text (codes "#")) refl in

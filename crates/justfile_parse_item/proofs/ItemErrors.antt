@@ -25,61 +25,61 @@ module _ (ws : Entries) (n : Counters) (s : State) (name : TableEntry) (named : 
 
   module _ (eager export : Bool) (operator : TableEntry) (rest : State) (e : Expr Leaf Token) (t : State) (assigned : expect kinds.ColonEquals named ≡ Ok (operator, rest))
       (value : read (At levels.Expression false rest) ≡ Ok (e, t)) where
-    assignment_fails : (f : ReadError) → reader.allowed item_kinds.Assignment ws name t ≡ Err f → reader.assignment eager export ws n s ≡ Err f
+    assignment_fails : (f : ReadError) → reader.check_allowed item_kinds.Assignment ws name t ≡ Err f → reader.assignment eager export ws n s ≡ Err f
     unfolding files.assignment
     assignment_fails f is = rw (taken, assigned, value, is) refl
 
     -- its attributes are refused
-    pub assignment_errs : (error : ParseError) (left : State) (Wanting : Type 0) → IsParseError error left ⊥ (reader.allowed item_kinds.Assignment ws name t)
+    pub assignment_errs : (error : ParseError) (left : State) (Wanting : Type 0) → IsParseError error left ⊥ (reader.check_allowed item_kinds.Assignment ws name t)
         → IsParseError error left Wanting (reader.assignment eager export ws n s)
     assignment_errs error left Wanting h =
-        failed (reader.allowed item_kinds.Assignment ws name t) (reader.assignment eager export ws n s) assignment_fails error left ⊥ Wanting (λ k. absurd k) h
+        failed (reader.check_allowed item_kinds.Assignment ws name t) (reader.assignment eager export ws n s) assignment_fails error left ⊥ Wanting (λ k. absurd k) h
 
   -- ---- a module
 
   module _ (optional : Bool) (path : Option (Quoted Leaf)) (t : State) (found : optional_path named ≡ Ok (path, t)) where
-    module_fails : (f : ReadError) → reader.allowed item_kinds.Module ws name t ≡ Err f → reader.named_module optional ws n s ≡ Err f
+    module_fails : (f : ReadError) → reader.check_allowed item_kinds.Module ws name t ≡ Err f → reader.named_module optional ws n s ≡ Err f
     unfolding files.named_module
     module_fails f is = rw (taken, found, is) refl
 
     -- its attributes are refused
-    pub module_errs : (error : ParseError) (left : State) → IsParseError error left ⊥ (reader.allowed item_kinds.Module ws name t) → IsParseError error left ⊥ (reader.named_module optional ws n s)
-    module_errs error left h = failed (reader.allowed item_kinds.Module ws name t) (reader.named_module optional ws n s) module_fails error left ⊥ ⊥ (λ k. k) h
+    pub module_errs : (error : ParseError) (left : State) → IsParseError error left ⊥ (reader.check_allowed item_kinds.Module ws name t) → IsParseError error left ⊥ (reader.named_module optional ws n s)
+    module_errs error left h = failed (reader.check_allowed item_kinds.Module ws name t) (reader.named_module optional ws n s) module_fails error left ⊥ ⊥ (λ k. k) h
 
   -- ---- an alias
 
   module _ (operator : TableEntry) (rest : State) (target : List Leaf) (t : State) (assigned : expect kinds.ColonEquals named ≡ Ok (operator, rest)) (found : path rest ≡ Ok (target, t)) where
-    alias_fails : (f : ReadError) → reader.allowed item_kinds.Alias ws name t ≡ Err f → reader.alias ws n s ≡ Err f
+    alias_fails : (f : ReadError) → reader.check_allowed item_kinds.Alias ws name t ≡ Err f → reader.alias ws n s ≡ Err f
     unfolding files.alias
     alias_fails f is = rw (taken, assigned, found, is) refl
 
     -- its attributes are refused
-    pub alias_errs : (error : ParseError) (left : State) → IsParseError error left ⊥ (reader.allowed item_kinds.Alias ws name t) → IsParseError error left ⊥ (reader.alias ws n s)
-    alias_errs error left h = failed (reader.allowed item_kinds.Alias ws name t) (reader.alias ws n s) alias_fails error left ⊥ ⊥ (λ k. k) h
+    pub alias_errs : (error : ParseError) (left : State) → IsParseError error left ⊥ (reader.check_allowed item_kinds.Alias ws name t) → IsParseError error left ⊥ (reader.alias ws n s)
+    alias_errs error left h = failed (reader.check_allowed item_kinds.Alias ws name t) (reader.alias ws n s) alias_fails error left ⊥ ⊥ (λ k. k) h
 
   -- ---- an `unexport`
 
-  unexport_fails : (f : ReadError) → reader.allowed item_kinds.Unexport ws name named ≡ Err f → reader.unexport ws n s ≡ Err f
+  unexport_fails : (f : ReadError) → reader.check_allowed item_kinds.Unexport ws name named ≡ Err f → reader.unexport ws n s ≡ Err f
   unfolding files.unexport
   unexport_fails f is = rw (taken, is) refl
 
   -- its attributes are refused
-  pub unexport_errs : (error : ParseError) (left : State) → IsParseError error left ⊥ (reader.allowed item_kinds.Unexport ws name named) → IsParseError error left ⊥ (reader.unexport ws n s)
-  unexport_errs error left h = failed (reader.allowed item_kinds.Unexport ws name named) (reader.unexport ws n s) unexport_fails error left ⊥ ⊥ (λ k. k) h
+  pub unexport_errs : (error : ParseError) (left : State) → IsParseError error left ⊥ (reader.check_allowed item_kinds.Unexport ws name named) → IsParseError error left ⊥ (reader.unexport ws n s)
+  unexport_errs error left h = failed (reader.check_allowed item_kinds.Unexport ws name named) (reader.unexport ws n s) unexport_fails error left ⊥ ⊥ (λ k. k) h
 
   -- ---- a setting
 
   module _ (keyword : Keyword) (known : setting_keyword name named ≡ Ok (keyword, named)) where
-    setting_disallowed : (f : ReadError) → reader.allowed item_kinds.Setting ws name named ≡ Err f → reader.setting ws n s ≡ Err f
+    setting_disallowed : (f : ReadError) → reader.check_allowed item_kinds.Setting ws name named ≡ Err f → reader.setting ws n s ≡ Err f
     unfolding files.setting
     setting_disallowed f is = rw (taken, known, is) refl
 
     -- its attributes are refused
-    pub setting_attributes_fail : (error : ParseError) (left : State) → IsParseError error left ⊥ (reader.allowed item_kinds.Setting ws name named) → IsParseError error left ⊥ (reader.setting ws n s)
+    pub setting_attributes_fail : (error : ParseError) (left : State) → IsParseError error left ⊥ (reader.check_allowed item_kinds.Setting ws name named) → IsParseError error left ⊥ (reader.setting ws n s)
     setting_attributes_fail error left h =
-        failed (reader.allowed item_kinds.Setting ws name named) (reader.setting ws n s) setting_disallowed error left ⊥ ⊥ (λ k. k) h
+        failed (reader.check_allowed item_kinds.Setting ws name named) (reader.setting ws n s) setting_disallowed error left ⊥ ⊥ (λ k. k) h
 
-    module _ (allowed : reader.allowed item_kinds.Setting ws name named ≡ Ok (tt, named)) where
+    module _ (allowed : reader.check_allowed item_kinds.Setting ws name named ≡ Ok (tt, named)) where
       setting_fails : (f : ReadError) → setting_value name keyword (setting_form keyword) named ≡ Err f → reader.setting ws n s ≡ Err f
       unfolding files.setting
       setting_fails f is = rw (taken, known, allowed, is) refl
@@ -91,22 +91,22 @@ module _ (ws : Entries) (n : Counters) (s : State) (name : TableEntry) (named : 
 
   -- ---- a function
 
-  function_disallowed : (f : ReadError) → reader.allowed item_kinds.Function ws name named ≡ Err f → reader.function ws n s ≡ Err f
+  function_disallowed : (f : ReadError) → reader.check_allowed item_kinds.Function ws name named ≡ Err f → reader.function ws n s ≡ Err f
   unfolding files.function
   function_disallowed f is = rw (taken, is) refl
 
   -- its attributes are refused
-  pub function_attributes_fail : (error : ParseError) (left : State) (Wanting : Type 0) → IsParseError error left ⊥ (reader.allowed item_kinds.Function ws name named)
+  pub function_attributes_fail : (error : ParseError) (left : State) (Wanting : Type 0) → IsParseError error left ⊥ (reader.check_allowed item_kinds.Function ws name named)
       → IsParseError error left Wanting (reader.function ws n s)
   function_attributes_fail error left Wanting h =
-      failed (reader.allowed item_kinds.Function ws name named) (reader.function ws n s) function_disallowed error left ⊥ Wanting (λ k. absurd k) h
+      failed (reader.check_allowed item_kinds.Function ws name named) (reader.function ws n s) function_disallowed error left ⊥ Wanting (λ k. absurd k) h
 
-  module _ (opener : TableEntry) (opened : State) (allowed : reader.allowed item_kinds.Function ws name named ≡ Ok (tt, named)) (next : expect kinds.ParenL named ≡ Ok (opener, opened)) where
+  module _ (opener : TableEntry) (opened : State) (allowed : reader.check_allowed item_kinds.Function ws name named ≡ Ok (tt, named)) (next : expect kinds.ParenL named ≡ Ok (opener, opened)) where
     function_fails : (f : ReadError) → names (n, opened) ≡ Err f → reader.function ws n s ≡ Err f
     unfolding files.function
     function_fails f is = rw (taken, allowed, next, is) refl
 
-    -- its parameters are refused, or a number is wanting among them
+    -- its parameters are refused, or no number is left for one
     pub function_errs : (error : ParseError) (left : State) (wanting : ReadError) → IsParseError error left (names (n, opened) ≡ Err wanting) (names (n, opened))
         → IsParseError error left (reader.function ws n s ≡ Err wanting) (reader.function ws n s)
     function_errs error left wanting h = failed (names (n, opened)) (reader.function ws n s) function_fails error left _ _ (function_fails wanting) h
@@ -114,10 +114,10 @@ module _ (ws : Entries) (n : Counters) (s : State) (name : TableEntry) (named : 
 -- ---- an import
 
 module _ (ws : Entries) (n : Counters) (s : State) (optional : Bool) (found_path : TableEntry × Quoted Leaf) (t : State) (found : file_path s ≡ Ok (found_path, t)) where
-  imported_fails : (f : ReadError) → reader.allowed item_kinds.Import ws found_path.0 t ≡ Err f → reader.imported optional ws n s ≡ Err f
+  imported_fails : (f : ReadError) → reader.check_allowed item_kinds.Import ws found_path.0 t ≡ Err f → reader.imported optional ws n s ≡ Err f
   unfolding files.imported
   imported_fails f is = rw (found, is) refl
 
   -- its attributes are refused
-  pub imported_errs : (error : ParseError) (left : State) → IsParseError error left ⊥ (reader.allowed item_kinds.Import ws found_path.0 t) → IsParseError error left ⊥ (reader.imported optional ws n s)
-  imported_errs error left h = failed (reader.allowed item_kinds.Import ws found_path.0 t) (reader.imported optional ws n s) imported_fails error left ⊥ ⊥ (λ k. k) h
+  pub imported_errs : (error : ParseError) (left : State) → IsParseError error left ⊥ (reader.check_allowed item_kinds.Import ws found_path.0 t) → IsParseError error left ⊥ (reader.imported optional ws n s)
+  imported_errs error left h = failed (reader.check_allowed item_kinds.Import ws found_path.0 t) (reader.imported optional ws n s) imported_fails error left ⊥ ⊥ (λ k. k) h

@@ -14,4 +14,4 @@ pub mod SeenAttributes
 pub mod Shebangs
 pub mod Trims
 pub mod DerivedItemFields
-pub mod Words
+pub mod ConstructKeywords

@@ -10,11 +10,11 @@ use Rattle.justfile_model.specs.Reader as files
 use Rattle.justfile_model.specs.PartReader.{after_numbered}
 use Rattle.justfile_model.specs.ReaderState.{◌>>=◌, Counters}
 use Rattle.justfile_parse_item.specs.ItemTable as reader
-use Rattle.justfile_parse_item.specs.ItemTable.{ReadItems, after_mark, items, kept, line, read_nothing}
+use Rattle.justfile_parse_item.specs.ItemTable.{ReadItems, after_mark, items, attribute_leaves, line, read_nothing}
 use Rattle.justfile_parse_expression.specs.TableReader.{Read, ReadError, State, accept, leaves}
 use Rattle.justfile_parse_attribute.specs.ParseErrors.{IsParseError}
-use Rattle.justfile_parse_item.specs.MethodResults.{IsMoved}
-use Rattle.justfile_parse_expression.specs.MethodResults.{IsExpressionError, literal_refusal, refusal_at}
+use Rattle.justfile_parse_item.specs.MethodResults.{CountersMoved}
+use Rattle.justfile_parse_expression.specs.MethodResults.{IsExpressionError, literal_read_error, read_error_at}
 use Rattle.justfile_parse_item.specs.Tree.{item_tree}
 use Rattle.justfile_parse_item.specs.DerivedFields.{HaveDerivedFields, KeepsDerivedFields}
 use Rattle.justfile_expression.specs.LeafTree.{Leaf}
@@ -26,8 +26,8 @@ use Rattle.justfile_model.proofs.ItemReading as laws
 use Rattle.justfile_model.proofs.ReadingSteps.{known}
 use Rattle.justfile_parse_header.proofs.HeaderErrors.{failed}
 use Rattle.justfile_parse_item.proofs.CounterBounds.{line_moves}
-use Rattle.justfile_parse_item.proofs.DerivedItemFields.{none_whole, then_whole}
-use Rattle.justfile_parse_header.specs.Counting.{counters_of, names}
+use Rattle.justfile_parse_item.proofs.DerivedItemFields.{none_fields, then_fields}
+use Rattle.justfile_parse_header.specs.Counting.{counters_of, identifiers_left}
 
 abbrev Items : Type 0
 Items = List (OrderedItem Leaf Token ℕ)
@@ -60,15 +60,15 @@ pub record IsReadTo (s q : State) (first next : Numerator) (done : List file.Ite
   pub depth : q.depth ≡ 0
   pub least : bindings_of first ≤ bindings_of next
   pub recipes_least : recipes_of first ≤ recipes_of next
-  pub most : bindings_of next + recipes_of next + names q ≤ bindings_of first + recipes_of first + names s
+  pub most : bindings_of next + recipes_of next + identifiers_left q ≤ bindings_of first + recipes_of first + identifiers_left s
   pub constants : constants_of next ≡ constants_of first
-  pub whole : HaveDerivedFields done
+  pub fields : HaveDerivedFields done
 
 pub begins : (s : State) (first : Numerator) → s.depth ≡ 0 → IsReadTo s s first first []
-begins s first none = record { depth = none; read = laws.numbered_begin (items (counters_of first) s); least = omega arith; recipes_least = omega arith; most = omega arith; constants = refl; whole = none_whole }
+begins s first none = record { depth = none; read = laws.numbered_begin (items (counters_of first) s); least = omega arith; recipes_least = omega arith; most = omega arith; constants = refl; fields = none_fields }
 
 module _ (s q : State) (first next : Numerator) (done : List file.Item) (so_far : IsReadTo s q first next done) where
-  pub moved : IsMoved first next (names s)
+  pub moved : CountersMoved first next (identifiers_left s)
   moved = record { least = so_far.least; recipes_least = so_far.recipes_least; most_is = omega (arith, so_far.most); constants = so_far.constants }
 
   module _ (none : accept kinds.Eof q ≡ None) where
@@ -76,31 +76,31 @@ module _ (s q : State) (first next : Numerator) (done : List file.Item) (so_far 
     goes_on then new rest value keeps =
         let t = taken (map item_tree done) (map item_tree new) (counters_of then) rest (line (counters_of next) q) value in
         let moves = line_moves (counters_of next) q so_far.depth t.0 (counters_of then) rest t.1 in
-        let past = known {X = (Items × Counters) × State} ((t.0, counters_of then), rest) (λ x. length x.1.left < length q.left × (x.1.depth ≡ q.depth) × (x.1.run ≡ q.run)) t.1 (laws.line_goes leaves kept (counters_of next) q) in
+        let past = known {X = (Items × Counters) × State} ((t.0, counters_of then), rest) (λ x. length x.1.left < length q.left × (x.1.depth ≡ q.depth) × (x.1.run ≡ q.run)) t.1 (laws.line_goes leaves attribute_leaves (counters_of next) q) in
         record {
           depth = past.1 ∙ so_far.depth;
           read =
               ap (λ (l : Items). after_numbered l (items (counters_of then) rest)) (sym t.2)
-              ∙ sym (laws.items_go_on leaves kept (map item_tree done) (counters_of next) q t.0 (counters_of then) rest none t.1)
+              ∙ sym (laws.items_go_on leaves attribute_leaves (map item_tree done) (counters_of next) q t.0 (counters_of then) rest none t.1)
               ∙ so_far.read;
           least = omega (arith, so_far.least, moves.least);
           recipes_least = omega (arith, so_far.recipes_least, moves.recipes_least);
           most = omega (arith, so_far.most, moves.most);
           constants = moves.constants ∙ so_far.constants;
-          whole = then_whole done new so_far.whole keeps;
+          fields = then_fields done new so_far.fields keeps;
         }
 
     fails : (e : ReadError) → after_numbered (map item_tree done) (line (counters_of next) q) ≡ Err e → items (counters_of first) s ≡ Err e
-    fails e h = sym so_far.read ∙ laws.items_fail leaves kept (map item_tree done) (counters_of next) q e none (refused_first (map item_tree done) e (line (counters_of next) q) h)
+    fails e h = sym so_far.read ∙ laws.items_fail leaves attribute_leaves (map item_tree done) (counters_of next) q e none (refused_first (map item_tree done) e (line (counters_of next) q) h)
 
-    -- a line is refused, or wants a number
+    -- a line is refused, or no number is left for it
     pub errs : (error : ParseError) (left : State) (wanting : ReadError)
         → IsParseError error left (after_numbered (map item_tree done) (line (counters_of next) q) ≡ Err wanting) (after_numbered (map item_tree done) (line (counters_of next) q))
         → IsParseError error left (items (counters_of first) s ≡ Err wanting) (items (counters_of first) s)
     errs error left wanting h = failed (after_numbered (map item_tree done) (line (counters_of next) q)) (items (counters_of first) s) fails error left _ _ (fails wanting) h
 
     -- where a line moved the numerator, so is the file's
-    pub moved_on : (then : Numerator) → IsMoved next then (names q) → IsMoved first then (names s)
+    pub moved_on : (then : Numerator) → CountersMoved next then (identifiers_left q) → CountersMoved first then (identifiers_left s)
     moved_on then h =
         record {
           least = omega (arith, so_far.least, h.least);
@@ -113,13 +113,13 @@ module _ (s q : State) (first next : Numerator) (done : List file.Item) (so_far 
     abbrev item_rest_end : Unit {0} × State → ReadItems
     item_rest_end x = Ok (([], counters_of next), x.1)
 
-    end_by : (entries : List TableEntry) → files.end_of_tokens leaves kept (counters_of next) rest entries ≡ (reader.nothing_by rest entries >>= item_rest_end)
+    end_by : (entries : List TableEntry) → files.end_of_tokens leaves attribute_leaves (counters_of next) rest entries ≡ (reader.nothing_by rest entries >>= item_rest_end)
     end_by [] = refl
     end_by (t ∷ ts) = refl
 
     at_end_is : items (counters_of first) s ≡ after_numbered (map item_tree done) (read_nothing rest >>= item_rest_end)
     unfolding files.at_end read_nothing
-    at_end_is = sym so_far.read ∙ laws.items_at_end leaves kept (map item_tree done) (counters_of next) q end rest is ∙ ap (after_numbered (map item_tree done)) (end_by rest.left)
+    at_end_is = sym so_far.read ∙ laws.items_at_end leaves attribute_leaves (map item_tree done) (counters_of next) q end rest is ∙ ap (after_numbered (map item_tree done)) (end_by rest.left)
 
     pub ends : read_nothing rest ≡ Ok (tt, rest) → items (counters_of first) s ≡ Ok ((map item_tree done, counters_of next), rest)
     ends h = at_end_is ∙ ap (λ (f : Read (Unit {0})). after_numbered (map item_tree done) (f >>= item_rest_end)) h ∙ laws.numbered_nothing (map item_tree done) (counters_of next) rest
@@ -128,8 +128,8 @@ module _ (s q : State) (first next : Numerator) (done : List file.Item) (so_far 
     past e h = at_end_is ∙ ap (λ (f : Read (Unit {0})). after_numbered (map item_tree done) (f >>= item_rest_end)) h ∙ laws.numbered_refused (map item_tree done) e
 
     pub goes_past : (stop : ExpressionError) (IsShort : Type 0) → IsExpressionError stop rest ⊥ (read_nothing rest) → IsExpressionError stop rest IsShort (items (counters_of first) s)
-    goes_past (Refused r) IsShort h = past (refusal_at r rest) h
-    goes_past (Literal refused) IsShort h = past (literal_refusal refused.value.error) h
+    goes_past (Refused r) IsShort h = past (read_error_at r rest) h
+    goes_past (Literal refused) IsShort h = past (literal_read_error refused.value.error) h
     goes_past Memory IsShort h = tt
     goes_past Numbers IsShort h = absurd h
 

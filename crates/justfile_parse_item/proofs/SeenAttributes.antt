@@ -1,5 +1,5 @@
 -- The attributes of the code correspond to those that the definitions read.
-use Rattle.std.proofs.Common.{◌≡◌, ℕ, Bool, true, false, List, [], ◌∷◌, map, All, Option, Some, None, refl, sym, ap, subst, ◌∙◌}
+use Rattle.std.proofs.Common.{IfSome, ◌≡◌, ℕ, Bool, true, false, List, [], ◌∷◌, map, All, Option, Some, None, refl, sym, ap, subst, ◌∙◌}
 use Rattle.std.specs.Global.{Box}
 use Rattle.std.specs.Option.{option_map}
 use Rattle.justfile_attribute.specs.Attribute.{attribute_of, bound_by, leaf_attribute_of, literal_leaf, option_by, property_by, quoted_by, single_by}
@@ -47,9 +47,9 @@ use Rattle.justfile_expression.specs.Content.{token_content}
 use Rattle.justfile_expression.specs.LeafViews.{leaf_cooked, leaf_literal, leaf_token, views_leaves}
 use Rattle.justfile_expression.specs.LeafTree.{Leaf, leaf_tree_of}
 use Rattle.justfile_expression.specs.declared.expression.Expression.{Expression}
-use Rattle.justfile_parse_item.specs.Filled.{IfThere, IsFilledAttribute, IsFilledBoxed, IsFilledCount, IsFilledLiteral, IsFilledOption, IsFilledProperty}
+use Rattle.justfile_parse_item.specs.Filled.{IsFilledAttribute, IsFilledBoxed, IsFilledCount, IsFilledLiteral, IsFilledOption, IsFilledProperty}
 use Rattle.justfile_parse_expression.specs.TableReader as reader
-use Rattle.justfile_parse_item.specs.ItemTable.{kept}
+use Rattle.justfile_parse_item.specs.ItemTable.{attribute_leaves}
 use Rattle.justfile_parse_expression.specs.TableReader.{leaves}
 use Rattle.justfile_parse_expression.proofs.Seen as table
 use Rattle.justfile_parse_item.proofs.Seen as seeing
@@ -87,7 +87,7 @@ module _ (conditions : Conditions) (bound : ℕ) (IsToken : Token → Type 0) (f
 
   -- what may be absent
   pub if_seen : {Z T U : Type 0} {Rel : T → U → Type 0} (view : Z → T) (model_view : Z → U) (IsGood : Z → Type 0) → ((z : Z) (u : U) → Rel (view z) u → (u ≡ model_view z) × IsGood z)
-      → (o : Option Z) {ou : Option U} → AlikeOption Rel (option_map view o) ou → (ou ≡ option_map model_view o) × IfThere IsGood o
+      → (o : Option Z) {ou : Option U} → AlikeOption Rel (option_map view o) ou → (ou ≡ option_map model_view o) × IfSome o IsGood
   if_seen view model_view IsGood one None absent = (refl, tt)
   if_seen view model_view IsGood one (Some z) (present {y = u} h) = let x = one z u h in (ap Some x.0, x.1)
 
@@ -104,10 +104,10 @@ module _ (conditions : Conditions) (bound : ℕ) (IsToken : Token → Type 0) (f
   position_seen : (token : Token) (tok : Tok) → IsPosition token tok → (tok ≡ tok_of token) × IsToken token
   position_seen token tok h = (sym h.is, h.among)
 
-  pub optional_seen : (o : Option (Box Expression)) {ot : Option (Expr Tok Tok)} → AlikeOption (Alike seen) (option_map boxed_leaves o) ot → (ot ≡ option_map boxed_tree o) × IfThere (IsFilledBoxed conditions.expander IsToken) o
+  pub optional_seen : (o : Option (Box Expression)) {ot : Option (Expr Tok Tok)} → AlikeOption (Alike seen) (option_map boxed_leaves o) ot → (ot ≡ option_map boxed_tree o) × IfSome o (IsFilledBoxed conditions.expander IsToken)
   optional_seen o h = if_seen boxed_leaves boxed_tree (IsFilledBoxed conditions.expander IsToken) value_seen o h
 
-  positions_seen : (o : Option Token) {ot : Option Tok} → AlikeOption IsPosition (option_map own o) ot → (ot ≡ option_map tok_of o) × IfThere IsToken o
+  positions_seen : (o : Option Token) {ot : Option Tok} → AlikeOption IsPosition (option_map own o) ot → (ot ≡ option_map tok_of o) × IfSome o IsToken
   positions_seen o h = if_seen own tok_of IsToken position_seen o h
 
   property_seen : (p : Name × Box Expression) (q : Property Tok Tok) → AlikeProperty seen (property_by leaf_tree_of literal_leaf own p) q
@@ -115,7 +115,7 @@ module _ (conditions : Conditions) (bound : ℕ) (IsToken : Token → Type 0) (f
   property_seen p q h = let x = value_seen p.1 q.value h.value in ((λ i. record { key = sym h.key.is i; value = x.0 i }), (h.key.among, x.1))
 
   properties_seen : (o : Option (Name × Box Expression)) {oq : Option (Property Tok Tok)} → AlikeOption (AlikeProperty seen) (option_map (property_by leaf_tree_of literal_leaf own) o) oq
-      → (oq ≡ option_map (property_by expr_of literal_tok tok_of) o) × IfThere (IsFilledProperty conditions.expander IsToken) o
+      → (oq ≡ option_map (property_by expr_of literal_tok tok_of) o) × IfSome o (IsFilledProperty conditions.expander IsToken)
   properties_seen o h = if_seen (property_by leaf_tree_of literal_leaf own) (property_by expr_of literal_tok tok_of) (IsFilledProperty conditions.expander IsToken) property_seen o h
 
   option_seen : (key : Option Name) (l : Option strings.StringLiteral) {o : OptionName Tok Tok} → AlikeOptionName seen (option_by leaf_tree_of literal_leaf own key l) o
@@ -137,7 +137,7 @@ module _ (conditions : Conditions) (bound : ℕ) (IsToken : Token → Type 0) (f
     given : IsFilledAttribute conditions.expander IsToken at
 
   single_seen_by : (kind : AttributeKind) (o : Option (Box Expression)) {t : tree.Attribute Tok Tok} → AlikeAttribute seen (single_by leaf_tree_of literal_leaf own kind o) t
-      → (t ≡ single_by expr_of literal_tok tok_of kind o) × IfThere (IsFilledBoxed conditions.expander IsToken) o
+      → (t ≡ single_by expr_of literal_tok tok_of kind o) × IfSome o (IsFilledBoxed conditions.expander IsToken)
   single_seen_by kind None (plain k) = (refl, tt)
   single_seen_by kind (Some e) (single k {e' = t} h) = let x = value_seen e t h in (ap (tree.Single kind) x.0, x.1)
 
@@ -360,7 +360,7 @@ module _ (conditions : Conditions) (bound : ℕ) (IsToken : Token → Type 0) (f
       let named : kind_named w.name.lexeme ≡ Some h.kind = ap (λ (t : Tok). kind_named t.lexeme) h.name_is ∙ h.named in
       rw (named, m.meant) (λ i. Some (record { name = (h.name_is ∙ sym m.name_is) i; attribute = e.attribute; comment = (h.comment_is ∙ sym m.comment_is) i }))
 
-  pub keeping : Keeping seen leaves token_leaves kept.view token_view kept.keep kept.entry keep_both entry_read IsKept
+  pub keeping : Keeping seen leaves token_leaves attribute_leaves.view token_view attribute_leaves.keep attribute_leaves.entry keep_both entry_read IsKept
   keeping = record {
     sees = λ run C r. subst (λ (D : Conditions). SeesAlike seen views_leaves (views_tokens D.expander)) (sym r.same) sees_alike;
     kept = λ run C r w w' e e' ws es made made'. record {
@@ -387,7 +387,7 @@ module _ (conditions : Conditions) (bound : ℕ) (IsToken : Token → Type 0) (f
       let x = set_seen set (subst (λ (es : List (Entry Leaf Token)). Each (AlikeEntry seen) es (in_order (entry_cmp (views_tokens E)) (map entry_read ys))) (sym e) sorted) in
       (rw (all_mean h) (ap Some x.0), x.1)
 
-  pub attributed : RespectsAttributes seen leaves token_leaves kept token_attributes IsKept
+  pub attributed : RespectsAttributes seen leaves token_leaves attribute_leaves token_attributes IsKept
   attributed = record {
     keeping = keeping;
     attributes = λ run C r h. meant h;

@@ -1,5 +1,5 @@
 -- The derived values: what the parser adds to the parts of a tree besides their tokens.
-use Rattle.std.specs.Prelude.{◌≡◌, ◌≤◌, ◌↔◌, ◌⊎◌, ℕ, ◌+◌, length, map, Bool, false, List, Option, Some, None, Ok, IsSomeAnd, IsTrue, string_bytes, Contains, All}
+use Rattle.std.specs.Prelude.{IfSome, ◌≡◌, ◌≤◌, ◌↔◌, ◌⊎◌, ℕ, ◌+◌, length, map, Bool, false, List, Option, Some, None, Ok, IsSomeAnd, IsTrue, string_bytes, Contains, All}
 use Rattle.justfile_attribute.specs.New.{HasDerivedAttributeFields}
 use Rattle.justfile_attribute.specs.declared.attribute.Attribute.{Attribute}
 use Rattle.justfile_attribute.specs.declared.attribute.Attribute.TheVariants as attributes
@@ -57,7 +57,7 @@ pub record IsInTable (table : List TableEntry) (token : Token) : Type 0 where
   pub glued : Bool
   pub among : Contains table (record { token = record { ref_ptr = ref_ptr; now = token }; glued = glued })
 
--- Each feature was recorded at a token of the table.
+-- Each feature was noted at a token of the table.
 pub record AreNotedIn (table : List TableEntry) (features : List (ListFeature × Token)) : Type 0 where
   pub all : All (λ (x : ListFeature × Token). IsInTable table x.1) features
 
@@ -125,11 +125,6 @@ module _ (expander : Expansions) (IsToken : Token → Type 0) where
     AreFilledParts kind (format_row_more e literal others) =
         IsFilledExpression e × IsFilledPart IsToken kind (later_part others) literal × AreFilledParts kind others
 
--- If the part is present, `Holds` applies to it.
-abbrev pub IfThere : {X : Type 0} → (X → Type 0) → Option X → Type 0
-IfThere Holds None = Unit {0}
-IfThere Holds (Some x) = Holds x
-
 module _ (expander : Expansions) (IsToken : Token → Type 0) where
   -- The expression in the box has its derived values.
   abbrev pub IsFilledBoxed : Box Expression → Type 0
@@ -142,7 +137,7 @@ module _ (expander : Expansions) (IsToken : Token → Type 0) where
   -- The key without a value, or the literal of an option, has its derived values.
   abbrev pub IsFilledOption : (key : Option Name) → Option literals.StringLiteral → Type 0
   IsFilledOption (Some key) literal = IsToken key.token
-  IsFilledOption None literal = IfThere (IsFilledLiteral expander IsToken) literal
+  IsFilledOption None literal = IfSome literal (IsFilledLiteral expander IsToken)
 
   -- The key of a number is a token that `IsToken` allows.
   abbrev pub IsFilledCount : (key : Option Name) → Option ℕ → Type 0
@@ -156,19 +151,19 @@ module _ (expander : Expansions) (IsToken : Token → Type 0) where
   -- texts.
   abbrev pub IsFilledAttribute : Attribute → Type 0
   IsFilledAttribute (attributes.Arg flag help help_property long long_key max max_key min min_key multiple name pattern short short_key value) =
-      IfThere IsToken flag × IfThere IsFilledProperty help_property × IsFilledOption long_key long × IsFilledCount max_key max
-      × IsFilledCount min_key min × IfThere IsToken multiple × IsFilledLiteral expander IsToken name × IfThere IsFilledProperty pattern
-      × IsFilledOption short_key short × IfThere IsFilledBoxed value
+      IfSome flag IsToken × IfSome help_property IsFilledProperty × IsFilledOption long_key long × IsFilledCount max_key max
+      × IsFilledCount min_key min × IfSome multiple IsToken × IsFilledLiteral expander IsToken name × IfSome pattern IsFilledProperty
+      × IsFilledOption short_key short × IfSome value IsFilledBoxed
   IsFilledAttribute (attributes.Cache extra inputs outputs) =
-      IfThere IsFilledBoxed extra × IfThere IsFilledBoxed inputs × IfThere IsFilledBoxed outputs
-  IsFilledAttribute (attributes.Confirm value) = IfThere IsFilledBoxed value
-  IsFilledAttribute (attributes.Doc value) = IfThere IsFilledBoxed value
+      IfSome extra IsFilledBoxed × IfSome inputs IsFilledBoxed × IfSome outputs IsFilledBoxed
+  IsFilledAttribute (attributes.Confirm value) = IfSome value IsFilledBoxed
+  IsFilledAttribute (attributes.Doc value) = IfSome value IsFilledBoxed
   IsFilledAttribute (attributes.Env key value) = IsFilledBoxed key × IsFilledBoxed value
   IsFilledAttribute (attributes.Extension literal) = IsFilledLiteral expander IsToken literal
   IsFilledAttribute (attributes.Group literal) = IsFilledLiteral expander IsToken literal
   IsFilledAttribute (attributes.Metadata given) = All (IsFilledLiteral expander IsToken) given.items
-  IsFilledAttribute (attributes.Script interpreter) = IfThere IsFilledInterpreter interpreter
-  IsFilledAttribute (attributes.Timestamp value) = IfThere IsFilledBoxed value
+  IsFilledAttribute (attributes.Script interpreter) = IfSome interpreter IsFilledInterpreter
+  IsFilledAttribute (attributes.Timestamp value) = IfSome value IsFilledBoxed
   IsFilledAttribute (attributes.WorkingDirectory value) = IsFilledBoxed value
   IsFilledAttribute _ = Unit {0}
 
@@ -182,7 +177,7 @@ module _ (expander : Expansions) (IsToken : Token → Type 0) where
 
   -- The parameter's name is a token that `IsToken` allows, and its default has its derived values.
   abbrev pub IsFilledParameter : Parameter → Type 0
-  IsFilledParameter p = IsFilledName p.name × IfThere IsFilledBoxed p.default
+  IsFilledParameter p = IsFilledName p.name × IfSome p.default IsFilledBoxed
 
   abbrev pub IsFilledArgument : DependencyArgument → Type 0
   IsFilledArgument a = IsFilledBoxed a.expression
@@ -215,7 +210,7 @@ module _ (expander : Expansions) (IsToken : Token → Type 0) where
 
   -- The literal of a file's path has its derived values.
   abbrev pub IsFilledPath : Option literals.StringLiteral → Type 0
-  IsFilledPath relative = IfThere (IsFilledLiteral expander IsToken) relative
+  IsFilledPath relative = IfSome relative (IsFilledLiteral expander IsToken)
 
 pub record IsFilledAlias (expander : Expansions) (IsToken : Token → Type 0) (alias : aliases.Alias Namepath) : Type 0 where
   pub among : IsToken alias.name.token
@@ -271,7 +266,7 @@ pub record IsFilledRecipe (expander : Expansions) (IsToken : Token → Type 0) (
   -- the parameters have what the recipe's `arg` attributes set
   pub arg_attributes : HaveDerivedParameterFields (rules_of recipe.attributes) recipe.parameters.items
   pub dependencies : All (IsFilledDependency expander IsToken) recipe.dependencies.items
-  -- how many dependencies come before `&&`: all of them if there is no `&&`
+  -- at most all of the dependencies come before `&&`
   pub priors : recipe.priors ≤ length recipe.dependencies.items
   pub body : All (IsFilledLine expander IsToken) recipe.body.items
   pub file_depth_is : recipe.file_depth ≡ file_depth

@@ -31,8 +31,8 @@ has_shebang [] = false
 has_shebang (line ∷ lines) = is_shebang line
 
 -- what a tree holds of a construct's attributes: their meaning, in the order of their content
-abbrev pub kept : AttributeLeaves Run Leaf Token Entries (Entry Leaf Token)
-kept = record {
+abbrev pub attribute_leaves : AttributeLeaves Run Leaf Token Entries (Entry Leaf Token)
+attribute_leaves = record {
   view = λ run. views_leaves;
   keep = λ written entry. entry;
   entry = λ entry. entry;
@@ -81,41 +81,41 @@ abbrev pub accepted : TokenKind → State → Bool × State
 accepted = reading.accepted leaves
 
 abbrev pub alias : Entries → Counters → State → ReadItem
-alias = files.alias leaves kept
+alias = files.alias leaves attribute_leaves
 
 abbrev pub assignment : (eager export : Bool) → Entries → Counters → State → ReadItem
-assignment = files.assignment leaves kept
+assignment = files.assignment leaves attribute_leaves
 
 abbrev pub function : Entries → Counters → State → ReadItem
-function = files.function leaves kept
+function = files.function leaves attribute_leaves
 
 abbrev pub imported : (optional : Bool) → Entries → Counters → State → ReadItem
-imported = files.imported leaves kept
+imported = files.imported leaves attribute_leaves
 
 abbrev pub import : Entries → Counters → State → ReadItem
-import = files.import leaves kept
+import = files.import leaves attribute_leaves
 
 abbrev pub named_module : (optional : Bool) → Entries → Counters → State → ReadItem
-named_module = files.named_module leaves kept
+named_module = files.named_module leaves attribute_leaves
 
 abbrev pub any_module : Entries → Counters → State → ReadItem
-any_module = files.any_module leaves kept
+any_module = files.any_module leaves attribute_leaves
 
 abbrev pub setting : Entries → Counters → State → ReadItem
-setting = files.setting leaves kept
+setting = files.setting leaves attribute_leaves
 
 abbrev pub unexport : Entries → Counters → State → ReadItem
-unexport = files.unexport leaves kept
+unexport = files.unexport leaves attribute_leaves
 
 abbrev pub recipe : (quiet : Bool) → Entries → Counters → State → ReadItem
-recipe = files.recipe leaves kept
+recipe = files.recipe leaves attribute_leaves
 
 abbrev pub any_recipe : Entries → Counters → State → ReadItem
-any_recipe = files.any_recipe leaves kept
+any_recipe = files.any_recipe leaves attribute_leaves
 
 -- the attributes before a construct
 abbrev pub item_attributes : State → Read Entries
-item_attributes = files.attributes leaves kept
+item_attributes = files.attributes leaves attribute_leaves
 
 -- the entries in the order of their content
 abbrev pub in_content_order : Entries → Entries
@@ -123,55 +123,55 @@ in_content_order entries = in_order (entry_cmp views_leaves) entries
 
 -- the lines of attributes before a construct
 abbrev pub lines_of_attributes : State → Read Entries
-lines_of_attributes = attributes.attribute_lines leaves kept.view kept.keep kept.entry kept.comment
+lines_of_attributes = attributes.attribute_lines leaves attribute_leaves.view attribute_leaves.keep attribute_leaves.entry attribute_leaves.comment
 
 -- refuses attributes before a blank line or a comment, at their opening bracket
 abbrev pub before_item : (opener : TableEntry) → Entries × State → Read Entries
-before_item = files.before_item leaves kept
+before_item = files.before_item leaves attribute_leaves
 
 -- whether a blank line or a comment comes next
 abbrev pub stands_alone : State → Bool
-stands_alone = files.stands_alone leaves kept
+stands_alone = files.stands_alone leaves attribute_leaves
 
 -- checks that an item of this kind with this name may have these attributes
-abbrev pub allowed : ItemKind → Entries → TableEntry → State → Read (Unit {0})
-allowed = files.allowed leaves kept
+abbrev pub check_allowed : ItemKind → Entries → TableEntry → State → Read (Unit {0})
+check_allowed = files.check_allowed leaves attribute_leaves
 
 -- a construct without a keyword, after its attributes
-abbrev pub wordless : Entries → Counters → State → ReadItem
-wordless = files.wordless leaves kept
+abbrev pub without_keyword : Entries → Counters → State → ReadItem
+without_keyword = files.without_keyword leaves attribute_leaves
 
 -- a construct after its attributes
 abbrev pub content : Entries → Counters → State → ReadItem
-content = files.content leaves kept
+content = files.content leaves attribute_leaves
 
 abbrev pub construct : Counters → State → ReadItem
-construct = files.construct leaves kept
+construct = files.construct leaves attribute_leaves
 
-abbrev pub on_line : Counters → State → ReadItem
-on_line = files.on_line leaves kept
+abbrev pub any_item : Counters → State → ReadItem
+any_item = files.any_item leaves attribute_leaves
 
 abbrev pub line_end : State → Read (List (OrderedItem Leaf Token ℕ))
-line_end = files.line_end leaves kept
+line_end = files.line_end leaves attribute_leaves
 
-abbrev pub item_rest : State → Read (List (OrderedItem Leaf Token ℕ))
-item_rest = files.item_rest leaves kept
+abbrev pub after_item : State → Read (List (OrderedItem Leaf Token ℕ))
+after_item = files.after_item leaves attribute_leaves
 
-abbrev pub ended : (has_body : Bool) → State → Read (List (OrderedItem Leaf Token ℕ))
-ended = files.ended leaves kept
+abbrev pub item_end : (has_body : Bool) → State → Read (List (OrderedItem Leaf Token ℕ))
+item_end = files.item_end leaves attribute_leaves
 
 abbrev pub line : Counters → State → ReadItems
-line = files.line leaves kept
+line = files.line leaves attribute_leaves
 
 abbrev pub items : Counters → State → ReadItems
-items = files.items leaves kept
+items = files.items leaves attribute_leaves
 
 abbrev pub file : Counters → State → ReadItems
-file = files.file leaves kept
+file = files.file leaves attribute_leaves
 
 -- the state after a byte order mark, if one comes first
 abbrev pub after_mark : State → State
-after_mark = files.after_mark leaves kept
+after_mark = files.after_mark leaves attribute_leaves
 
 -- refuses tokens after the end of the file
 abbrev pub nothing_by : State → List TableEntry → Read (Unit {0})

@@ -5,4 +5,4 @@ pub mod ItemTable
 pub mod MethodResults
 pub mod Tree
 pub mod DerivedFields
-pub mod Words
+pub mod ConstructKeywords

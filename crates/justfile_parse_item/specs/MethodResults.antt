@@ -12,7 +12,7 @@ use Rattle.justfile_parse_expression.specs.TableReader.{State}
 use Rattle.justfile_expression.specs.LeafTree.{Leaf}
 
 -- Only bindings and recipes were given numbers, together at most `most`.
-pub record IsMoved (old new : Numerator) (most : ℕ) : Type 0 where
+pub record CountersMoved (old new : Numerator) (most : ℕ) : Type 0 where
   pub least : bindings_of old ≤ bindings_of new
   pub recipes_least : recipes_of old ≤ recipes_of new
   pub most_is : bindings_of new + recipes_of new ≤ bindings_of old + recipes_of old + most

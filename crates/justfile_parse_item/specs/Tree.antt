@@ -20,6 +20,8 @@ use Rattle.justfile_item.specs.declared.set.Set.{Set}
 use Rattle.justfile_token.specs.declared.token.Token.{Token}
 use Rattle.justfile_model.specs.Tree as tree
 use Rattle.justfile_model.specs.Tree.{Fragment, BodyLine, OrderedItem, Quoted, assignment_of}
+use Rattle.justfile_attribute_rules.specs.Made.{quoted_leaf}
+pub use Rattle.justfile_parse_item_parts.specs.Parts.{numbered_leaf}
 use Rattle.justfile_parse_header.specs.Tree.{dependency_tree, name_tree, parameter_tree, path_tree}
 use Rattle.justfile_setting.specs.LeafSetting.{leaf_value_of}
 use Rattle.justfile_setting.specs.Setting.{keyword_of}
@@ -42,24 +44,16 @@ assignment_tree a = tree.Construct (leaf_entries_of a.attributes) (tree.Assignme
 abbrev pub alias_tree : Alias Namepath → OrderedItem Leaf Token ℕ
 alias_tree a = tree.Construct (leaf_entries_of a.attributes) (tree.Alias (record { name = name_tree a.name; target = path_tree a.target }))
 
--- the name of a function's parameter, with its number
-abbrev pub numbered_tree : Name × Number → Leaf
-numbered_tree x = Named x.0.token (Some x.1)
-
 abbrev pub function_tree : FunctionDefinition → OrderedItem Leaf Token ℕ
 function_tree f =
-    tree.Construct (leaf_entries_of f.attributes) (tree.Function (record { name = name_tree f.name; parameters = map numbered_tree f.parameters.items; body = leaf_tree_of f.body.value }))
-
--- a literal outside of expressions
-abbrev pub quoted_tree : literals.StringLiteral → Quoted Leaf
-quoted_tree literal = record { expanded = literal.expand; token = Literal (literal_of literal) }
+    tree.Construct (leaf_entries_of f.attributes) (tree.Function (record { name = name_tree f.name; parameters = map numbered_leaf f.parameters.items; body = leaf_tree_of f.body.value }))
 
 abbrev pub import_tree : AttributeSet → (optional : Bool) → literals.StringLiteral → OrderedItem Leaf Token ℕ
-import_tree attributes optional relative = tree.Construct (leaf_entries_of attributes) (tree.Import (record { optional = optional; path = quoted_tree relative }))
+import_tree attributes optional relative = tree.Construct (leaf_entries_of attributes) (tree.Import (record { optional = optional; path = quoted_leaf relative }))
 
 abbrev pub module_tree : AttributeSet → (doc : Option (List ℕ)) (name : Name) (optional : Bool) → Option literals.StringLiteral → OrderedItem Leaf Token ℕ
 module_tree attributes doc name optional relative =
-    tree.Construct (leaf_entries_of attributes) (tree.Module (record { doc = doc; optional = optional; name = name_tree name; path = option_map quoted_tree relative }))
+    tree.Construct (leaf_entries_of attributes) (tree.Module (record { doc = doc; optional = optional; name = name_tree name; path = option_map quoted_leaf relative }))
 
 abbrev pub set_tree : Set → OrderedItem Leaf Token ℕ
 set_tree s = tree.Construct (leaf_entries_of s.attributes) (tree.Setting (record { keyword = keyword_of s.value.value; name = name_tree s.name; value = leaf_value_of s.value.value }))

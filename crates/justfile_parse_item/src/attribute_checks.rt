@@ -23,7 +23,7 @@ use std::alloc::Global;
 
 /// Checks that an item of this kind may have these attributes, and returns them as a set. `name` is
 /// the token of the item's name or path, where an error is reported.
-#[tactic(auto, using(crate::proofs::Constructs::is_allowed, crate::proofs::Constructs::is_disallowed, crate::proofs::Constructs::set_whole, crate::proofs::Constructs::whole_pairs))]
+#[tactic(auto, using(crate::proofs::Constructs::is_allowed, crate::proofs::Constructs::is_disallowed, crate::proofs::Constructs::set_fields, crate::proofs::Constructs::pair_fields))]
 pub(crate) fn check_allowed<'src>(
     alloc: Global,
     item: ItemKind,
@@ -31,12 +31,12 @@ pub(crate) fn check_allowed<'src>(
     name: TableEntry<'_, 'src>,
 ) -> Result<AttributeSet<'src>, ParseError<'src>>
     requires construct { IsConstruct item }
-    requires whole { HaveDerivedPairFields attributes.items }
+    requires fields { HaveDerivedPairFields attributes.items }
     ensures reads { (s : State) → ReadsRuled (λ _. tt) result s
-        (reader.allowed item (map entry_of_pair attributes.entry.items) name.entry s) }
+        (reader.check_allowed item (map entry_of_pair attributes.entry.items) name.entry s) }
     ensures entries { IfOk result (λ set. leaf_entries_of set
         ≡ reader.in_content_order (map entry_of_pair attributes.entry.items)) }
-    ensures whole { IfOk result HasDerivedSetAttributes }
+    ensures fields { IfOk result HasDerivedSetAttributes }
 {
     let set = AttributeSet::from_parsed(attributes)?;
     match set.ensure_valid_attributes(item, *name.token) {

@@ -2,10 +2,10 @@
 ghost use Rattle.std.specs.Prelude.{◌≡◌, ◌<◌, ◌≤◌, IfOk, OnOk, map};
 ghost use Rattle.justfile_model.specs.SignificantTokens.{identifiers};
 ghost use Rattle.justfile_parse_item.specs.ItemTable as reader;
-ghost use Rattle.justfile_parse_item.specs.MethodResults.{IsMoved};
+ghost use Rattle.justfile_parse_item.specs.MethodResults.{CountersMoved};
 ghost use Rattle.justfile_parse_item.specs.Tree.{item_tree};
 ghost use Rattle.justfile_parse_item.specs.DerivedFields.{HaveDerivedPairFields, HasDerivedItemFields};
-ghost use Rattle.justfile_parse_item.specs.Words.{word_taken, worded};
+ghost use Rattle.justfile_parse_item.specs.ConstructKeywords.{keyword_taken, after_keyword};
 ghost use Rattle.justfile_parse_attribute.specs.Attributes.{entry_of_pair};
 ghost use Rattle.justfile_parse_attribute.specs.ParseErrors.{ParsesRuled};
 ghost use Rattle.justfile_parse_expression.specs.MethodResults.{Takes};
@@ -13,15 +13,12 @@ ghost use Rattle.justfile_parse_expression.specs.Significant.{significant_of};
 ghost use Rattle.justfile_parse_expression.specs.View.{Moves, tokens_left, state_of};
 ghost use Rattle.justfile_parse_header.specs.Counting.{counters_of, ParsesCounted};
 
-use crate::alias::parse_alias;
 use crate::assignment::parse_assignment;
 use crate::attribute_checks::extraneous_error;
 use crate::function::parse_function;
-use crate::import::parse_import;
-use crate::module::parse_module;
 use crate::recipe::parse_any_recipe;
-use crate::set::parse_set;
-use crate::unexport::parse_unexport;
+use crate::short_item::{parse_alias, parse_set, parse_unexport};
+use crate::source::{parse_import, parse_module};
 use justfile_attribute::Attribute;
 use justfile_item::Item;
 use justfile_parse_attribute::{ParseError, parse_attributes, rule_error};
@@ -52,9 +49,9 @@ pub(crate) fn parse_construct<'src, X: Expander>(
     requires { (state_of X.answer parser.old).depth ≡ 0 }
     ensures reads { ParsesCounted X.answer item_tree result numerator.new parser.old parser.new
         (reader.construct (counters_of numerator.old)) }
-    ensures whole { IfOk result HasDerivedItemFields }
+    ensures fields { IfOk result HasDerivedItemFields }
     ensures progress { OnOk result (tokens_left parser.new < tokens_left parser.old) }
-    ensures moved { IsMoved numerator.old numerator.new
+    ensures moved { CountersMoved numerator.old numerator.new
         (identifiers (map significant_of (state_of X.answer parser.old).left)) }
 {
     let attributes = parse_item_attributes(parser)?;
@@ -68,7 +65,7 @@ fn parse_item_attributes<'src, X: Expander>(
 ) -> Result<Vec<(Attribute<'src>, Written<'src>)>, ParseError<'src>>
     ensures reads { ParsesRuled X.answer (λ pairs. map entry_of_pair pairs.items) result
         parser.old parser.new reader.item_attributes }
-    ensures whole { IfOk result (λ pairs. HaveDerivedPairFields pairs.items) }
+    ensures fields { IfOk result (λ pairs. HaveDerivedPairFields pairs.items) }
     ensures progress { OnOk result (tokens_left parser.new ≤ tokens_left parser.old) }
 {
     let Some(opener) = parser.peek_if(TokenKind::BracketL) else {
@@ -92,7 +89,7 @@ fn stands_alone<X: Expander>(parser: &ExpressionParser<'_, '_, X>) -> bool
 }
 
 /// Parses a construct after its attributes.
-#[tactic(auto, using(crate::proofs::Words::content_worded, crate::proofs::Words::content_wordless))]
+#[tactic(auto, using(crate::proofs::ConstructKeywords::content_after_keyword, crate::proofs::ConstructKeywords::content_without_keyword))]
 fn parse_content<'src, X: Expander>(
     parser: &mut ExpressionParser<'_, 'src, X>,
     attributes: Vec<(Attribute<'src>, Written<'src>)>,
@@ -101,25 +98,25 @@ fn parse_content<'src, X: Expander>(
     requires { HaveDerivedPairFields attributes.items }
     ensures reads { ParsesCounted X.answer item_tree result numerator.new parser.old parser.new
         (reader.content (map entry_of_pair attributes.entry.items) (counters_of numerator.old)) }
-    ensures whole { IfOk result HasDerivedItemFields }
+    ensures fields { IfOk result HasDerivedItemFields }
     ensures progress { OnOk result (tokens_left parser.new < tokens_left parser.old) }
-    ensures moved { IsMoved numerator.old numerator.new
+    ensures moved { CountersMoved numerator.old numerator.new
         (identifiers (map significant_of (state_of X.answer parser.old).left)) }
 {
     match accept_construct_keyword(parser) {
-        Some(word) => parse_after_keyword(word, parser, attributes, numerator),
+        Some(keyword) => parse_after_keyword(keyword, parser, attributes, numerator),
         None => parse_without_keyword(parser, attributes, numerator),
     }
 }
 
 /// Takes the keyword that the construct begins with, if it begins with one. A keyword is an
 /// ordinary name unless what follows it fits.
-#[tactic(auto, unfolding(crate::specs::Words::word_taken))]
+#[tactic(auto, unfolding(crate::specs::ConstructKeywords::keyword_taken))]
 fn accept_construct_keyword<X: Expander>(
     parser: &mut ExpressionParser<'_, '_, X>,
 ) -> Option<ConstructKeyword>
     ensures takes { Takes result (state_of X.answer parser.new)
-        (word_taken (state_of X.answer parser.old)) }
+        (keyword_taken (state_of X.answer parser.old)) }
     ensures moves { Moves result parser.old parser.new }
 {
     if let Some(_alias) = accept_keyword_before(parser, Keyword::Alias, Lookahead::Assignment) {
@@ -146,20 +143,21 @@ fn accept_construct_keyword<X: Expander>(
 
 /// Parses a construct after its attributes and this keyword.
 fn parse_after_keyword<'src, X: Expander>(
-    word: ConstructKeyword,
+    keyword: ConstructKeyword,
     parser: &mut ExpressionParser<'_, 'src, X>,
     attributes: Vec<(Attribute<'src>, Written<'src>)>,
     numerator: &mut Numerator,
 ) -> Result<Item<'src>, ParseError<'src>>
     requires { HaveDerivedPairFields attributes.items }
     ensures reads { ParsesCounted X.answer item_tree result numerator.new parser.old parser.new
-        (worded word (map entry_of_pair attributes.entry.items) (counters_of numerator.old)) }
-    ensures whole { IfOk result HasDerivedItemFields }
+        (after_keyword keyword (map entry_of_pair attributes.entry.items)
+        (counters_of numerator.old)) }
+    ensures fields { IfOk result HasDerivedItemFields }
     ensures progress { OnOk result (tokens_left parser.new < tokens_left parser.old) }
-    ensures moved { IsMoved numerator.old numerator.new
+    ensures moved { CountersMoved numerator.old numerator.new
         (identifiers (map significant_of (state_of X.answer parser.old).left)) }
 {
-    match word {
+    match keyword {
         ConstructKeyword::Alias => parse_alias(parser, attributes),
         ConstructKeyword::Eager => parse_assignment(parser, true, false, attributes, numerator),
         ConstructKeyword::Export => parse_assignment(parser, false, true, attributes, numerator),
@@ -171,7 +169,7 @@ fn parse_after_keyword<'src, X: Expander>(
 }
 
 /// Parses a construct without a keyword, after its attributes.
-#[tactic(auto, unfolding(justfile_model::specs::Reader::wordless))]
+#[tactic(auto, unfolding(justfile_model::specs::Reader::without_keyword))]
 fn parse_without_keyword<'src, X: Expander>(
     parser: &mut ExpressionParser<'_, 'src, X>,
     attributes: Vec<(Attribute<'src>, Written<'src>)>,
@@ -179,10 +177,11 @@ fn parse_without_keyword<'src, X: Expander>(
 ) -> Result<Item<'src>, ParseError<'src>>
     requires { HaveDerivedPairFields attributes.items }
     ensures reads { ParsesCounted X.answer item_tree result numerator.new parser.old parser.new
-        (reader.wordless (map entry_of_pair attributes.entry.items) (counters_of numerator.old)) }
-    ensures whole { IfOk result HasDerivedItemFields }
+        (reader.without_keyword (map entry_of_pair attributes.entry.items)
+        (counters_of numerator.old)) }
+    ensures fields { IfOk result HasDerivedItemFields }
     ensures progress { OnOk result (tokens_left parser.new < tokens_left parser.old) }
-    ensures moved { IsMoved numerator.old numerator.new
+    ensures moved { CountersMoved numerator.old numerator.new
         (identifiers (map significant_of (state_of X.answer parser.old).left)) }
 {
     if parser.peek_kinds(&[TokenKind::Identifier, TokenKind::ParenL]) {

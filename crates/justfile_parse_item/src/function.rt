@@ -2,7 +2,7 @@
 ghost use Rattle.std.specs.Prelude.{◌<◌, IfOk, OnOk, map};
 ghost use Rattle.justfile_model.specs.SignificantTokens.{identifiers};
 ghost use Rattle.justfile_parse_item.specs.ItemTable as reader;
-ghost use Rattle.justfile_parse_item.specs.MethodResults.{IsMoved};
+ghost use Rattle.justfile_parse_item.specs.MethodResults.{CountersMoved};
 ghost use Rattle.justfile_parse_item.specs.Tree.{item_tree};
 ghost use Rattle.justfile_parse_item.specs.DerivedFields.{HaveDerivedPairFields, HasDerivedItemFields};
 ghost use Rattle.justfile_parse_attribute.specs.Attributes.{entry_of_pair};
@@ -31,9 +31,9 @@ pub(crate) fn parse_function<'src, X: Expander>(
     requires { HaveDerivedPairFields attributes.items }
     ensures reads { ParsesCounted X.answer item_tree result numerator.new parser.old parser.new
         (reader.function (map entry_of_pair attributes.entry.items) (counters_of numerator.old)) }
-    ensures whole { IfOk result HasDerivedItemFields }
+    ensures fields { IfOk result HasDerivedItemFields }
     ensures progress { OnOk result (tokens_left parser.new < tokens_left parser.old) }
-    ensures moved { IsMoved numerator.old numerator.new
+    ensures moved { CountersMoved numerator.old numerator.new
         (identifiers (map significant_of (state_of X.answer parser.old).left)) }
 {
     let name = parser.expect(TokenKind::Identifier)?;

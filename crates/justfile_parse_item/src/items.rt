@@ -11,7 +11,7 @@ ghost use Rattle.justfile_model.specs.ReaderState.{prepend};
 ghost use Rattle.justfile_model.specs.PartReader.{after_numbered};
 ghost use Rattle.justfile_item.specs.declared.item.Item.TheVariants as variants;
 ghost use Rattle.justfile_parse_item.specs.ItemTable as reader;
-ghost use Rattle.justfile_parse_item.specs.MethodResults.{IsMoved};
+ghost use Rattle.justfile_parse_item.specs.MethodResults.{CountersMoved};
 ghost use Rattle.justfile_parse_expression.specs.MethodResults.{Reads, UnlessMemory};
 ghost use Rattle.justfile_parse_expression.specs.ParsedResults.{Parses};
 ghost use Rattle.justfile_parse_item.specs.DerivedFields.{HaveDerivedFields, HasDerivedItemFields, KeepsDerivedFields};
@@ -41,8 +41,8 @@ pub fn parse_items<'src, X: Expander>(
     requires { (state_of X.answer parser.old).depth ≡ 0 }
     ensures reads { ParsesCounted X.answer (λ items. map item_tree items.items) result numerator.new
         parser.old parser.new (reader.items (counters_of numerator.old)) }
-    ensures whole { IfOk result (λ items. HaveDerivedFields items.items) }
-    ensures moved { IsMoved numerator.old numerator.new
+    ensures fields { IfOk result (λ items. HaveDerivedFields items.items) }
+    ensures moved { CountersMoved numerator.old numerator.new
         (identifiers (map significant_of (state_of X.answer parser.old).left)) }
 {
     let mut items = Vec::new(parser.alloc);
@@ -71,7 +71,7 @@ fn expect_nothing<'src, X: Expander>(
 
 /// Parses a line, or an item of several lines, and appends its items. Requires that no expression
 /// is open.
-#[tactic(auto, using(crate::proofs::Lines::line_blank, crate::proofs::CounterSteps::unmoved, crate::proofs::DerivedItemFields::newline_whole))]
+#[tactic(auto, using(crate::proofs::Lines::line_blank, crate::proofs::CounterSteps::unmoved, crate::proofs::DerivedItemFields::newline_fields))]
 fn parse_line<'src, X: Expander>(
     parser: &mut ExpressionParser<'_, 'src, X>,
     items: &mut Vec<Item<'src>>,
@@ -81,9 +81,9 @@ fn parse_line<'src, X: Expander>(
     ensures reads { ParsesCounted X.answer (λ _. map item_tree items.new.items) result
         numerator.new parser.old parser.new (λ s. after_numbered (map item_tree items.old.items)
         (reader.line (counters_of numerator.old) s)) }
-    ensures whole { OnOk result (KeepsDerivedFields items.old.items items.new.items) }
+    ensures fields { OnOk result (KeepsDerivedFields items.old.items items.new.items) }
     ensures progress { OnOk result (tokens_left parser.new < tokens_left parser.old) }
-    ensures moved { IsMoved numerator.old numerator.new
+    ensures moved { CountersMoved numerator.old numerator.new
         (identifiers (map significant_of (state_of X.answer parser.old).left)) }
 {
     if let Some(_newline) = parser.accept(TokenKind::Eol) {
@@ -97,17 +97,17 @@ fn parse_line<'src, X: Expander>(
 }
 
 /// Parses an item that begins a line. Requires that no expression is open.
-#[tactic(auto, using(crate::proofs::CounterSteps::unmoved), unfolding(justfile_model::specs::Reader::on_line, justfile_parse_expression::specs::TableReader::leaves))]
+#[tactic(auto, using(crate::proofs::CounterSteps::unmoved), unfolding(justfile_model::specs::Reader::any_item, justfile_parse_expression::specs::TableReader::leaves))]
 fn parse_item<'src, X: Expander>(
     parser: &mut ExpressionParser<'_, 'src, X>,
     numerator: &mut Numerator,
 ) -> Result<Item<'src>, ParseError<'src>>
     requires { (state_of X.answer parser.old).depth ≡ 0 }
     ensures reads { ParsesCounted X.answer item_tree result numerator.new parser.old parser.new
-        (reader.on_line (counters_of numerator.old)) }
-    ensures whole { IfOk result HasDerivedItemFields }
+        (reader.any_item (counters_of numerator.old)) }
+    ensures fields { IfOk result HasDerivedItemFields }
     ensures progress { OnOk result (tokens_left parser.new < tokens_left parser.old) }
-    ensures moved { IsMoved numerator.old numerator.new
+    ensures moved { CountersMoved numerator.old numerator.new
         (identifiers (map significant_of (state_of X.answer parser.old).left)) }
 {
     if let Some(comment) = parser.accept(TokenKind::Comment) {
@@ -118,15 +118,15 @@ fn parse_item<'src, X: Expander>(
 
 /// Parses the end of an item, and appends the line end. After a body the next token begins a line
 /// already, so there the line end is added without a token.
-#[tactic(auto, using(crate::proofs::Lines::ended_body, crate::proofs::Lines::ended_after, crate::proofs::DerivedItemFields::newline_whole))]
+#[tactic(auto, using(crate::proofs::Lines::ended_body, crate::proofs::Lines::ended_after, crate::proofs::DerivedItemFields::newline_fields))]
 fn parse_item_end<'src, X: Expander>(
     parser: &mut ExpressionParser<'_, 'src, X>,
     has_body: bool,
     items: &mut Vec<Item<'src>>,
 ) -> Result<(), ExpressionError<'src>>
     ensures reads { Parses X.answer (λ _. map item_tree items.new.items) result parser.old
-        parser.new (λ s. prepend (map item_tree items.old.items) (reader.ended has_body s)) }
-    ensures whole { OnOk result (KeepsDerivedFields items.old.items items.new.items) }
+        parser.new (λ s. prepend (map item_tree items.old.items) (reader.item_end has_body s)) }
+    ensures fields { OnOk result (KeepsDerivedFields items.old.items items.new.items) }
     ensures progress { OnOk result (tokens_left parser.new ≤ tokens_left parser.old) }
 {
     if has_body {
@@ -144,8 +144,8 @@ fn parse_after_item<'src, X: Expander>(
     items: &mut Vec<Item<'src>>,
 ) -> Result<(), ExpressionError<'src>>
     ensures reads { Parses X.answer (λ _. map item_tree items.new.items) result
-        parser.old parser.new (λ s. prepend (map item_tree items.old.items) (reader.item_rest s)) }
-    ensures whole { OnOk result (KeepsDerivedFields items.old.items items.new.items) }
+        parser.old parser.new (λ s. prepend (map item_tree items.old.items) (reader.after_item s)) }
+    ensures fields { OnOk result (KeepsDerivedFields items.old.items items.new.items) }
     ensures progress { OnOk result (tokens_left parser.new ≤ tokens_left parser.old) }
 {
     match parser.accept(TokenKind::Comment) {
@@ -159,14 +159,14 @@ fn parse_after_item<'src, X: Expander>(
 
 /// Parses the end of a line, which is an item of its own, or finds the end of the file, which it
 /// doesn't take.
-#[tactic(auto, using(crate::proofs::Lines::line_end_closes, crate::proofs::Lines::line_end_newline, crate::proofs::DerivedItemFields::newline_whole, crate::proofs::DerivedItemFields::same_whole))]
+#[tactic(auto, using(crate::proofs::Lines::line_end_closes, crate::proofs::Lines::line_end_newline, crate::proofs::DerivedItemFields::newline_fields, crate::proofs::DerivedItemFields::same_fields))]
 fn parse_line_end<'src, X: Expander>(
     parser: &mut ExpressionParser<'_, 'src, X>,
     items: &mut Vec<Item<'src>>,
 ) -> Result<(), ExpressionError<'src>>
     ensures reads { Parses X.answer (λ _. map item_tree items.new.items) result
         parser.old parser.new (λ s. prepend (map item_tree items.old.items) (reader.line_end s)) }
-    ensures whole { OnOk result (KeepsDerivedFields items.old.items items.new.items) }
+    ensures fields { OnOk result (KeepsDerivedFields items.old.items items.new.items) }
     ensures progress { OnOk result (tokens_left parser.new ≤ tokens_left parser.old) }
 {
     if let Some(_end) = parser.peek_if(TokenKind::Eof) {
@@ -181,12 +181,13 @@ fn parse_line_end<'src, X: Expander>(
 fn make_comment<'src>(comment: Token<'src>) -> Item<'src>
     requires { IsTrue (starts_with nat_eq (lexeme_of comment) (codes "#")) }
     ensures tree { item_tree result ≡ tree.Comment (trim_end (lexeme_of comment.entry)) }
-    ensures whole { HasDerivedItemFields result }
+    ensures fields { HasDerivedItemFields result }
 {
     Item::Comment(comment.lexeme().trim_end())
 }
 
-/// Appends an item, and returns whether it has a body.
+/// Appends an item, and returns whether it has a body. It branches on the answer, because the
+/// checker can't check a `let` of it (`docs/TOOLCHAIN.md`, "could not tell").
 fn push_parsed<'src>(
     items: &mut Vec<Item<'src>>,
     item: Item<'src>,
@@ -217,7 +218,8 @@ fn push_known<'src>(
     Ok(has_body)
 }
 
-/// Whether the item is a recipe with a body.
+/// Whether the item is a recipe with a body. It wraps the method, to state the result over the tree
+/// of the item.
 fn is_bodied(item: &Item<'_>) -> bool
     ensures { result ≡ has_body (item_tree item.now) }
 {

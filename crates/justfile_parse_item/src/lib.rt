@@ -1,17 +1,15 @@
 //! From tokens to the items of a file, in their order and without docs.
 #![tactic(auto)]
 
-mod alias;
+mod accept;
 mod assignment;
 mod attribute_checks;
 mod body;
 mod construct;
 mod function;
-mod import;
 mod items;
-mod module;
 mod recipe;
-mod set;
-mod unexport;
+mod short_item;
+mod source;
 
 pub use crate::items::parse_items;

@@ -1,18 +1,20 @@
+//! Recipes, from their attributes to the ends of their bodies.
 ghost use Rattle.std.specs.Prelude.{◌≡◌, ◌<◌, ◌||◌, IfOk, OnErr, OnOk, map};
 ghost use Rattle.justfile_attribute_set.specs.AttributeSet.{attributes_of};
 ghost use Rattle.justfile_attribute_set.specs.Attributes.{has_kind};
 ghost use Rattle.justfile_vocabulary.specs.declared.attribute_kind.AttributeKind.TheVariants as kinds;
 ghost use Rattle.justfile_model.specs.SignificantTokens.{identifiers};
 ghost use Rattle.justfile_parse_item.specs.ItemTable as reader;
-ghost use Rattle.justfile_parse_item.specs.MethodResults.{IsMoved};
+ghost use Rattle.justfile_parse_item.specs.MethodResults.{CountersMoved};
 ghost use Rattle.justfile_parse_item.specs.Tree.{line_tree, recipe_tree};
 ghost use Rattle.justfile_parse_item.specs.DerivedFields.{HaveDerivedPairFields, HasDerivedRecipeFields};
 ghost use Rattle.justfile_parse_attribute.specs.Attributes.{entry_of_pair};
 ghost use Rattle.justfile_parse_expression.specs.Significant.{significant_of};
 ghost use Rattle.justfile_parse_expression.specs.TableReader.{State};
 ghost use Rattle.justfile_parse_expression.specs.View.{tokens_left, state_of};
-ghost use Rattle.justfile_parse_header.specs.Counting.{ReadsNumbered, counters_of, ParsesCounted};
+ghost use Rattle.justfile_parse_header.specs.Counting.{ReadsCountedExpression, counters_of, ParsesCounted};
 
+use crate::accept::accept_kind;
 use crate::attribute_checks::{check_exclusions, is_private_item};
 use crate::body::parse_body_after_header;
 use justfile_attribute::Attribute;
@@ -27,7 +29,7 @@ use justfile_vocabulary::{AttributeKind, Number, Numerator, TokenKind};
 use justfile_written::Written;
 
 /// Parses a recipe after its attributes, with or without `@` before its name.
-#[tactic(auto, unfolding(justfile_model::specs::Reader::any_recipe))]
+#[tactic(auto, using(crate::proofs::Recipes::any_recipe_is))]
 pub(crate) fn parse_any_recipe<'src, X: Expander>(
     parser: &mut ExpressionParser<'_, 'src, X>,
     attributes: Vec<(Attribute<'src>, Written<'src>)>,
@@ -36,20 +38,18 @@ pub(crate) fn parse_any_recipe<'src, X: Expander>(
     requires { HaveDerivedPairFields attributes.items }
     ensures reads { ParsesCounted X.answer recipe_tree result numerator.new parser.old parser.new
         (reader.any_recipe (map entry_of_pair attributes.entry.items) (counters_of numerator.old)) }
-    ensures whole { IfOk result HasDerivedRecipeFields }
+    ensures fields { IfOk result HasDerivedRecipeFields }
     ensures progress { OnOk result (tokens_left parser.new < tokens_left parser.old) }
-    ensures moved { IsMoved numerator.old numerator.new
+    ensures moved { CountersMoved numerator.old numerator.new
         (identifiers (map significant_of (state_of X.answer parser.old).left)) }
 {
-    match parser.accept(TokenKind::At) {
-        Some(_at) => parse_recipe(parser, attributes, true, numerator),
-        None => parse_recipe(parser, attributes, false, numerator),
-    }
+    let quiet = accept_kind(parser, TokenKind::At);
+    parse_recipe(parser, attributes, quiet, numerator)
 }
 
 /// Parses a recipe from its name to its end: its header, and its body if it has one, with the
 /// comment before the body. The recipe gets its number after its body.
-#[tactic(auto, using(crate::proofs::CounterSteps::unmoved, crate::proofs::Constructs::set_whole))]
+#[tactic(auto, using(crate::proofs::CounterSteps::unmoved, crate::proofs::Constructs::set_fields))]
 fn parse_recipe<'src, X: Expander>(
     parser: &mut ExpressionParser<'_, 'src, X>,
     attributes: Vec<(Attribute<'src>, Written<'src>)>,
@@ -60,9 +60,9 @@ fn parse_recipe<'src, X: Expander>(
     ensures reads { ParsesCounted X.answer recipe_tree result numerator.new parser.old parser.new
         (reader.recipe quiet (map entry_of_pair attributes.entry.items)
         (counters_of numerator.old)) }
-    ensures whole { IfOk result HasDerivedRecipeFields }
+    ensures fields { IfOk result HasDerivedRecipeFields }
     ensures progress { OnOk result (tokens_left parser.new < tokens_left parser.old) }
-    ensures moved { IsMoved numerator.old numerator.new
+    ensures moved { CountersMoved numerator.old numerator.new
         (identifiers (map significant_of (state_of X.answer parser.old).left)) }
 {
     let attributes = AttributeSet::from_parsed(attributes)?;
@@ -94,7 +94,7 @@ fn parse_recipe<'src, X: Expander>(
 /// Returns the number of the next recipe.
 #[tactic(auto, unfolding(justfile_model::specs::Reader::next_recipe_number, justfile_parse_expression::specs::TableReader::leaves))]
 fn next_recipe_number<'src>(numerator: &mut Numerator) -> Result<Number, ExpressionError<'src>>
-    ensures reads { (s : State) → ReadsNumbered (λ number. number.0) result numerator.new s
+    ensures reads { (s : State) → ReadsCountedExpression (λ number. number.0) result numerator.new s
         (reader.next_recipe_number (counters_of numerator.old) s) }
     ensures unmoved { OnErr result (numerator.new ≡ numerator.old) }
 {
@@ -123,7 +123,8 @@ fn has_shebang(lines: &[Line<'_>]) -> bool
     }
 }
 
-/// Whether the line begins with a text that begins with `#!`.
+/// Whether the line begins with a text that begins with `#!`. It wraps the method, to state the
+/// result over the tree of the line.
 fn is_shebang(line: &Line<'_>) -> bool
     ensures { result ≡ reader.is_shebang (line_tree line.now) }
 {

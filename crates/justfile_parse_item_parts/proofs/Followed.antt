@@ -8,18 +8,18 @@ use Rattle.justfile_model.specs.PartReader as parts
 use Rattle.justfile_model.specs.ReaderState as reading
 use Rattle.justfile_model.specs.ReaderState.{accept_by, at, begin_with, same_kind}
 use Rattle.justfile_parse_expression.specs.MethodResults.{Takes}
-use Rattle.justfile_parse_expression.specs.TableReader.{State, accept_word, leaves, next_are}
+use Rattle.justfile_parse_expression.specs.TableReader.{State, accept_keyword, leaves, next_are}
 use Rattle.justfile_parse_expression.specs.declared.significant.TableEntry.{TableEntry}
 use Rattle.justfile_parse_item_parts.specs.PartTable.{accept_keyword_before, follows, follows_past}
-use Rattle.justfile_parse_item_parts.specs.declared.words.Lookahead.{Lookahead}
-use Rattle.justfile_parse_item_parts.specs.declared.words.Lookahead.TheVariants as followings
+use Rattle.justfile_parse_item_parts.specs.declared.lookahead.Lookahead.{Lookahead}
+use Rattle.justfile_parse_item_parts.specs.declared.lookahead.Lookahead.TheVariants as followings
 
 either : {a b c d : Bool} → a ≡ b → c ≡ d → (a || c) ≡ (b || d)
 either h k = λ i. h i || k i
 
-module _ (word : List ℕ) (s : State) (w : TableEntry × State) (is : accept_word word s ≡ Some w) where
+module _ (word : List ℕ) (s : State) (w : TableEntry × State) (is : accept_keyword word s ≡ Some w) where
   past : (ks : List TokenKind) → next_are (kinds.Identifier ∷ ks) s ≡ next_are ks w.1
-  unfolding reading.accept_word reading.begin_with reading.is_word
+  unfolding reading.accept_keyword reading.begin_with reading.is_word
   past ks = go s.left is
     where
       first : (t : TableEntry) (ts : List TableEntry) (a b : Bool) → ◌≡◌ {A = Option (TableEntry × State)} (cond (a && b) (Some (t, at s ts)) None) (Some w)
@@ -57,7 +57,7 @@ module _ (word : List ℕ) (s : State) (w : TableEntry × State) (is : accept_wo
 
 module _ (word : List ℕ) (following : Lookahead) (s : State) where
   -- the word that is taken is taken before what follows it
-  pub taken : (found : Option TableEntry) (rest : State) → Takes found rest (accept_word word s) → follows_past following s ≡ true
+  pub taken : (found : Option TableEntry) (rest : State) → Takes found rest (accept_keyword word s) → follows_past following s ≡ true
       → Takes found rest (accept_keyword_before word (follows following) s)
   unfolding parts.accept_keyword_before
   taken (Some entry) rest is there =
@@ -67,17 +67,17 @@ module _ (word : List ℕ) (following : Lookahead) (s : State) where
 
   pub not_followed : follows_past following s ≡ false → accept_keyword_before word (follows following) s ≡ None
   unfolding parts.accept_keyword_before
-  not_followed none = go (accept_word word s) refl
+  not_followed none = go (accept_keyword word s) refl
     where
-      go : (o : Option (TableEntry × State)) → accept_word word s ≡ o → parts.if_follows leaves (follows following) o ≡ None
+      go : (o : Option (TableEntry × State)) → accept_keyword word s ≡ o → parts.if_follows leaves (follows following) o ≡ None
       go None is = refl
       go (Some w) is =
           let h : follows following w.1 ≡ false = sym (followed word s w is following) ∙ none in
           rw h refl
 
-  pub no_word : is_some (accept_word word s) ≡ false → accept_keyword_before word (follows following) s ≡ None
+  pub no_word : is_some (accept_keyword word s) ≡ false → accept_keyword_before word (follows following) s ≡ None
   unfolding parts.accept_keyword_before
-  no_word none = go (accept_word word s) none
+  no_word none = go (accept_keyword word s) none
     where
       go : (o : Option (TableEntry × State)) → is_some o ≡ false → parts.if_follows leaves (follows following) o ≡ None
       go None h = refl

@@ -16,9 +16,9 @@ use Rattle.justfile_parse_attribute.specs.ParseErrors.{IsParseError}
 use Rattle.justfile_parse_attribute.specs.declared.parse_error.ParseError.{ParseError}
 use Rattle.justfile_parse_expression.specs.TableReader.{Read, ReadError, State, accept, expect, leaves}
 use Rattle.justfile_parse_expression.specs.declared.significant.TableEntry.{TableEntry}
-use Rattle.justfile_parse_header.specs.Counting.{TookBindingNumbers, counters_of, names}
+use Rattle.justfile_parse_header.specs.Counting.{TookBindingNumbers, counters_of, identifiers_left}
 use Rattle.justfile_parse_header.specs.HeaderTable.{next_binding_number}
-use Rattle.justfile_parse_header.proofs.Draws.{both_drawn, none_drawn}
+use Rattle.justfile_parse_header.proofs.BindingNumbers.{took_both, took_none}
 use Rattle.justfile_parse_header.proofs.Fewer.{Fewer, either_fewer, expect_fewer, then_fewer}
 use Rattle.justfile_parse_header.proofs.HeaderErrors.{failed}
 use Rattle.justfile_parse_item_parts.specs.PartTable as reader
@@ -116,7 +116,7 @@ module _ (before : List Leaf) where
 -- from one place to another these names were read
 pub record IsReadTo (s q : State) (first next : Numerator) (done : List (Name × Number)) : Type 0 where
   pub read : after_numbered (numbered_leaves done) (reader.names (counters_of next, q)) ≡ reader.names (counters_of first, s)
-  pub drawn : TookBindingNumbers first next (names s) (names q)
+  pub numbers : TookBindingNumbers first next (identifiers_left s) (identifiers_left q)
 
 nothing_before : (found : Read Names) → after_numbered [] found ≡ found
 unfolding after_numbered
@@ -124,7 +124,7 @@ nothing_before (Ok x) = refl
 nothing_before (Err e) = refl
 
 pub begins : (s : State) (first : Numerator) → IsReadTo s s first first []
-begins s first = record { read = nothing_before (reader.names (counters_of first, s)); drawn = none_drawn first (names s) (names s) (omega arith) }
+begins s first = record { read = nothing_before (reader.names (counters_of first, s)); numbers = took_none first (identifiers_left s) (identifiers_left s) (omega arith) }
 
 module _ (s q : State) (first next : Numerator) (done : List (Name × Number)) (so_far : IsReadTo s q first next done) where
   abbrev Found : Read Step
@@ -133,17 +133,17 @@ module _ (s q : State) (first next : Numerator) (done : List (Name × Number)) (
   pub read_on : reader.names (counters_of first, s) ≡ (Found >>= after_step)
   read_on = sym so_far.read ∙ step_is (numbered_leaves done) (counters_of next) q
 
-  module _ (new : List (Name × Number)) (then : Numerator) (rest : State) (drawn : TookBindingNumbers next then (names q) (names rest)) where
+  module _ (new : List (Name × Number)) (then : Numerator) (rest : State) (numbers : TookBindingNumbers next then (identifiers_left q) (identifiers_left rest)) where
     pub ends : Found ≡ Ok (((numbered_leaves new, true), counters_of then), rest) → reader.names (counters_of first, s) ≡ Ok ((numbered_leaves new, counters_of then), rest)
     ends is = read_on ∙ ap (λ (o : Read Step). o >>= after_step) is
 
     pub goes_on : Found ≡ Ok (((numbered_leaves new, false), counters_of then), rest) → IsReadTo s rest first then new
-    goes_on is = record { read = sym (read_on ∙ ap (λ (o : Read Step). o >>= after_step) is); drawn = both_drawn first next then (names s) (names q) (names rest) so_far.drawn drawn }
+    goes_on is = record { read = sym (read_on ∙ ap (λ (o : Read Step). o >>= after_step) is); numbers = took_both first next then (identifiers_left s) (identifiers_left q) (identifiers_left rest) so_far.numbers numbers }
 
   fails : (e : ReadError) → Found ≡ Err e → reader.names (counters_of first, s) ≡ Err e
   fails e is = read_on ∙ ap (λ (o : Read Step). o >>= after_step) is
 
-  -- a name is refused, or wants a number
+  -- a name is refused, or no number is left for it
   pub errs : (error : ParseError) (left : State) (wanting : ReadError) → IsParseError error left (Found ≡ Err wanting) Found
       → IsParseError error left (reader.names (counters_of first, s) ≡ Err wanting) (reader.names (counters_of first, s))
   errs error left wanting h = failed Found (reader.names (counters_of first, s)) fails error left _ _ (fails wanting) h
@@ -162,7 +162,7 @@ module _ (old : List (Name × Number)) (first : Numerator) (s : State) where
       → next_binding_number (counters_of first) rest ≡ Ok ((number.0, counters_of next), rest) → name.token ≡ entry.token.now → new ≡ old ++ (name, number) ∷ []
       → one_name (numbered_leaves old) (counters_of first) s ≡ Ok ((numbered_leaves new, counters_of next), rest)
   unfolding one_name parts.numbered_name leaves
-  name_read entry rest name number next new taken drawn same is =
+  name_read entry rest name number next new taken numbers same is =
       let all : numbered_leaves new ≡ numbered_leaves old ++ Named entry.token.now (Some number) ∷ [] =
       ap numbered_leaves is ∙ map-append numbered_leaf old ((name, number) ∷ []) ∙ ap (λ (t : Token). numbered_leaves old ++ Named t (Some number) ∷ []) same in
-      rw (taken, drawn, all) refl
+      rw (taken, numbers, all) refl

@@ -24,7 +24,7 @@ use Rattle.justfile_expression.specs.LeafViews.{views_leaves}
 use Rattle.justfile_expression.specs.LeafTree.{Leaf, Literal, literal_of}
 
 module _ (current : VersionNumbers) (name : Token) (keyword : Keyword) (s : State) where
-  -- an expression that is no literal is no plain one
+  -- an expression that isn't a literal isn't a plain one
   pub no_literal : (e : Expr Leaf Token) → quoted e ≡ None → plain_made current name keyword e s ≡ Err (BreaksRule (record { rule = SettingExpression keyword; token = name }))
   no_literal (tree.StringLiteral expanded token) is = cc
   no_literal _ is = refl

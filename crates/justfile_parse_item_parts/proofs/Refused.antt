@@ -4,14 +4,14 @@ use Rattle.justfile_token.specs.declared.compile_error.CompileError.{CompileErro
 use Rattle.justfile_token.specs.declared.fault.Fault.{Fault}
 use Rattle.justfile_token.specs.declared.fault.Fault.TheVariants as faults
 use Rattle.justfile_model.specs.ReaderState as reading
-use Rattle.justfile_parse_attribute.specs.ParseErrors.{IsParseError, IsErrorOfFault, IsBrokenBy, IsFaultOf}
+use Rattle.justfile_parse_attribute.specs.ParseErrors.{IsParseError, IsErrorOfFault, IsErrorOfRead, IsFaultOf}
 use Rattle.justfile_parse_attribute.specs.declared.parse_error.ParseError.{ParseError}
-use Rattle.justfile_parse_attribute.specs.declared.parse_error.ParseError.TheVariants.{Unreadable, BrokenRule}
+use Rattle.justfile_parse_attribute.specs.declared.parse_error.ParseError.TheVariants.{Expression, Compile}
 use Rattle.justfile_parse_expression.specs.TableReader.{ReadError, State}
 use Rattle.justfile_parse_expression.specs.declared.expression_error.ExpressionError.TheVariants as causes
 
 -- whatever is read
-broken : (Y : Type 0) (refusal : ReadError) (e : CompileError) → IsBrokenBy {Y = Unit {0}} (Err refusal) e → IsBrokenBy {Y = Y} (Err refusal) e
+broken : (Y : Type 0) (refusal : ReadError) (e : CompileError) → IsErrorOfRead {Y = Unit {0}} (Err refusal) e → IsErrorOfRead {Y = Y} (Err refusal) e
 broken Y (reading.Unexpected t) e h = absurd h
 broken Y (reading.TooDeep t) e h = absurd h
 broken Y (reading.NotCooked fault t) e h = absurd h
@@ -24,16 +24,16 @@ broken Y (reading.NoNumber counters) e h = absurd h
 
 pub errs : (Y : Type 0) (refusal : ReadError) (fault : Fault) (failure : ParseError) (s : State) → IsErrorOfFault failure fault → IsFaultOf refusal fault
     → IsParseError {Y = Y} failure s ⊥ (Err refusal)
-errs Y refusal (faults.Compile e) (BrokenRule error) s h k = rw h (broken Y refusal e k)
-errs Y refusal faults.Memory (BrokenRule error) s h k = absurd h
-errs Y refusal faults.Numbers (BrokenRule error) s h k = absurd h
-errs Y refusal fault (Unreadable causes.Memory) s h k = tt
-errs Y refusal (faults.Compile e) (Unreadable causes.Numbers) s h k = absurd h
-errs Y refusal faults.Memory (Unreadable causes.Numbers) s h k = absurd h
-errs Y refusal faults.Numbers (Unreadable causes.Numbers) s h k = absurd k
-errs Y refusal (faults.Compile e) (Unreadable (causes.Refused r)) s h k = absurd h
-errs Y refusal faults.Memory (Unreadable (causes.Refused r)) s h k = absurd h
-errs Y refusal faults.Numbers (Unreadable (causes.Refused r)) s h k = absurd h
-errs Y refusal (faults.Compile e) (Unreadable (causes.Literal r)) s h k = absurd h
-errs Y refusal faults.Memory (Unreadable (causes.Literal r)) s h k = absurd h
-errs Y refusal faults.Numbers (Unreadable (causes.Literal r)) s h k = absurd h
+errs Y refusal (faults.Compile e) (Compile error) s h k = rw h (broken Y refusal e k)
+errs Y refusal faults.Memory (Compile error) s h k = absurd h
+errs Y refusal faults.Numbers (Compile error) s h k = absurd h
+errs Y refusal fault (Expression causes.Memory) s h k = tt
+errs Y refusal (faults.Compile e) (Expression causes.Numbers) s h k = absurd h
+errs Y refusal faults.Memory (Expression causes.Numbers) s h k = absurd h
+errs Y refusal faults.Numbers (Expression causes.Numbers) s h k = absurd k
+errs Y refusal (faults.Compile e) (Expression (causes.Refused r)) s h k = absurd h
+errs Y refusal faults.Memory (Expression (causes.Refused r)) s h k = absurd h
+errs Y refusal faults.Numbers (Expression (causes.Refused r)) s h k = absurd h
+errs Y refusal (faults.Compile e) (Expression (causes.Literal r)) s h k = absurd h
+errs Y refusal faults.Memory (Expression (causes.Literal r)) s h k = absurd h
+errs Y refusal faults.Numbers (Expression (causes.Literal r)) s h k = absurd h

@@ -120,7 +120,7 @@ pub interpreter_is : (s : State) → reader.interpreter s ≡ (expect kinds.Brac
 unfolding parts.interpreter
 interpreter_is s = bind_alike (expect kinds.BracketL s) _ _ (λ opener. bracketed opener.1)
 
--- a keyword names no setting
+-- a keyword isn't the name of a setting
 pub no_setting_fails : (name : TableEntry) (s : State) (operator : TableEntry) (from : State) (error : ParseError) (fault : Fault)
     → expect kinds.ColonEquals s ≡ Ok (operator, from) → IsErrorOfFault error fault → IsFaultOf (UnknownSetting name.token.now) fault
     → IsParseError error from ⊥ (reader.after_operator (reader.no_setting name) s)

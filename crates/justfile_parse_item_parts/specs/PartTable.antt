@@ -17,8 +17,8 @@ use Rattle.justfile_model.specs.Tree.{Expr, Quoted, SettingValue}
 use Rattle.justfile_parse_attribute.specs.AttributeTable.{separator, view_of}
 use Rattle.justfile_parse_expression.specs.TableReader.{Read, Sequence, State, accept, element, expect, leaves, next_are, read}
 use Rattle.justfile_parse_expression.specs.declared.significant.TableEntry.{TableEntry}
-use Rattle.justfile_parse_item_parts.specs.declared.words.Lookahead.{Lookahead}
-use Rattle.justfile_parse_item_parts.specs.declared.words.Lookahead.TheVariants as followings
+use Rattle.justfile_parse_item_parts.specs.declared.lookahead.Lookahead.{Lookahead}
+use Rattle.justfile_parse_item_parts.specs.declared.lookahead.Lookahead.TheVariants as followings
 use Rattle.justfile_expression.specs.LeafViews.{views_leaves}
 use Rattle.justfile_expression.specs.LeafTree.{Leaf, Literal, literal_of}
 

@@ -9,7 +9,7 @@ ghost use Rattle.justfile_parse_expression.specs.View.{tokens_left, state_of};
 ghost use Rattle.justfile_parse_item_parts.specs.PartTable as reader;
 ghost use Rattle.justfile_parse_item_parts.specs.Parts.{optional_path_tree, path_tree};
 
-use crate::refusals::expected_keyword;
+use crate::errors::expected_keyword_error;
 use justfile_parse_attribute::{ParseError, rule_error};
 use justfile_parse_expression::significant::TableEntry;
 use justfile_parse_expression::{ExpressionError, ExpressionParser, SyntaxError, is_word};
@@ -80,7 +80,7 @@ fn parse_mark<'src, X: Expander>(
     } else {
         Err(rule_error(
             parser.alloc,
-            expected_keyword(parser.alloc, &[Keyword::X], *mark.token),
+            expected_keyword_error(parser.alloc, &[Keyword::X], *mark.token),
         ))
     }
 }

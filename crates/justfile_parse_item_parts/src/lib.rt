@@ -2,14 +2,14 @@
 //! and the keywords that items begin with.
 #![tactic(auto)]
 
+mod errors;
 mod file_path;
+mod lookahead;
 mod parameter_names;
 mod plain;
-mod refusals;
 mod setting_value;
-mod words;
 
 pub use crate::file_path::{parse_file_path, parse_optional_path};
+pub use crate::lookahead::{Lookahead, accept_keyword_before, peek_assignment};
 pub use crate::parameter_names::parse_parameter_names;
 pub use crate::setting_value::{parse_setting_value, setting_keyword};
-pub use crate::words::{Lookahead, accept_keyword_before, peek_assignment};

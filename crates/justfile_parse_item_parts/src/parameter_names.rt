@@ -1,7 +1,7 @@
 //! The parameters of functions.
 ghost use Rattle.std.specs.Prelude.{◌≡◌, ◌<◌, ◌≤◌, false, IfOk, OnOk};
 ghost use Rattle.justfile_parse_expression.specs.View.{tokens_left, state_of};
-ghost use Rattle.justfile_parse_header.specs.Counting.{TookBindingNumbers, counters_of, names, names_after, ParsesCounted};
+ghost use Rattle.justfile_parse_header.specs.Counting.{TookBindingNumbers, counters_of, identifiers_left, identifiers_left_after, ParsesCounted};
 ghost use Rattle.justfile_parse_item_parts.specs.PartTable as reader;
 ghost use Rattle.justfile_parse_item_parts.specs.Parts.{numbered_leaves};
 
@@ -22,8 +22,9 @@ pub fn parse_parameter_names<'src, X: Expander>(
 ) -> Result<Vec<(Name<'src>, Number)>, ParseError<'src>>
     ensures reads { ParsesCounted X.answer (λ parameters. numbered_leaves parameters.items) result
         numerator.new parser.old parser.new (λ s. reader.names (counters_of numerator.old, s)) }
-    ensures drawn { TookBindingNumbers numerator.old numerator.new
-        (names (state_of X.answer parser.old)) (names_after result (state_of X.answer parser.new)) }
+    ensures numbers { TookBindingNumbers numerator.old numerator.new
+        (identifiers_left (state_of X.answer parser.old))
+        (identifiers_left_after result (state_of X.answer parser.new)) }
     ensures progress { OnOk result (tokens_left parser.new < tokens_left parser.old) }
 {
     let mut parameters = Vec::new(parser.alloc);
@@ -46,8 +47,9 @@ fn parse_next_name<'src, X: Expander>(
         (λ is_last. (numbered_leaves parameters.new.items, is_last))
         result numerator.new parser.old parser.new
         (reader.names_step (numbered_leaves parameters.old.items) (counters_of numerator.old)) }
-    ensures drawn { TookBindingNumbers numerator.old numerator.new
-        (names (state_of X.answer parser.old)) (names_after result (state_of X.answer parser.new)) }
+    ensures numbers { TookBindingNumbers numerator.old numerator.new
+        (identifiers_left (state_of X.answer parser.old))
+        (identifiers_left_after result (state_of X.answer parser.new)) }
     ensures progress { OnOk result (tokens_left parser.new < tokens_left parser.old) }
 {
     if let Some(_closer) = parser.accept(TokenKind::ParenR) {
@@ -67,8 +69,9 @@ fn parse_numbered_name<'src, X: Expander>(
     ensures reads { ParsesCounted X.answer
         (λ _. numbered_leaves parameters.new.items) result numerator.new parser.old parser.new
         (reader.one_name (numbered_leaves parameters.old.items) (counters_of numerator.old)) }
-    ensures drawn { TookBindingNumbers numerator.old numerator.new
-        (names (state_of X.answer parser.old)) (names_after result (state_of X.answer parser.new)) }
+    ensures numbers { TookBindingNumbers numerator.old numerator.new
+        (identifiers_left (state_of X.answer parser.old))
+        (identifiers_left_after result (state_of X.answer parser.new)) }
     ensures progress { OnOk result (tokens_left parser.new < tokens_left parser.old) }
 {
     let name = parser.expect(TokenKind::Identifier)?;

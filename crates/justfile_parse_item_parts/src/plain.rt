@@ -38,20 +38,20 @@ pub(crate) fn make_plain<'src>(
     ensures reads { (s : State) → ReadsRuled leaf_value_of result s (reader.plain_made
         (version_numbers current) name.entry keyword (leaf_tree_of value.entry.value) s) }
     ensures keyword { IfOk result (λ setting. keyword_of setting ≡ keyword) }
-    ensures whole { IfOk result HasDerivedSettingFields }
+    ensures fields { IfOk result HasDerivedSettingFields }
 {
-    let Some(literal) = literal_of(value) else {
-        return Err(rule_error(alloc, setting_expression(name, keyword)));
+    let Some(literal) = into_literal(value) else {
+        return Err(rule_error(alloc, setting_expression_error(name, keyword)));
     };
-    if !is_plain(&literal) {
-        return Err(rule_error(alloc, setting_expression(name, keyword)));
+    if !is_plain_literal(&literal) {
+        return Err(rule_error(alloc, setting_expression_error(name, keyword)));
     }
     make_literal(alloc, current, keyword, literal)
 }
 
 /// Returns the literal that an expression is, or `None` if it isn't one.
 #[tactic(auto, using(justfile_attribute_rules::proofs::Quoted::not_quoted))]
-fn literal_of(value: Box<Expression<'_>>) -> Option<StringLiteral<'_>>
+fn into_literal(value: Box<Expression<'_>>) -> Option<StringLiteral<'_>>
     ensures literal { IfSome result (λ literal. leaf_tree_of value.entry.value
         ≡ tree.StringLiteral literal.expand (Literal (literal_of literal))) }
     ensures none { IfNone result (quoted (leaf_tree_of value.entry.value) ≡ None) }
@@ -71,7 +71,7 @@ fn make_literal<'src>(
     ensures reads { (s : State) → ReadsRuled leaf_value_of result s
         (reader.literal_made (version_numbers current) keyword literal.entry s) }
     ensures keyword { IfOk result (λ setting. keyword_of setting ≡ keyword) }
-    ensures whole { IfOk result HasDerivedSettingFields }
+    ensures fields { IfOk result HasDerivedSettingFields }
 {
     match keyword {
         Keyword::Indentation => make_indentation(alloc, literal),
@@ -80,7 +80,7 @@ fn make_literal<'src>(
 }
 
 /// Whether a literal is neither expanded nor in triple quotes.
-fn is_plain(literal: &StringLiteral<'_>) -> bool
+fn is_plain_literal(literal: &StringLiteral<'_>) -> bool
     ensures { result
         ≡ (not literal.now.expand && not (kind_of (lexeme_of literal.now.token)).indented) }
 {
@@ -96,11 +96,11 @@ fn make_indentation<'src>(
     ensures reads { (current : VersionNumbers) (s : State) → ReadsRuled leaf_value_of result s
         (reader.literal_made current words.Indentation literal.entry s) }
     ensures keyword { IfOk result (λ setting. keyword_of setting ≡ words.Indentation) }
-    ensures whole { IfOk result HasDerivedSettingFields }
+    ensures fields { IfOk result HasDerivedSettingFields }
 {
     match literal.cooked.as_str().parse::<Indentation>() {
         Ok(indentation) => Ok(Setting::Indentation(literal, indentation)),
-        Err(message) => Err(rule_error(alloc, invalid_indentation(literal.token, message))),
+        Err(message) => Err(rule_error(alloc, invalid_indentation_error(literal.token, message))),
     }
 }
 
@@ -113,23 +113,23 @@ fn make_minimum_version<'src>(
     ensures reads { (s : State) → ReadsRuled leaf_value_of result s
         (reader.literal_made (version_numbers current) words.MinimumVersion literal.entry s) }
     ensures keyword { IfOk result (λ setting. keyword_of setting ≡ words.MinimumVersion) }
-    ensures whole { IfOk result HasDerivedSettingFields }
+    ensures fields { IfOk result HasDerivedSettingFields }
 {
     match literal.cooked.as_str().parse::<Version>() {
         Ok(minimum) if current < minimum => Err(rule_error(
             alloc,
-            minimum_version(literal.token, current, minimum),
+            minimum_version_error(literal.token, current, minimum),
         )),
         Ok(_minimum) => Ok(Setting::MinimumVersion(literal)),
         Err(source) => Err(rule_error(
             alloc,
-            invalid_minimum_version(literal.token, source, literal.cooked),
+            invalid_minimum_version_error(literal.token, source, literal.cooked),
         )),
     }
 }
 
 /// Makes the fault for an expression that isn't a plain literal.
-fn setting_expression<'src>(name: Token<'src>, setting: Keyword) -> Fault<'src>
+fn setting_expression_error<'src>(name: Token<'src>, setting: Keyword) -> Fault<'src>
     ensures { IsFaultOf (BreaksRule
         (record { rule = rules.SettingExpression setting; token = name.entry })) result }
 {
@@ -137,7 +137,7 @@ fn setting_expression<'src>(name: Token<'src>, setting: Keyword) -> Fault<'src>
 }
 
 /// Makes the fault for a text that isn't an indentation, with the reason as `message`.
-fn invalid_indentation<'src>(token: Token<'src>, message: &'static str) -> Fault<'src>
+fn invalid_indentation_error<'src>(token: Token<'src>, message: &'static str) -> Fault<'src>
     ensures { IsFaultOf (BreaksRule
         (record { rule = rules.InvalidIndentation message.now; token = token.entry })) result }
 {
@@ -145,7 +145,7 @@ fn invalid_indentation<'src>(token: Token<'src>, message: &'static str) -> Fault
 }
 
 /// Makes the fault for a text that isn't a version.
-fn invalid_minimum_version<'src>(
+fn invalid_minimum_version_error<'src>(
     token: Token<'src>,
     source: &'static str,
     version: String,
@@ -159,8 +159,15 @@ fn invalid_minimum_version<'src>(
 }
 
 /// Makes the fault for a version that is later than the running one.
-fn minimum_version<'src>(token: Token<'src>, current: Version, minimum: Version) -> Fault<'src>
-    ensures { IsFaultOf (BreaksRule (record { rule = rules.MinimumVersion (version_numbers minimum) (version_numbers current); token = token.entry })) result }
+fn minimum_version_error<'src>(
+    token: Token<'src>,
+    current: Version,
+    minimum: Version,
+) -> Fault<'src>
+    ensures { IsFaultOf (BreaksRule (record {
+      rule = rules.MinimumVersion (version_numbers minimum) (version_numbers current);
+      token = token.entry;
+    })) result }
 {
     Fault::Compile(token.error(CompileErrorKind::MinimumVersion { current, minimum }))
 }

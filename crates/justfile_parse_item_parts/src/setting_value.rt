@@ -14,8 +14,8 @@ ghost use Rattle.justfile_setting.specs.LeafSetting.{leaf_value_of};
 ghost use Rattle.justfile_setting.specs.Setting.{HasDerivedSettingFields, keyword_of};
 ghost use Rattle.justfile_expression.specs.LeafTree.{leaf_tree_of, trees_of};
 
+use crate::errors::{expected_keyword_error, unknown_setting_error};
 use crate::plain::make_plain;
-use crate::refusals::{expected_keyword, unknown_setting};
 use justfile_attribute::Interpreter;
 use justfile_expression::Expression;
 use justfile_parse_attribute::{ParseError, rule_error};
@@ -40,7 +40,7 @@ pub fn setting_keyword<'src>(
 {
     match Keyword::from_lexeme(name.token.lexeme()) {
         Some(keyword) => Ok(keyword),
-        None => Err(rule_error(alloc, unknown_setting(*name.token))),
+        None => Err(rule_error(alloc, unknown_setting_error(*name.token))),
     }
 }
 
@@ -57,7 +57,7 @@ pub fn parse_setting_value<'src, X: Expander>(
     ensures reads { ParsesRuled X.answer leaf_value_of result parser.old parser.new
         (reader.setting_value name.entry keyword (forms.setting_form keyword)) }
     ensures keyword { IfOk result (λ setting. keyword_of setting ≡ keyword) }
-    ensures whole { IfOk result HasDerivedSettingFields }
+    ensures fields { IfOk result HasDerivedSettingFields }
     ensures progress { OnOk result (tokens_left parser.new ≤ tokens_left parser.old) }
 {
     match setting_form(keyword) {
@@ -78,7 +78,7 @@ fn parse_truth_setting<'src, X: Expander>(
     requires { forms.setting_form keyword ≡ Some forms.TruthForm }
     ensures reads { ParsesRuled X.answer leaf_value_of result parser.old parser.new reader.truth }
     ensures keyword { IfOk result (λ setting. keyword_of setting ≡ keyword) }
-    ensures whole { IfOk result HasDerivedSettingFields }
+    ensures fields { IfOk result HasDerivedSettingFields }
     ensures progress { OnOk result (tokens_left parser.new ≤ tokens_left parser.old) }
 {
     let value = parse_truth(parser)?;
@@ -112,7 +112,7 @@ fn find_truth<'src>(alloc: Global, word: TableEntry<'_, 'src>) -> Result<bool, P
     } else {
         Err(rule_error(
             alloc,
-            expected_keyword(alloc, &[Keyword::True, Keyword::False], *word.token),
+            expected_keyword_error(alloc, &[Keyword::True, Keyword::False], *word.token),
         ))
     }
 }
@@ -127,7 +127,7 @@ fn parse_expression_setting<'src, X: Expander>(
     ensures reads { ParsesRuled X.answer leaf_value_of result parser.old parser.new
         (reader.after_operator reader.expression_value) }
     ensures keyword { IfOk result (λ setting. keyword_of setting ≡ keyword) }
-    ensures whole { IfOk result HasDerivedSettingFields }
+    ensures fields { IfOk result HasDerivedSettingFields }
     ensures progress { OnOk result (tokens_left parser.new < tokens_left parser.old) }
 {
     parser.expect(TokenKind::ColonEquals)?;
@@ -144,7 +144,7 @@ fn parse_interpreter_setting<'src, X: Expander>(
     ensures reads { ParsesRuled X.answer leaf_value_of result parser.old parser.new
         (reader.after_operator reader.interpreter) }
     ensures keyword { IfOk result (λ setting. keyword_of setting ≡ keyword) }
-    ensures whole { IfOk result HasDerivedSettingFields }
+    ensures fields { IfOk result HasDerivedSettingFields }
     ensures progress { OnOk result (tokens_left parser.new < tokens_left parser.old) }
 {
     parser.expect(TokenKind::ColonEquals)?;
@@ -210,7 +210,7 @@ fn parse_plain_setting<'src, X: Expander>(
     ensures reads { ParsesRuled X.answer leaf_value_of result parser.old parser.new
         (reader.after_operator (reader.plain_value name.entry keyword)) }
     ensures keyword { IfOk result (λ setting. keyword_of setting ≡ keyword) }
-    ensures whole { IfOk result HasDerivedSettingFields }
+    ensures fields { IfOk result HasDerivedSettingFields }
     ensures progress { OnOk result (tokens_left parser.new < tokens_left parser.old) }
 {
     parser.expect(TokenKind::ColonEquals)?;
@@ -228,5 +228,5 @@ fn refuse_setting<'src, X: Expander>(
     ensures never { OnOk result ⊥ }
 {
     parser.expect(TokenKind::ColonEquals)?;
-    Err(rule_error(parser.alloc, unknown_setting(*name.token)))
+    Err(rule_error(parser.alloc, unknown_setting_error(*name.token)))
 }

@@ -3,32 +3,32 @@ use Rattle.std.specs.Prelude.{◌≡◌, Option, None, Some, String, string_byte
 use Rattle.std.specs.Global.{Global}
 use Rattle.std.specs.List.{AllZip}
 use Rattle.justfile_token.specs.Namepath.{names_in}
-use Rattle.justfile_expression.specs.Copies.{IsSameExpression, IsSameOption}
+use Rattle.justfile_expression.specs.Copies.{IsSameExpression, IsSameBoxed, IsSameIfPresent}
 use Rattle.justfile_recipe_header.specs.declared.parameter.Parameter.{Parameter}
 use Rattle.justfile_recipe_header.specs.declared.unresolved_dependency.DependencyArgument.{DependencyArgument}
 use Rattle.justfile_recipe_header.specs.declared.unresolved_dependency.UnresolvedDependency.{UnresolvedDependency}
 
 -- a copy of an optional text
-abbrev pub IsSameText : (copy original : Option (String Global)) → Type 0
-IsSameText None None = Unit {0}
-IsSameText (Some copy) (Some original) = string_bytes copy ≡ string_bytes original
-IsSameText _ _ = ⊥
+abbrev pub IsSameOptionalText : (copy original : Option (String Global)) → Type 0
+IsSameOptionalText None None = Unit {0}
+IsSameOptionalText (Some copy) (Some original) = string_bytes copy ≡ string_bytes original
+IsSameOptionalText _ _ = ⊥
 
 -- a copy of a parameter: all fields are the same
 pub record IsSameParameter (copy original : Parameter) : Type 0 where
-  pub default : IsSameOption copy.default original.default
+  pub default : IsSameIfPresent IsSameBoxed copy.default original.default
   pub export : copy.export ≡ original.export
   pub flag : copy.flag ≡ original.flag
-  pub help : IsSameText copy.help original.help
+  pub help : IsSameOptionalText copy.help original.help
   pub kind : copy.kind ≡ original.kind
-  pub long : IsSameText copy.long original.long
+  pub long : IsSameOptionalText copy.long original.long
   pub max : copy.max ≡ original.max
   pub min : copy.min ≡ original.min
   pub multiple : copy.multiple ≡ original.multiple
   pub name : copy.name ≡ original.name
   pub number : copy.number ≡ original.number
   pub short : copy.short ≡ original.short
-  pub value : IsSameOption copy.value original.value
+  pub value : IsSameIfPresent IsSameBoxed copy.value original.value
 
 -- a copy of an argument: all fields are the same
 pub record IsSameArgument (copy original : DependencyArgument) : Type 0 where

@@ -107,13 +107,13 @@ abbrev pub subsequents_text_of : List UnresolvedDependency → List ℕ
 subsequents_text_of subsequents = printing.subsequents_text (dependency_shapes subsequents)
 
 -- the texts of the literals of an optional expression, in order
-abbrev pub option_cooked : Option (Box Expression) → List (List ℕ)
-option_cooked None = []
-option_cooked (Some e) = expr_cooked e.value
+abbrev pub default_cooked : Option (Box Expression) → List (List ℕ)
+default_cooked None = []
+default_cooked (Some e) = expr_cooked e.value
 
 -- the texts of a parameter's literals, in order
 abbrev pub parameter_cooked : Parameter → List (List ℕ)
-parameter_cooked p = option_cooked p.default
+parameter_cooked p = default_cooked p.default
 
 -- the texts of the literals of an argument, in order
 abbrev pub argument_cooked : DependencyArgument → List (List ℕ)

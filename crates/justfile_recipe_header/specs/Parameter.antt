@@ -18,6 +18,6 @@ abbrev pub is_positive : Option ℕ → Bool
 is_positive None = false
 is_positive (Some n) = nat_lt 0 n
 
--- it has no default, isn't a flag, and takes at least one argument
+-- it has no default, isn't a flag, and either its kind isn't `*` or its `min` is above 0
 abbrev pub is_required : Parameter → Bool
 is_required p = is_none p.default && (not p.flag && (not (is_star p.kind) || is_positive p.min))

@@ -15,4 +15,5 @@ pub use crate::unresolved_dependency::{
     DependencyArgument, UnresolvedDependency, write_dependencies, write_dependency,
     write_subsequents,
 };
+pub use crate::write_to::put_piece_if;
 pub use justfile_model::ParameterKind;

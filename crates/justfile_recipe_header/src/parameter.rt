@@ -1,12 +1,13 @@
-ghost use Rattle.std.specs.Prelude.{◌≡◌, ◌++◌, OnOk, OnErr, IfOk, codes};
-ghost use Rattle.justfile_model.specs.Printing.{fixed_text, if_true};
+//! Parameters of recipes.
+ghost use Rattle.std.specs.Prelude.{◌≡◌, ◌++◌, IfOk};
+ghost use Rattle.justfile_expression.specs.Sink.{Puts};
 ghost use Rattle.justfile_recipe_header.specs.Header.{default_text, parameter_text_of, parameters_text};
 ghost use Rattle.justfile_recipe_header.specs.Parameter.{is_positive};
 
 use crate::parameter_kind::prefix;
-use crate::try_clone::{TryClone, copy_option, copy_text};
-use crate::write_to::{WriteTo, write_each};
-use justfile_expression::{Expression, Sink, put_piece, write_expression};
+use crate::try_clone::{TryClone, copy_optional_text};
+use crate::write_to::{WriteTo, put_piece_if, write_each};
+use justfile_expression::{Expression, Sink, copy_optional, put_piece, write_expression};
 use justfile_model::ParameterKind;
 use justfile_token::Name;
 use justfile_vocabulary::Number;
@@ -52,16 +53,16 @@ impl<'src> Parameter<'src> {
     pub fn clone(&self, alloc: Global) -> Result<Self, AllocError>
         ensures { IfOk result (λ copy. IsSameParameter copy self.now) }
     {
-        let default = copy_option(alloc, &self.default)?;
-        let value = copy_option(alloc, &self.value)?;
-        let help = copy_text(alloc, &self.help)?;
+        let default = copy_optional(alloc, &self.default)?;
+        let value = copy_optional(alloc, &self.value)?;
+        let help = copy_optional_text(alloc, &self.help)?;
         Ok(Parameter {
             default,
             export: self.export,
             flag: self.flag,
             help,
             kind: self.kind,
-            long: copy_text(alloc, &self.long)?,
+            long: copy_optional_text(alloc, &self.long)?,
             max: self.max,
             min: self.min,
             multiple: self.multiple,
@@ -79,8 +80,8 @@ impl<'src> Parameter<'src> {
         self.long.is_some() || self.short.is_some()
     }
 
-    /// Whether an argument is required: the parameter has no default and isn't a flag, and its kind
-    /// isn't `*`, unless `min` is above 0.
+    /// Whether an argument is required: the parameter has no default, isn't a flag, and either its
+    /// kind isn't `*` or its `min` is above 0.
     pub fn is_required(&self) -> bool
         ensures { result ≡ is_required self.now }
     {
@@ -137,21 +138,12 @@ fn is_positive(number: Option<u64>) -> bool
 
 /// Writes the text of a parameter.
 pub fn write_parameter<S: Sink>(parameter: &Parameter<'_>, sink: &mut S) -> Result<(), S::Fault>
-    ensures ok { OnOk result (S.took sink.old (parameter_text_of parameter.now) sink.new) }
-    ensures err { OnErr result (S.failed sink.old (parameter_text_of parameter.now) sink.new) }
+    ensures { Puts S.took S.failed sink.old result (parameter_text_of parameter.now) sink.new }
 {
     sink.put(prefix(parameter.kind))?;
-    write_export(parameter.export, sink)?;
+    put_piece_if(parameter.export, "$", sink)?;
     sink.put(parameter.name.lexeme())?;
     write_default(&parameter.default, sink)
-}
-
-/// Writes the `$` of an exported parameter.
-fn write_export<S: Sink>(export: bool, sink: &mut S) -> Result<(), S::Fault>
-    ensures ok { OnOk result (S.took sink.old (if_true export (fixed_text (codes "$"))) sink.new) }
-    ensures err { OnErr result (S.failed sink.old (if_true export (fixed_text (codes "$"))) sink.new) }
-{
-    if export { put_piece("$", sink) } else { Ok(()) }
 }
 
 /// Writes the default of a parameter with `=` before it, or nothing if there is none.
@@ -159,8 +151,7 @@ fn write_default<S: Sink>(
     default: &Option<Box<Expression<'_>>>,
     sink: &mut S,
 ) -> Result<(), S::Fault>
-    ensures ok { OnOk result (S.took sink.old (default_text default.now) sink.new) }
-    ensures err { OnErr result (S.failed sink.old (default_text default.now) sink.new) }
+    ensures { Puts S.took S.failed sink.old result (default_text default.now) sink.new }
 {
     match default {
         None => Ok(()),
@@ -174,8 +165,7 @@ fn write_default<S: Sink>(
 /// Writes the parameters of a recipe, each after a space.
 #[tactic(auto, using(crate::proofs::Parts::parameters_parts))]
 pub fn write_parameters<S: Sink>(parameters: &[Parameter<'_>], sink: &mut S) -> Result<(), S::Fault>
-    ensures ok { OnOk result (S.took sink.old (parameters_text parameters.now) sink.new) }
-    ensures err { OnErr result (S.failed sink.old (parameters_text parameters.now) sink.new) }
+    ensures { Puts S.took S.failed sink.old result (parameters_text parameters.now) sink.new }
 {
     write_each(" ", parameters, sink)?;
     Ok(())

@@ -1,7 +1,8 @@
 //! Printing of the path of a recipe.
-ghost use Rattle.std.specs.Prelude.{OnOk, OnErr};
+
 ghost use Rattle.justfile_token.specs.Name.{name_text};
 ghost use Rattle.justfile_token.specs.Namepath.{namepath_text};
+ghost use Rattle.justfile_expression.specs.Sink.{Puts};
 ghost use Rattle.justfile_recipe_header.specs.Header.{names_text};
 
 use crate::write_to::{WriteTo, write_each};
@@ -18,8 +19,7 @@ impl WriteTo for Name<'_> {
 
 /// Writes the names of a path with `::` between them.
 pub fn write_namepath<S: Sink>(path: &Namepath<'_>, sink: &mut S) -> Result<(), S::Fault>
-    ensures ok { OnOk result (S.took sink.old (namepath_text path.now) sink.new) }
-    ensures err { OnErr result (S.failed sink.old (namepath_text path.now) sink.new) }
+    ensures { Puts S.took S.failed sink.old result (namepath_text path.now) sink.new }
 {
     write_names(path.iter().as_slice(), sink)
 }
@@ -27,8 +27,7 @@ pub fn write_namepath<S: Sink>(path: &Namepath<'_>, sink: &mut S) -> Result<(), 
 /// Writes names with `::` between them.
 #[tactic(auto, using(crate::proofs::Parts::names_parts))]
 fn write_names<S: Sink>(names: &[Name<'_>], sink: &mut S) -> Result<(), S::Fault>
-    ensures ok { OnOk result (S.took sink.old (names_text names.now) sink.new) }
-    ensures err { OnErr result (S.failed sink.old (names_text names.now) sink.new) }
+    ensures { Puts S.took S.failed sink.old result (names_text names.now) sink.new }
 {
     let Some((first, rest)) = names.split_first() else {
         return Ok(());

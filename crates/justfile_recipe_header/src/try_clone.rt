@@ -1,10 +1,8 @@
 //! Copies of optional values and of lists.
 ghost use Rattle.std.specs.Prelude.{IfOk};
 ghost use Rattle.std.specs.List.{AllZip};
-ghost use Rattle.justfile_expression.specs.Copies.{IsSameExpression, IsSameOption};
-ghost use Rattle.justfile_recipe_header.specs.Copies.{IsSameText};
+ghost use Rattle.justfile_recipe_header.specs.Copies.{IsSameOptionalText};
 
-use justfile_expression::Expression;
 use std::alloc::{AllocError, Global};
 
 /// Values that can be copied, if memory suffices.
@@ -29,35 +27,14 @@ pub fn clone_all<T: TryClone>(alloc: Global, originals: &[T]) -> Result<Vec<T>, 
 }
 
 /// Returns a copy of an optional text.
-pub fn copy_text(alloc: Global, text: &Option<String>) -> Result<Option<String>, AllocError>
-    ensures { IfOk result (λ copy. IsSameText copy text.now) }
+pub fn copy_optional_text(
+    alloc: Global,
+    text: &Option<String>,
+) -> Result<Option<String>, AllocError>
+    ensures { IfOk result (λ copy. IsSameOptionalText copy text.now) }
 {
     match text {
         None => Ok(None),
         Some(text) => Ok(Some(text.as_str().to_string(alloc)?)),
     }
-}
-
-/// Returns a copy of an optional expression.
-pub(crate) fn copy_option<'src>(
-    alloc: Global,
-    expression: &Option<Box<Expression<'src>>>,
-) -> Result<Option<Box<Expression<'src>>>, AllocError>
-    ensures { IfOk result (λ copy. IsSameOption copy expression.now) }
-{
-    match expression {
-        None => Ok(None),
-        Some(expression) => Ok(Some(copy_boxed(alloc, expression)?)),
-    }
-}
-
-/// Returns a copy of an expression in a box of its own.
-pub(crate) fn copy_boxed<'src>(
-    alloc: Global,
-    expression: &Expression<'src>,
-) -> Result<Box<Expression<'src>>, AllocError>
-    ensures { IfOk result (λ copy. IsSameExpression copy.value expression.now) }
-{
-    let copy = expression.clone(alloc)?;
-    Ok(Box::new(alloc, copy)?)
 }

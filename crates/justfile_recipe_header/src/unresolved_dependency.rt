@@ -1,12 +1,14 @@
-ghost use Rattle.std.specs.Prelude.{◌≡◌, ◌++◌, OnOk, OnErr, IfOk};
+//! Dependencies of recipes, and their arguments.
+ghost use Rattle.std.specs.Prelude.{◌≡◌, ◌++◌, IfOk};
 ghost use Rattle.std.specs.List.{list_any};
+ghost use Rattle.justfile_expression.specs.Sink.{Puts};
 ghost use Rattle.justfile_recipe_header.specs.Copies.{IsSameArgument, IsSameDependency};
 ghost use Rattle.justfile_recipe_header.specs.Header.{argument_text, call_text, dependencies_text, dependency_text_of, is_starred, star_text, subsequents_text_of};
 
 use crate::path::write_namepath;
-use crate::try_clone::{TryClone, clone_all, copy_boxed};
+use crate::try_clone::{TryClone, clone_all};
 use crate::write_to::{WriteTo, write_each};
-use justfile_expression::{Expression, Sink, put_piece, write_expression};
+use justfile_expression::{Expression, Sink, copy_boxed, put_piece, write_expression};
 use justfile_token::Namepath;
 use std::alloc::{AllocError, Global};
 use std::fmt;
@@ -141,8 +143,7 @@ pub fn write_dependency<S: Sink>(
     dependency: &UnresolvedDependency<'_>,
     sink: &mut S,
 ) -> Result<(), S::Fault>
-    ensures ok { OnOk result (S.took sink.old (dependency_text_of dependency.now) sink.new) }
-    ensures err { OnErr result (S.failed sink.old (dependency_text_of dependency.now) sink.new) }
+    ensures { Puts S.took S.failed sink.old result (dependency_text_of dependency.now) sink.new }
 {
     if dependency.arguments.is_empty() {
         write_namepath(&dependency.recipe, sink)
@@ -153,8 +154,7 @@ pub fn write_dependency<S: Sink>(
 
 /// Writes the text of a dependency with its arguments, in parentheses.
 fn write_call<S: Sink>(dependency: &UnresolvedDependency<'_>, sink: &mut S) -> Result<(), S::Fault>
-    ensures ok { OnOk result (S.took sink.old (call_text dependency.now) sink.new) }
-    ensures err { OnErr result (S.failed sink.old (call_text dependency.now) sink.new) }
+    ensures { Puts S.took S.failed sink.old result (call_text dependency.now) sink.new }
 {
     write_star(dependency.starred(), sink)?;
     put_piece("(", sink)?;
@@ -165,8 +165,7 @@ fn write_call<S: Sink>(dependency: &UnresolvedDependency<'_>, sink: &mut S) -> R
 
 /// Writes the `*` of a starred argument or dependency.
 fn write_star<S: Sink>(starred: bool, sink: &mut S) -> Result<(), S::Fault>
-    ensures ok { OnOk result (S.took sink.old (star_text starred) sink.new) }
-    ensures err { OnErr result (S.failed sink.old (star_text starred) sink.new) }
+    ensures { Puts S.took S.failed sink.old result (star_text starred) sink.new }
 {
     if starred {
         put_piece("*", sink)
@@ -182,8 +181,7 @@ pub fn write_subsequents<S: Sink>(
     subsequents: &[UnresolvedDependency<'_>],
     sink: &mut S,
 ) -> Result<(), S::Fault>
-    ensures ok { OnOk result (S.took sink.old (subsequents_text_of subsequents.now) sink.new) }
-    ensures err { OnErr result (S.failed sink.old (subsequents_text_of subsequents.now) sink.new) }
+    ensures { Puts S.took S.failed sink.old result (subsequents_text_of subsequents.now) sink.new }
 {
     if subsequents.is_empty() {
         return Ok(());
@@ -199,8 +197,7 @@ pub fn write_dependencies<S: Sink>(
     dependencies: &[UnresolvedDependency<'_>],
     sink: &mut S,
 ) -> Result<(), S::Fault>
-    ensures ok { OnOk result (S.took sink.old (dependencies_text dependencies.now) sink.new) }
-    ensures err { OnErr result (S.failed sink.old (dependencies_text dependencies.now) sink.new) }
+    ensures { Puts S.took S.failed sink.old result (dependencies_text dependencies.now) sink.new }
 {
     write_each(" ", dependencies, sink)?;
     Ok(())

@@ -1,7 +1,8 @@
 //! Values that are written in a list, each after the same text.
-ghost use Rattle.std.specs.Prelude.{ℕ, List, ◌++◌, OnOk, OnErr};
+ghost use Rattle.std.specs.Prelude.{ℕ, List, ◌++◌};
 ghost use Rattle.std.specs.List.{flat_map};
-ghost use Rattle.justfile_model.specs.Printing.{fixed_text};
+ghost use Rattle.justfile_model.specs.Printing.{fixed_text, if_true};
+ghost use Rattle.justfile_expression.specs.Sink.{Puts};
 
 use justfile_expression::{Sink, put_piece};
 
@@ -12,8 +13,7 @@ pub(crate) trait WriteTo {
 
     /// Writes the text of the value.
     fn write<S: Sink>(&self, sink: &mut S) -> Result<(), S::Fault>
-        ensures ok { OnOk result (S.took sink.old (piece_text self.now) sink.new) }
-        ensures err { OnErr result (S.failed sink.old (piece_text self.now) sink.new) };
+        ensures { Puts S.took S.failed sink.old result (piece_text self.now) sink.new };
 }
 
 /// Writes several values, each after the text `before`.
@@ -22,8 +22,8 @@ pub(crate) fn write_each<P: WriteTo, S: Sink>(
     pieces: &[P],
     sink: &mut S,
 ) -> Result<(), S::Fault>
-    ensures ok { OnOk result (S.took sink.old (flat_map (λ p. fixed_text before.now ++ P.piece_text p) pieces.now) sink.new) }
-    ensures err { OnErr result (S.failed sink.old (flat_map (λ p. fixed_text before.now ++ P.piece_text p) pieces.now) sink.new) }
+    ensures { Puts S.took S.failed sink.old result
+        (flat_map (λ p. fixed_text before.now ++ P.piece_text p) pieces.now) sink.new }
 {
     for piece in pieces {
         write_after(before, piece, sink)?;
@@ -33,9 +33,21 @@ pub(crate) fn write_each<P: WriteTo, S: Sink>(
 
 /// Writes the text `before`, and then a value.
 fn write_after<P: WriteTo, S: Sink>(before: &str, piece: &P, sink: &mut S) -> Result<(), S::Fault>
-    ensures ok { OnOk result (S.took sink.old (fixed_text before.now ++ P.piece_text piece.now) sink.new) }
-    ensures err { OnErr result (S.failed sink.old (fixed_text before.now ++ P.piece_text piece.now) sink.new) }
+    ensures { Puts S.took S.failed sink.old result
+        (fixed_text before.now ++ P.piece_text piece.now) sink.new }
 {
     put_piece(before, sink)?;
     piece.write(sink)
+}
+
+/// Writes a fixed piece of text if `present` is set.
+pub fn put_piece_if<S: Sink>(present: bool, piece: &str, sink: &mut S) -> Result<(), S::Fault>
+    ensures { Puts S.took S.failed sink.old result
+        (if_true present (fixed_text piece.now)) sink.new }
+{
+    if present {
+        put_piece(piece, sink)
+    } else {
+        Ok(())
+    }
 }

@@ -19,7 +19,7 @@ use Rattle.justfile_round_trip.proofs.Canon.{Shown, Values, Pieces, space, word,
 use Rattle.justfile_round_trip.proofs.Good.{significant, closes, ends_value}
 use Rattle.justfile_round_trip.proofs.Ends.{End, OfName, OfValue, OfOpen, OfClosed, tail, EndsIn, ValueEndsIn, SameHead, same_head, value_head, expression_head}
 
--- ---- what follows
+-- ---- the tokens that follow
 
 abbrev pub is_string : TokenKind → Bool
 is_string kinds.StringToken = true
@@ -30,7 +30,7 @@ abbrev pub glued_string : Tokens → Bool
 glued_string [] = false
 glued_string (t ∷ ts) = is_string t.tok.kind && t.glued
 
--- nothing goes on: a string that would be marked, a comparison, `&&`, `||`
+-- none of these follows: a string that the name before it would mark, a comparison, `&&`, `||`
 pub record StopC (ts : Tokens) : Type 0 where
   pub apart : glued_string ts ≡ false
 
@@ -141,7 +141,7 @@ unmarked_apart m ts h = record { expanded = marked_apart (codes "x") kinds.Strin
 no_bool : true ≡ false → ⊥
 no_bool e = cc
 
--- ---- what comes first
+-- ---- the first token
 
 pub next_head : {b : Bool} (kind : TokenKind) {ts us : Tokens} → SameHead b ts us → NotNext kind ts → NotNext kind us
 next_head kind (same_head e f g) h = λ x. h (e ∙ x)
@@ -182,7 +182,7 @@ is_marked w kind l = record { marks = is_word w; is_string = refl; glued = refl 
 no_features : {A B : Type 0} {leaf : Tok → A} {position : Tok → B} {MayEnter : ℕ → Option SignificantToken → Type 0} {kind : TokenKind} {d : ℕ} {fs : List (Noted B)} {ts rest : Tokens} → Sequence leaf position MayEnter kind d tree.none fs ts rest → fs ≡ []
 no_features (g.none kind) = refl
 
--- what stands under a limit does so with less above it
+-- an expression that is below the limit at a depth is below it at a lesser depth
 pub lower : (limit d d' : ℕ) (a b : Option SignificantToken) → d' ≤ d → BelowLimit limit d a → BelowLimit limit d' b
 lower limit d d' a b le h = omega (arith, le, h)
 

@@ -17,9 +17,9 @@ use Rattle.justfile_model.specs.PrintedAttributes.{rewritten_entries}
 use Rattle.justfile_round_trip.proofs.Good.{significant, ends_value, GoodOptionalComment}
 use Rattle.justfile_round_trip.proofs.GoodAttributes.{is_literal, GoodArgument, GoodArguments, AllGoodWritten, GoodEntries}
 
--- ---- what comes first, and what follows
+-- ---- the first token, and the tokens that follow
 
--- there is a token
+-- the list has a token
 data Begun : Tokens → Type 0 where
   begun : {t : SignificantToken} {ts : Tokens} → Begun (t ∷ ts)
 
@@ -42,13 +42,13 @@ string_no_key : (t : SignificantToken) (ts : Tokens) → IsKind kinds.StringToke
 string_no_key t [] kind k = let bad : kinds.StringToken ≡ kinds.Identifier = sym kind ∙ k in cc
 string_no_key t (u ∷ ts) kind k = let bad : kinds.StringToken ≡ kinds.Identifier = sym kind ∙ k.0 in cc
 
--- a literal is no key
+-- a literal isn't a key
 literal_no_key : (e : canon.Value) (glued : Bool) (on : List Mark) → is_literal e ≡ true → IsKey (significant glued (expr_marks e on)) → ⊥
 literal_no_key (tree.StringLiteral true l) glued on h k = k.1 (record { marks = record { is_name = refl; spelled = refl }; is_string = refl; glued = refl })
 literal_no_key (tree.StringLiteral false l) glued on h k = string_no_key _ _ refl k
 literal_no_key _ glued on h k = cc
 
--- whether what follows attributes is glued: only where there are none, since each ends its line
+-- whether the token after the attributes is glued: only if there are no attributes, since each ends its line
 abbrev pub glued_after : List Written → Bool → Bool
 glued_after [] glued = glued
 glued_after (w ∷ ws) glued = glued_after ws true
@@ -97,7 +97,7 @@ module _ (limit : ℕ) where
   line_is name arguments None = refl
   line_is name arguments (Some t) = refl
 
-  -- lines of attributes before what is none
+  -- lines of attributes before a token that doesn't begin another one
   pub attributes_back : (ws : List Written) (glued : Bool) (on : List Mark) → AllGoodWritten limit ws
       → NotNext kinds.BracketL (significant (glued_after ws glued) on)
       → (fs : Shown) × AttributeLines lexeme nothing (BelowLimit limit) ws fs (significant glued (attributes_marks ws on)) (significant (glued_after ws glued) on)

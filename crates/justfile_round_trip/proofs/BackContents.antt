@@ -26,7 +26,7 @@ use Rattle.justfile_round_trip.proofs.GoodContents as good
 use Rattle.justfile_round_trip.proofs.GoodContents.{GoodContent, GoodFilePath, GoodNames, GoodOptionalPath, GoodPath, GoodSettingValue}
 use Rattle.justfile_round_trip.proofs.WrittenValues.{plain}
 
--- ---- what follows: the end of a line
+-- ---- the tokens that follow: the end of a line
 
 line_closes : {ts : Tokens} → EndsLine ts → ends_value ts ≡ true
 line_closes (parts.at_comment kind) = ap closes kind
@@ -128,7 +128,7 @@ module _ (limit : ℕ) where
       (v.0, g.setting (is_word (codes "set")) (record { is_name = refl; spelled = spelled }) formed v.1)
   content_back (good.unexport named) glued on ends = ([], g.unexport (is_word (codes "unexport")) refl ends)
 
-  -- what begins no line of attributes
+  -- the tokens of a header don't begin a line of attributes
 
   pub header_no_bracket : (quiet : Bool) (name : List ℕ) (glued : Bool) (on : List Mark) → NotNext kinds.BracketL (significant glued (at_marks quiet (word name ∷ on)))
   header_no_bracket true name glued on = λ e. cc

@@ -21,15 +21,15 @@ use Rattle.justfile_round_trip.proofs.Good.{significant, ends_value}
 use Rattle.justfile_round_trip.proofs.GoodHeaders.{HeaderDerivesBack}
 use Rattle.justfile_round_trip.proofs.SideBySide.{apart, begins_too, ends_too, not_begun, expression_begins, expression_ends, stop_beside, value_ends, value_ends_too}
 
--- ---- what follows
+-- ---- the tokens that follow
 
--- what a value ends before
+-- the tokens before which a value ends
 record Parted (ts : Tokens) : Type 0 where
   no_equals : NotNext kinds.Equals ts
   no_paren : NotNext kinds.ParenL ts
   apart : glued_string ts ≡ false
 
--- what stands after the name of a recipe or after a parameter: another one, or the colon
+-- after the name of a recipe or after a parameter: another parameter, or the colon
 parameters_parted : (ps : List ShapeParameter) (on : List Mark) → Parted (significant true (parameters_marks ps (colon ∷ on)))
 parameters_parted [] on = record { no_equals = λ e. cc; no_paren = λ e. cc; apart = refl }
 parameters_parted (p ∷ ps) on = by p.kind p.export
@@ -41,7 +41,7 @@ parameters_parted (p ∷ ps) on = by p.kind p.export
     by Singular false = record { no_equals = λ e. cc; no_paren = λ e. cc; apart = refl }
     by Star b = record { no_equals = λ e. cc; no_paren = λ e. cc; apart = refl }
 
--- what begins no dependency
+-- tokens that don't begin a dependency
 record Done (ts : Tokens) : Type 0 where
   no_name : NotNext kinds.Identifier ts
   no_star : NotNext kinds.Asterisk ts
@@ -103,7 +103,7 @@ star_stops t ts kind = record {
   };
 }
 
--- whether the next token is glued counts for nothing
+-- it makes no difference whether the next token is glued
 ends_either : (on : List Mark) → ends_value (significant true on) ≡ true → (c : Bool) → ends_value (significant c on) ≡ true
 ends_either [] h c = h
 ends_either (m ∷ on) h c = by (is_whitespace m.kind) h
@@ -221,7 +221,7 @@ module _ (limit : ℕ) where
         no_colons = λ c e. cc;
       }
 
-  -- a dependency after a space, before what begins with no two colons
+  -- a dependency after a space, before tokens that don't begin with `::`
   dependency_back : {d : ShapeDependency} {fs : Shown} {ts rest : Tokens} → DependencyOf lexeme nothing nothing (BelowLimit limit) d fs ts rest → NoBareStar d.star d.arguments
       → (on : List Mark) → ((c : Bool) → NotNext kinds.ColonColon (significant c on))
       → DependencyOf lexeme nothing nothing (BelowLimit limit) d fs (significant false (dependency_marks d on)) (significant true on)
@@ -237,7 +237,7 @@ module _ (limit : ℕ) where
   dependency_back (g.starred kind kind2 p (g.starred {mark = m} kind3 v r)) s on h =
       let q = arguments_back (g.starred {mark = m} kind3 v r) on in g.starred refl refl (path_back p true _ q.no_colons) q.derives
 
-  -- dependencies, each after a space, before what begins none
+  -- dependencies, each after a space, before tokens that don't begin another one
   dependencies_back : {ds : List ShapeDependency} {fs : Shown} {ts rest : Tokens} → Dependencies lexeme nothing nothing (BelowLimit limit) ds fs ts rest → AllStarred ds
       → (on : List Mark) → ((c : Bool) → Done (significant c on))
       → Dependencies lexeme nothing nothing (BelowLimit limit) ds fs (significant true (dependencies_marks ds on)) (significant true on)
@@ -262,7 +262,7 @@ module _ (limit : ℕ) where
   named_header_back (g.header {ds = ds} {ss = ss} kind ps all) s r b on h =
       g.header refl (parameters_back ps true (dependencies_marks ds (subsequents_marks ss on))) (all_back all s r on h)
 
-  -- a header, before what a value ends at
+  -- a header, before tokens at which a value ends
   header_marks_back : {h : ShapeHeader} {fs : Shown} {ts rest : Tokens} → HeaderOf lexeme nothing nothing (BelowLimit limit) h fs ts rest
       → AllStarred h.priors → AllStarred h.subsequents → (b : Bool) (on : List Mark) → ((c : Bool) → ends_value (significant c on) ≡ true)
       → HeaderOf lexeme nothing nothing (BelowLimit limit) h fs (significant b (header_marks h on)) (significant true on)

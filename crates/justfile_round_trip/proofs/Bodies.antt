@@ -47,7 +47,7 @@ module _ (limit : ℕ) where
   fragments_step ind (Text t ∷ Interpolation e ∷ fs) more ts h k = text_step ind t (123 ∷ 123 ∷ 32 ∷ []) _ _ h.0 (fragments_step ind (Interpolation e ∷ fs) more ts h.2 k)
   fragments_step ind (Interpolation e ∷ fs) more ts h k = value_step ind e h.0 (fragments_step ind fs more ts h.1 k)
 
-  -- after its blanks a line goes on
+  -- a shown line has more than blanks
   shown : (f : Fragment) (fs : List Fragment) (more : List ℕ) → GoodFragments limit (f ∷ fs) → IsShown (f ∷ fs) → begins_blank_line (drop (blank_len (fragments_on (f ∷ fs) (10 ∷ more))) (fragments_on (f ∷ fs) (10 ∷ more))) ≡ false
   unfolding class_of
   shown (Text t) [] more good h = not_blank_line t (10 ∷ more) (good.0.ends more) (λ e. let bad : true ≡ false = sym e ∙ h in cc)
@@ -84,7 +84,7 @@ module _ (limit : ℕ) where
       over_text t _ (raw_no_feed t (123 ∷ 123 ∷ 32 ∷ []) good.0) ∙ ap (λ b. cond (pale t) b false) (over_fragments (Interpolation e ∷ fs) rest good.2) ∙ both (pale t) false (closes_levels true rest)
   over_fragments (Interpolation e ∷ fs) rest good = refl
 
-  -- levels stay open where a line that is not pale follows, or nothing follows the body
+  -- levels stay open if a line that isn't pale follows, or if the body is at the end of the text
   stays_open : (ind : List ℕ) (ls : List Row) (more : List ℕ) → IsLevel ind → GoodLines limit ls → (all_pale ls ≡ true → more ≡ []) → closes_levels true (lines_on ind ls more) ≡ false
   stays_open ind [] more i good h = ap (closes_levels true) (h refl) ∙ closes_nothing true
   stays_open ind (Line n [] ∷ ls) more i good h = closes_feed true _ ∙ stays_open ind ls more i good.2 h
@@ -112,7 +112,7 @@ module _ (limit : ℕ) where
   lines_step ind (Line n (f ∷ fs) ∷ ls) more ts i good h k =
       level_step ind _ _ i (shown f fs _ good.0 good.1) (fragments_step ind (f ∷ fs) _ _ good.0 (body_line_end ind _ _ (lines_step ind ls more ts i good.2 h k)))
 
-  -- from the start of its first line a body is lexed back, and what follows it from where an item begins
+  -- a body is lexed back from the start of its first line, and the text after it from the start of an item
   pub lex_body : (ind : List ℕ) (ls : List Row) (more : List ℕ) (ts : List Mark) → IsLevel ind → GoodBody limit ls → ends_body more ≡ true → (pale_after ls ≡ true → more ≡ [])
       → LexesTo (at_item false) more ts → LexesTo (at_item true) (lines_on ind ls more) (body_marks ind ls ts)
   lex_body ind [] more ts i good following h k = absurd good

@@ -284,7 +284,7 @@ has_return b =
     (either b (begins_fixed b) {x = classes.Fixed} (λ _. other_class b _ (λ e. cc))
     (either b (ltb 193 b && ltb b 245) {x = classes.Lead} {y = classes.Other} (λ _. other_class b _ (λ e. cc)) (other_class b _ (λ e. cc)))))))))))
 
--- a white byte that is no blank and begins no line end begins no token
+-- a white byte that isn't a blank and doesn't begin a line end doesn't begin a token
 white_refused : (x : ℕ) (xs : List ℕ) (k : TokenKind) (n : ℕ) → white (class_of x) ≡ true → blank (class_of x) ≡ false → begins_blank_line (x ∷ xs) ≡ false → next (at_item false) (x ∷ xs) ≡ Ok (k, n) → ⊥
 unfolding token_by_class
 white_refused x xs k n w b seen found = by (class_of x) refl w b (sym (item_next false x xs b) ∙ found)
@@ -380,7 +380,7 @@ module _ (m : Mode) (s : Tok) (k : TokenKind) (n : ℕ) (clear : Clear m) (b : I
 
 -- ---- along the tokens
 
--- what the tokens so far say of the next one's place: where it stands in a body, whether levels are held open, whether a colon came since the last dedent, whether a body is open, and an interpolation in it, and how many levels are
+-- The place of the next token, by the tokens so far: its position in a body, whether levels are held open, whether there is a colon since the last dedent, whether a body and an interpolation in it are open, and the number of open levels.
 pub record Outline : Type 0 where
   pub at : At
   pub held : Bool
@@ -469,7 +469,7 @@ abbrev pub NextIs : (TokenKind → Type 0) → List SignificantToken → Type 0
 NextIs p [] = Unit {0}
 NextIs p (t ∷ ts) = p t.tok.kind
 
--- A text ends before what is printed after it. The first line of a body is not empty. Nothing follows a body whose last lines hold its level open.
+-- A text of a body ends before the text that is printed after it. The first line of a body isn't empty. A body whose last lines hold its level open is at the end of the file.
 abbrev pub BodyToken : Outline → TokenKind → List ℕ → List SignificantToken → Type 0
 BodyToken s kinds.Text l ts = NextIs (TextKnown s.at l) ts
 BodyToken s kinds.Eol l ts = s.body ≡ true → s.interpolation ≡ false → NotFirst s.at
@@ -550,7 +550,7 @@ body_sound (t ∷ ts) m rest s glued o r = by (is_whitespace t.kind) refl (λ s'
     by true e ih = ih s false (subst (λ k. IsOutline (mode_after t.kind t m) following (outline_after k t.lexeme s)) (whitespace_kind t.kind e) moved)
     by false e ih = (token_known m t.lexeme following t s true here t.kind ts fact r.3, ih (outline_after t.kind t.lexeme s) true moved)
 
--- what is known of the bodies of any text
+-- the bodies of any text have these properties
 pub lexed_bodies : (text : List ℕ) (tokens : List Tok) → Lexed text tokens → BodySound no_body (significant_from false tokens)
 lexed_bodies text tokens l =
     let order : reverse l.earlier ++ (l.last ∷ []) ≡ tokens = sym (sym (reverse-reverse tokens) ∙ ap reverse l.are ∙ reverse-append (l.last ∷ []) l.earlier) in

@@ -20,7 +20,7 @@ use Rattle.justfile_round_trip.proofs.Inline.{IsName}
 use Rattle.justfile_round_trip.proofs.BodyLines.{ends_body, ends_at_item, ends_at_blank_line}
 use Rattle.justfile_round_trip.proofs.LexesParts.{alias_word, eager_word, export_word, import_word, module_word, set_word, unexport_word}
 
--- what follows a line end of a normal shape, or stands at its front
+-- the items of a normal shape after a line end, or at the front
 record Rest (items : Shape) : Type 0 where
   alone : blank_only items ≡ true → items ≡ tree.Newline ∷ []
 
@@ -87,7 +87,7 @@ construct_text [] (with_name (x ∷ xs) more h) = refl
 construct_text [] (with_at more) = refl
 construct_text (e ∷ entries) h = refl
 
--- and it may stand after a body
+-- a construct can follow a body
 construct_follows : (entries : List ShapeEntry) {text : List ℕ} → Begins text → ends_body (entries_on entries text) ≡ true
 unfolding class_of
 construct_follows [] (with_name [] more h) = absurd h
@@ -114,7 +114,7 @@ module _ (limit : ℕ) (ind : List ℕ) where
   some_text _ items (good.on_line {entries = entries} attributes h more) = construct_text entries (content_begins h _)
   some_text _ items (good.recipe {entries = entries} {h = h} attributes head commented body more) = construct_text entries (header_begins h.quiet h.name _ head.lexes.is_name)
 
-  -- the printed text of these items may stand after a body
+  -- the printed text of these items can follow a body
   pub text_follows : {items : Shape} → AtStart limit items → follows_body items ≡ true → ends_body (text_on ind items) ≡ true
   text_follows good.end h = refl
   text_follows (good.newline {items = []} more) h = cc

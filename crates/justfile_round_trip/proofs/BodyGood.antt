@@ -21,7 +21,7 @@ use Rattle.justfile_round_trip.proofs.BodyFacts.{TextKnown, LastKnown, Outline, 
 abbrev pub Tokens : Type 0
 Tokens = List SignificantToken
 
--- ---- where the tokens of a body stand
+-- ---- the places of the tokens of a body
 
 -- in a body, and in an interpolation of it
 abbrev pub inner : At → Bool → Bool → Outline
@@ -65,7 +65,7 @@ and_none false = refl
 
 -- ---- lines
 
--- what the place says of the first fragment
+-- the condition on the first fragment at this place
 abbrev pub LineBegins : At → List Fragment → Type 0
 LineBegins w [] = Unit {0}
 LineBegins First (f ∷ fs) = IsFirst (f ∷ fs)
@@ -102,7 +102,7 @@ outside_after _ l s h o = record { body = o.body; interpolation = o.interpolatio
 pub outside_first : IsOutside no_body
 outside_first = record { body = refl; interpolation = refl; levels = refl }
 
--- An expression leaves what is known of the outline as it was, as each of its tokens does.
+-- An expression keeps the properties of the outline, as each of its tokens does.
 pub record Walked (P : Outline → Type 0) (ts : Tokens) : Type 0 where
   pub outline : Outline
   pub is : P outline
@@ -166,15 +166,15 @@ printable_rest (Text t) (k ∷ fs) p = p
 printable_rest (Interpolation e) (k ∷ fs) p = p
 
 module _ (limit : ℕ) where
-  -- fragments up to the line end, which is taken, or up to the dedent, which is not
+  -- fragments and the line end after them, or fragments before the dedent
   abbrev pub LineOf : List Fragment → Shown → Tokens → Tokens → Type 0
   LineOf = LineRest lexeme nothing (BelowLimit limit)
 
-  -- lines up to the dedent, which is taken
+  -- lines, and the dedent after them
   abbrev pub LinesOf : List Row → Shown → Tokens → Tokens → Type 0
   LinesOf = BodyLines to_lexemes (BelowLimit limit)
 
-  -- what is known of the parts of a line by themselves
+  -- the properties of the single parts of a line
   abbrev pub PartsGood : List Fragment → Type 0
   PartsGood [] = Unit {0}
   PartsGood (Text t ∷ fs) = IsUtf8 t × PartsGood fs
@@ -210,7 +210,7 @@ module _ (limit : ℕ) where
     stands : (place ≡ Start) ⊎ (NotFirst place × NextIs (λ k. k ≡ kinds.Dedent) rest)
     sound : BodySound (inner place (held && pale_line fs) colon) rest
 
-  -- a text and what follows it on its line
+  -- a text, and the fragments after it on its line
   raw_good : {ns : Shown} (w : At) (l : List ℕ) (fs : List Fragment) (tokens rest : Tokens) → LineOf fs ns tokens rest → NextIs (TextKnown w l) tokens → GoodFragments limit fs → IsUtf8 l → printable_fragments (Text l ∷ fs) ≡ true → GoodFragments limit (Text l ∷ fs) × LineBegins w (Text l ∷ fs)
   raw_good w l [] tokens rest r known good u p = by r known
     where
@@ -298,7 +298,7 @@ module _ (limit : ℕ) where
     sound = sound_after (inner w held colon) kinds.Dedent t rest e s;
   }
 
-  -- a dedent begins no line
+  -- a dedent doesn't begin a line
   dedent_good : {ns : Shown} (w : At) (held colon : Bool) {ls : List Row} {tokens rest : Tokens} → NotFirst w → NextIs (λ k. k ≡ kinds.Dedent) tokens → LinesOf ls ns tokens rest → BodySound (inner w held colon) tokens → LinesGood held ls rest
   dedent_good w held colon later d (g.no_line {token = t} {rest} e) s = closed_good w held colon t rest later e s
   dedent_good w held colon later d (g.empty_line e r) s = let bad : kinds.Eol ≡ kinds.Dedent = sym e ∙ d in cc

@@ -74,7 +74,7 @@ level_is (x ∷ xs) i =
 
 -- ---- in front of a body
 
--- a colon in front of what does not lengthen it
+-- a colon before a byte that doesn't lengthen it
 pub colon_step : {os : List OpenDelimiter} {ls : List (List ℕ)} {c : Bool} {i : Option Tok} {f : Bool} (x : ℕ) {more : List ℕ} {ts : List Mark} → eqb x 61 ≡ false → eqb x 58 ≡ false → LexesTo (amid os ls true i false) (x ∷ more) ts
     → LexesTo (amid os ls c i f) (58 ∷ x ∷ more) (mark Colon (58 ∷ []) ∷ ts)
 unfolding token_by_class class_of fixed_token
@@ -203,7 +203,7 @@ pub white_blanks : (ind : List ℕ) → Each blank ind → IsWhite ind
 white_blanks [] each = tt
 white_blanks (x ∷ xs) each = let h = blank_white (class_of x) each.0 in (h.0, h.1, white_blanks xs each.1)
 
--- over white bytes none of which ends a line
+-- over white bytes, of which none ends a line
 pub closes_over : (last : Bool) (w rest : List ℕ) → IsWhite w → closes_levels last (w ++ rest) ≡ closes_levels (cond (is_empty w) last false) rest
 unfolding closes_levels
 closes_over last [] rest h = refl
@@ -223,11 +223,11 @@ closes_nothing last = refl
 
 -- ---- after a body
 
--- What may stand after the last line end of a body: the end of the text, or line ends, if any, and then a byte that is not white.
+-- The text that can follow the last line end of a body: none, or optional line ends and then a byte that isn't white.
 abbrev pub ends_body : List ℕ → Bool
 ends_body more = is_empty more || (closes_levels true more && not (head_is blank more))
 
--- what begins an item is not white
+-- the first byte of an item isn't white
 pub ends_at_item : (x : ℕ) (xs : List ℕ) → white (class_of x) ≡ false → ends_body (x ∷ xs) ≡ true
 unfolding closes_levels
 ends_at_item x xs h = rw h (ap not (no_blank_there (class_of x) h))
@@ -236,7 +236,7 @@ ends_at_item x xs h = rw h (ap not (no_blank_there (class_of x) h))
     no_blank_there classes.Blank e = cc
     no_blank_there _ e = refl
 
--- blank lines may stand in front of an item
+-- blank lines can precede an item
 pub ends_at_blank_line : (more : List ℕ) → is_empty more ≡ false → ends_body more ≡ true → ends_body (10 ∷ more) ≡ true
 unfolding closes_levels class_of
 ends_at_blank_line [] some h = cc

@@ -24,13 +24,13 @@ use Rattle.justfile_model.specs.Bytes.{blank, is_blank, blank_len, is_line_end, 
 use Rattle.justfile_model.specs.LexicalFault.{LexicalError}
 use Rattle.justfile_model.specs.LiteralText.{raw_len, ends, pieces_len}
 use Rattle.justfile_model.specs.Modes.{Mode, is_empty, innermost, nested}
-use Rattle.justfile_model.specs.Next.{NextToken, doubled_token, fixed_token, literal_part, literal_token, is_same, closing_delimiter, brace_by, token_by_class, token_outside_text, text_or, body_token, at_end_by, Region, InText, InInterpolation, Inline, region_by, token_in_region, token_within_line, blanks_or, tested_blanks, is_level, layout, begins_blank_line, next_by, next}
+use Rattle.justfile_model.specs.Next.{NextToken, doubled_token, fixed_token, literal_part, literal_token, is_same, closing_delimiter, brace_by, token_by_class, token_outside_text, text_or, body_token, at_end_by, Region, InText, InInterpolation, OutsideText, region_by, token_in_region, token_within_line, blanks_or, tested_blanks, is_level, layout, begins_blank_line, next_by, next}
 use Rattle.justfile_model.specs.Tok.{Tok}
 use Rattle.justfile_round_trip.proofs.Inline.{head_is}
 use Rattle.justfile_round_trip.proofs.Lines.{none_here}
 use Rattle.justfile_round_trip.proofs.RawTexts.{scan, text_no_end}
 
--- ---- tokens that no layout and no body asks for
+-- ---- tokens other than indents, dedents, the end, and those of bodies alone
 
 abbrev plain : TokenKind → Bool
 plain kinds.Text = false
@@ -127,13 +127,13 @@ module _ (rest : List ℕ) where
       (either (eqb (length (drop 1 rest)) 0) refused refused)))
       refused)
 
--- ---- where a token stands in a body
+-- ---- the place of a token in a body
 
--- the text of a body is next, unless layout is
+-- the next token is in the text of a body, unless it is an indent, a dedent, or the blanks at the start of a line
 abbrev pub InBody : Mode → Type 0
 InBody m = region_by m.in_body m.interpolation ≡ InText
 
--- nothing is open there, and in a body a level is
+-- no delimiter is open in the text of a body, and a level is open in a body
 abbrev pub Clear : Mode → Type 0
 Clear m = (InBody m → m.openers ≡ []) × (m.in_body ≡ true → is_empty m.levels ≡ false)
 
@@ -150,7 +150,7 @@ front rest = take (blank_len rest) rest
 abbrev pub past : List ℕ → List ℕ
 past rest = drop (blank_len rest) rest
 
--- more than blanks stands on the line, or nothing is left of it and no level closes
+-- the line has more than blanks, or only its end is left and no level closes
 abbrev pub LineSeen : List ℕ → Type 0
 LineSeen rest = (begins_blank_line (past rest) ≡ false) ⊎ ((begins_blank_line rest ≡ true) × (closes_levels false rest ≡ false))
 
@@ -159,13 +159,13 @@ LineInfo First rest = (head_is blank rest ≡ false) × (begins_blank_line rest 
 LineInfo Start rest = LineSeen rest
 LineInfo Amid rest = Unit {0}
 
--- what is known before the next token
+-- the condition before the next token
 abbrev pub Ready : At → Mode → List ℕ → Type 0
 Ready First m rest = InBody m → (m.line_start ≡ false) × LineInfo First rest
 Ready Start m rest = InBody m → m.line_start ≡ false → LineSeen rest
 Ready Amid m rest = Unit {0}
 
--- what is known of a text by where it stands
+-- the condition on a text at this place
 abbrev pub Seen : At → List ℕ → Type 0
 Seen First rest = (head_is blank rest ≡ false) × (begins_blank_line rest ≡ false)
 Seen Start rest = begins_blank_line (past rest) ≡ false
@@ -188,7 +188,7 @@ pub data Closing (m : Mode) (rest : List ℕ) : Type 0 where
   AtBlankLine : m.line_start ≡ true → closes_levels false rest ≡ true → Closing m rest
   AtLevel : m.line_start ≡ true → begins_blank_line (past rest) ≡ false → bytes_eq (front rest) (innermost m) ≡ false → is_level m.levels (front rest) ≡ true → Closing m rest
 
--- what is known of a token of so many bytes
+-- the condition on a token of this many bytes
 abbrev pub TokenFact : At → Mode → List ℕ → TokenKind → ℕ → Type 0
 TokenFact w m rest kinds.Text n = InBody m × (scan 0 rest ≡ n) × (0 < n) × Seen w rest
 TokenFact w m rest kinds.Whitespace n = InBody m → (m.line_start ≡ true) × (n ≤ blank_len rest) × (0 < n) × (((begins_blank_line (drop n rest) ≡ true) × (closes_levels false rest ≡ false)) ⊎ (begins_blank_line (past rest) ≡ false))
@@ -300,7 +300,7 @@ body_finds w m x xs b i = by (scan 0 (x ∷ xs)) refl
     by zero e = at_end e (eqb x 10) (eqb x 13) refl refl
     by (suc n) e = record { fact = (b, e, omega arith, seen_text w x xs n e i) }
 
--- ---- where no layout token is asked for
+-- ---- tokens other than dedents, indents, and the blanks at the start of a line
 
 open_none : (os : List OpenDelimiter) → is_empty os ≡ true → os ≡ []
 open_none [] h = refl
@@ -317,7 +317,7 @@ inside_finds w m x xs i = by (region_by m.in_body m.interpolation) refl
     by : (p : Region) → region_by m.in_body m.interpolation ≡ p → Finds w m (x ∷ xs) (token_in_region p m (x ∷ xs))
     by InText e = body_finds w m x xs e (i e)
     by InInterpolation e = interpolation _ refl (λ b. let bad : InInterpolation ≡ InText = sym e ∙ b in cc)
-    by Inline e = plain_finds w m (x ∷ xs) _ (λ b. let bad : Inline ≡ InText = sym e ∙ b in cc) (inline_plain (x ∷ xs) m (class_of x))
+    by OutsideText e = plain_finds w m (x ∷ xs) _ (λ b. let bad : OutsideText ≡ InText = sym e ∙ b in cc) (inline_plain (x ∷ xs) m (class_of x))
 
 -- ---- at the start of a line
 
@@ -335,7 +335,7 @@ past_blank (x ∷ xs) = go (blank (class_of x)) refl (past_blank xs)
 front_length : (rest : List ℕ) → length (front rest) ≡ blank_len rest
 front_length rest = let fits = prefix_len-le-length is_blank rest in omega (arith, length-take (blank_len rest) rest)
 
--- the first bytes of a text are no more than it has
+-- a prefix of a text isn't longer than the text
 begun_within : (xs ys : List ℕ) → starts_with nat_eq xs ys ≡ true → length ys ≤ length xs
 begun_within xs ys h =
     let same : ys ≡ take (length ys) xs = (bytes_eq-Decides ys (take (length ys) xs)).0 h in
@@ -427,6 +427,6 @@ next_finds w m (x ∷ xs) clear ready = by m.line_start refl
     by true e = layout_finds w m x xs clear ready e
     by false e = inside_finds w m x xs (inside_info w m (x ∷ xs) ready e)
 
--- what is known of the next token
+-- the next token satisfies its condition
 pub token_fact : (w : At) (m : Mode) (rest : List ℕ) (k : TokenKind) (n : ℕ) → Clear m → Ready w m rest → next m rest ≡ Ok (k, n) → TokenFact w m rest k n
 token_fact w m rest k n clear ready e = (subst (Finds w m rest) e (next_finds w m rest clear ready)).fact

@@ -69,7 +69,7 @@ operator_codes RegexMismatch = codes "!~"
 abbrev pub Values : Type 0
 Values = tree.Exprs (List ℕ) (Unit {0})
 
--- what stands after an expression in a format string
+-- the rest of a format string after an expression
 abbrev pub Pieces : Type 0
 Pieces = tree.Parts (List ℕ) (Unit {0})
 
@@ -166,7 +166,7 @@ abbrev pub lines_on : List ℕ → List Row → List ℕ → List ℕ
 lines_on ind [] more = more
 lines_on ind (l ∷ ls) more = line_on ind l (10 ∷ lines_on ind ls more)
 
--- lines, each with the line end before it, as they stand after the header of a recipe
+-- the lines after the header of a recipe, each with the line end before it
 abbrev pub body_on : List ℕ → List Row → List ℕ → List ℕ
 body_on ind [] more = more
 body_on ind (l ∷ ls) more = 10 ∷ line_on ind l (body_on ind ls more)

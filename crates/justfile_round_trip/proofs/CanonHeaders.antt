@@ -86,7 +86,7 @@ abbrev pub at_on : (quiet : Bool) → List ℕ → List ℕ
 at_on true more = 64 ∷ more
 at_on false more = more
 
--- what follows the name of a recipe
+-- the text after the name of a recipe
 abbrev pub header_rest_on : ShapeHeader → List ℕ → List ℕ
 header_rest_on h more = parameters_on h.parameters (58 ∷ dependencies_on h.priors (subsequents_on h.subsequents more))
 

@@ -45,7 +45,7 @@ abbrev pub optional_path_on : Option ShapeQuoted → List ℕ → List ℕ
 optional_path_on None more = more
 optional_path_on (Some q) more = 32 ∷ file_path_on q more
 
--- what follows the name of a setting
+-- the text after the name of a setting
 abbrev pub setting_value_on : ShapeSetting → List ℕ → List ℕ
 setting_value_on (Truth true) more = more
 setting_value_on (Truth false) more = codes " := false" ++ more

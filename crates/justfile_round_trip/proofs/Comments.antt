@@ -1,4 +1,4 @@
--- A comment from a text, without trailing white space, is a comment before any printed line end.
+-- A comment from a text, without trailing whitespace, is a comment before any printed line end.
 use Rattle.std.proofs.Common.{◌≡◌, ℕ, ◌≤◌, true, eqb, List, ◌++◌, length, get_or, drop, refl, sym, ap, ◌∙◌, arith, append_assoc, length-append}
 use Rattle.std.specs.Prelude.{chars}
 use Rattle.std.specs.Str.{IsUtf8, trim_end, drop_trailing_whitespace}

@@ -86,7 +86,7 @@ module _ (weight : Value → ℕ) (weightless : (expanded : Bool) (l : List ℕ)
   property_weight None = 0
   property_weight (Some p) = weight p.value
 
-  -- what an attribute has by what it means
+  -- the number of features in the meaning of an attribute
   abbrev attribute_weight : Meant → ℕ
   attribute_weight (tree.Plain kind) = 0
   attribute_weight (tree.Single kind value) = values_weight (value ∷ [])
@@ -117,7 +117,7 @@ module _ (weight : Value → ℕ) (weightless : (expanded : Bool) (l : List ℕ)
     abbrev view : LeafView (List ℕ) (Unit {0})
     view = views_lexemes expander
 
-    -- ---- what is found at a key
+    -- ---- the value that is found at a key
 
     abbrev found_weight : Option KeyOf → ℕ
     found_weight = counted.found_weight weight expander
@@ -198,7 +198,7 @@ module _ (weight : Value → ℕ) (weightless : (expanded : Bool) (l : List ℕ)
     literals_found kinds.Env texts keys a h = sym (texts_weight kinds.Env texts) ∙ ap attribute_weight (some_back _ a h)
     literals_found kind texts keys a h = sym (texts_weight kind texts) ∙ ap attribute_weight (some_back _ a h)
 
-    -- no more than the bound
+    -- at most the bound
     at_most : (kind : AttributeKind) (found most : ℕ) → count_broken view tt kind found ≡ [] → most_count kind ≡ Some most → found ≤ most
     at_most kind found most h e =
         let n = unless (nat_lt found (least_count kind) || has_more found (most_count kind)) _ h in

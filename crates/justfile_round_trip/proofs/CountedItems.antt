@@ -9,7 +9,7 @@ use Rattle.justfile_model.specs.Docs.{Before, documented, redocumented}
 use Rattle.justfile_vocabulary.specs.contracts.list_feature.ListFeature.{the_type}
 use Rattle.justfile_vocabulary.specs.declared.list_feature.ListFeature.{ListFeature}
 use Rattle.justfile_model.specs.Features.{ConstructFeatures, Noted}
-use Rattle.justfile_model.specs.Files.{all_features, broken, construct_features, item_broken, ordered_item, says_doc, undocumented}
+use Rattle.justfile_model.specs.Files.{all_features, broken, construct_features, item_broken, ordered_item, sets_doc, undocumented}
 use Rattle.justfile_model.specs.Files as files
 use Rattle.justfile_model.specs.Literals.{Expansions}
 use Rattle.justfile_model.specs.Meaning.{entries_of}
@@ -74,7 +74,7 @@ module _ (feature : ListFeature) where
         (attributes_again expander ws entries means unbroken)
         ∙ sym (written_times (rewritten_entries entries))
 
-    -- how often it is noted in a construct by what its attributes mean
+    -- how often the feature is noted in a construct, by the meaning of its attributes
     abbrev content_weight : List ShapeEntry → ShapeContent → ℕ
     content_weight entries content = times feature (entries_features entries) + times feature (noted_at_name content entries) + times feature (content_features content)
 
@@ -111,7 +111,7 @@ module _ (feature : ListFeature) where
           ∙ (λ i. construct_times ws content m.entries m.means unbroken i + more i)
           ∙ ap (λ (y : ShapeItem). shape_weight (y ∷ others)) (sym (m.item_is ∙ ap (Construct m.entries) (content_starless content)))
 
-      -- what is written has each feature as often as what it means, if that breaks no rule
+      -- a written shape that breaks no rule has each feature as often as its meaning
       pub undocumented_times : (items : WrittenShape) (all : Shape) → undocumented (sees expander) items ≡ Some all → broken current (sees expander) items ≡ []
           → times feature (all_features (sees expander) items (items_features items)) ≡ shape_weight all
       undocumented_times [] all h unbroken = ap shape_weight (some_back [] all h)
@@ -141,8 +141,8 @@ module _ (feature : ListFeature) where
       doc_apart = λ entries content doc n. ap (λ m. m + n) (redocumented_weight entries content doc);
     }
 
-    pub documented_weight : (before : Before) (s : Shape) → shape_weight (documented says_doc before s) ≡ shape_weight s
-    documented_weight = documented_counts shape_weight weight_counts says_doc
+    pub documented_weight : (before : Before) (s : Shape) → shape_weight (documented sets_doc before s) ≡ shape_weight s
+    documented_weight = documented_counts shape_weight weight_counts sets_doc
 
     pub written_docs_weight : (s : Shape) → shape_weight (docs_written s) ≡ shape_weight s
     written_docs_weight = docs_written_counts shape_weight weight_counts

@@ -50,7 +50,7 @@ abbrev spread : (key : List ℕ) → List (List ℕ) → ℕ → ℕ
 spread key [] n = 0
 spread key (word ∷ words) n = cond (bytes_eq key word) n 0 + spread key words n
 
--- no word is there twice
+-- no word occurs twice
 abbrev AllApart : List (List ℕ) → Type 0
 AllApart [] = Unit {0}
 AllApart (word ∷ words) = (list_any (bytes_eq word) words ≡ false) × AllApart words
@@ -153,7 +153,7 @@ module _ (weight : Value → ℕ) where
     all_known : (kind : AttributeKind) (keys : List KeyOf) → unknown_broken view tt kind keys ≡ [] → AllKnown (known_keys kind) keys
     all_known kind keys h = none_unknown kind keys (least_none _ _ (λ k e. never_nil _ [] e) h)
 
-    -- keys that are known and apart give what is found at the words
+    -- distinct known keys give the values that are found at the words
     table_from : (words : List (List ℕ)) (before keys : List KeyOf) → AllApart words → repeats_broken view tt before keys ≡ [] → AllKnown words keys
         → table_weight words (before ++ keys) ≡ table_weight words before + keys_weight keys
     table_from words before [] apart h known = let e = ap (table_weight words) (append-nil before) in omega (arith, e)

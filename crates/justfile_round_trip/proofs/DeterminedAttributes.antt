@@ -24,7 +24,7 @@ abbrev pub written_features : List Written → Shown
 written_features [] = []
 written_features (w ∷ ws) = arguments_features w.arguments ++ written_features ws
 
--- of attributes by what they mean: those of what is printed of them
+-- the features of the meaning of attributes: those of their printed form
 abbrev pub entries_features : List ShapeEntry → Shown
 entries_features entries = written_features (rewritten_entries entries)
 

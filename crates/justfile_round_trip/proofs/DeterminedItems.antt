@@ -67,7 +67,7 @@ content_features (tree.Recipe parts) = header_features parts.header ++ body_feat
 content_features (tree.Setting parts) = setting_features parts.value
 content_features (tree.Unexport name) = []
 
--- of what is written
+-- the features of a written shape
 abbrev pub items_features : WrittenShape → List (ConstructFeatures (Unit {0}))
 items_features [] = []
 items_features (tree.Newline ∷ items) = items_features items
@@ -178,5 +178,5 @@ module _ (MayEnter : ℕ → Option SignificantToken → Type 0) where
     of_end (g.file_end kind) = refl
 
   pub of_file : {items : WrittenShape} {ns : List (ConstructFeatures (Unit {0}))} {ts : Tokens} → File to_lexemes MayEnter items ns ts → ns ≡ items_features items
-  of_file (g.marked kind more) = of_items more
-  of_file (g.unmarked more) = of_items more
+  of_file (g.with_byte_order_mark kind more) = of_items more
+  of_file (g.without_byte_order_mark more) = of_items more

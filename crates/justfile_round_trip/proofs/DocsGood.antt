@@ -2,8 +2,8 @@
 use Rattle.std.proofs.Common.{◌≡◌, ℕ, Bool, true, false, cond, List, [], ◌∷◌, Option, Some, None, refl, sym, subst, ap, ◌∙◌}
 use Rattle.std.specs.Prelude.{◌&&◌, ◌||◌, is_some, not}
 use Rattle.std.specs.List.{AllByRecursion}
-use Rattle.justfile_model.specs.Docs.{Before, LineEnd, Other, comment_taken, doc_in, doc_of, doc_or_comment, documented, redocumented, taken, takes_doc, wants_doc}
-use Rattle.justfile_model.specs.Files.{says_doc}
+use Rattle.justfile_model.specs.Docs.{Before, LineEnd, Other, comment_taken, doc_in, doc_of, doc_or_comment, documented, redocumented, taken, takes_doc, can_take_doc}
+use Rattle.justfile_model.specs.Files.{sets_doc}
 use Rattle.justfile_model.specs.Modes.{is_empty}
 use Rattle.justfile_model.specs.Printing.{doc_comment, shown_doc}
 use Rattle.justfile_model.specs.PrintedAttributes.{after_doc, doc_written, docs_written}
@@ -39,23 +39,23 @@ bare_written : (entries : List ShapeEntry) (content : ShapeContent) (items : Sha
     → doc_written (Construct entries content) items ≡ Construct entries (redocumented None content) ∷ items
 bare_written entries content items e = ap (λ o. after_doc o (Construct entries (redocumented None content) ∷ items)) (none_shown entries content e)
 
--- where a doc is wanted, no attribute says one, and there is none yet
+-- if a recipe wants a doc, no attribute sets one, and the recipe has none yet
 unsaid : (takes says : Bool) (o : Option (List ℕ)) → (takes && not says && not (is_some o)) ≡ true → (says ≡ false) × (o ≡ None)
 unsaid true false None h = (refl, refl)
 unsaid true false (Some doc) h = cc
 unsaid true true o h = cc
 unsaid false says o h = cc
 
-doc_before : (doc : List ℕ) (content : ShapeContent) (entries : List ShapeEntry) (items : Shape) → wants_doc says_doc entries content ≡ true
-    → after_doc (cond (says_doc entries) None (Some doc)) (Construct entries (redocumented None content) ∷ items)
+doc_before : (doc : List ℕ) (content : ShapeContent) (entries : List ShapeEntry) (items : Shape) → can_take_doc sets_doc entries content ≡ true
+    → after_doc (cond (sets_doc entries) None (Some doc)) (Construct entries (redocumented None content) ∷ items)
     ≡ Comment (doc_comment doc) ∷ Newline ∷ doc_written (Construct entries content) items
 doc_before doc content entries items h =
-    let w = unsaid (takes_doc content) (says_doc entries) (doc_of content) h in
+    let w = unsaid (takes_doc content) (sets_doc entries) (doc_of content) h in
     ap (λ b. after_doc (cond b None (Some doc)) (Construct entries (redocumented None content) ∷ items)) w.0
     ∙ ap (λ x. Comment (doc_comment doc) ∷ Newline ∷ x) (sym (bare_written entries content items w.1))
 
 -- one that gets a doc is written after its comment
-doc_put : (doc : List ℕ) (content : ShapeContent) (entries : List ShapeEntry) (items : Shape) → wants_doc says_doc entries content ≡ true
+doc_put : (doc : List ℕ) (content : ShapeContent) (entries : List ShapeEntry) (items : Shape) → can_take_doc sets_doc entries content ≡ true
     → doc_written (Construct entries (redocumented (Some doc) content)) items
     ≡ Comment (doc_comment doc) ∷ Newline ∷ doc_written (Construct entries content) items
 doc_put doc (Module parts) entries items h = doc_before doc (Module parts) entries items h
@@ -74,29 +74,29 @@ module _ (limit : ℕ) where
   after_comment t items h more = good.comment h (good.line_end more)
 
   taken_good : (before : Before) (t : List ℕ) (i : ShapeItem) (items : Shape) (o : Option (List ℕ)) → doc_in before t ≡ o → GoodComment t
-      → AtStart limit (docs_written (i ∷ items)) → AtStart limit (docs_written (comment_taken says_doc t i items o))
+      → AtStart limit (docs_written (i ∷ items)) → AtStart limit (docs_written (comment_taken sets_doc t i items o))
   taken_good before t i items None e h more = after_comment t _ h more
   taken_good before t Newline items (Some doc) e h more = after_comment t _ h more
   taken_good before t (Comment u) items (Some doc) e h more = after_comment t _ h more
-  taken_good before t (Construct entries content) items (Some doc) e h more = by (wants_doc says_doc entries content) refl
+  taken_good before t (Construct entries content) items (Some doc) e h more = by (can_take_doc sets_doc entries content) refl
     where
-      by : (b : Bool) → wants_doc says_doc entries content ≡ b
-          → AtStart limit (docs_written (doc_or_comment says_doc t (Construct entries content) items (cond b (Some (Construct entries (redocumented (Some doc) content))) None)))
+      by : (b : Bool) → can_take_doc sets_doc entries content ≡ b
+          → AtStart limit (docs_written (doc_or_comment sets_doc t (Construct entries content) items (cond b (Some (Construct entries (redocumented (Some doc) content))) None)))
       by true w = subst (AtStart limit) (sym (doc_put doc content entries (docs_written items) w)) (after_comment (doc_comment doc) _ (good_doc before t doc h e) more)
       by false w = after_comment t _ h more
 
   comment_good : (before : Before) (t : List ℕ) (items : Shape) → GoodComment t → AtStart limit (docs_written items)
-      → AtStart limit (docs_written (taken says_doc before (Comment t) (Newline ∷ items)))
+      → AtStart limit (docs_written (taken sets_doc before (Comment t) (Newline ∷ items)))
   comment_good before t [] h more = after_comment t _ h more
   comment_good before t (i ∷ items) h more = taken_good before t i items (doc_in before t) refl h more
 
-  trailing_kept : (t : List ℕ) (items : Shape) → taken says_doc Other (Comment t) (Newline ∷ items) ≡ Comment t ∷ Newline ∷ items
+  trailing_kept : (t : List ℕ) (items : Shape) → taken sets_doc Other (Comment t) (Newline ∷ items) ≡ Comment t ∷ Newline ∷ items
   trailing_kept t [] = refl
   trailing_kept t (i ∷ items) = refl
 
   -- ---- after a body
 
-  -- what is said of items that begin with a comment or a construct, with their docs as comments
+  -- a property of items that begin with a comment or a construct, with their docs as comments
   begun_written : (f : Shape → Bool) → ((t : List ℕ) (items : Shape) → f (Comment t ∷ items) ≡ false)
       → ((entries : List ShapeEntry) (content : ShapeContent) (items : Shape) → f (Construct entries content ∷ items) ≡ false)
       → {s : Shape} → Begun s → f (docs_written s) ≡ false
@@ -110,22 +110,22 @@ module _ (limit : ℕ) where
   begun_not_blank : {s : Shape} → Begun s → blank_only (docs_written s) ≡ false
   begun_not_blank begun = begun_written blank_only (λ t items. refl) (λ entries content items. refl) begun
 
-  blank_kept : (before : Before) (s : Shape) → blank_only (docs_written (documented says_doc before s)) ≡ blank_only s
+  blank_kept : (before : Before) (s : Shape) → blank_only (docs_written (documented sets_doc before s)) ≡ blank_only s
   blank_kept before [] = refl
   blank_kept before (Newline ∷ s) = blank_kept LineEnd s
-  blank_kept before (Comment t ∷ s) = begun_not_blank (begun_comment before t (documented says_doc Other s))
-  blank_kept before (Construct entries content ∷ s) = begun_not_blank (construct {entries = entries} {content = content} {items = documented says_doc Other s})
+  blank_kept before (Comment t ∷ s) = begun_not_blank (begun_comment before t (documented sets_doc Other s))
+  blank_kept before (Construct entries content ∷ s) = begun_not_blank (construct {entries = entries} {content = content} {items = documented sets_doc Other s})
 
   begun_some : {s : Shape} → Begun s → is_empty (docs_written s) ≡ false
   begun_some begun = begun_written is_empty (λ t items. refl) (λ entries content items. refl) begun
 
-  empty_kept : (before : Before) (s : Shape) → is_empty (docs_written (documented says_doc before s)) ≡ is_empty s
+  empty_kept : (before : Before) (s : Shape) → is_empty (docs_written (documented sets_doc before s)) ≡ is_empty s
   empty_kept before [] = refl
   empty_kept before (Newline ∷ s) = refl
-  empty_kept before (Comment t ∷ s) = begun_some (begun_comment before t (documented says_doc Other s))
-  empty_kept before (Construct entries content ∷ s) = begun_some (construct {entries = entries} {content = content} {items = documented says_doc Other s})
+  empty_kept before (Comment t ∷ s) = begun_some (begun_comment before t (documented sets_doc Other s))
+  empty_kept before (Construct entries content ∷ s) = begun_some (construct {entries = entries} {content = content} {items = documented sets_doc Other s})
 
-  follows_kept : (before : Before) (s : Shape) → follows_body (docs_written (documented says_doc before s)) ≡ follows_body s
+  follows_kept : (before : Before) (s : Shape) → follows_body (docs_written (documented sets_doc before s)) ≡ follows_body s
   follows_kept before s = λ i. empty_kept before s i || not (blank_kept before s i)
 
   -- ---- items
@@ -136,25 +136,25 @@ module _ (limit : ℕ) where
   construct_good entries content items e h = subst (AtStart limit) (sym (bare_written entries content (docs_written items) e)) h
 
   mutual
-    pub docs_good : (before : Before) {s : Shape} → AtStart limit s → AtStart limit (docs_written (documented says_doc before s))
+    pub docs_good : (before : Before) {s : Shape} → AtStart limit s → AtStart limit (docs_written (documented sets_doc before s))
     docs_good before good.end = good.end
     docs_good before (good.newline more) = good.newline (docs_good LineEnd more)
-    docs_good before (good.comment {t = t} h (good.line_end {items = items} more)) = comment_good before t (documented says_doc LineEnd items) h (docs_good LineEnd more)
+    docs_good before (good.comment {t = t} h (good.line_end {items = items} more)) = comment_good before t (documented sets_doc LineEnd items) h (docs_good LineEnd more)
     docs_good before (good.on_line {entries = entries} {content = content} {items = items} attributes h more) =
-        construct_good entries content (documented says_doc Other items) (content_no_doc limit h)
-        (subst (λ c. AtStart limit (Construct entries c ∷ docs_written (documented says_doc Other items))) (sym (content_undocumented limit h))
+        construct_good entries content (documented sets_doc Other items) (content_no_doc limit h)
+        (subst (λ c. AtStart limit (Construct entries c ∷ docs_written (documented sets_doc Other items))) (sym (content_undocumented limit h))
         (good.on_line attributes h (rest_good more)))
     docs_good before (good.recipe {entries = entries} {h = header} {comment = text} {l = l} {ls = ls} attributes h commented body (good.body_end {items = items} follows last more)) =
-        construct_good entries (Recipe (bare_recipe header text (l ∷ ls))) (documented says_doc Other (Newline ∷ items)) refl
+        construct_good entries (Recipe (bare_recipe header text (l ∷ ls))) (documented sets_doc Other (Newline ∷ items)) refl
         (good.recipe attributes h commented body
-        (good.body_end (follows_kept LineEnd items ∙ follows) (λ p. ap (λ s. docs_written (documented says_doc LineEnd s)) (last p)) (docs_good LineEnd more)))
+        (good.body_end (follows_kept LineEnd items ∙ follows) (λ p. ap (λ s. docs_written (documented sets_doc LineEnd s)) (last p)) (docs_good LineEnd more)))
 
-    rest_good : {s : Shape} → ItemRest limit s → ItemRest limit (docs_written (documented says_doc Other s))
+    rest_good : {s : Shape} → ItemRest limit s → ItemRest limit (docs_written (documented sets_doc Other s))
     rest_good (good.trailing {t = t} h (good.line_end {items = items} more)) =
-        subst (λ s. ItemRest limit (docs_written s)) (sym (trailing_kept t (documented says_doc LineEnd items))) (good.trailing h (good.line_end (docs_good LineEnd more)))
+        subst (λ s. ItemRest limit (docs_written s)) (sym (trailing_kept t (documented sets_doc LineEnd items))) (good.trailing h (good.line_end (docs_good LineEnd more)))
     rest_good (good.bare (good.line_end more)) = good.bare (good.line_end (docs_good LineEnd more))
 
-  -- ---- what is known of good items, each by itself
+  -- ---- good items, one by one
 
   mutual
     pub start_plain : {s : Shape} → AtStart limit s → AllByRecursion IsPlain s

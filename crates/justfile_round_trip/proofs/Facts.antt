@@ -24,7 +24,7 @@ use Rattle.justfile_model.specs.LiteralText.{raw_len, is_delimiter, pieces_len}
 use Rattle.justfile_model.specs.LexicalFault.{LexicalError}
 use Rattle.justfile_model.specs.Tok.{Tok}
 use Rattle.justfile_model.specs.Modes.{Mode, is_empty, head_of, innermost, nested}
-use Rattle.justfile_model.specs.Next.{NextToken, format_kind, doubled_token, fixed_token, opening, literal_part, literal_token, is_backtick, is_same, closing_delimiter, brace_by, closing, line_end_token, escaped_line_end, token_by_class, token_outside_text, text_or, body_token, at_end_by, Region, InText, InInterpolation, Inline, token_in_region, token_within_line, blanks_or, tested_blanks, is_level, layout, begins_blank_line, next_by, next}
+use Rattle.justfile_model.specs.Next.{NextToken, format_kind, doubled_token, fixed_token, opening, literal_part, literal_token, is_backtick, is_same, closing_delimiter, brace_by, closing, line_end_token, escaped_line_end, token_by_class, token_outside_text, text_or, body_token, at_end_by, Region, InText, InInterpolation, OutsideText, token_in_region, token_within_line, blanks_or, tested_blanks, is_level, layout, begins_blank_line, next_by, next}
 use Rattle.justfile_model.proofs.CutLemmas.{raw_stops, raw_within}
 use Rattle.justfile_round_trip.proofs.LexedModes.{drop_front}
 use Rattle.justfile_round_trip.proofs.Inline.{Each, IsName, IsPart, delimiter_of, delimiter_length, assoc3, length3, literal_again, quote_is}
@@ -39,7 +39,7 @@ pub record WasComment (l following : List ℕ) : Type 0 where
   pub ends : raw_len raw_texts.Comment (l ++ following) ≡ length l
   pub stop : begins_blank_line following ≡ true
 
--- what is known of a lexeme that was read in a mode, and of the text after it
+-- the properties of a lexeme that is read in a mode, and of the text after it
 abbrev pub Fact : Mode → TokenKind → (l following : List ℕ) → Type 0
 Fact m kinds.Identifier l following = IsName l
 Fact m kinds.StringToken l following = IsString l × (m.after_f ≡ true → IsFormatLiteral l)
@@ -153,7 +153,7 @@ module _ (k : StringKind) (format : Bool) (rest : List ℕ) where
       plain true h = whole_ends k after h
       plain false h = refl
 
--- ---- what is found, by the class of the first byte and by the place
+-- ---- the token that is found, by the class of the first byte and by the region
 
 module _ (m : Mode) (rest : List ℕ) where
   if_finds : (b : Bool) {x y : NextToken} → (b ≡ true → Finds m rest x) → (b ≡ false → Finds m rest y) → Finds m rest (cond b x y)
@@ -325,7 +325,7 @@ module _ (m : Mode) (rest : List ℕ) where
       by : (p : Region) → Finds m rest (token_in_region p m rest)
       by InText = body_finds
       by InInterpolation = if_finds (is_empty m.openers && is_interpolation_end rest) (λ _. any _ _ (λ l i. tt)) (λ _. normal_finds)
-      by Inline = normal_finds
+      by OutsideText = normal_finds
 
   blanks_finds : (n : ℕ) → Finds m rest (blanks_or n m rest)
   blanks_finds zero = inside_finds

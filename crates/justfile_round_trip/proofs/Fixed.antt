@@ -13,7 +13,7 @@ use Rattle.justfile_round_trip.proofs.LexedModes.{Mark, mark, LexesTo, step}
 use Rattle.justfile_round_trip.proofs.Inline.{amid, amid_next, and_false, and_no}
 
 module _ {os : List OpenDelimiter} {ls : List (List ℕ)} {c : Bool} {i : Option Tok} {f : Bool} where
-  -- a token that leaves the mode as it was, in front of what doesn't lengthen it
+  -- a token that keeps the mode, before a byte that doesn't lengthen it
   fixed_step : (k : TokenKind) (b : ℕ) (bs : List ℕ) {more : List ℕ} {ts : List Mark} → class_of b ≡ classes.Fixed → eqb b 125 ≡ false → fixed_token b (b ∷ bs ++ more) ≡ Ok (k, length (b ∷ bs)) → k ≢ Eof
       → ((t : Tok) → mode_after k t (amid os ls c i f) ≡ amid os ls c i false) → LexesTo (amid os ls c i false) more ts → LexesTo (amid os ls c i f) (b ∷ bs ++ more) (mark k (b ∷ bs) ∷ ts)
   unfolding token_by_class
@@ -85,7 +85,7 @@ module _ {os : List OpenDelimiter} {ls : List (List ℕ)} {c : Bool} {i : Option
   unfolding class_of fixed_token
   plus_step k = fixed_step Plus 43 [] refl refl refl (λ e. cc) (λ t. refl) k
 
-  -- in front of what makes no other operator of it
+  -- a plus, before a byte that doesn't make it another operator
   pub plus_before : (more : List ℕ) {ts : List Mark} → eqb (get_or more 0 0) 43 ≡ false → LexesTo (amid os ls c i false) more ts → LexesTo (amid os ls c i f) (43 ∷ more) (mark Plus (43 ∷ []) ∷ ts)
   unfolding class_of fixed_token
   plus_before more plus k = fixed_step Plus 43 [] refl refl (λ j. cond (plus j) (Ok (PlusPlus, 2)) (Ok (Plus, 1))) (λ e. cc) (λ t. refl) k

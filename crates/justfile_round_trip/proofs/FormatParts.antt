@@ -88,7 +88,7 @@ module _ {A B : Type 0} (leaf : Tok → A) (position : Tok → B) (MayEnter : �
 
 -- ---- for a parser, which reads a format string part by part
 
--- the tokens inside a format string of this kind, which is the innermost of what is open
+-- the tokens inside a format string of this kind, which is the innermost open delimiter
 pub record InFormat (k : StringKind) (ts : Tokens) : Type 0 where
   pub open_around : Around
   pub comment : Bool

@@ -17,7 +17,7 @@ use Rattle.justfile_round_trip.proofs.Literals.{scan, same_delimiter}
 
 -- ---- one byte
 
--- what is hidden and whether the text ends here is alike before both texts
+-- the hidden bytes, and whether the text ends here, are the same before both texts
 step_stable : (k : StringKind) (x : ℕ) (us vs : List ℕ) (n : ℕ) → hides (raw_texts.Literal k true) (x ∷ us) ≡ hides (raw_texts.Literal k true) (x ∷ vs) → ends (raw_texts.Literal k true) (x ∷ us) ≡ ends (raw_texts.Literal k true) (x ∷ vs)
     → ((hidden : ℕ) → scan k true hidden us ≡ n → scan k true hidden vs ≡ n) → scan k true 0 (x ∷ us) ≡ suc n → scan k true 0 (x ∷ vs) ≡ suc n
 unfolding pieces_len
@@ -148,7 +148,7 @@ part_stable k zero (x ∷ y ∷ z ∷ xs) a b e =
     refl
     (λ hidden. part_stable k hidden (y ∷ z ∷ xs) a b) e
 
--- ---- what was cut
+-- ---- the braces that were cut off
 
 pub braces_front : (bs : List ℕ) → is_interpolation_start bs ≡ true → bs ≡ 123 ∷ 123 ∷ drop 2 bs
 braces_front [] h = cc

@@ -34,7 +34,7 @@ significant glued ts = significant_from glued (unplaced ts)
 
 -- ---- values
 
--- a literal of a token of this kind, which ends before what is printed after it
+-- a literal of a token of this kind, which ends before the text that is printed after it
 pub record IsDelimited (k : TokenKind) (l : List ℕ) : Type 0 where
   pub kind : StringKind
   pub literal : IsLiteral kind l
@@ -61,7 +61,7 @@ pub record IsFormatStart (l : List ℕ) : Type 0 where
 abbrev pub IsPartOf : StringKind → Bool → List ℕ → Type 0
 IsPartOf k fin = IsPart k (125 ∷ 125 ∷ []) fin
 
--- a later part of the format string that is open, if it is the innermost of what is open
+-- a later part of the innermost open delimiter, if that is a format string
 abbrev pub IsPartOfOpen : Option StringKind → Bool → List ℕ → Type 0
 IsPartOfOpen None fin l = ⊥
 IsPartOfOpen (Some k) fin l = IsPartOf k fin l
@@ -97,7 +97,7 @@ abbrev mutual
   GoodParts k (Last l) = IsPartOf k true l
   GoodParts k (Continue l e parts) = IsPartOf k false l × GoodValue e × GoodParts k parts
 
--- the tokens that close what an expression stands in
+-- the tokens that end the form around an expression
 abbrev pub closes : TokenKind → Bool
 closes kinds.ParenR = true
 closes kinds.BracketR = true
@@ -166,7 +166,7 @@ abbrev pub GoodOptionalComment : Option (List ℕ) → Type 0
 GoodOptionalComment None = Unit {0}
 GoodOptionalComment (Some t) = GoodComment t
 
--- ---- what derives back, where so many expressions may be open
+-- ---- the trees that derive back below this limit of open expressions
 
 module _ (limit : ℕ) where
   -- the value's tokens derive it, before any others that a value ends at
@@ -180,7 +180,7 @@ module _ (limit : ℕ) where
     pub derives : DerivesBack e features
     pub utf8 : (more : List ℕ) → IsUtf8 more → IsUtf8 (expr_on e more)
 
-  -- each text ends before what is printed after it, and no two stand side by side
+  -- each text ends before the text that is printed after it, and no two texts are adjacent
   abbrev pub GoodFragments : List Fragment → Type 0
   GoodFragments [] = Unit {0}
   GoodFragments (Text t ∷ []) = IsRaw t (10 ∷ []) × IsUtf8 t

@@ -7,7 +7,7 @@ use Rattle.justfile_round_trip.proofs.Canon.{Value}
 use Rattle.justfile_round_trip.proofs.CanonAttributes.{Argument, Written, ShapeEntry}
 use Rattle.justfile_round_trip.proofs.Good.{GoodName, GoodExpression, GoodOptionalComment}
 
--- a string literal, which is no key
+-- a string literal, which isn't a key
 abbrev pub is_literal : Value → Bool
 is_literal (StringLiteral expanded l) = true
 is_literal _ = false
@@ -33,7 +33,7 @@ module _ (limit : ℕ) where
   AllGoodWritten [] = Unit {0}
   AllGoodWritten (w ∷ ws) = GoodWritten w × AllGoodWritten ws
 
-  -- attributes by what they mean: what is printed of them is good
+  -- attributes by their meaning: their printed form is good
   abbrev pub GoodEntry : ShapeEntry → Type 0
   GoodEntry e = GoodWritten (rewritten_entry e)
 

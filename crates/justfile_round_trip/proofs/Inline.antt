@@ -138,7 +138,7 @@ pub part_is : (k : StringKind) (format : Bool) (pre inner tail : List ℕ) (more
 unfolding literal_part
 part_is k format pre inner tail more whole e some = rw (drop_front pre (inner ++ tail)) (rw e (rw (not_all inner tail some) (rw (drop_front inner tail) refl)))
 
--- a literal, in front of what does not join it
+-- a literal, before a byte that doesn't join it
 pub record IsLiteral (k : StringKind) (lexeme : List ℕ) : Type 0 where
   pub inner : List ℕ
   pub is : lexeme ≡ delimiter_of k ++ (inner ++ delimiter_of k)
@@ -177,7 +177,7 @@ literal_of m k format xs e g =
     ap (λ v. literal_part v (m.after_f && not (is_backtick v.delimiter)) (delimiter_len v) FormatStringStart (token_kind_of v.delimiter) (delimiter_of k ++ xs)) e
     ∙ (λ j. literal_part k (g j) (delimiter_length k j) FormatStringStart (token_kind_of k.delimiter) (delimiter_of k ++ xs))
 
--- a whole one, before what begins with no quote
+-- a whole literal, before a text that doesn't begin with a quote
 pub literal_again : (m : Mode) (k : StringKind) (l more : List ℕ) → m.after_f ≡ false → IsLiteral k l → is_quote (get_or more 0 0) ≡ false → literal_token m (l ++ more) ≡ Ok (token_kind_of k.delimiter, length l)
 literal_again m k l more f h stop =
     let inner = h.inner in

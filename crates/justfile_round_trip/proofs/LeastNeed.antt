@@ -38,7 +38,7 @@ need_within conditions other source need tree twin features others n h q =
       derives = relimited conditions (significant_tokens n.tokens) other tree twin features others derives again;
     })
 
--- no text with the normal shape of the printed one derives under a limit below the need of that, whatever it is read under
+-- if another text derives the same normal shape, its limit is at least the need of the printed text, under any conditions
 pub least_need : (conditions others : Conditions) (source other : List ℕ) (tree twin : Tree) (features noted : List (Noted Tok)) (indentation : List ℕ) (need : ℕ)
     → IsIndentation indentation → TextDerives conditions source tree features → printable (shape_of tree) ≡ true → TextDerives others other twin noted
     → normal (shape_of twin) ≡ normal (shape_of tree) → TextNeeds conditions (printed (shape_of tree) indentation) need → need ≤ others.limit

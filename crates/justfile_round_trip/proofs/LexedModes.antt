@@ -31,11 +31,11 @@ LexesIn text offset m rest (t ∷ ts) =
     (following : List ℕ) × (rest ≡ t.lexeme ++ following) × (next m rest ≡ Ok (t.kind, length t.lexeme)) × (t.kind ≢ Eof)
     × LexesIn text (offset + length t.lexeme) (mode_after t.kind (tok_at text offset t) m) following ts
 
--- wherever the rest stands
+-- the rest of a text is lexed to these tokens, at any position
 pub record LexesTo (m : Mode) (rest : List ℕ) (ts : List Mark) : Type 0 where
   pub is : (text : List ℕ) (offset : ℕ) → LexesIn text offset m rest ts
 
--- one token, and the rest wherever the token stands
+-- one token, and the rest, at any position of the token
 pub step : (m : Mode) (k : TokenKind) (l following : List ℕ) (ts : List Mark) → next m (l ++ following) ≡ Ok (k, length l) → k ≢ Eof → ((o n c : ℕ) → LexesTo (mode_after k (placed (mark k l) o n c) m) following ts) → LexesTo m (l ++ following) (mark k l ∷ ts)
 step m k l following ts found goes_on more = record { is = λ text offset. (following, refl, found, goes_on, (more offset (line_of_offset text offset) (column_at text offset)).is text (offset + length l)) }
 

@@ -25,7 +25,7 @@ item_bracket : (c : Bool) {more : List ℕ} {ts : List Mark} → ((line : ℕ) �
 unfolding token_by_class class_of
 item_bracket c {more} {ts} k = step (at_item c) BracketL (91 ∷ []) more ts (item_next c 91 more refl) (λ e. cc) (λ o n col. k n)
 
--- a comment, the end of its line, and what is read after that
+-- a comment, the end of its line, and the text after that
 pub trailing : (c f : Bool) (t : List ℕ) {more : List ℕ} {ts : List Mark} → GoodComment t → LexesTo (at_item c) more ts
     → LexesTo (amid [] [] c None f) (32 ∷ (t ++ (10 ∷ more))) (space ∷ mark Comment t ∷ newline ∷ ts)
 trailing c f t {more} good k = space_step (comment_no_blank t more good.comment) (comment_step [] [] c None false t good.comment (line_end c false k))
@@ -68,7 +68,7 @@ module _ (limit : ℕ) where
         (space_step (argument_no_blank keys a _ h.0)
         (lex_argument keys (opener Paren line ∷ os) a h.0 (others_join arguments more) (lex_others keys os line arguments h.1 k)))
 
-    -- what stands after the name of an attribute
+    -- the text after the name of an attribute
     lex_parenthesized : (keys : Bool) (os : List OpenDelimiter) (line : ℕ) (arguments : List Argument) {more : List ℕ} {ts : List Mark}
         → GoodArguments limit keys arguments → LexesTo (amid os ls c i false) more ts
         → (f : Bool)

@@ -49,7 +49,7 @@ module _ (limit : ℕ) (ind : List ℕ) (level : IsLevel ind) where
     lex_start c (good.recipe {entries = entries} {h = header} {comment = comment} {l = l} {ls = ls} attributes h commented body more) =
         lex_block c entries header comment l ls attributes h commented body more
 
-    -- a construct on one line, and what follows it
+    -- a construct on one line, and the items after it
     lex_after : (c : Bool) (entries : List ShapeEntry) (content : ShapeContent) {items : Shape} → GoodEntries limit entries → GoodContent limit content
         → ItemRest limit items
         → LexesTo (at_item c) (text_on ind (tree.Construct entries content ∷ items)) (marks ind (tree.Construct entries content ∷ items))
@@ -60,7 +60,7 @@ module _ (limit : ℕ) (ind : List ℕ) (level : IsLevel ind) where
         unbodied c entries content h (tree.Newline ∷ items)
         (lex_entries limit c entries attributes (lex_content c limit h ind 10 refl refl refl (λ d f. line_end d f (lex_start d more))))
 
-    -- a recipe with a body, the end of its last line, and what follows that
+    -- a recipe with a body, the end of its last line, and the items after that
     lex_block : (c : Bool) (entries : List ShapeEntry) (header : ShapeHeader) (comment : Option (List ℕ)) (l : Row) (ls : List Row) {items : Shape}
         → GoodEntries limit entries → GoodHeader limit header → GoodOptionalComment comment → EndedBody limit (l ∷ ls) → AfterBody limit (l ∷ ls) items
         → LexesTo (at_item c) (text_on ind (recipe_item entries header comment (l ∷ ls) ∷ items)) (marks ind (recipe_item entries header comment (l ∷ ls) ∷ items))
@@ -74,7 +74,7 @@ module _ (limit : ℕ) (ind : List ℕ) (level : IsLevel ind) where
         (λ f. lex_after_comment limit f ind t (l ∷ ls) _ _ level commented body.good (text_follows limit ind more follows) (λ p. ap (text_on ind) (last p))
         (lex_start false more)))
 
-    -- a comment, and what follows it
+    -- a comment, and the items after it
     lex_end : (c : Bool) (t : List ℕ) {items : Shape} → GoodComment t → AtEnd limit items
         → LexesTo (at_item c) (text_on ind (tree.Comment t ∷ items)) (marks ind (tree.Comment t ∷ items))
     lex_end c t h (good.line_end more) = item_comment c t h.comment (line_end c false (lex_start c more))

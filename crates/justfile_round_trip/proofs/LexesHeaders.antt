@@ -82,7 +82,7 @@ parts_no_blank star path [] more h = path_no_blank path more h
 parts_no_blank None path (a ∷ arguments) more h = refl
 parts_no_blank (Some star) path (a ∷ arguments) more h = refl
 
--- after a dependency stands a space, or what follows the header
+-- a dependency is followed by a space, or by the text after the header
 dependencies_join : (ds : List ShapeDependency) (more : List ℕ) → head_is joins more ≡ false → head_is joins (dependencies_on ds more) ≡ false
 unfolding class_of
 dependencies_join [] more h = h
@@ -182,7 +182,7 @@ unfolding class_of
 lex_subsequents [] h stop k f = k f
 lex_subsequents (d ∷ ds) h stop k f = space_step refl (and_step (lex_dependencies (d ∷ ds) h stop k false))
 
--- the colon of a header, and what follows it
+-- the colon of a header, and the text after it
 lex_colon : (priors subsequents : List ShapeDependency) (x : ℕ) {more : List ℕ} {ts : List Mark} (c : Bool) → GoodDependencies priors → GoodDependencies subsequents
     → eqb x 61 ≡ false → eqb x 58 ≡ false → head_is joins (x ∷ more) ≡ false → ((f : Bool) → LexesTo (amid [] [] true None f) (x ∷ more) ts)
     → (f : Bool) → LexesTo (amid [] [] c None f) (58 ∷ dependencies_on priors (subsequents_on subsequents (x ∷ more))) (colon ∷ dependencies_marks priors (subsequents_marks subsequents ts))

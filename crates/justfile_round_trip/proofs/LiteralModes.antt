@@ -167,7 +167,7 @@ whole_ends k bs h =
     (λ l. omega (arith, first_end k bs, l))
     (cases_lt (before_start k bs) (ends_at k false bs))
 
--- where it does, plain mode goes on
+-- if it does, the literal continues in plain mode
 pub part_ends : (k : StringKind) (bs : List ℕ) → is_interpolation_start (drop (raw_len (raw_texts.Literal k true) bs) bs) ≡ true → raw_len (raw_texts.Literal k true) bs < raw_len (raw_texts.Literal k false) bs
 part_ends k bs h =
     ⊎_elim (λ less. less)

@@ -58,7 +58,7 @@ quote_positive delimiters.Backtick = omega arith
 quote_positive delimiters.QuoteDouble = omega arith
 quote_positive delimiters.QuoteSingle = omega arith
 
--- a byte that is no zero is there
+-- if the byte at the front isn't 0, the text begins with it
 pub front_byte : (bs : List ℕ) (q : ℕ) → 0 < q → eqb (get_or bs 0 0) q ≡ true → bs ≡ q ∷ drop 1 bs
 front_byte [] q p h = absurd (no_zero q p h)
   where
@@ -145,7 +145,7 @@ same_delimiter d true x [] a b = refl
 same_delimiter d true x (y ∷ []) a b = refl
 same_delimiter d true x (y ∷ z ∷ zs) a b = refl
 
--- what is scanned up to the delimiter is scanned up to it before other text
+-- a text that is scanned up to the delimiter is scanned up to it before any other text
 pub stable : (k : StringKind) (hidden : ℕ) (inner a b : List ℕ) → scan k false hidden (inner ++ (delimiter_of k ++ a)) ≡ length inner → scan k false hidden (inner ++ (delimiter_of k ++ b)) ≡ length inner
 unfolding pieces_len
 stable k zero [] a b e = delimiter_ends k.delimiter k.indented b
@@ -172,7 +172,7 @@ no_quote delimiters.Backtick b h = grind (arith, nat_tests)
 no_quote delimiters.QuoteDouble b h = grind (arith, nat_tests)
 no_quote delimiters.QuoteSingle b h = grind (arith, nat_tests)
 
--- before what begins with no quote the kind of a literal is read again
+-- before a text that doesn't begin with a quote, the kind of a literal is read again
 pub same_opening : (d : StringDelimiter) (i : Bool) (inner following more : List ℕ) → is_quote (get_or more 0 0) ≡ false
     → kind_of (delimiter_of (record { delimiter = d; indented = i }) ++ (inner ++ (delimiter_of (record { delimiter = d; indented = i }) ++ following))) ≡ record { delimiter = d; indented = i }
     → kind_of (delimiter_of (record { delimiter = d; indented = i }) ++ (inner ++ (delimiter_of (record { delimiter = d; indented = i }) ++ more))) ≡ record { delimiter = d; indented = i }

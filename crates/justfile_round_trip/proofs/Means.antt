@@ -2,7 +2,7 @@
 use Rattle.std.proofs.Common.{◌≡◌, ℕ, List, [], ◌∷◌, map, Option, Some, None, refl, sym, ap, ◌∙◌}
 use Rattle.std.specs.Option.{option_map}
 use Rattle.justfile_model.specs.Docs.{Nothing, documented}
-use Rattle.justfile_model.specs.Files.{ordered_item, ordered, says_doc, undocumented}
+use Rattle.justfile_model.specs.Files.{ordered_item, ordered, sets_doc, undocumented}
 use Rattle.justfile_model.specs.Meaning.{entries_of}
 use Rattle.justfile_model.specs.LeafView.{LeafView}
 use Rattle.justfile_model.specs.Tree as tree
@@ -84,11 +84,11 @@ module _ (view : LeafView (List ℕ) (Unit {0})) where
       let m = meanings_of view i items all h in
       m.all_are ∙ (λ j. item_meant i m.first m.first_is j ∷ undocumented_meant items m.others m.others_are j)
 
-  -- what is ordered is that, with its docs
-  pub docs_meant : (items : WrittenShape) (all : Shape) → ordered view items ≡ Some all → all ≡ documented says_doc Nothing (meant items)
+  -- the ordered shape is the meaning with its docs
+  pub docs_meant : (items : WrittenShape) (all : Shape) → ordered view items ≡ Some all → all ≡ documented sets_doc Nothing (meant items)
   docs_meant items all h = by (undocumented view items) refl h
     where
-      by : (o : Option Shape) → undocumented view items ≡ o → option_map (documented says_doc Nothing) o ≡ Some all
-          → all ≡ documented says_doc Nothing (meant items)
+      by : (o : Option Shape) → undocumented view items ≡ o → option_map (documented sets_doc Nothing) o ≡ Some all
+          → all ≡ documented sets_doc Nothing (meant items)
       by None e h = cc
-      by (Some plain) e h = sym (some_back (documented says_doc Nothing plain) all h) ∙ ap (documented says_doc Nothing) (undocumented_meant items plain e)
+      by (Some plain) e h = sym (some_back (documented sets_doc Nothing plain) all h) ∙ ap (documented sets_doc Nothing) (undocumented_meant items plain e)

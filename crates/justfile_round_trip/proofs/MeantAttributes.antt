@@ -105,14 +105,14 @@ keys_of_name : (k : AttributeKind) → name_takes_keys (fixed_text (attribute_na
 unfolding fixed_text
 keys_of_name k = ap named_takes_keys (named k)
 
--- ---- what is there
+-- ---- results of optional steps
 
--- what gives something has something to give it from
+-- if two steps in a row have a result, so has each of them
 pub bind_some : {X Y : Type 0} (o : Option X) (f : X → Option Y) (y : Y) → (o >>= f) ≡ Some y → (x : X) × (o ≡ Some x) × (f x ≡ Some y)
 bind_some None f y e = cc
 bind_some (Some x) f y e = (x, refl, e)
 
--- and what follows from both
+-- the same, by the results of the two steps
 pub binding : {X Y R : Type 0} (o : Option X) (f : X → Option Y) (y : Y) → (o >>= f) ≡ Some y → ((x : X) → o ≡ Some x → f x ≡ Some y → R) → R
 binding None f y e step = cc
 binding (Some x) f y e step = step x refl e
@@ -133,7 +133,7 @@ count_small text n e = by (meaning.is_count text) (ltb (digits_value 10 text) (2
     by false b small e = cc
 
 module _ (limit : ℕ) where
-  -- ---- what is known of written arguments: each value is good
+  -- ---- written arguments: each value is good
 
   abbrev pub GoodSource : Argument → Type 0
   GoodSource (tree.Positional first value) = GoodExpression limit value

@@ -111,7 +111,7 @@ quote_utf8 delimiters.QuoteSingle more u = plain (codes "'") more refl u
 
 -- ---- as values
 
--- where a value may stand that no other is open around
+-- the limit of a good expression is above 0
 pub some_limit : {limit : ℕ} {e : canon.Value} → GoodExpression limit e → 0 < limit
 some_limit h = by (h.derives.derives false (paren_right ∷ []) refl)
   where

@@ -21,7 +21,7 @@ pub record IsQuotedBy (k : StringKind) (l : List ℕ) : Type 0 where
   pub long : delimiter_len k + delimiter_len k ≤ length l
   pub opens : take (delimiter_len k) l ≡ delimiter_text k
   pub closes : drop (length l - delimiter_len k) l ≡ delimiter_text k
-  -- the byte before what stands between the delimiters, and the byte after it, are ASCII
+  -- the byte before the inside of the literal, and the byte after it, are ASCII
   pub before : get_or l (delimiter_len k - 1) 0 < 128
   pub following : get_or l (length l - delimiter_len k) 0 < 128
 
@@ -85,7 +85,7 @@ lexed_quoted text tokens u l = sound_quoted outside false (significant_tokens to
 
 -- ---- parts of format strings
 
--- So many bytes at both ends leave a text, and the byte before it and the one after it are ASCII.
+-- Without this many bytes at its two ends, the lexeme is a text between two ASCII bytes.
 pub record IsFramed (front end : ℕ) (l : List ℕ) : Type 0 where
   pub long : front + end ≤ length l
   pub before : get_or l (front - 1) 0 < 128

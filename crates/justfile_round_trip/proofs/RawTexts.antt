@@ -14,11 +14,11 @@ use Rattle.justfile_model.proofs.CutLemmas.{is_line_feed}
 use Rattle.justfile_round_trip.proofs.Inline.{Each}
 use Rattle.justfile_round_trip.proofs.BodyLines.{IsRaw, blank_byte}
 
--- how much text of a body is at the front, where so many bytes are hidden
+-- the number of bytes of body text at the front, of which the first `n` are hidden
 abbrev pub scan : ℕ → List ℕ → ℕ
 scan = pieces_len (hides raw_texts.Body) (ends raw_texts.Body)
 
--- so many braces are at the front
+-- this many braces are at the front
 abbrev Braces : ℕ → List ℕ → Type 0
 Braces zero bs = Unit {0}
 Braces (suc n) [] = ⊥
@@ -45,7 +45,7 @@ or_false : (a b : Bool) → (a || b) ≡ false → (a ≡ false) × (b ≡ false
 or_false true b h = cc
 or_false false b h = (refl, h)
 
--- what is scanned of text that does not end there
+-- the scan of a text that doesn't end at its first byte
 record Scanned (b : ℕ) (bs : List ℕ) (n : ℕ) (hidden : Bool) : Type 0 where
   hidden_is : is_interpolation_escape (b ∷ bs) ≡ hidden
   following : scan (cond hidden 3 0) bs ≡ n
@@ -60,7 +60,7 @@ scanned b bs n e = go (is_interpolation_escape (b ∷ bs)) (ends raw_texts.Body 
     go false true h g e = absurd (omega (arith, e))
     go false false h g e = record { hidden_is = h; following = omega (arith, e); goes_on = λ f. g }
 
--- and what is scanned where it goes on
+-- the scan at an escape, and at another byte
 scan_hidden : (b : ℕ) (bs : List ℕ) → is_interpolation_escape (b ∷ bs) ≡ true → scan 0 (b ∷ bs) ≡ suc (scan 3 bs)
 unfolding pieces_len
 scan_hidden b bs h = rw h refl
@@ -103,7 +103,7 @@ text_no_feed t following e = no_feed_from 0 t following tt e
 pub raw_no_feed : (t stop : List ℕ) → IsRaw t stop → NoFeed t
 raw_no_feed t stop h = no_feed_from 0 t (stop ++ []) tt (h.ends [])
 
--- ---- after text nothing is text
+-- ---- no text directly follows a text
 
 rest_from : (n : ℕ) (t following : List ℕ) → Braces n (t ++ following) → scan n (t ++ following) ≡ length t → scan 0 following ≡ 0
 rest_from zero [] following h e = e
@@ -119,7 +119,7 @@ rest_from zero (x ∷ xs) following h e = go (is_interpolation_escape (x ∷ xs 
 pub text_rest : (t following : List ℕ) → scan 0 (t ++ following) ≡ length t → scan 0 following ≡ 0
 text_rest t following e = rest_from 0 t following tt e
 
--- ---- a line of text that is not of blanks alone is no blank line
+-- ---- a line with more than blanks isn't a blank line
 
 no_brace_hides : (b : ℕ) (bs : List ℕ) → eqb b 123 ≡ false → is_interpolation_escape (b ∷ bs) ≡ false
 no_brace_hides b bs h = rw h refl
@@ -127,7 +127,7 @@ no_brace_hides b bs h = rw h refl
 line_no_brace : (b : ℕ) (bs : List ℕ) → is_line_end (b ∷ bs) ≡ true → eqb b 123 ≡ false
 line_no_brace b bs h = grind (arith, nat_tests)
 
--- after a byte that is no brace
+-- after a byte that isn't a brace
 after_first_byte : (b : ℕ) (bs : List ℕ) (n : ℕ) → eqb b 123 ≡ false → scan 0 (b ∷ bs) ≡ suc n → (ends raw_texts.Body (b ∷ bs) ≡ false) × (scan 0 bs ≡ n)
 after_first_byte b bs n h e =
     let s : Scanned b bs n false = subst (Scanned b bs n) (no_brace_hides b bs h) (scanned b bs n e) in
@@ -162,9 +162,9 @@ not_blank_line (x ∷ xs) a e h = go (blank (class_of x)) refl (not_blank_line x
         (ih on.1 (λ f. h (ap (λ n. is_empty (drop n (x ∷ xs))) (one_more x xs b) ∙ f)))
     go false b ih = subst (λ n. begins_blank_line (drop n (x ∷ xs ++ a)) ≡ false) (sym (none_more x (xs ++ a) b)) (text_no_end x (xs ++ a) (length xs) e)
 
--- ---- text that ends before some text ends before what is printed after it
+-- ---- text that ends before some text ends before the text that is printed after it
 
--- the last byte does not end text before the one text, so not before the other
+-- the last byte doesn't end the text before one text, so it doesn't before the other
 module _ (a b : List ℕ) where
   abbrev LastKeeps : List ℕ → Type 0
   LastKeeps [] = Unit {0}

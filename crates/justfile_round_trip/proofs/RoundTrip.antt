@@ -21,7 +21,7 @@ use Rattle.justfile_model.specs.Grammar.{File}
 use Rattle.justfile_model.specs.NormalShape.{normal}
 use Rattle.justfile_model.specs.Printing.{text, printable}
 use Rattle.justfile_model.specs.Literals.{over_literal, AreCookedTexts}
-use Rattle.justfile_model.specs.Files.{FileDerives, ShapeDerives, all_features, says_doc, literals, content_bindings, bindings, content_recipes, recipes, to_lexemes}
+use Rattle.justfile_model.specs.Files.{FileDerives, ShapeDerives, all_features, sets_doc, literals, content_bindings, bindings, content_recipes, recipes, to_lexemes}
 use Rattle.justfile_model.specs.PrintedAttributes.{docs_written, rewritten}
 use Rattle.justfile_model.specs.LeafView.{views_lexemes}
 use Rattle.justfile_model.proofs.DocsKept.{documented_counts, printable_count}
@@ -86,7 +86,7 @@ good_file : (limit : ℕ) (s : Shape) (indentation : List ℕ) → AtStart limit
 unfolding back_tokens
 good_file limit s indentation h =
     let found = derive_start limit indentation h false in
-    (found.0, elsewhere limit (g.unmarked found.1) (placed_same (text s indentation) (marks indentation (docs_written s)) 0 false))
+    (found.0, elsewhere limit (g.without_byte_order_mark found.1) (placed_same (text s indentation) (marks indentation (docs_written s)) 0 false))
 
 -- features are noted as often without their places
 times_over : {A B : Type 0} (f : A → B) (feature : ListFeature) (ns : List (Noted A)) → times feature (map (over_noted f) ns) ≡ times feature ns
@@ -137,15 +137,15 @@ module _ (conditions : Conditions) where
   record Documented (s : Shape) : Type 0 where
     plain : Shape
     good : AtStart conditions.limit plain
-    shape_is : s ≡ documented says_doc Nothing plain
+    shape_is : s ≡ documented sets_doc Nothing plain
 
-  -- the normal shape of what a text derives
+  -- the normal shape of the tree that a text derives
   source_good : (source : List ℕ) (t : Tree) (fs : List (Noted Tok)) → TextDerives conditions source t fs → printable (shape_of t) ≡ true → Documented (normal (shape_of t))
   source_good source t fs h p =
       let f = shape_derives source t fs h in
       let view = views_lexemes conditions.expander in
       let shape_is = docs_meant view f.written (shape_of t) f.ordered_is in
-      let prints : printable (meant view f.written) ≡ true = sym (documented_counts printable printable_count says_doc Nothing (meant view f.written)) ∙ ap printable (sym shape_is) ∙ p in
+      let prints : printable (meant view f.written) ≡ true = sym (documented_counts printable printable_count sets_doc Nothing (meant view f.written)) ∙ ap printable (sym shape_is) ∙ p in
       record {
         plain = normal (meant view f.written);
         good = file_good conditions.limit conditions.current view f.derives f.unbroken (lexed_sound source h.tokens h.utf8 h.lexed) (lexed_bodies source h.tokens h.lexed) prints;
@@ -160,13 +160,13 @@ module _ (conditions : Conditions) where
   docs_settled : (s : Shape) → Documented s → SettledDocs Nothing s
   docs_settled s d = subst (SettledDocs Nothing) (sym d.shape_is) (documented_settled Nothing d.plain (start_plain conditions.limit d.good) (start_comments conditions.limit d.good))
 
-  -- and what is printed of it means it again, breaks no rule, and has literals with texts
+  -- its printed form means it again, breaks no rule, and has literals with texts
   source_again : (ts : List SignificantToken) (s : Shape) (ns : Shown) → ShapeDerives conditions ts s ns → AllPrintAgain conditions.current conditions.expander (normal s)
   source_again ts s ns f =
       normal_again conditions.current conditions.expander s
       (shape_again conditions.current conditions.expander f.written s f.ordered_is f.unbroken (texts_are_there conditions.expander _ f.cooked f.cooks))
 
-  -- each feature is as often in what a text derives as in what is printed of its shape
+  -- each feature occurs as often in the tree that a text derives as in the printed form of its shape
   source_times : (feature : ListFeature) (ts : List SignificantToken) (s : Shape) (ns : Shown) → ShapeDerives conditions ts s ns
       → times feature ns ≡ shape_weight feature conditions.expander s
   source_times feature ts s ns f =

@@ -31,7 +31,7 @@ pub data Begins : Tokens → Type 0 where
 begins_with : {kind : TokenKind} {t : SignificantToken} {ts : Tokens} → t.tok.kind ≡ kind → may_begin kind ≡ true → Begins (t ∷ ts)
 begins_with e h = begins (ap may_begin e ∙ h)
 
--- what begins with such a token goes on with no operator but `/`
+-- tokens that begin an expression don't begin with a token that can't begin one, as an operator other than `/`
 pub not_begun : (kind : TokenKind) {ts : Tokens} → Begins ts → may_begin kind ≡ false → NotNext kind ts
 not_begun kind (begins h) n = λ e. let bad : true ≡ false = sym h ∙ ap may_begin e ∙ n in cc
 
@@ -153,7 +153,7 @@ value_ends_too OfValue s h = record { is = tt }
 value_ends_too OfOpen s h = record { is = tt }
 value_ends_too OfClosed s h = record { is = tt }
 
--- a first token that stands apart marks nothing
+-- a first token that isn't glued doesn't mark the next one
 pub apart : {ts us : Tokens} → SameHead false ts us → glued_string us ≡ false
 apart (same_head {u = u} e f glued) = no_glue (is_string u.tok.kind) u.glued glued
   where
@@ -164,7 +164,7 @@ apart (same_head {u = u} e f glued) = no_glue (is_string u.tok.kind) u.glued glu
 pub begins_too : {b : Bool} {ts us : Tokens} → SameHead b ts us → Begins ts → Begins us
 begins_too (same_head e f glued) (begins h) = begins (ap may_begin (sym e) ∙ h)
 
--- before an expression that stands apart another one stops
+-- an expression ends before another one that isn't glued to it
 pub stop_beside : {ts us : Tokens} → SameHead false ts us → Begins ts → StopE us
 stop_beside s h =
     let q = begins_too s h in

@@ -19,7 +19,7 @@ use Rattle.justfile_model.specs.Tok.{Tok}
 use Rattle.justfile_model.specs.SignificantTokens.{SignificantToken, is_whitespace, significant_from}
 use Rattle.justfile_model.specs.Modes.{Mode, mode, start_mode, mode_after, is_empty, tail_of, head_of, nested}
 use Rattle.justfile_model.specs.Lexed.{end_of, IsNext, Begins, Lexed}
-use Rattle.justfile_model.specs.Next.{NextToken, format_string_kind, format_kind, token_by_class, token_within_line, body_token, line_end_token, Region, InText, InInterpolation, Inline, token_in_region, at_end_by, begins_blank_line, next_by, next}
+use Rattle.justfile_model.specs.Next.{NextToken, format_string_kind, format_kind, token_by_class, token_within_line, body_token, line_end_token, Region, InText, InInterpolation, OutsideText, token_in_region, at_end_by, begins_blank_line, next_by, next}
 use Rattle.justfile_model.proofs.NextLaws.{token_cut}
 use Rattle.justfile_round_trip.proofs.LexedModes.{take_front, drop_front, drop_drop}
 use Rattle.justfile_round_trip.proofs.Inline.{IsName}
@@ -51,13 +51,13 @@ feed_ends : (m : Mode) (bs : List ℕ) (p : Region) → EndsLine m (token_in_reg
 unfolding token_by_class body_token class_of pieces_len
 feed_ends m bs InText = record { ends = (λ h. cc, λ h. cc) }
 feed_ends m bs InInterpolation = interpolation_ends m (is_empty m.openers && is_interpolation_end (10 ∷ bs)) (line_end_ends m 1)
-feed_ends m bs Inline = line_end_ends m 1
+feed_ends m bs OutsideText = line_end_ends m 1
 
 return_ends : (m : Mode) (bs : List ℕ) (p : Region) → EndsLine m (token_in_region p m (13 ∷ 10 ∷ bs))
 unfolding token_by_class body_token class_of pieces_len
 return_ends m bs InText = record { ends = (λ h. cc, λ h. cc) }
 return_ends m bs InInterpolation = interpolation_ends m (is_empty m.openers && is_interpolation_end (13 ∷ 10 ∷ bs)) (line_end_ends m 2)
-return_ends m bs Inline = line_end_ends m 2
+return_ends m bs OutsideText = line_end_ends m 2
 
 inside_ends : (m : Mode) (b : ℕ) (bs : List ℕ) → is_line_end (b ∷ bs) ≡ true → EndsLine m (token_within_line m (b ∷ bs))
 unfolding token_within_line
@@ -87,9 +87,9 @@ next_ends m (b ∷ bs) s h = subst (λ t. EndsLine m (next_by t m (b ∷ bs))) (
     left true e = refl
     left false e = e
 
--- ---- what is open around a token
+-- ---- the delimiters that are open around a token
 
--- the open delimiters, the innermost first: of a format string its kind
+-- the open delimiters, the innermost first; a format string has its kind
 pub record Around : Type 0 where
   pub openers : List (Option StringKind)
   pub interpolation : Bool
@@ -111,7 +111,7 @@ around kinds.InterpolationStart l s = record s { interpolation = true }
 around kinds.InterpolationEnd l s = record s { interpolation = false }
 around _ l s = s
 
--- nothing is open
+-- no delimiter and no interpolation is open
 abbrev pub calm : Around → Bool
 calm s = is_empty s.openers && not s.interpolation
 
@@ -182,7 +182,7 @@ lexeme_fact m s a kinds.Backtick l following f = f
 lexeme_fact m s a kinds.Comment l following f = record { following = following; was = f }
 lexeme_fact m s a _ l following f = tt
 
--- what is known of a token; a comment is the token before it, or not
+-- the properties of a token; `comment` says whether the token before it is a comment
 pub record Known (s : Around) (comment : Bool) (t : Tok) : Type 0 where
   pub fact : LexemeFact s t.kind t.lexeme
   pub utf8 : IsUtf8 t.lexeme
@@ -282,9 +282,9 @@ sound (t ∷ ts) m rest s comment glued u a r p =
           (was.stop, ap (λ k. (mode_after k t m).line_start) kind)),
     )
 
--- ---- of a text
+-- ---- the tokens of a text
 
--- before the first token nothing is open
+-- before the first token, no delimiter and no interpolation is open
 abbrev pub outside : Around
 outside = record { openers = []; interpolation = false }
 
@@ -302,7 +302,7 @@ module _ (text : List ℕ) where
       let moved : reverse e ++ (t ∷ ts) ≡ reverse (t ∷ e) ++ ts = sym (append_assoc (reverse e) (t ∷ []) ts) ∙ ap (λ l. l ++ ts) (sym (reverse-append (t ∷ []) e)) in
       subst (Runs start_mode text) moved (runs_from e (t ∷ ts) b.0 (runs_one e t ts b.1 r))
 
-  -- each significant token of a text has its fact
+  -- each significant token of a text has its properties
   pub lexed_sound : (tokens : List Tok) → IsUtf8 text → Lexed text tokens → Sound outside false (significant_from false tokens)
   lexed_sound tokens u l =
       let order : reverse l.earlier ++ (l.last ∷ []) ≡ tokens = sym (sym (reverse-reverse tokens) ∙ ap reverse l.are ∙ reverse-append (l.last ∷ []) l.earlier) in

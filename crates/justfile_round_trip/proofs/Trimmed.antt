@@ -5,7 +5,7 @@ use Rattle.justfile_model.specs.Printing.{printable_fragments, printable_body}
 use Rattle.justfile_model.specs.Tree.{Line, line_before, trimmed}
 use Rattle.justfile_round_trip.proofs.Canon.{Row}
 
--- what is left once is left
+-- trimming a trimmed list changes nothing
 before_twice : (l : Row) (ls : List Row) → trimmed ls ≡ ls → trimmed (line_before l ls) ≡ line_before l ls
 before_twice (Line n []) [] h = refl
 before_twice (Line n []) (k ∷ ls) h = λ i. line_before (Line n []) (h i)

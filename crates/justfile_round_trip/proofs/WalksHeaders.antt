@@ -107,6 +107,6 @@ module _ (limit : ℕ) where
   walk_header (g.loud (g.header {name = u} {tokens = ts} kind2 ps all)) w =
       walk_all IsHeader header_after all (walk_parameters ps (on IsOutside outside_after kinds.Identifier u ts kind2 refl w))
 
--- after a header nothing is open either
+-- after a header, no delimiter is open either
 pub outside_header : {ts : Tokens} → Walked IsHeader ts → Walked IsOutside ts
 outside_header w = record { outline = w.outline; is = w.is.is_outside; sound = w.sound }

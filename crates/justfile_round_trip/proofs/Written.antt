@@ -55,7 +55,7 @@ past_indent t ts e w =
     subst (λ o. BodySound o ts) (indent_leads t.tok.lexeme w.outline w.is.colon w.is.is_outside.interpolation w.is.is_outside.levels)
     (subst (λ k. BodySound (outline_after k t.tok.lexeme w.outline) ts) e w.sound.1)
 
--- what is known at the first line of a body
+-- the properties of the tokens at the first line of a body
 record InBody (text : Option (List ℕ)) (ts : List SignificantToken) : Type 0 where
   comment : GoodOptionalComment text
   facts : Sound outside false ts
@@ -177,7 +177,7 @@ module _ (limit : ℕ) where
   start_block entries h comment [] items some attributes head commented b more = absurd some
   start_block entries h comment (l ∷ ls) items some attributes head commented b more = good.recipe attributes head commented b more
 
-  -- no item is before the end of the file: a construct begins with a bracket, or with what its content begins with
+  -- no construct begins with the end of the file: it begins with a bracket, or with the first token of its content
   no_construct : {P : Type 0} {ws : List Written} {ns : Shown} {ts rest : List SignificantToken}
       → AttributeLines lexeme nothing (BelowLimit limit) ws ns ts rest → (NextIs (λ k. k ≡ kinds.Eof) rest → P) → NextIs (λ k. k ≡ kinds.Eof) ts → P
   no_construct (attribute.none next) other e = other e
@@ -219,11 +219,11 @@ module _ (limit : ℕ) where
 
   -- where this is the running version
   module _ (current : VersionNumbers) (view : LeafView (List ℕ) (Unit {0})) where
-    -- what is printed of written items
+    -- the normal shape of the meaning of written items
     abbrev rest_of : WrittenShape → Shape
     rest_of items = normal_rest (meant view items)
 
-    -- a construct on one line that breaks no rule whatever its attributes are
+    -- a construct on one line that breaks no rule with any attributes
     content_good : {content : ShapeContent} {ns : Shown} {ts rest : List SignificantToken} → OnLine to_lexemes (BelowLimit limit) content ns ts rest
         → form_broken current view content ≡ [] → Ahead outside false ts → Passed (GoodContent limit content) rest
     content_good (g.alias {word = word} {name = name} {operator = operator} {tokens = ts} is kind kind2 to) u h =
@@ -242,7 +242,7 @@ module _ (limit : ℕ) where
     content_good (g.import {word = word} {tokens = ts} is at) u h =
         let x = file_path_good at (past_token word ts kinds.Identifier is.is_name refl h) in
         record { good = contents.import x.good; following = x.following }
-    content_good (g.optional_import {word = word} {mark = mark} {tokens = ts} is kind at) u h =
+    content_good (g.optional_import {word = word} {question_mark = mark} {tokens = ts} is kind at) u h =
         let x = file_path_good at (past_token mark ts kinds.QuestionMark kind refl (past_token word (mark ∷ ts) kinds.Identifier is.is_name refl h)) in
         record { good = contents.import x.good; following = x.following }
     content_good (g.module_alone {word = word} {name = name} {rest = rest} is kind next) u h =
@@ -252,10 +252,10 @@ module _ (limit : ℕ) where
         let named = past_token word (name ∷ ts) kinds.Identifier is.is_name refl h in
         let x = file_path_good at (past_token name ts kinds.Identifier kind refl named) in
         record { good = contents.module_named (lexed_name name kind named.facts.0) x.good; following = x.following }
-    content_good (g.optional_module_alone {word = word} {mark = mark} {name = name} {rest = rest} is kind kind2 next) u h =
+    content_good (g.optional_module_alone {word = word} {question_mark = mark} {name = name} {rest = rest} is kind kind2 next) u h =
         let named = past_token mark (name ∷ rest) kinds.QuestionMark kind refl (past_token word (mark ∷ name ∷ rest) kinds.Identifier is.is_name refl h) in
         record { good = contents.module_named (lexed_name name kind2 named.facts.0) tt; following = past_token name rest kinds.Identifier kind2 refl named }
-    content_good (g.optional_module_at {word = word} {mark = mark} {name = name} {tokens = ts} is kind kind2 at) u h =
+    content_good (g.optional_module_at {word = word} {question_mark = mark} {name = name} {tokens = ts} is kind kind2 at) u h =
         let named = past_token mark (name ∷ ts) kinds.QuestionMark kind refl (past_token word (mark ∷ name ∷ ts) kinds.Identifier is.is_name refl h) in
         let x = file_path_good at (past_token name ts kinds.Identifier kind2 refl named) in
         record { good = contents.module_named (lexed_name name kind2 named.facts.0) x.good; following = x.following }
@@ -270,7 +270,7 @@ module _ (limit : ℕ) where
         let found = header_at limit head u false h.facts in
         record { good = contents.header found.good; following = record { facts = found.following; bodies = outside_header (walk_header limit head h.bodies) } }
 
-    -- attributes before a construct, and what is known after them
+    -- attributes before a construct, and the properties of the tokens after them
     record AttributesAhead (ws : List Written) (rest : List SignificantToken) : Type 0 where
       entries : GoodEntries limit (entries_or_none (entries_of view ws))
       following : Ahead outside false rest
@@ -291,7 +291,7 @@ module _ (limit : ℕ) where
     trailing_good t items true kind h e = absurd (h.apart refl refl kind)
     trailing_good t items false kind h e = good.trailing (lexed_comment t kind h) e
 
-    -- what breaks no rule breaks none whatever its attributes are: a recipe has its stars where they may stand
+    -- a construct that breaks no rule breaks none with any other attributes: the stars of a recipe are at allowed places
     form_unbroken : (ws : List Written) (content : ShapeContent) (items : WrittenShape) → broken current view (tree.Construct ws content ∷ items) ≡ []
         → form_broken current view content ≡ []
     form_unbroken ws content items unbroken =
@@ -344,5 +344,5 @@ module _ (limit : ℕ) where
       where
         by : {items : WrittenShape} {ns : List (ConstructFeatures (Unit {0}))} {ts : List SignificantToken} → File to_lexemes (BelowLimit limit) items ns ts → broken current view items ≡ []
             → Ahead outside false ts → printable (meant view items) ≡ true → AtStart limit (rest_of items)
-        by (g.marked {token = t} {rest = rest} kind more) u h p = items_good more u false (past_token t rest kinds.ByteOrderMark kind refl h) p
-        by (g.unmarked more) u h p = items_good more u false h p
+        by (g.with_byte_order_mark {token = t} {rest = rest} kind more) u h p = items_good more u false (past_token t rest kinds.ByteOrderMark kind refl h) p
+        by (g.without_byte_order_mark more) u h p = items_good more u false h p

@@ -24,19 +24,19 @@ key_kind : (t : SignificantToken) (ts : Tokens) → IsKey (t ∷ ts) → IsKind 
 key_kind t [] k = k
 key_kind t (u ∷ ts) k = k.0
 
--- what is known of a token is known if a comment is the token before it, and if none is
+-- tokens that have the properties after a comment have those after another token
 uncommented : (s : Around) (c : Bool) (ts : Tokens) → Sound s c ts → Sound s false ts
 uncommented s c [] h = tt
 uncommented s c (t ∷ ts) h = (record { fact = h.0.fact; utf8 = h.0.utf8; apart = λ e. cc }, h.1, h.2)
 
--- past a token that begins or ends no body
+-- past a token that doesn't begin or end a body
 step : (k : TokenKind) (t : SignificantToken) (ts : Tokens) → IsKind k t → shifts k ≡ false → Walked IsOutside (t ∷ ts) → Walked IsOutside ts
 step k t ts e stays w =
     let on = outline_after t.tok.kind t.tok.lexeme w.outline in
     record { outline = on; is = outside_after t.tok.kind t.tok.lexeme w.outline (ap shifts e ∙ stays) w.is; sound = w.sound.1 }
 
 module _ (limit : ℕ) where
-  -- ---- what is known of the tokens: values are good, and what is open stays as it was
+  -- ---- properties of the tokens: values are good, and the same delimiters are open after them
 
   record ArgumentAt (s : Around) (a : Argument) (rest : Tokens) : Type 0 where
     good : GoodSource limit a
@@ -173,7 +173,7 @@ module _ (limit : ℕ) where
 
   -- ---- both
 
-  -- lines of attributes that any text derives: what they mean is good, if they mean anything, and what is known goes on after them
+  -- lines of attributes that any text derives: their meaning is good, if they have one, and the tokens after them keep the properties
   pub record AttributesGood (view : LeafView (List ℕ) (Unit {0})) (ws : List Written) (rest : Tokens) : Type 0 where
     pub entries : (es : List ShapeEntry) → entries_of view ws ≡ Some es → GoodEntries limit es
     pub facts : Sound outside false rest

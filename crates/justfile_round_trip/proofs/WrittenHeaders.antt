@@ -52,7 +52,7 @@ subsequents_utf8 (d ∷ ds) k more u = plain (32 ∷ 38 ∷ 38 ∷ []) _ refl (k
 
 -- ---- along a derivation
 
--- what was found of a part of a header: its lexemes are good, its text is UTF-8, and nothing stays open
+-- a part of a header: its lexemes are good, its text is UTF-8, and no delimiter stays open
 pub record Found (s : Around) (Good : Type 0) (text : List ℕ → List ℕ) (rest : Tokens) : Type 0 where
   pub good : Good
   pub utf8 : Keeps text
@@ -188,7 +188,7 @@ module _ (limit : ℕ) where
       let x = named_header_at n c s in
       record { good = x.good; utf8 = λ more u. at_utf8 h.quiet _ (x.utf8 more u); following = x.following }
 
-  -- a header that any text derives, whose stars stand where they may, and what follows it
+  -- a header that any text derives, with its stars at allowed places, and the tokens after it
   pub record HeaderAt (h : ShapeHeader) (rest : Tokens) : Type 0 where
     pub good : GoodHeader limit h
     pub following : Sound outside false rest

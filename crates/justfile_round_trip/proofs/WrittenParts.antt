@@ -28,7 +28,7 @@ pub record Ahead (s : Around) (c : Bool) (ts : Tokens) : Type 0 where
   pub facts : Sound s c ts
   pub bodies : Walked IsOutside ts
 
--- after a token that begins or ends no body
+-- after a token that doesn't begin or end a body
 pub past_token : {s : Around} {c : Bool} (t : SignificantToken) (ts : Tokens) (k : TokenKind) → IsKind k t → shifts k ≡ false → Ahead s c (t ∷ ts)
     → Ahead (around k t.tok.lexeme s) (is_comment k) ts
 past_token {s} t ts k e stays h = record { facts = past s t ts k e h.facts.2; bodies = past_walked IsOutside outside_after t ts k e stays h.bodies }
@@ -39,9 +39,9 @@ lexed_comment t kind h = good_comment t.tok.lexeme h.utf8 (fact_as t kinds.Comme
 pub lexed_name : {s : Around} {c : Bool} (t : SignificantToken) → IsKind kinds.Identifier t → Known s c t.tok → GoodName t.tok.lexeme
 lexed_name t kind h = record { is_name = fact_as t kinds.Identifier kind h; utf8 = h.utf8 }
 
--- ---- what items are made of
+-- ---- the parts of items
 
--- what was found good, and what is known of the tokens after it
+-- a part that is good, and the properties of the tokens after it
 pub record Passed (Good : Type 0) (rest : Tokens) : Type 0 where
   pub good : Good
   pub following : Ahead outside false rest

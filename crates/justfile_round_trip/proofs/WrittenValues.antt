@@ -60,7 +60,7 @@ fact_as {s} t k e h = subst (λ x. LexemeFact s x t.tok.lexeme) e h.fact
 pub past : (s : Around) (t : SignificantToken) (ts : Tokens) (k : TokenKind) → IsKind k t → Sound (around t.tok.kind t.tok.lexeme s) (is_comment t.tok.kind) ts → Sound (around k t.tok.lexeme s) (is_comment k) ts
 past s t ts k e h = subst (λ x. Sound (around x t.tok.lexeme s) (is_comment x) ts) e h
 
--- past a token that opens nothing
+-- past a token that doesn't open a delimiter
 pub on : (s : Around) (c : Bool) (t : SignificantToken) (ts : Tokens) (k : TokenKind) → IsKind k t → ((l : List ℕ) → around k l s ≡ s) → is_comment k ≡ false → Sound s c (t ∷ ts) → Sound s false ts
 on s c t ts k e same no_comment h = subst (λ b. Sound s b ts) no_comment (subst (λ x. Sound x (is_comment k) ts) (same t.tok.lexeme) (past s t ts k e h.2))
 
@@ -76,11 +76,11 @@ operator_no_comment Inequality = refl
 operator_no_comment RegexMatch = refl
 operator_no_comment RegexMismatch = refl
 
--- what is open inside one more
+-- the open delimiters inside one more
 abbrev pub within : Around → Option StringKind → Around
 within s o = record { openers = o ∷ s.openers; interpolation = s.interpolation }
 
--- a value is good, and leaves what is open as it was
+-- a value is good, and the same delimiters are open after it
 pub record ValueAt (s : Around) (e : canon.Value) (rest : Tokens) : Type 0 where
   pub lexes : GoodValue e
   pub utf8 : (more : List ℕ) → IsUtf8 more → IsUtf8 (expr_on e more)
@@ -221,7 +221,7 @@ module _ (MayEnter : ℕ → Option SignificantToken → Type 0) where
         let y = sequence_at xs s (within s None) (λ l. refl) refl false (past s t ts kinds.BracketL kind h.2) in
         record { lexes = y.lexes; utf8 = λ more u. plain (codes "[") _ refl (y.utf8 _ (plain (codes "]") _ refl u)); following = y.following }
 
-    -- up to the closing delimiter, which closes what is inside
+    -- up to the closing delimiter of the sequence
     pub sequence_at : {closing : TokenKind} {d : ℕ} {es : Values} {fs : Shown} {ts rest : Tokens} → Sequence lexeme nothing MayEnter closing d es fs ts rest → (s inside : Around) → ((l : List ℕ) → around closing l inside ≡ s) → is_comment closing ≡ false
         → (c : Bool) → Sound inside c ts → ValuesAt s es rest
     sequence_at {closing} (g.none {closer = t} {rest = rest} kind) s inside shut no_comment c h =

@@ -27,17 +27,26 @@ ghost use Rattle.justfile_round_trip.specs.RoundTrip.{TextDerives, ReadsBack, pr
 /// such shapes have the same printed text, with the same indentation, exactly if their normal forms
 /// are equal. Printing the printed text gives the same text.
 pub fn reads_back()
-    ensures back { (conditions : Conditions) (source : List ℕ) (tree : Tree) (features : List (Noted Tok))
-        (indentation : List ℕ) → IsIndentation indentation → TextDerives conditions source tree features → printable (shape_of tree) ≡ true
-        → ReadsBack conditions (shape_of tree) features indentation (printed (shape_of tree) indentation) }
+    ensures back { (conditions : Conditions) (source : List ℕ) (tree : Tree)
+        (features : List (Noted Tok))
+        (indentation : List ℕ) → IsIndentation indentation
+        → TextDerives conditions source tree features → printable (shape_of tree) ≡ true
+        → ReadsBack conditions (shape_of tree) features indentation
+        (printed (shape_of tree) indentation) }
     ensures alike { (shape other : Shape) (indentation : List ℕ) → normal shape ≡ normal other
         → printed shape indentation ≡ printed other indentation }
-    ensures apart { (conditions : Conditions) (source other : List ℕ) (tree twin : Tree) (features others : List (Noted Tok))
-        (indentation : List ℕ) → IsIndentation indentation → TextDerives conditions source tree features
-        → TextDerives conditions other twin others → printable (shape_of tree) ≡ true → printable (shape_of twin) ≡ true
-        → printed (shape_of tree) indentation ≡ printed (shape_of twin) indentation → normal (shape_of tree) ≡ normal (shape_of twin) }
-    ensures fixed { (conditions : Conditions) (source : List ℕ) (tree again : Tree) (features found : List (Noted Tok))
-        (indentation : List ℕ) → IsIndentation indentation → TextDerives conditions source tree features → printable (shape_of tree) ≡ true
+    ensures apart { (conditions : Conditions) (source other : List ℕ) (tree twin : Tree)
+        (features others : List (Noted Tok))
+        (indentation : List ℕ) → IsIndentation indentation
+        → TextDerives conditions source tree features
+        → TextDerives conditions other twin others → printable (shape_of tree) ≡ true
+        → printable (shape_of twin) ≡ true
+        → printed (shape_of tree) indentation ≡ printed (shape_of twin) indentation
+        → normal (shape_of tree) ≡ normal (shape_of twin) }
+    ensures fixed { (conditions : Conditions) (source : List ℕ) (tree again : Tree)
+        (features found : List (Noted Tok))
+        (indentation : List ℕ) → IsIndentation indentation
+        → TextDerives conditions source tree features → printable (shape_of tree) ≡ true
         → TextDerives conditions (printed (shape_of tree) indentation) again found
         → printed (shape_of again) indentation ≡ printed (shape_of tree) indentation }
     ensures stays_printable { (shape : Shape) → printable (normal shape) ≡ printable shape }
@@ -63,19 +72,26 @@ pub fn least_need()
 pub fn modes_agree()
     // Format mode ends at the end of plain mode or at such a `{{`, whichever is first.
     ensures first_end { (kind : StringKind) (text : List ℕ)
-        → raw_len (Literal kind true) text ≡ min (raw_len (Literal kind false) text) (before_start kind text) }
+        → raw_len (Literal kind true) text
+        ≡ min (raw_len (Literal kind false) text) (before_start kind text) }
     // If format mode ends at a delimiter or at the end of the text, plain mode ends there, too.
-    ensures whole { (kind : StringKind) (text : List ℕ) → is_interpolation_start (drop (raw_len (Literal kind true) text) text) ≡ false
+    ensures whole { (kind : StringKind) (text : List ℕ)
+        → is_interpolation_start (drop (raw_len (Literal kind true) text) text) ≡ false
         → raw_len (Literal kind false) text ≡ raw_len (Literal kind true) text }
     // If format mode ends at a `{{`, plain mode ends later.
-    ensures part { (kind : StringKind) (text : List ℕ) → is_interpolation_start (drop (raw_len (Literal kind true) text) text) ≡ true
+    ensures part { (kind : StringKind) (text : List ℕ)
+        → is_interpolation_start (drop (raw_len (Literal kind true) text) text) ≡ true
         → raw_len (Literal kind true) text < raw_len (Literal kind false) text }
     // If the inside in plain mode has no `{{`, format mode ends at the same position.
-    ensures plain { (kind : StringKind) (text : List ℕ) → has_no_start (take (raw_len (Literal kind false) text) text) ≡ true
+    ensures plain { (kind : StringKind) (text : List ℕ)
+        → has_no_start (take (raw_len (Literal kind false) text) text) ≡ true
         → raw_len (Literal kind true) text ≡ raw_len (Literal kind false) text }
     // A string token of either mode is the same token in plain mode, before any text that doesn't
     // begin with a quote.
-    ensures again { (m n : Mode) (lexeme following more : List ℕ) → is_quote (slice_index lexeme 0) ≡ true
-        → literal_token m (lexeme ++ following) ≡ Ok (StringToken, length lexeme) → n.after_f ≡ false
-        → is_quote (slice_index more 0) ≡ false → literal_token n (lexeme ++ more) ≡ Ok (StringToken, length lexeme) }
+    ensures again { (m n : Mode) (lexeme following more : List ℕ)
+        → is_quote (slice_index lexeme 0) ≡ true
+        → literal_token m (lexeme ++ following) ≡ Ok (StringToken, length lexeme)
+        → n.after_f ≡ false
+        → is_quote (slice_index more 0) ≡ false
+        → literal_token n (lexeme ++ more) ≡ Ok (StringToken, length lexeme) }
 {}

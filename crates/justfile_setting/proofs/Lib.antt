@@ -1,4 +1,3 @@
 pub mod KeywordNames
-mod Loops
 pub mod SettingText
 pub mod VersionTexts

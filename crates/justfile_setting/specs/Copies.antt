@@ -1,21 +1,17 @@
 -- Copies of settings.
 use Rattle.std.specs.Prelude.{◌≡◌}
 use Rattle.std.specs.Global.{Box}
-use Rattle.justfile_attribute.specs.Interpreters.{IsSameCommand}
+use Rattle.justfile_attribute.specs.Interpreters.{IsSameExpressionInterpreter}
 use Rattle.justfile_attribute.specs.declared.interpreter.Interpreter.{Interpreter}
 use Rattle.justfile_token.specs.StringLiteral.{IsSameLiteral}
-use Rattle.justfile_expression.specs.Copies.{IsSameExpression}
+use Rattle.justfile_expression.specs.Copies.{IsSameBoxed}
 use Rattle.justfile_expression.specs.declared.expression.Expression.{Expression}
 use Rattle.justfile_setting.specs.declared.setting.Setting.{Setting}
 use Rattle.justfile_setting.specs.declared.setting.Setting.TheVariants as settings
 
--- expressions in boxes, compared by value
-abbrev pub IsSameBoxed : (copy original : Box Expression) → Type 0
-IsSameBoxed copy original = IsSameExpression copy.value original.value
-
 -- interpreters in boxes, compared by value
-abbrev pub IsSameBoxedCommand : (copy original : Box (Interpreter Expression)) → Type 0
-IsSameBoxedCommand copy original = IsSameCommand copy.value original.value
+abbrev pub IsSameBoxedInterpreter : (copy original : Box (Interpreter Expression)) → Type 0
+IsSameBoxedInterpreter copy original = IsSameExpressionInterpreter copy.value original.value
 
 -- a copy of a setting: the same case, and all fields are the same
 abbrev pub IsSameSetting : (copy original : Setting) → Type 0
@@ -41,11 +37,11 @@ IsSameSetting (settings.NoCd copy) (settings.NoCd original) = copy ≡ original
 IsSameSetting (settings.NoExitMessage copy) (settings.NoExitMessage original) = copy ≡ original
 IsSameSetting (settings.PositionalArguments copy) (settings.PositionalArguments original) = copy ≡ original
 IsSameSetting (settings.Quiet copy) (settings.Quiet original) = copy ≡ original
-IsSameSetting (settings.ScriptInterpreter copy) (settings.ScriptInterpreter original) = IsSameBoxedCommand copy original
-IsSameSetting (settings.Shell copy) (settings.Shell original) = IsSameBoxedCommand copy original
+IsSameSetting (settings.ScriptInterpreter copy) (settings.ScriptInterpreter original) = IsSameBoxedInterpreter copy original
+IsSameSetting (settings.Shell copy) (settings.Shell original) = IsSameBoxedInterpreter copy original
 IsSameSetting (settings.Tempdir copy) (settings.Tempdir original) = IsSameBoxed copy original
 IsSameSetting (settings.Unstable copy) (settings.Unstable original) = copy ≡ original
 IsSameSetting (settings.WindowsPowerShell copy) (settings.WindowsPowerShell original) = copy ≡ original
-IsSameSetting (settings.WindowsShell copy) (settings.WindowsShell original) = IsSameBoxedCommand copy original
+IsSameSetting (settings.WindowsShell copy) (settings.WindowsShell original) = IsSameBoxedInterpreter copy original
 IsSameSetting (settings.WorkingDirectory copy) (settings.WorkingDirectory original) = IsSameBoxed copy original
 IsSameSetting _ _ = ⊥

@@ -10,17 +10,17 @@ use Rattle.justfile_setting.specs.declared.setting.Setting.{Setting}
 use Rattle.justfile_setting.specs.declared.setting.Setting.TheVariants as settings
 
 module _ (numbers : (name : List ℕ) → Option Number) where
-  -- the same for an expression in a box
+  -- an expression in a box, after its variables got these numbers
   abbrev pub IsResolvedBoxed : (resolved original : Box Expression) → Type 0
   IsResolvedBoxed resolved original = IsResolved numbers resolved.value original.value
 
-  -- the same for an interpreter
-  pub record IsResolvedCommand (resolved original : Interpreter Expression) : Type 0 where
+  -- an interpreter: its command and its arguments are resolved
+  pub record IsResolvedInterpreter (resolved original : Interpreter Expression) : Type 0 where
     pub command : IsResolved numbers resolved.command original.command
     pub arguments : AllZip (IsResolved numbers) resolved.arguments.items original.arguments.items
 
-  abbrev pub IsResolvedBoxedCommand : (resolved original : Box (Interpreter Expression)) → Type 0
-  IsResolvedBoxedCommand resolved original = IsResolvedCommand resolved.value original.value
+  abbrev pub IsResolvedBoxedInterpreter : (resolved original : Box (Interpreter Expression)) → Type 0
+  IsResolvedBoxedInterpreter resolved original = IsResolvedInterpreter resolved.value original.value
 
   -- a setting of the same case: its expressions are resolved, and fields without expressions are the same
   abbrev pub IsResolvedSetting : (resolved original : Setting) → Type 0
@@ -46,11 +46,11 @@ module _ (numbers : (name : List ℕ) → Option Number) where
   IsResolvedSetting (settings.NoExitMessage resolved) (settings.NoExitMessage original) = resolved ≡ original
   IsResolvedSetting (settings.PositionalArguments resolved) (settings.PositionalArguments original) = resolved ≡ original
   IsResolvedSetting (settings.Quiet resolved) (settings.Quiet original) = resolved ≡ original
-  IsResolvedSetting (settings.ScriptInterpreter resolved) (settings.ScriptInterpreter original) = IsResolvedBoxedCommand resolved original
-  IsResolvedSetting (settings.Shell resolved) (settings.Shell original) = IsResolvedBoxedCommand resolved original
+  IsResolvedSetting (settings.ScriptInterpreter resolved) (settings.ScriptInterpreter original) = IsResolvedBoxedInterpreter resolved original
+  IsResolvedSetting (settings.Shell resolved) (settings.Shell original) = IsResolvedBoxedInterpreter resolved original
   IsResolvedSetting (settings.Tempdir resolved) (settings.Tempdir original) = IsResolvedBoxed resolved original
   IsResolvedSetting (settings.Unstable resolved) (settings.Unstable original) = resolved ≡ original
   IsResolvedSetting (settings.WindowsPowerShell resolved) (settings.WindowsPowerShell original) = resolved ≡ original
-  IsResolvedSetting (settings.WindowsShell resolved) (settings.WindowsShell original) = IsResolvedBoxedCommand resolved original
+  IsResolvedSetting (settings.WindowsShell resolved) (settings.WindowsShell original) = IsResolvedBoxedInterpreter resolved original
   IsResolvedSetting (settings.WorkingDirectory resolved) (settings.WorkingDirectory original) = IsResolvedBoxed resolved original
   IsResolvedSetting _ _ = ⊥

@@ -1,14 +1,13 @@
 //! Copies of settings.
 ghost use Rattle.std.specs.Prelude.{IfOk};
 ghost use Rattle.justfile_token.specs.StringLiteral.{IsSameLiteral};
-ghost use Rattle.justfile_attribute.specs.Interpreters.{IsSameCommand};
+ghost use Rattle.justfile_attribute.specs.Interpreters.{IsSameExpressionInterpreter};
 ghost use Rattle.justfile_setting.specs.Copies.{IsSameSetting};
 ghost use Rattle.justfile_setting.specs.declared.setting.Setting.TheVariants as settings;
-ghost use Rattle.justfile_expression.specs.Copies.{IsSameExpression};
 
 use crate::setting::Setting;
 use justfile_attribute::Interpreter;
-use justfile_expression::Expression;
+use justfile_expression::{Expression, copy_boxed};
 use justfile_token::StringLiteral;
 use justfile_vocabulary::Indentation;
 use std::alloc::{AllocError, Global};
@@ -47,15 +46,17 @@ impl<'src> Setting<'src> {
             Setting::NoExitMessage(value) => Ok(Setting::NoExitMessage(*value)),
             Setting::PositionalArguments(value) => Ok(Setting::PositionalArguments(*value)),
             Setting::Quiet(value) => Ok(Setting::Quiet(*value)),
-            Setting::ScriptInterpreter(interpreter) => Ok(Setting::ScriptInterpreter(copy_command(
+            Setting::ScriptInterpreter(interpreter) => Ok(Setting::ScriptInterpreter(
+                copy_interpreter(alloc, interpreter)?,
+            )),
+            Setting::Shell(interpreter) => Ok(Setting::Shell(copy_interpreter(
                 alloc,
                 interpreter,
             )?)),
-            Setting::Shell(interpreter) => Ok(Setting::Shell(copy_command(alloc, interpreter)?)),
             Setting::Tempdir(value) => Ok(Setting::Tempdir(copy_boxed(alloc, value)?)),
             Setting::Unstable(value) => Ok(Setting::Unstable(*value)),
             Setting::WindowsPowerShell(value) => Ok(Setting::WindowsPowerShell(*value)),
-            Setting::WindowsShell(interpreter) => Ok(Setting::WindowsShell(copy_command(
+            Setting::WindowsShell(interpreter) => Ok(Setting::WindowsShell(copy_interpreter(
                 alloc,
                 interpreter,
             )?)),
@@ -66,23 +67,12 @@ impl<'src> Setting<'src> {
     }
 }
 
-/// Returns a copy of an expression in a box of its own.
-fn copy_boxed<'src>(
-    alloc: Global,
-    expression: &Expression<'src>,
-) -> Result<Box<Expression<'src>>, AllocError>
-    ensures { IfOk result (λ copy. IsSameExpression copy.value expression.now) }
-{
-    let copy = expression.clone(alloc)?;
-    Ok(Box::new(alloc, copy)?)
-}
-
 /// Returns a copy of an interpreter in a box of its own.
-fn copy_command<'src>(
+fn copy_interpreter<'src>(
     alloc: Global,
     interpreter: &Interpreter<Expression<'src>>,
 ) -> Result<Box<Interpreter<Expression<'src>>>, AllocError>
-    ensures { IfOk result (λ copy. IsSameCommand copy.value interpreter.now) }
+    ensures { IfOk result (λ copy. IsSameExpressionInterpreter copy.value interpreter.now) }
 {
     let copy = interpreter.clone(alloc)?;
     Ok(Box::new(alloc, copy)?)

@@ -71,7 +71,7 @@ impl<'src> Setting<'src> {
         requires { forms.setting_form keyword ≡ Some forms.TruthForm }
         ensures keyword { keyword_of result ≡ keyword }
         ensures value { leaf_value_of result ≡ tree.Truth value }
-        ensures whole { HasDerivedSettingFields result }
+        ensures fields { HasDerivedSettingFields result }
     {
         match keyword {
             Keyword::AllowDuplicateRecipes => Setting::AllowDuplicateRecipes(value),
@@ -102,7 +102,7 @@ impl<'src> Setting<'src> {
         requires { forms.setting_form keyword ≡ Some forms.ExpressionForm }
         ensures keyword { keyword_of result ≡ keyword }
         ensures value { leaf_value_of result ≡ tree.Value (leaf_tree_of value.entry.value) }
-        ensures whole { HasDerivedSettingFields result }
+        ensures fields { HasDerivedSettingFields result }
     {
         match keyword {
             Keyword::DotenvCommand => Setting::DotenvCommand(value),
@@ -124,7 +124,7 @@ impl<'src> Setting<'src> {
         ensures value { leaf_value_of result
             ≡ tree.Interpreter (leaf_tree_of interpreter.entry.value.command)
             (trees_of interpreter.entry.value.arguments.items) }
-        ensures whole { HasDerivedSettingFields result }
+        ensures fields { HasDerivedSettingFields result }
     {
         match keyword {
             Keyword::ScriptInterpreter => Setting::ScriptInterpreter(interpreter),

@@ -1,16 +1,15 @@
 //! Printing of settings.
-ghost use Rattle.std.specs.Prelude.{◌≡◌, ◌++◌, OnOk, OnErr, codes};
+ghost use Rattle.std.specs.Prelude.{◌≡◌, ◌++◌, codes};
 ghost use Rattle.std.specs.List.{flat_map};
-ghost use Rattle.justfile_token.specs.StringLiteral.{literal_text};
 ghost use Rattle.justfile_model.specs.Printing.{fixed_text};
+ghost use Rattle.justfile_expression.specs.Sink.{Puts};
 ghost use Rattle.justfile_setting.specs.Print.{interpreter_text, later_texts, setting_output, truth_text, value_text_of};
 ghost use Rattle.justfile_expression.specs.Text.{text_of};
 
 use crate::setting::Setting;
 use crate::value::Value;
-use justfile_attribute::Interpreter;
+use justfile_attribute::{Interpreter, write_literal};
 use justfile_expression::{Expression, Sink, put_piece, write_expression};
-use justfile_token::StringLiteral;
 use std::fmt;
 
 impl fmt::Display for Setting<'_> {
@@ -33,16 +32,14 @@ impl fmt::Debug for Setting<'_> {
 /// Writes the text of a setting, which is that of its value.
 #[tactic(auto, using(crate::proofs::SettingText::seen))]
 pub fn write_setting<S: Sink>(setting: &Setting<'_>, sink: &mut S) -> Result<(), S::Fault>
-    ensures ok { OnOk result (S.took sink.old (setting_output setting.now) sink.new) }
-    ensures err { OnErr result (S.failed sink.old (setting_output setting.now) sink.new) }
+    ensures { Puts S.took S.failed sink.old result (setting_output setting.now) sink.new }
 {
     write_value(&setting.value(), sink)
 }
 
 /// Writes the value of a setting.
 fn write_value<S: Sink>(value: &Value<'_, '_>, sink: &mut S) -> Result<(), S::Fault>
-    ensures ok { OnOk result (S.took sink.old (value_text_of value.now) sink.new) }
-    ensures err { OnErr result (S.failed sink.old (value_text_of value.now) sink.new) }
+    ensures { Puts S.took S.failed sink.old result (value_text_of value.now) sink.new }
 {
     match value {
         Value::Truth(value) => write_truth(**value, sink),
@@ -54,8 +51,7 @@ fn write_value<S: Sink>(value: &Value<'_, '_>, sink: &mut S) -> Result<(), S::Fa
 
 /// Writes `true` or `false`.
 fn write_truth<S: Sink>(value: bool, sink: &mut S) -> Result<(), S::Fault>
-    ensures ok { OnOk result (S.took sink.old (truth_text value) sink.new) }
-    ensures err { OnErr result (S.failed sink.old (truth_text value) sink.new) }
+    ensures { Puts S.took S.failed sink.old result (truth_text value) sink.new }
 {
     if value {
         put_piece("true", sink)
@@ -64,22 +60,12 @@ fn write_truth<S: Sink>(value: bool, sink: &mut S) -> Result<(), S::Fault>
     }
 }
 
-/// Writes a literal with its marks.
-fn write_literal<S: Sink>(literal: &StringLiteral<'_>, sink: &mut S) -> Result<(), S::Fault>
-    ensures ok { OnOk result (S.took sink.old (literal_text literal.now) sink.new) }
-    ensures err { OnErr result (S.failed sink.old (literal_text literal.now) sink.new) }
-{
-    sink.put(literal.marks())?;
-    sink.put(literal.token.lexeme())
-}
-
 /// Writes a command and its arguments in brackets.
 fn write_interpreter<S: Sink>(
     interpreter: &Interpreter<Expression<'_>>,
     sink: &mut S,
 ) -> Result<(), S::Fault>
-    ensures ok { OnOk result (S.took sink.old (interpreter_text interpreter.now) sink.new) }
-    ensures err { OnErr result (S.failed sink.old (interpreter_text interpreter.now) sink.new) }
+    ensures { Puts S.took S.failed sink.old result (interpreter_text interpreter.now) sink.new }
 {
     put_piece("[", sink)?;
     write_expression(&interpreter.command, sink)?;
@@ -89,8 +75,7 @@ fn write_interpreter<S: Sink>(
 
 /// Writes arguments, each with a comma and a space before it.
 fn write_arguments<S: Sink>(arguments: &[Expression<'_>], sink: &mut S) -> Result<(), S::Fault>
-    ensures ok { OnOk result (S.took sink.old (later_texts arguments.now) sink.new) }
-    ensures err { OnErr result (S.failed sink.old (later_texts arguments.now) sink.new) }
+    ensures { Puts S.took S.failed sink.old result (later_texts arguments.now) sink.new }
 {
     for argument in arguments {
         write_later(argument, sink)?;
@@ -100,8 +85,8 @@ fn write_arguments<S: Sink>(arguments: &[Expression<'_>], sink: &mut S) -> Resul
 
 /// Writes an argument with a comma and a space before it.
 fn write_later<S: Sink>(argument: &Expression<'_>, sink: &mut S) -> Result<(), S::Fault>
-    ensures ok { OnOk result (S.took sink.old (fixed_text (codes ", ") ++ text_of argument.now) sink.new) }
-    ensures err { OnErr result (S.failed sink.old (fixed_text (codes ", ") ++ text_of argument.now) sink.new) }
+    ensures { Puts S.took S.failed sink.old result
+        (fixed_text (codes ", ") ++ text_of argument.now) sink.new }
 {
     put_piece(", ", sink)?;
     write_expression(argument, sink)

@@ -1,5 +1,5 @@
 //! Resolution of the variables in settings.
-ghost use Rattle.justfile_setting.specs.Resolved.{IsResolvedCommand, IsResolvedSetting};
+ghost use Rattle.justfile_setting.specs.Resolved.{IsResolvedInterpreter, IsResolvedSetting};
 ghost use Rattle.justfile_expression.specs.Resolved.{number_of};
 
 use crate::setting::Setting;
@@ -41,24 +41,24 @@ impl<'src> Setting<'src> {
             Setting::NoExitMessage(_) => {}
             Setting::PositionalArguments(_) => {}
             Setting::Quiet(_) => {}
-            Setting::ScriptInterpreter(value) => resolve_command(value, context, bindings),
-            Setting::Shell(value) => resolve_command(value, context, bindings),
+            Setting::ScriptInterpreter(value) => resolve_interpreter(value, context, bindings),
+            Setting::Shell(value) => resolve_interpreter(value, context, bindings),
             Setting::Tempdir(value) => value.resolve_variables(context, bindings),
             Setting::Unstable(_) => {}
             Setting::WindowsPowerShell(_) => {}
-            Setting::WindowsShell(value) => resolve_command(value, context, bindings),
+            Setting::WindowsShell(value) => resolve_interpreter(value, context, bindings),
             Setting::WorkingDirectory(value) => value.resolve_variables(context, bindings),
         }
     }
 }
 
 /// Sets the numbers of the variables in an interpreter's command and arguments.
-fn resolve_command<'src>(
+fn resolve_interpreter<'src>(
     interpreter: &mut Interpreter<Expression<'src>>,
     context: Option<&HashMap<&'src str, Number>>,
     bindings: &HashMap<&'src str, Number>,
 )
-    ensures { IsResolvedCommand (number_of context.entry bindings.now) interpreter.new
+    ensures { IsResolvedInterpreter (number_of context.entry bindings.now) interpreter.new
         interpreter.old }
 {
     interpreter.command.resolve_variables(context, bindings);

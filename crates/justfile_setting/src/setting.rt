@@ -1,3 +1,4 @@
+//! The type of settings, with their keywords, their values and their conflicts.
 ghost use Rattle.std.specs.Prelude.{◌≡◌};
 ghost use Rattle.justfile_setting.specs.Setting.{conflicts, is_default, keyword_of, value_of};
 ghost use Rattle.justfile_setting.specs.Value.{value_seen};

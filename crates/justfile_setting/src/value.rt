@@ -1,3 +1,5 @@
+//! The type of the values of settings.
+
 use justfile_attribute::Interpreter;
 use justfile_expression::Expression;
 use justfile_token::StringLiteral;

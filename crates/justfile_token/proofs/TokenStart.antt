@@ -12,7 +12,7 @@ quote_back b quote = elim (or_cases (b == 96 || b == 34) (b == 39) quote) [
   | inr is ↦ rw (eqb-true b 39 is) refl
 ]
 
--- no byte is no quote
+-- a quote isn't the byte 0, which is read after the end of a text
 not_none : (b : ℕ) → is_quote b ≡ true → (0 == b) ≡ true → ⊥
 not_none b quote none = true≢false (sym (subst (λ n. is_quote n ≡ true) (sym (eqb-true 0 b none)) quote))
 

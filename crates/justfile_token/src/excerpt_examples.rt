@@ -22,7 +22,8 @@ pub fn end_of_empty() -> Token<'static>
 
 /// A token after a character that takes three bytes and two columns.
 pub fn after_wide() -> Token<'static>
-    ensures { excerpt_text result ≡ encode_utf8_all (codes " ——▶ justfile:1:12\n  │\n1 │ x := '中' %\n  │           ^") }
+    ensures { excerpt_text result
+        ≡ encode_utf8_all (codes " ——▶ justfile:1:12\n  │\n1 │ x := '中' %\n  │           ^") }
 {
     Token {
         column: 11,
@@ -38,7 +39,8 @@ pub fn after_wide() -> Token<'static>
 /// A token after a tab, on a line that has a number of two digits and ends in a carriage return and
 /// a line feed.
 pub fn after_tab() -> Token<'static>
-    ensures { excerpt_text result ≡ encode_utf8_all (codes "  ——▶ justfile:10:7\n   │\n10 │     x := %\n   │          ^") }
+    ensures { excerpt_text result
+        ≡ encode_utf8_all (codes "  ——▶ justfile:10:7\n   │\n10 │     x := %\n   │          ^") }
 {
     Token {
         column: 6,
@@ -53,7 +55,8 @@ pub fn after_tab() -> Token<'static>
 
 /// A token that consists of a tab and two characters, of which the second combines with the first.
 pub fn several_columns() -> Token<'static>
-    ensures { excerpt_text result ≡ encode_utf8_all (codes " ——▶ a:1:2\n  │\n1 │ b    ćd\n  │  ^^^^^") }
+    ensures { excerpt_text result
+        ≡ encode_utf8_all (codes " ——▶ a:1:2\n  │\n1 │ b    ćd\n  │  ^^^^^") }
 {
     Token {
         column: 1,

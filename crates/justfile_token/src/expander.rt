@@ -34,6 +34,7 @@ pub trait Expander {
     ///
     /// `Refused` with the reason if the text can't be expanded, `Memory` if memory runs out.
     fn expand(&self, alloc: Global, text: &str) -> Result<String, ExpandFault>
-        ensures ok { IfOk result (λ expanded. answer self.now text.now ≡ Ok (string_bytes expanded)) }
+        ensures ok { IfOk result
+            (λ expanded. answer self.now text.now ≡ Ok (string_bytes expanded)) }
         ensures err { IfErr result (Refuses (answer self.now text.now)) };
 }

@@ -25,7 +25,8 @@ fn write_kind<W: fmt::Write>(
     line: usize,
     f: &mut fmt::Formatter<W>,
 ) -> fmt::Result
-    ensures { DisplaysOnOk W.write_str_gives f.old result (Some (kind_message line kind.now)) f.new }
+    ensures { DisplaysOnOk W.write_str_gives f.old result
+        (Some (kind_message line kind.now)) f.new }
 {
     match kind {
         CompileErrorKind::ArgAttributeMinExceedsMax { min, max } => write_both(

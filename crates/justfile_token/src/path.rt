@@ -39,7 +39,8 @@ fn write_separated<N: PathName, W: fmt::Write>(
     names: &[N],
     f: &mut fmt::Formatter<W>,
 ) -> fmt::Result
-    ensures { DisplaysOnOk W.write_str_gives f.old result (Some (flat_map (λ name. separated_name (N.name_bytes name)) names.now)) f.new }
+    ensures { DisplaysOnOk W.write_str_gives f.old result
+        (Some (flat_map (λ name. separated_name (N.name_bytes name)) names.now)) f.new }
 {
     for name in names {
         f.write_str("::")?;
@@ -53,7 +54,8 @@ pub(crate) fn write_path<N: PathName, W: fmt::Write>(
     names: &[N],
     f: &mut fmt::Formatter<W>,
 ) -> fmt::Result
-    ensures { DisplaysOnOk W.write_str_gives f.old result (Some (path_text (map N.name_bytes names.now))) f.new }
+    ensures { DisplaysOnOk W.write_str_gives f.old result
+        (Some (path_text (map N.name_bytes names.now))) f.new }
 {
     let Some((first, rest)) = names.split_first() else {
         return Ok(());

@@ -104,7 +104,8 @@ impl StringKind {
     #[tactic(auto, using(crate::proofs::TokenStart::begins_with_delimiter))]
     pub fn from_token_start(token_start: &str) -> Option<Self>
         ensures kind { result ≡ kind_at_start token_start.now }
-        ensures begins { IfSome result (λ kind. take (delimiter_len kind) token_start.now ≡ delimiter_text kind) }
+        ensures begins { IfSome result
+            (λ kind. take (delimiter_len kind) token_start.now ≡ delimiter_text kind) }
     {
         let bytes = token_start.as_bytes();
         let delimiter = delimiter_of(*bytes.first()?)?;
@@ -118,7 +119,8 @@ impl StringKind {
     pub fn from_string_or_backtick(token: Token<'_>) -> Result<Self, CompileError<'_>>
         ensures ok { result_ok result ≡ kind_at_start (lexeme_of token.entry) }
         ensures token { IfErr result (λ error. error.token ≡ token.entry) }
-        ensures kind { IfErr result (λ error. internal_message error.kind ≡ Some no_literal_message) }
+        ensures kind { IfErr result
+            (λ error. internal_message error.kind ≡ Some no_literal_message) }
     {
         match StringKind::from_token_start(token.lexeme()) {
             Some(kind) => Ok(kind),

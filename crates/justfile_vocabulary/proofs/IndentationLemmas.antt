@@ -17,7 +17,7 @@ replicate_all x (y ∷ ys) h = grind (arith, common_steps, replicate_all x ys)
 pub all_equal : (text : List ℕ) → IsIndentation text → list_all (λ b. b == slice_index text 0) text ≡ true
 all_equal text is = list_all-from_AllPass _ text (λ k d h. eq-eqb _ _ (is.equal k d h))
 
--- where nothing is refused, each test passed
+-- if there is no refusal, each test passes
 no_refusal : (a b c : List ℕ) (empty blank equal : Bool)
     → (if empty then Some a else if blank then (if equal then None else Some b) else Some c) ≡ None
     → (empty ≡ false) × (blank ≡ true) × (equal ≡ true)
@@ -52,6 +52,6 @@ replicate_is (suc n) c h b = record {
   blank = b;
 }
 
--- the text of an indentation is one
+-- the text of an `Indentation` satisfies `IsIndentation`
 pub indentation_text_is : (i : Indentation) → IsIndentation (indentation_text i)
 indentation_text_is i = replicate_is i.count i.character i.is_positive i.is_blank

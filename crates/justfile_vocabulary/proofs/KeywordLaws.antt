@@ -7,7 +7,7 @@ use Rattle.justfile_vocabulary.specs.Keyword.{keyword_named, keyword_text, keywo
 use Rattle.justfile_vocabulary.specs.declared.keyword.Keyword.{Keyword}
 use Rattle.justfile_vocabulary.specs.declared.keyword.Keyword.TheVariants.{Alias, AllowDuplicateRecipes, AllowDuplicateVariables, Assert, DefaultList, DefaultScript, DotenvCommand, DotenvFilename, DotenvLoad, DotenvOverride, DotenvPath, DotenvRequired, Eager, Else, Export, F, Fallback, False, Guards, If, IgnoreComments, Import, Indentation, Lazy, Lists, MinimumVersion, Mod, NoCd, NoExitMessage, PositionalArguments, Quiet, ScriptInterpreter, Set, Shell, Tempdir, True, Unexport, Unstable, WindowsPowershell, WindowsShell, WorkingDirectory, X}
 
--- what a keyword's text spells is that keyword
+-- the keyword that a keyword's text spells is that keyword
 pub spelled : (k : Keyword) → keyword_named (keyword_text k) ≡ Some k
 unfolding keyword_named
 spelled Alias = refl
@@ -53,7 +53,7 @@ spelled WindowsShell = refl
 spelled WorkingDirectory = refl
 spelled X = refl
 
--- a text that spells a keyword is the keyword's
+-- a text that spells a keyword is the keyword's text
 pub spells : (text : List ℕ) (k : Keyword) → keyword_named text ≡ Some k → text ≡ keyword_text k
 unfolding keyword_named
 spells text k e =

@@ -5,7 +5,7 @@ use Rattle.justfile_vocabulary.specs.declared.keyword.TheConstants.{KEYWORDS}
 use Rattle.justfile_vocabulary.specs.declared.keyword.Keyword.{Keyword}
 use Rattle.justfile_vocabulary.specs.declared.keyword.Keyword.TheVariants.{Alias, AllowDuplicateRecipes, AllowDuplicateVariables, Assert, DefaultList, DefaultScript, DotenvCommand, DotenvFilename, DotenvLoad, DotenvOverride, DotenvPath, DotenvRequired, Eager, Else, Export, F, Fallback, False, Guards, If, IgnoreComments, Import, Indentation, Lazy, Lists, MinimumVersion, Mod, NoCd, NoExitMessage, PositionalArguments, Quiet, ScriptInterpreter, Set, Shell, Tempdir, True, Unexport, Unstable, WindowsPowershell, WindowsShell, WorkingDirectory, X}
 
--- what holds along the table holds of each keyword
+-- what holds for each entry of the table holds for each keyword
 of_each : (P : Keyword → Type 0) → AllWithin P KEYWORDS 0 42 → (k : Keyword) → P k
 of_each P all Alias = all 0 Alias (omega arith) (omega arith)
 of_each P all AllowDuplicateRecipes = all 1 AllowDuplicateRecipes (omega arith) (omega arith)
@@ -50,7 +50,7 @@ of_each P all WindowsShell = all 39 WindowsShell (omega arith) (omega arith)
 of_each P all WorkingDirectory = all 40 WorkingDirectory (omega arith) (omega arith)
 of_each P all X = all 41 X (omega arith) (omega arith)
 
--- the answer of a search along the table
+-- a search of the table finds the keyword, or no keyword passes
 pub either_way : (found : Option Keyword) (is : Keyword → Type 0)
     → MatchOption found (AllWithin (λ k. ¬ is k) KEYWORDS 0 (length KEYWORDS)) (λ x. is x × (i : ℕ) × (i < length KEYWORDS) × HoldsAt (λ y. y ≡ x) KEYWORDS i × AllWithin (λ k. ¬ is k) KEYWORDS 0 i)
     → MatchOption found ((k : Keyword) → ¬ is k) is

@@ -28,7 +28,7 @@ no_dot_before (x ∷ xs) =
           rw (q.0, e) (q.1, no_dot_before xs)
     ]
 
--- what stands before the first dot has none
+-- the text before the first dot contains no dot
 pub no_dot_first : (text : List ℕ) (r : Option (Bor (List ℕ) × Bor (List ℕ)))
     → MatchOption r (position_or_len (λ b. b == 46) text ≡ length text)
     (λ x. (x.0.now ≡ before_first (λ b. b == 46) text) × (x.1.now ≡ after_first (λ b. b == 46) text) × (position_or_len (λ b. b == 46) text < length text))
@@ -50,7 +50,7 @@ dot_there : (a b : List ℕ) → HasNoDot (a ++ (46 ∷ b)) → ⊥
 dot_there [] b h = h.0 refl
 dot_there (x ∷ a) b h = dot_there a b h.1
 
--- what follows from there being no version follows from there being none
+-- `IfNone` keeps what its condition implies
 pub none_along : (o : Option Version) (P Q : Type 0) → (P → Q) → IfNone o P → IfNone o Q
 none_along None P Q f h = f h
 none_along (Some v) P Q f h = tt

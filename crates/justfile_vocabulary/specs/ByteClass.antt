@@ -9,7 +9,8 @@ use Rattle.justfile_vocabulary.specs.ByteNames as byte
 abbrev pub begins_fixed : ℕ → Bool
 begins_fixed b = b == byte.bang || b == byte.ampersand || b == byte.bar || b == byte.plus || b == byte.equals || b == byte.colon || b == byte.dollar || b == byte.asterisk || b == byte.comma || b == byte.slash || b == byte.question_mark || b == byte.at
 
--- the class of a byte: what may begin with it
+-- The class of a byte: what may begin with it. In UTF-8, the first byte of a character of more than
+-- one byte is from 194 to 244.
 unfoldable pub class_of : ℕ → ByteClass
 class_of b =
     if b == byte.space || b == byte.tab then Blank
@@ -21,5 +22,5 @@ class_of b =
     else if b == byte.paren_left || b == byte.bracket_left || b == byte.brace_left then Opener
     else if b == byte.paren_right || b == byte.bracket_right || b == byte.brace_right then Closer
     else if begins_fixed b then Fixed
-    else if nat_lt 193 b && nat_lt b 245 then Lead
+    else if nat_lt byte.before_leads b && nat_lt b byte.after_leads then Lead
     else Other

@@ -118,3 +118,14 @@ brace_right = 125
 
 abbrev pub tilde : ℕ
 tilde = 126
+
+-- the first number after ASCII
+abbrev pub after_ascii : ℕ
+after_ascii = 128
+
+-- the numbers around the first bytes of characters of more than one byte
+abbrev pub before_leads : ℕ
+before_leads = 193
+
+abbrev pub after_leads : ℕ
+after_leads = 245

@@ -16,7 +16,8 @@ pub trait Alternative {
     fn write_alternative<W: fmt::Write>(&self, f: &mut fmt::Formatter<W>) -> fmt::Result
     where
         Self: Sized,
-        ensures { DisplaysOnOk W.write_str_gives f.old result (Some (alternative_text self.now)) f.new };
+        ensures { DisplaysOnOk W.write_str_gives f.old result
+            (Some (alternative_text self.now)) f.new };
 }
 
 impl Alternative for Keyword {

@@ -28,7 +28,9 @@ impl Count {
 
     /// Returns the count and the noun, or its plural `irregular` unless the count is 1.
     pub fn numbered_irregular(noun: &'static str, irregular: &'static str, count: usize) -> Self
-        ensures { count_text result ≡ decimal count ++ codes " " ++ irregular_text noun.entry.now irregular.entry.now count }
+        ensures { count_text result
+            ≡ decimal count ++ codes " "
+            ++ irregular_text noun.entry.now irregular.entry.now count }
     {
         Count {
             count,
@@ -52,7 +54,8 @@ impl Count {
 
     /// Writes the noun.
     fn write_noun<W: fmt::Write>(&self, f: &mut fmt::Formatter<W>) -> fmt::Result
-        ensures { DisplaysOnOk W.write_str_gives f.old result (Some (plain_text self.now.noun.now self.now.irregular self.now.count)) f.new }
+        ensures { DisplaysOnOk W.write_str_gives f.old result
+            (Some (plain_text self.now.noun.now self.now.irregular self.now.count)) f.new }
     {
         match (self.irregular, self.count) {
             (_, 1) => f.write_str(self.noun),

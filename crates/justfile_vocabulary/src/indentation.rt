@@ -1,5 +1,6 @@
 ghost use Rattle.std.specs.Prelude.{◌≡◌, ◌<◌, ◌||◌, ◌==◌, IsTrue};
 ghost use Rattle.std.specs.List.{list_all};
+ghost use Rattle.justfile_vocabulary.specs.ByteNames as byte;
 
 use std::fmt;
 use std::str::FromStr;
@@ -9,7 +10,7 @@ use std::str::FromStr;
 pub struct Indentation {
     character: char,
     count: usize,
-    ghost is_blank: { IsTrue (character == 32 || character == 9) },
+    ghost is_blank: { IsTrue (character == byte.space || character == byte.tab) },
     ghost is_positive: { 0 < count },
 }
 

@@ -100,7 +100,8 @@ impl Keyword {
 
     /// Returns the keyword with this spelling.
     pub fn from_lexeme(lexeme: &str) -> Option<Self>
-        ensures { MatchOption result ((k : Keyword) → ¬ (lexeme.now ≡ keyword_text k)) (λ k. lexeme.now ≡ keyword_text k) }
+        ensures { MatchOption result ((k : Keyword) → ¬ (lexeme.now ≡ keyword_text k))
+            (λ k. lexeme.now ≡ keyword_text k) }
     {
         KEYWORDS
             .iter()

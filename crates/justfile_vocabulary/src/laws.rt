@@ -18,7 +18,8 @@ ghost use Rattle.justfile_vocabulary.specs.declared.version.Version.{Version};
 /// The texts of indentations are exactly those of one or more copies of the same blank.
 pub fn indentation_texts()
     ensures sound { (i : Indentation) → IsIndentation (indentation_text i) }
-    ensures complete { (text : List ℕ) → IsIndentation text → (i : Indentation) × (indentation_text i ≡ text) }
+    ensures complete { (text : List ℕ)
+        → IsIndentation text → (i : Indentation) × (indentation_text i ≡ text) }
     ensures refused { (text : List ℕ) → (indentation_refusal text ≡ None) ↔ IsIndentation text }
 {}
 
@@ -29,7 +30,8 @@ pub fn one_spelling()
 
 /// A text is parsed to a kind of attribute exactly if it is the name of that kind.
 pub fn attribute_names()
-    ensures { (text : List ℕ) (k : AttributeKind) → (kind_named text ≡ Some k) ↔ (text ≡ attribute_name k) }
+    ensures { (text : List ℕ) (k : AttributeKind)
+        → (kind_named text ≡ Some k) ↔ (text ≡ attribute_name k) }
 {}
 
 /// A text is parsed to a signal exactly if it is the name of that signal.

@@ -17,7 +17,8 @@ pub struct List<'a, T> {
 impl<'a, T: Alternative> List<'a, T> {
     /// Returns the list of the alternatives as they are.
     pub fn or(items: &'a [T]) -> Self
-        ensures { list_text T.alternative_text result ≡ or_text (map T.alternative_text items.entry.now) }
+        ensures { list_text T.alternative_text result
+            ≡ or_text (map T.alternative_text items.entry.now) }
     {
         List {
             items,
@@ -27,7 +28,8 @@ impl<'a, T: Alternative> List<'a, T> {
 
     /// Returns the list of the alternatives, each between backticks.
     pub fn or_ticked(items: &'a [T]) -> Self
-        ensures { list_text T.alternative_text result ≡ or_text (map (λ item. ticked_text (T.alternative_text item)) items.entry.now) }
+        ensures { list_text T.alternative_text result
+            ≡ or_text (map (λ item. ticked_text (T.alternative_text item)) items.entry.now) }
     {
         List {
             items,
@@ -42,7 +44,8 @@ fn write_item<T: Alternative, W: fmt::Write>(
     ticked: bool,
     f: &mut fmt::Formatter<W>,
 ) -> fmt::Result
-    ensures { DisplaysOnOk W.write_str_gives f.old result (Some (item_text ticked (T.alternative_text item.now))) f.new }
+    ensures { DisplaysOnOk W.write_str_gives f.old result
+        (Some (item_text ticked (T.alternative_text item.now))) f.new }
 {
     if !ticked {
         return item.write_alternative(f);
@@ -58,7 +61,9 @@ fn write_after_commas<T: Alternative, W: fmt::Write>(
     ticked: bool,
     f: &mut fmt::Formatter<W>,
 ) -> fmt::Result
-    ensures { DisplaysOnOk W.write_str_gives f.old result (Some (flat_map (λ item. after_comma (item_text ticked (T.alternative_text item))) items.now)) f.new }
+    ensures { DisplaysOnOk W.write_str_gives f.old result
+        (Some (flat_map
+        (λ item. after_comma (item_text ticked (T.alternative_text item))) items.now)) f.new }
 {
     for item in items {
         f.write_str(", ")?;
@@ -80,7 +85,9 @@ fn write_others<T: Alternative, W: fmt::Write>(
     ticked: bool,
     f: &mut fmt::Formatter<W>,
 ) -> fmt::Result
-    ensures { DisplaysOnOk W.write_str_gives f.old result (Some (other_text (map (λ item. item_text ticked (T.alternative_text item)) items.now))) f.new }
+    ensures { DisplaysOnOk W.write_str_gives f.old result
+        (Some (other_text
+        (map (λ item. item_text ticked (T.alternative_text item)) items.now))) f.new }
 {
     let Some((last, others)) = items.split_last() else {
         return Ok(());

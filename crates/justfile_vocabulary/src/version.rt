@@ -43,7 +43,8 @@ impl Version {
     /// Parses the three numbers of a version.
     fn from_numbers(major: &str, minor: &str, patch: &str) -> Option<Self>
         ensures some { IfSome result (WritesVersion major.now minor.now patch.now) }
-        ensures none { IfNone result ((v : Version) → ¬ WritesVersion major.now minor.now patch.now v) }
+        ensures none { IfNone result
+            ((v : Version) → ¬ WritesVersion major.now minor.now patch.now v) }
     {
         Some(Version {
             major: parse_number(major)?,

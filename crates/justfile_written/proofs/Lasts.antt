@@ -13,7 +13,7 @@ module _ {A : Type 0} where
   last_set comment (p ∷ q ∷ pairs) d zero h = absurd (omega (arith, h))
   last_set comment (p ∷ q ∷ pairs) d (suc n) h = ap (λ l. p ∷ l) (last_set comment (q ∷ pairs) d n (omega (arith, h)))
 
-  -- the last one is set to what it was, with the comment
+  -- setting the last element to itself with the comment adds the comment
   pub comment_set : (comment : Option Comment) (pairs : List (A × Written)) (d : A × Written) → is_some comment ≡ true → 0 < length pairs
       → slice_set pairs (length pairs - 1) ((slice_index_or pairs (length pairs - 1) d).0, record { name = (slice_index_or pairs (length pairs - 1) d).1.name; comment = comment })
       ≡ line_commented comment pairs

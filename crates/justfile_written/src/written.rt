@@ -9,7 +9,7 @@ use std::alloc::{AllocError, Global};
 pub struct Written<'src> {
     /// The attribute's name in the source.
     pub name: Name<'src>,
-    /// The comment at the end of the attribute's line, without trailing white space. Only the last
+    /// The comment at the end of the attribute's line, without trailing whitespace. Only the last
     /// attribute between two brackets can have one.
     pub comment: Option<&'src str>,
 }

@@ -7,7 +7,7 @@ use crate::token::Token;
 use std::alloc::Global;
 use std::process::Abort;
 
-/// Returns the token at which a text is refused, or else its last token.
+/// Returns the token of a text's lexical fault, or else its last token.
 fn last_token<'src>(rt: &impl Abort, alloc: Global, text: &'src str) -> Token<'src> {
     match Lexer::lex(alloc, "justfile", text) {
         Ok(tokens) => *tokens.last().expect(rt, text),

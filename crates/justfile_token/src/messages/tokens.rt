@@ -57,7 +57,8 @@ pub(crate) fn write_mismatched<W: fmt::Write>(
     f: &mut fmt::Formatter<W>,
 ) -> fmt::Result
     ensures { DisplaysOnOk W.write_str_gives f.old result
-        (Some (codes "mismatched closing delimiter `" & close_text close & codes "`, did you mean to close the `"
+        (Some (codes "mismatched closing delimiter `" & close_text close
+        & codes "`, did you mean to close the `"
         & open_text opener & codes "` on line " & line_text open_line & codes "?")) f.new }
 {
     let (close, open, line) = (close.close(), opener.open(), LineNumber(open_line));

@@ -4,7 +4,7 @@ use Rattle.justfile_vocabulary.specs.Indentation.{indentation_text}
 use Rattle.justfile_model.specs.NormalShape.{normal}
 use Rattle.justfile_model.specs.Printing.{text}
 use Rattle.justfile_model.specs.Tree.{item_shape_of}
-use Rattle.justfile_line.proofs.Loops.{at_err}
+use Rattle.justfile_expression.proofs.PutLemmas.{failed_at}
 use Rattle.justfile_item.specs.declared.item.Item.{Item}
 use Rattle.justfile_item.specs.Item.{item_of, item_shape}
 use Rattle.justfile_ast.specs.declared.separator.Separator.TheVariants.{Start}
@@ -21,23 +21,23 @@ written items all others indentation e f =
     ∙ normal_text indentation (map item_shape all)
     ∙ ap (λ s. text (normal s) indentation) (sym (map-map item_shape_of item_of all))
 
-pub returns-in_err-write_items-clause-err : goal.returns-in_err-write_items-clause-err
-returns-in_err-write_items-clause-err g c =
+pub returns-in_err-write_items : goal.returns-in_err-write_items
+returns-in_err-write_items g c =
     let s = g.met.S.Sink in
-    at_err _ (subst (λ (t : List ℕ). g.S.Sink.failed c.args.sink.now t c.write_items.new.sink)
+    failed_at g.S.Sink.took g.S.Sink.failed _ c.from_residual.ensures.0 (subst (λ (t : List ℕ). g.S.Sink.failed c.args.sink.now t c.write_items.new.sink)
     (written c.deref.result.now c.args.ast.now.items.items c.args.ast.now.items.items (indentation_text c.args.indentation) c.deref.ensures.value refl)
-    (s.failed_before _ _ _ _ c.in_err-write_items.ensures.err))
+    (s.failed_before _ _ _ _ c.in_err-write_items.ensures))
 
-pub returns-in_err-write_end-clause-err : goal.returns-in_err-write_end-clause-err
-returns-in_err-write_end-clause-err g c =
+pub returns-in_err-write_end : goal.returns-in_err-write_end
+returns-in_err-write_end g c =
     let s = g.met.S.Sink in
-    at_err _ (subst (λ (t : List ℕ). g.S.Sink.failed c.args.sink.now t c.write_end.new.sink)
+    failed_at g.S.Sink.took g.S.Sink.failed _ c.from_residual-in_err-write_end.ensures.0 (subst (λ (t : List ℕ). g.S.Sink.failed c.args.sink.now t c.write_end.new.sink)
     (written c.deref.result.now c.args.ast.now.items.items c.deref-2.result.now (indentation_text c.args.indentation) c.deref.ensures.value c.deref-2.ensures.value)
-    (s.failed_later _ _ _ _ _ c.in_ok-write_items.ensures.ok c.in_err-write_end.ensures.err))
+    (s.failed_later _ _ _ _ _ c.in_ok-write_items.ensures c.in_err-write_end.ensures))
 
-pub returns-clause-ok : goal.returns-clause-ok
-returns-clause-ok g c =
+pub returns : goal.returns
+returns g c =
     let s = g.met.S.Sink in
     subst (λ (t : List ℕ). g.S.Sink.took c.args.sink.now t c.write_end.new.sink)
     (written c.deref.result.now c.args.ast.now.items.items c.deref-2.result.now (indentation_text c.args.indentation) c.deref.ensures.value c.deref-2.ensures.value)
-    (s.took_more _ _ _ _ _ c.in_ok-write_items.ensures.ok c.in_ok-write_end.ensures.ok)
+    (s.took_more _ _ _ _ _ c.in_ok-write_items.ensures c.in_ok-write_end.ensures)

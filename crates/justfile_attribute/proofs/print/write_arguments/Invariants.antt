@@ -5,7 +5,7 @@ use Rattle.justfile_attribute.proofs.print.write_arguments.Given as goal
 
 abbrev pub invariant-loop-part : goal.invariant-loop-part
 invariant-loop-part g l =
-    Walked g.S.Sink.took l.initial.sink l.sink (slots_text false (slots l.attribute)) (slots_text l.begun (drop l.place (slots l.attribute)))
+    Walked g.S.Sink.took l.initial.sink l.sink (slots_text false (slots l.attribute)) (slots_text l.begun (drop l.index (slots l.attribute)))
 
 abbrev pub decreases-loop-part : goal.decreases-loop-part
-decreases-loop-part g l = length (slots l.attribute) - l.place
+decreases-loop-part g l = length (slots l.attribute) - l.index

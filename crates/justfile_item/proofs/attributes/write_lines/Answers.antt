@@ -1,5 +1,6 @@
 use Rattle.std.proofs.Common.{arith}
-use Rattle.justfile_line.proofs.Loops.{at_err, took_next, failed_next}
+use Rattle.justfile_expression.proofs.PutLemmas.{failed_at}
+use Rattle.justfile_expression.proofs.ListLoops.{took_next, failed_next}
 use Rattle.justfile_item.specs.Attributes.{attribute_line, lines_text}
 use Rattle.justfile_item.proofs.AttributeLines.{lines_parts}
 use Rattle.justfile_item.proofs.attributes.write_lines.Goals as goal
@@ -8,10 +9,10 @@ pub loop-pair-preserved : goal.loop-pair-preserved
 loop-pair-preserved g c =
     let s = g.met.S.Sink in
     took_next g.S.Sink.took g.S.Sink.failed s.took_more s.failed_later s.failed_before lines_text attribute_line lines_parts
-    c.args.pairs.now c.loop-pair.pair-index c.pair-item.result (omega arith) c.pair-item.is _ _ _ c.loop-pair.invariant c.in_ok-write_attribute_line.ensures.ok
+    c.args.pairs.now c.loop-pair.pair-index c.pair-item.result (omega arith) c.pair-item.is _ _ _ c.loop-pair.invariant c.in_ok-write_attribute_line.ensures
 
-pub returns-in_err-write_attribute_line-clause-err : goal.returns-in_err-write_attribute_line-clause-err
-returns-in_err-write_attribute_line-clause-err g c =
+pub returns-in_err-write_attribute_line : goal.returns-in_err-write_attribute_line
+returns-in_err-write_attribute_line g c =
     let s = g.met.S.Sink in
-    at_err _ (failed_next g.S.Sink.took g.S.Sink.failed s.took_more s.failed_later s.failed_before lines_text attribute_line lines_parts
-    c.args.pairs.now c.loop-pair.pair-index c.pair-item.result (omega arith) c.pair-item.is _ _ _ c.loop-pair.invariant c.in_err-write_attribute_line.ensures.err)
+    failed_at g.S.Sink.took g.S.Sink.failed _ c.from_residual.ensures.0 (failed_next g.S.Sink.took g.S.Sink.failed s.took_more s.failed_later s.failed_before lines_text attribute_line lines_parts
+    c.args.pairs.now c.loop-pair.pair-index c.pair-item.result (omega arith) c.pair-item.is _ _ _ c.loop-pair.invariant c.in_err-write_attribute_line.ensures)

@@ -1,29 +1,29 @@
 use Rattle.std.proofs.Common.{ℕ, List, subst}
 use Rattle.justfile_vocabulary.specs.Indentation.{indentation_text}
-use Rattle.justfile_line.proofs.Loops.{at_err}
+use Rattle.justfile_expression.proofs.PutLemmas.{failed_at}
 use Rattle.justfile_item.proofs.ShownDocs.{item_parts}
 use Rattle.justfile_item.proofs.item.write_item.Goals as goal
 
-pub returns-in_err-write_item_doc-clause-err : goal.returns-in_err-write_item_doc-clause-err
-returns-in_err-write_item_doc-clause-err g c =
+pub returns-in_err-write_item_doc : goal.returns-in_err-write_item_doc
+returns-in_err-write_item_doc g c =
     let s = g.met.S.Sink in
-    at_err _ (subst (λ (t : List ℕ). g.S.Sink.failed c.args.sink.now t c.write_item_doc.new.sink) (item_parts c.args.item.now (indentation_text c.args.indentation))
-    (s.failed_before _ _ _ _ (s.failed_before _ _ _ _ c.in_err-write_item_doc.ensures.err)))
+    failed_at g.S.Sink.took g.S.Sink.failed _ c.from_residual.ensures.0 (subst (λ (t : List ℕ). g.S.Sink.failed c.args.sink.now t c.write_item_doc.new.sink) (item_parts c.args.item.now (indentation_text c.args.indentation))
+    (s.failed_before _ _ _ _ (s.failed_before _ _ _ _ c.in_err-write_item_doc.ensures)))
 
-pub returns-in_err-write_item_attributes-clause-err : goal.returns-in_err-write_item_attributes-clause-err
-returns-in_err-write_item_attributes-clause-err g c =
+pub returns-in_err-write_item_attributes : goal.returns-in_err-write_item_attributes
+returns-in_err-write_item_attributes g c =
     let s = g.met.S.Sink in
-    at_err _ (subst (λ (t : List ℕ). g.S.Sink.failed c.args.sink.now t c.write_item_attributes.new.sink) (item_parts c.args.item.now (indentation_text c.args.indentation))
-    (s.failed_before _ _ _ _ (s.failed_later _ _ _ _ _ c.in_ok-write_item_doc.ensures.ok c.in_err-write_item_attributes.ensures.err)))
+    failed_at g.S.Sink.took g.S.Sink.failed _ c.from_residual-in_err-write_item_attributes.ensures.0 (subst (λ (t : List ℕ). g.S.Sink.failed c.args.sink.now t c.write_item_attributes.new.sink) (item_parts c.args.item.now (indentation_text c.args.indentation))
+    (s.failed_before _ _ _ _ (s.failed_later _ _ _ _ _ c.in_ok-write_item_doc.ensures c.in_err-write_item_attributes.ensures)))
 
-pub returns-in_err-write_bare-clause-err : goal.returns-in_err-write_bare-clause-err
-returns-in_err-write_bare-clause-err g c =
+pub returns-in_err-write_bare : goal.returns-in_err-write_bare
+returns-in_err-write_bare g c =
     let s = g.met.S.Sink in
-    at_err _ (subst (λ (t : List ℕ). g.S.Sink.failed c.args.sink.now t c.write_bare.new.sink) (item_parts c.args.item.now (indentation_text c.args.indentation))
-    (s.failed_later _ _ _ _ _ (s.took_more _ _ _ _ _ c.in_ok-write_item_doc.ensures.ok c.in_ok-write_item_attributes.ensures.ok) c.in_err-write_bare.ensures.err))
+    failed_at g.S.Sink.took g.S.Sink.failed _ c.from_residual-in_err-write_bare.ensures.0 (subst (λ (t : List ℕ). g.S.Sink.failed c.args.sink.now t c.write_bare.new.sink) (item_parts c.args.item.now (indentation_text c.args.indentation))
+    (s.failed_later _ _ _ _ _ (s.took_more _ _ _ _ _ c.in_ok-write_item_doc.ensures c.in_ok-write_item_attributes.ensures) c.in_err-write_bare.ensures))
 
-pub returns-clause-ok : goal.returns-clause-ok
-returns-clause-ok g c =
+pub returns : goal.returns
+returns g c =
     let s = g.met.S.Sink in
     subst (λ (t : List ℕ). g.S.Sink.took c.args.sink.now t c.write_bare.new.sink) (item_parts c.args.item.now (indentation_text c.args.indentation))
-    (s.took_more _ _ _ _ _ (s.took_more _ _ _ _ _ c.in_ok-write_item_doc.ensures.ok c.in_ok-write_item_attributes.ensures.ok) c.in_ok-write_bare.ensures.ok)
+    (s.took_more _ _ _ _ _ (s.took_more _ _ _ _ _ c.in_ok-write_item_doc.ensures c.in_ok-write_item_attributes.ensures) c.in_ok-write_bare.ensures)

@@ -4,7 +4,7 @@ use Rattle.justfile_vocabulary.specs.Indentation.{indentation_text}
 use Rattle.justfile_model.specs.Printing.{body_text, comment_text, header_text}
 use Rattle.justfile_line.specs.Body.{line_shapes}
 use Rattle.justfile_line.specs.declared.line.Line.{Line}
-use Rattle.justfile_line.proofs.Loops.{at_err}
+use Rattle.justfile_expression.proofs.PutLemmas.{failed_at}
 use Rattle.justfile_item.specs.Item.{header_shape}
 use Rattle.justfile_item.specs.Recipe.{unresolved_recipe_text}
 use Rattle.justfile_item.specs.declared.recipe.UnresolvedRecipe.{UnresolvedRecipe}
@@ -16,16 +16,16 @@ written : (r : UnresolvedRecipe) (indentation : List ℕ) (lines : List Line) �
 written r indentation lines e =
     ap (λ (l : List Line). header_text (header_shape r) ++ comment_text (option_copied r.comment) ++ body_text indentation (line_shapes l)) e
 
-pub returns-in_err-write_body-clause-err : goal.returns-in_err-write_body-clause-err
-returns-in_err-write_body-clause-err g c =
+pub returns-in_err-write_body : goal.returns-in_err-write_body
+returns-in_err-write_body g c =
     let s = g.met.S.Sink in
-    at_err _ (subst (λ (t : List ℕ). g.S.Sink.failed c.args.sink.now t c.write_body.new.sink)
+    failed_at g.S.Sink.took g.S.Sink.failed _ c.from_residual-in_err-write_body.ensures.0 (subst (λ (t : List ℕ). g.S.Sink.failed c.args.sink.now t c.write_body.new.sink)
     (written c.args.recipe.now (indentation_text c.args.indentation) c.deref.result.now c.deref.ensures.value)
-    (s.failed_later _ _ _ _ _ (s.took_more _ _ _ _ _ c.in_ok-write_header.ensures.ok c.in_ok-write_comment.ensures.ok) c.in_err-write_body.ensures.err))
+    (s.failed_later _ _ _ _ _ (s.took_more _ _ _ _ _ c.in_ok-write_header.ensures c.in_ok-write_comment.ensures) c.in_err-write_body.ensures))
 
-pub returns-clause-ok : goal.returns-clause-ok
-returns-clause-ok g c =
+pub returns : goal.returns
+returns g c =
     let s = g.met.S.Sink in
     subst (λ (t : List ℕ). g.S.Sink.took c.args.sink.now t c.write_body.new.sink)
     (written c.args.recipe.now (indentation_text c.args.indentation) c.deref.result.now c.deref.ensures.value)
-    (s.took_more _ _ _ _ _ (s.took_more _ _ _ _ _ c.in_ok-write_header.ensures.ok c.in_ok-write_comment.ensures.ok) c.in_ok-write_body.ensures.ok)
+    (s.took_more _ _ _ _ _ (s.took_more _ _ _ _ _ c.in_ok-write_header.ensures c.in_ok-write_comment.ensures) c.in_ok-write_body.ensures)

@@ -1,7 +1,7 @@
 use Rattle.std.proofs.Common.{◌≡◌, ◌+◌, ap, subst, ◌∙◌, arith, length, drop, length-drop}
 use Rattle.std.specs.List.{prefix_len}
 use Rattle.std.proofs.lemmas.List.Sums.{prefix_len-le-length}
-use Rattle.justfile_lex.specs.RawTexts.{is_plain, IsPiece}
+use Rattle.justfile_lex.specs.RawTexts.{is_plain, IsScanStep}
 use Rattle.justfile_lex.proofs.Pieces.{inside_plain, inside_piece, inside_end}
 use Rattle.justfile_lex.proofs.raw_text.raw_len.Goals as goal
 
@@ -12,11 +12,11 @@ overflow_add-at c =
 pub returns-then-more-eq0 : goal.returns-then-more-eq0
 returns-then-more-eq0 c =
     let plain = inside_plain _ _ _ _ c.pieces.invariant (c.plain_len-at.ensures ∙ ap (prefix_len (is_plain c.args.text)) c.skip.ensures) in
-    let piece = subst (λ bs. IsPiece c.args.text bs c.piece_len-more.result) c.skip-in-pieces.ensures c.piece_len-more.ensures in
+    let piece = subst (λ bs. IsScanStep c.args.text bs c.piece_len-more.result) c.skip-in-pieces.ensures c.piece_len-more.ensures in
     inside_end _ _ _ _ plain piece c.if-more-eq0.true
 
 pub pieces-preserved : goal.pieces-preserved
 pieces-preserved c =
     let plain = inside_plain _ _ _ _ c.pieces.invariant (c.plain_len-at.ensures ∙ ap (prefix_len (is_plain c.args.text)) c.skip.ensures) in
-    let piece = subst (λ bs. IsPiece c.args.text bs c.piece_len-more.result) c.skip-in-pieces.ensures c.piece_len-more.ensures in
+    let piece = subst (λ bs. IsScanStep c.args.text bs c.piece_len-more.result) c.skip-in-pieces.ensures c.piece_len-more.ensures in
     inside_piece _ _ _ _ plain piece (omega (arith, c.if-more-eq0.false))

@@ -1,5 +1,6 @@
 use Rattle.std.proofs.Common.{List, ℕ, subst, arith}
-use Rattle.justfile_line.proofs.Loops.{at_err, took_equal, failed_equal}
+use Rattle.justfile_expression.proofs.PutLemmas.{failed_at}
+use Rattle.justfile_line.proofs.EqualBytes.{took_equal, failed_equal}
 use Rattle.justfile_line.proofs.line.write_blanks.Goals as goal
 
 pub loop-i-preserved : goal.loop-i-preserved
@@ -8,8 +9,8 @@ loop-i-preserved g c =
     took_equal g.S.Sink.took g.S.Sink.failed s.took_more s.failed_later s.failed_before c.args.indentation.character c.args.indentation.count c.loop-i._i _ _ _ c.loop-i.invariant
     (subst (λ (t : List ℕ). g.S.Sink.took c.loop-i.sink t c.put.new.self) c.blank-blank.ensures c.in_ok-put.ensures.ok)
 
-pub returns-in_err-put-clause-err : goal.returns-in_err-put-clause-err
-returns-in_err-put-clause-err g c =
+pub returns-in_err-put : goal.returns-in_err-put
+returns-in_err-put g c =
     let s = g.met.S.Sink in
-    at_err _ (failed_equal g.S.Sink.took g.S.Sink.failed s.took_more s.failed_later s.failed_before c.args.indentation.character c.args.indentation.count c.loop-i._i (omega arith) _ _ _ c.loop-i.invariant
+    failed_at g.S.Sink.took g.S.Sink.failed _ c.from_residual.ensures.0 (failed_equal g.S.Sink.took g.S.Sink.failed s.took_more s.failed_later s.failed_before c.args.indentation.character c.args.indentation.count c.loop-i._i (omega arith) _ _ _ c.loop-i.invariant
     (subst (λ (t : List ℕ). g.S.Sink.failed c.loop-i.sink t c.put.new.self) c.blank-blank.ensures c.in_err-put.ensures.err))

@@ -2,7 +2,7 @@ use Rattle.std.proofs.Common.{◌≡◌, ◌≤◌, length, take, chars}
 use Rattle.justfile_model.specs.Cook.{AreHex}
 use Rattle.justfile_literal.proofs.escape.hex_len.Given as goal
 
--- so many characters are digits
+-- the characters so far are digits
 abbrev pub invariant-loop-character : goal.invariant-loop-character
 invariant-loop-character l = record {
   yielded : l.count ≡ length l.yielded;

@@ -1,5 +1,5 @@
-use Rattle.justfile_model.proofs.IndentedShapes.{indentation_normal, indentation_said, indentation_shape}
+use Rattle.justfile_model.proofs.IndentedShapes.{indentation_normal, indentation_valid, indentation_shape}
 use Rattle.justfile_model.proofs.grammar_laws.indentations.Goals as goal
 
 pub returns : goal.returns
-returns c = record { shape = indentation_shape; normal = indentation_normal; said = indentation_said }
+returns c = record { shape = indentation_shape; normal = indentation_normal; literal = indentation_valid }

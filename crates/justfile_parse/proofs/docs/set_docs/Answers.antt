@@ -1,5 +1,5 @@
 use Rattle.std.proofs.Common.{◌∙◌, arith, ap, map}
-use Rattle.justfile_parse.proofs.KeptItems.{all_taken, cut_whole}
+use Rattle.justfile_parse.proofs.KeptItems.{all_taken, cut_fields}
 use Rattle.justfile_parse_item.specs.Tree.{item_tree}
 use Rattle.justfile_parse.proofs.docs.set_docs.Goals as goal
 
@@ -8,5 +8,5 @@ returns-clause-trees c =
     ap (map item_tree) c.truncate.ensures.items
     ∙ all_taken c.args.items.now.items c.loop-place.items.items c.loop-place.kept c.loop-place.place (omega arith) c.loop-place.invariant.trees
 
-pub returns-clause-whole : goal.returns-clause-whole
-returns-clause-whole c = cut_whole c.loop-place.items.items _ _ c.truncate.ensures.items c.loop-place.invariant.whole
+pub returns-clause-fields : goal.returns-clause-fields
+returns-clause-fields c = cut_fields c.loop-place.items.items _ _ c.truncate.ensures.items c.loop-place.invariant.fields

@@ -9,5 +9,5 @@ invariant-loop-place l = record {
   trees : taken_docs l.kept l.place l.items.items ≡ with_items [] (map item_tree l.initial.items.items);
   order : l.kept ≤ l.place;
   len : length l.items.items ≡ length l.initial.items.items;
-  whole : HaveDerivedFields l.items.items;
+  fields : HaveDerivedFields l.items.items;
 }

@@ -1,7 +1,7 @@
 use Rattle.std.proofs.Common.{ap, ◌∙◌, arith}
 use Rattle.justfile_parse_expression.specs.TableReader.{State}
 use Rattle.justfile_parse_expression.specs.View.{state_of}
-use Rattle.justfile_parse_header.specs.Counting.{names}
+use Rattle.justfile_parse_header.specs.Counting.{identifiers_left}
 use Rattle.justfile_parse_item.proofs.CounterBounds.{mark_depth, mark_fewer}
 use Rattle.justfile_parse.proofs.parse.parse_file.Goals as goal
 
@@ -13,7 +13,7 @@ parse_items-requires g c =
 pub returns-clause-moved : goal.returns-clause-moved
 returns-clause-moved g c =
     let s = state_of g.X.Expander.answer c.args.parser.now in
-    let fewer = ap (λ (t : State). names t) c.accept_byte_order_mark.ensures in
+    let fewer = ap (λ (t : State). identifiers_left t) c.accept_byte_order_mark.ensures in
     record {
       least = c.parse_items.ensures.moved.least;
       recipes_least = c.parse_items.ensures.moved.recipes_least;

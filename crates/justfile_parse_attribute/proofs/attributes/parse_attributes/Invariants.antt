@@ -9,7 +9,7 @@ abbrev pub invariant-lines : goal.invariant-lines
 invariant-lines g l = record {
   ahead : tokens_left l.parser ≤ tokens_left l.fn.parser;
   value : attribute_lines_from (map entry_of_pair l.attributes.pairs.items, state_of g.X.Expander.answer l.parser) ≡ attribute_lines (state_of g.X.Expander.answer l.fn.parser);
-  whole : HaveDerivedPairFields l.attributes.pairs.items;
+  fields : HaveDerivedPairFields l.attributes.pairs.items;
 }
 
 abbrev pub decreases-lines : goal.decreases-lines

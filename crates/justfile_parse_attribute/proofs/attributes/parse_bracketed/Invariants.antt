@@ -9,7 +9,7 @@ abbrev pub invariant-bracket : goal.invariant-bracket
 invariant-bracket g l = record {
   ahead : tokens_left l.parser ≤ tokens_left l.fn.parser;
   value : bracketed (map entry_of_pair l.attributes.pairs.items, state_of g.X.Expander.answer l.parser) ≡ bracketed (map entry_of_pair l.fn.attributes.pairs.items, state_of g.X.Expander.answer l.fn.parser);
-  whole : KeepsDerivedPairFields l.fn.attributes.pairs.items l.attributes.pairs.items;
+  fields : KeepsDerivedPairFields l.fn.attributes.pairs.items l.attributes.pairs.items;
 }
 
 abbrev pub decreases-bracket : goal.decreases-bracket

@@ -9,7 +9,7 @@ returns-in-Err g c =
     record {
       reads = entry_fails c.args.attributes.now.pairs.items c.args.name c.args.kind (arguments_of c.args.arguments) s c.in-Err.fault c.rule_error.result
           c.push.new.self.pairs.items c.in-Err.ensures.added c.rule_error.ensures;
-      whole = tt;
+      fields = tt;
     }
 
 pub returns-in-Ok : goal.returns-in-Ok
@@ -17,5 +17,5 @@ returns-in-Ok g c =
     let s = state_of g.X.Expander.answer c.args.parser.now in
     record {
       reads = entry_last c.args.attributes.now.pairs.items c.args.name c.args.kind (arguments_of c.args.arguments) s c.push.new.self.pairs.items c.in-Ok.ensures.added;
-      whole = c.in-Ok.ensures.whole;
+      fields = c.in-Ok.ensures.fields;
     }

@@ -12,7 +12,7 @@ returns-in_err-character-in-Arg c =
     let a = c.in-Arg in
     let found = c.in_ok-text-in-Arg in
     c.from_residual-in_err-character-in-Arg.ensures
-    ∙ character_is a.name a.short a.short_key found.text.now found.place found.ensures None
+    ∙ character_is a.name a.short a.short_key found.text.now found.token found.ensures None
     (c.in_err-character-in-Arg.ensures.steps.2 ∙ ap (λ (t : List ℕ). slice_get (chars t) 0) c.chars.ensures.rest)
     ∙ ap (λ (a : Attribute). short_in (leaf_attribute_of a)) (sym a.is)
 
@@ -20,6 +20,6 @@ pub returns-in_ok-character-in-Arg : goal.returns-in_ok-character-in-Arg
 returns-in_ok-character-in-Arg c =
     let a = c.in-Arg in
     let found = c.in_ok-text-in-Arg in
-    character_is a.name a.short a.short_key found.text.now found.place found.ensures (Some c.in_ok-character-in-Arg.character)
+    character_is a.name a.short a.short_key found.text.now found.token found.ensures (Some c.in_ok-character-in-Arg.character)
     (c.in_ok-character-in-Arg.ensures.steps.2 ∙ ap (λ (t : List ℕ). slice_get (chars t) 0) c.chars.ensures.rest)
     ∙ ap (λ (a : Attribute). short_in (leaf_attribute_of a)) (sym a.is)

@@ -5,7 +5,7 @@ use Rattle.justfile_model.specs.RecipeRules.{stars}
 use Rattle.justfile_parse_attribute.specs.ParseErrors.{IsParseError}
 use Rattle.justfile_parse_expression.specs.declared.significant.TableEntry.{TableEntry}
 use Rattle.justfile_parse_header.specs.Tree.{read_argument}
-use Rattle.justfile_parse_header.proofs.Stars.{missing_fails, outside_fails, place_checked, says_missing, says_outside}
+use Rattle.justfile_parse_header.proofs.Stars.{missing_fails, outside_fails, place_checked, refuses_missing, refuses_outside}
 use Rattle.justfile_parse_header.proofs.dependency.check_stars.Goals as goal
 
 pub returns-in-None-Some : goal.returns-in-None-Some
@@ -16,7 +16,7 @@ returns-in-None-Some c =
     let found : first_of all ≡ Some first = cc in
     λ s. subst (λ (o : Option TableEntry). IsParseError c.rule_error.result s ⊥ (place_checked s o all)) none
     (outside_fails s (faults.Compile c.error.result) c.rule_error.result c.rule_error.ensures all first found
-    (says_outside first c.error.result c.error.ensures.token c.error.ensures.kind))
+    (refuses_outside first c.error.result c.error.ensures.token c.error.ensures.kind))
 
 pub returns-in-Some-None : goal.returns-in-Some-None
 returns-in-Some-None c =
@@ -27,4 +27,4 @@ returns-in-Some-None c =
     let error = c.error-in-Some-None in
     let failure = c.rule_error-in-Some-None in
     λ s. subst (λ (o : Option TableEntry). IsParseError failure.result s ⊥ (place_checked s o all)) there
-    (missing_fails s (faults.Compile error.result) failure.result failure.ensures star all found (says_missing star error.result error.ensures.token error.ensures.kind))
+    (missing_fails s (faults.Compile error.result) failure.result failure.ensures star all found (refuses_missing star error.result error.ensures.token error.ensures.kind))

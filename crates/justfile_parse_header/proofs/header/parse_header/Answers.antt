@@ -1,4 +1,4 @@
-use Rattle.std.proofs.Common.{◌≡◌, List, [], map, Ok, Err, subst, arith}
+use Rattle.std.proofs.Common.{◌≡◌, ◌+◌, ◌≤◌, List, [], map, Ok, Err, subst, arith}
 use Rattle.std.proofs.lemmas.Result.{err_from_is_err_and}
 use Rattle.justfile_vocabulary.specs.declared.token_kind.TokenKind.TheVariants as kinds
 use Rattle.justfile_recipe_header.specs.declared.parameter.Parameter.{Parameter}
@@ -6,248 +6,191 @@ use Rattle.justfile_recipe_header.specs.declared.unresolved_dependency.Unresolve
 use Rattle.justfile_model.specs.HeaderReader.{obeying}
 use Rattle.justfile_model.specs.ReaderState.{NoNumber, prepend}
 use Rattle.justfile_parse_attribute.specs.ParseErrors.{IsParseError}
-use Rattle.justfile_parse_expression.specs.TableReader.{State, expect}
+use Rattle.justfile_parse_expression.specs.TableReader.{Read, State, expect}
 use Rattle.justfile_parse_expression.specs.View.{state_of}
-use Rattle.justfile_parse_header.specs.Counting.{counters_of, names}
+use Rattle.justfile_parse_header.specs.Counting.{TookBindingNumbers, counters_of, identifiers_left}
 use Rattle.justfile_parse_header.specs.HeaderTable as reader
 use Rattle.justfile_parse_header.specs.Tree.{dependency_tree, parameter_tree, rules_of}
-use Rattle.justfile_parse_header.proofs.Draws.{header_drawn, none_drawn, within}
+use Rattle.justfile_parse_header.proofs.BindingNumbers.{took_in_header, took_none, within}
 use Rattle.justfile_parse_header.proofs.Fewer.{name_fewer, noted_names}
 use Rattle.justfile_parse_header.proofs.HeaderErrors.{failed, stopped}
 use Rattle.justfile_parse_header.proofs.HeaderFewer.{others_fewer, priors_fewer}
-use Rattle.justfile_parse_header.proofs.Headers.{header_read, name_fails, options_fail, others_fail, parameters_fail, priors_fail, priors_within, read_after, ruled, undefined_fail}
+use Rattle.justfile_parse_header.proofs.Headers.{Dependencies, header_read, name_fails, options_fail, others_fail, parameters_fail, priors_fail, priors_within, read_after, ruled, undefined_fail}
+use Rattle.justfile_parse_header.proofs.header.parse_header.Given.{Over}
 use Rattle.justfile_parse_header.proofs.header.parse_header.Goals as goal
+use Rattle.justfile_parse_header.proofs.header.parse_header.Goals.{In_ok-note_arg_attributes, In_ok-parameters, In_ok-check_defined, In_ok-parse_dependencies}
+
+-- ---- what is read after each step
+
+-- the parameters, from the state after the name, where the features of the rules are noted
+parameters_are : (g : Over) (c : In_ok-parameters g) → reader.parameters (rules_of c.args.attributes.now) (counters_of c.args.numerator.now) (ruled (rules_of c.args.attributes.now) (state_of g.X.Expander.answer c.expect.new.self))
+    ≡ Ok ((map parameter_tree c.in_ok-parameters.parameters.items, counters_of c.parse_parameters.new.numerator), state_of g.X.Expander.answer c.parse_parameters.new.parser)
+parameters_are g c =
+    let found = Ok ((map parameter_tree c.in_ok-parameters.parameters.items, counters_of c.parse_parameters.new.numerator), state_of g.X.Expander.answer c.parse_parameters.new.parser) in
+    let P : State → Type 0 = λ s. reader.parameters (rules_of c.args.attributes.now) (counters_of c.args.numerator.now) s ≡ found in
+    subst P c.in_ok-note_arg_attributes.ensures.notes c.in_ok-parameters.ensures.reads
+
+-- each parameter that an `arg` attribute names is among them
+all_defined : (g : Over) (c : In_ok-check_defined g)
+    → obeying (reader.undefined (map parameter_tree c.in_ok-parameters.parameters.items) (rules_of c.args.attributes.now)) (state_of g.X.Expander.answer c.parse_parameters.new.parser)
+    ≡ Ok (tt, state_of g.X.Expander.answer c.parse_parameters.new.parser)
+all_defined g c =
+    let s = state_of g.X.Expander.answer c.parse_parameters.new.parser in
+    let P : List Parameter → Type 0 = λ ps. obeying (reader.undefined (map parameter_tree ps) (rules_of c.args.attributes.now)) s ≡ Ok (tt, s) in
+    subst P c.as_slice.ensures.value (c.in_ok-check_defined.ensures s)
+
+-- the dependencies before `&&`
+priors_are : (g : Over) (c : In_ok-parse_dependencies g)
+    → prepend [] (reader.dependencies (state_of g.X.Expander.answer c.parse_parameters.new.parser))
+    ≡ Ok (map dependency_tree c.parse_dependencies.new.dependencies.items, state_of g.X.Expander.answer c.parse_dependencies.new.parser)
+priors_are g c =
+    let found = Ok (map dependency_tree c.parse_dependencies.new.dependencies.items, state_of g.X.Expander.answer c.parse_dependencies.new.parser) in
+    let P : List UnresolvedDependency → Type 0 = λ ds. prepend (map dependency_tree ds) (reader.dependencies (state_of g.X.Expander.answer c.parse_parameters.new.parser)) ≡ found in
+    subst P c.new-dependencies.ensures.items c.in_ok-parse_dependencies.ensures.reads
+
+-- the name was one of the identifiers that were left
+name_taken : (g : Over) (c : In_ok-note_arg_attributes g)
+    → identifiers_left (state_of g.X.Expander.answer c.note_arg_attributes.new.parser) + 1 ≤ identifiers_left (state_of g.X.Expander.answer c.args.parser.now)
+name_taken g c =
+    let s1 = state_of g.X.Expander.answer c.expect.new.self in
+    let first = name_fewer (state_of g.X.Expander.answer c.args.parser.now) (c.in_ok-name.name, s1) c.in_ok-name.ensures.reads in
+    let same = noted_names _ s1 (state_of g.X.Expander.answer c.note_arg_attributes.new.parser) c.in_ok-note_arg_attributes.ensures.notes in
+    omega (arith, first, same)
+
+-- the parameters' numbers were taken
+numbers_taken : (g : Over) (c : In_ok-parameters g)
+    → TookBindingNumbers c.args.numerator.now c.parse_parameters.new.numerator (identifiers_left (state_of g.X.Expander.answer c.args.parser.now)) 0
+numbers_taken g c =
+    let s1 = state_of g.X.Expander.answer c.expect.new.self in
+    let first = name_fewer (state_of g.X.Expander.answer c.args.parser.now) (c.in_ok-name.name, s1) c.in_ok-name.ensures.reads in
+    let same = noted_names _ s1 (state_of g.X.Expander.answer c.note_arg_attributes.new.parser) c.in_ok-note_arg_attributes.ensures.notes in
+    within c.args.numerator.now c.parse_parameters.new.numerator (identifiers_left (state_of g.X.Expander.answer c.note_arg_attributes.new.parser))
+    (identifiers_left (state_of g.X.Expander.answer c.parse_parameters.new.parser)) (identifiers_left (state_of g.X.Expander.answer c.args.parser.now)) 0 c.in_ok-parameters.ensures.numbers
+    (omega (arith, first, same)) (omega arith)
+
+-- ---- answers
 
 pub returns-in_err-name-clause-reads : goal.returns-in_err-name-clause-reads
 returns-in_err-name-clause-reads g c =
-    let A = g.X.Expander.answer in
-    let rules = rules_of c.args.attributes.now in
-    let n = counters_of c.args.numerator.now in
-    let s = state_of A c.args.parser.now in
-    let found = reader.header rules n s in
+    let s = state_of g.X.Expander.answer c.args.parser.now in
     let p = err_from_is_err_and c.from_residual.result c.from_residual.ensures.1 in
     rw (p.1, p.2)
-    (stopped (expect kinds.Identifier s) found (name_fails rules n s) c.in_err-name.field-0.0 (state_of A c.expect.new.self) ⊥ _ (λ k. absurd k) c.in_err-name.ensures.reads)
+    (stopped (expect kinds.Identifier s) _ (name_fails (rules_of c.args.attributes.now) (counters_of c.args.numerator.now) (state_of g.X.Expander.answer c.args.parser.now)) c.in_err-name.field-0.0
+    (state_of g.X.Expander.answer c.expect.new.self) ⊥ _ (λ k. absurd k) c.in_err-name.ensures.reads)
 
-pub returns-in_err-name-clause-drawn : goal.returns-in_err-name-clause-drawn
-returns-in_err-name-clause-drawn g c =
+pub returns-in_err-name-clause-numbers : goal.returns-in_err-name-clause-numbers
+returns-in_err-name-clause-numbers g c =
     let A = g.X.Expander.answer in
     let p = err_from_is_err_and c.from_residual.result c.from_residual.ensures.1 in
-    rw p.1 (none_drawn c.args.numerator.now (names (state_of A c.args.parser.now)) 0 (omega arith))
+    rw p.1 (took_none c.args.numerator.now (identifiers_left (state_of A c.args.parser.now)) 0 (omega arith))
 
-pub returns-in_err-note_rules-clause-reads : goal.returns-in_err-note_rules-clause-reads
-returns-in_err-note_rules-clause-reads g c =
-    let p = err_from_is_err_and c.from_residual-in_err-note_rules.result c.from_residual-in_err-note_rules.ensures.1 in
-    rw (p.1, p.2, c.in_err-note_rules.ensures.notes) tt
+pub returns-in_err-note_arg_attributes-clause-reads : goal.returns-in_err-note_arg_attributes-clause-reads
+returns-in_err-note_arg_attributes-clause-reads g c =
+    let p = err_from_is_err_and c.from_residual-in_err-note_arg_attributes.result c.from_residual-in_err-note_arg_attributes.ensures.1 in
+    rw (p.1, p.2, c.in_err-note_arg_attributes.ensures.notes) tt
 
-pub returns-in_err-note_rules-clause-drawn : goal.returns-in_err-note_rules-clause-drawn
-returns-in_err-note_rules-clause-drawn g c =
+pub returns-in_err-note_arg_attributes-clause-numbers : goal.returns-in_err-note_arg_attributes-clause-numbers
+returns-in_err-note_arg_attributes-clause-numbers g c =
     let A = g.X.Expander.answer in
-    let p = err_from_is_err_and c.from_residual-in_err-note_rules.result c.from_residual-in_err-note_rules.ensures.1 in
-    rw p.1 (none_drawn c.args.numerator.now (names (state_of A c.args.parser.now)) 0 (omega arith))
+    let p = err_from_is_err_and c.from_residual-in_err-note_arg_attributes.result c.from_residual-in_err-note_arg_attributes.ensures.1 in
+    rw p.1 (took_none c.args.numerator.now (identifiers_left (state_of A c.args.parser.now)) 0 (omega arith))
 
 pub returns-in_err-check_options-clause-reads : goal.returns-in_err-check_options-clause-reads
 returns-in_err-check_options-clause-reads g c =
-    let A = g.X.Expander.answer in
-    let rules = rules_of c.args.attributes.now in
-    let n = counters_of c.args.numerator.now in
-    let s = state_of A c.args.parser.now in
-    let found = reader.header rules n s in
-    let name = c.in_ok-name.name in
-    let s1 = state_of A c.expect.new.self in
-    let named = c.in_ok-name.ensures.reads in
     let p = err_from_is_err_and c.from_residual-in_err-check_options.result c.from_residual-in_err-check_options.ensures.1 in
-    let left = state_of A c.note_rules.new.parser in
+    let left = state_of g.X.Expander.answer c.note_arg_attributes.new.parser in
     let error = c.in_err-check_options.field-0.0 in
-    let H : State → Type 0 = λ t. IsParseError error left ⊥ (obeying (reader.same_options name.token.now rules) t) in
+    let options : State → Read (Unit {0}) = λ t. obeying (reader.same_options c.in_ok-name.name.token.now (rules_of c.args.attributes.now)) t in
+    let P : State → Type 0 = λ t. IsParseError error left ⊥ (options t) in
+    let fails = options_fail (rules_of c.args.attributes.now) (counters_of c.args.numerator.now) (state_of g.X.Expander.answer c.args.parser.now) c.in_ok-name.ensures.reads in
     rw (p.1, p.2)
-    (failed (obeying (reader.same_options name.token.now rules) (ruled rules s1)) found (options_fail rules n s name s1 named) error left ⊥ _ (λ k. absurd k)
-    (subst H c.in_ok-note_rules.ensures.notes (c.in_err-check_options.ensures left)))
+    (failed (options (ruled (rules_of c.args.attributes.now) (state_of g.X.Expander.answer c.expect.new.self))) _ fails error left ⊥ _ (λ k. absurd k)
+    (subst P c.in_ok-note_arg_attributes.ensures.notes (c.in_err-check_options.ensures left)))
 
-pub returns-in_err-check_options-clause-drawn : goal.returns-in_err-check_options-clause-drawn
-returns-in_err-check_options-clause-drawn g c =
+pub returns-in_err-check_options-clause-numbers : goal.returns-in_err-check_options-clause-numbers
+returns-in_err-check_options-clause-numbers g c =
     let A = g.X.Expander.answer in
     let p = err_from_is_err_and c.from_residual-in_err-check_options.result c.from_residual-in_err-check_options.ensures.1 in
-    rw p.1 (none_drawn c.args.numerator.now (names (state_of A c.args.parser.now)) 0 (omega arith))
+    rw p.1 (took_none c.args.numerator.now (identifiers_left (state_of A c.args.parser.now)) 0 (omega arith))
 
 pub returns-in_err-parameters-clause-reads : goal.returns-in_err-parameters-clause-reads
 returns-in_err-parameters-clause-reads g c =
-    let A = g.X.Expander.answer in
-    let rules = rules_of c.args.attributes.now in
-    let n = counters_of c.args.numerator.now in
-    let s = state_of A c.args.parser.now in
-    let found = reader.header rules n s in
-    let name = c.in_ok-name.name in
-    let s1 = state_of A c.expect.new.self in
-    let named = c.in_ok-name.ensures.reads in
-    let distinct = c.in_ok-check_options.ensures (ruled rules s1) in
     let p = err_from_is_err_and c.from_residual-in_err-parameters.result c.from_residual-in_err-parameters.ensures.1 in
-    let left = state_of A c.parse_parameters.new.parser in
+    let left = state_of g.X.Expander.answer c.parse_parameters.new.parser in
     let error = c.in_err-parameters.field-0.0 in
     let wanting = NoNumber (counters_of c.parse_parameters.new.numerator) in
-    let H : State → Type 0 = λ t. IsParseError error left (reader.parameters rules n t ≡ Err wanting) (reader.parameters rules n t) in
-    let fails = parameters_fail rules n s name s1 named distinct in
+    let parameters : State → Read reader.Parameters = reader.parameters (rules_of c.args.attributes.now) (counters_of c.args.numerator.now) in
+    let P : State → Type 0 = λ t. IsParseError error left (parameters t ≡ Err wanting) (parameters t) in
+    let fails = parameters_fail (rules_of c.args.attributes.now) (counters_of c.args.numerator.now) (state_of g.X.Expander.answer c.args.parser.now) c.in_ok-name.ensures.reads (c.in_ok-check_options.ensures (ruled (rules_of c.args.attributes.now) (state_of g.X.Expander.answer c.expect.new.self))) in
     rw (p.1, p.2)
-    (failed (reader.parameters rules n (ruled rules s1)) found fails error left _ _ (fails wanting) (subst H c.in_ok-note_rules.ensures.notes c.in_err-parameters.ensures.reads))
+    (failed (parameters (ruled (rules_of c.args.attributes.now) (state_of g.X.Expander.answer c.expect.new.self))) _ fails error left _ _ (fails wanting)
+    (subst P c.in_ok-note_arg_attributes.ensures.notes c.in_err-parameters.ensures.reads))
 
-pub returns-in_err-parameters-clause-drawn : goal.returns-in_err-parameters-clause-drawn
-returns-in_err-parameters-clause-drawn g c =
-    let A = g.X.Expander.answer in
-    let s = state_of A c.args.parser.now in
-    let s1 = state_of A c.expect.new.self in
-    let noted = state_of A c.note_rules.new.parser in
-    let first = name_fewer s (c.in_ok-name.name, s1) c.in_ok-name.ensures.reads in
-    let same = noted_names _ s1 noted c.in_ok-note_rules.ensures.notes in
+pub returns-in_err-parameters-clause-numbers : goal.returns-in_err-parameters-clause-numbers
+returns-in_err-parameters-clause-numbers g c =
     let p = err_from_is_err_and c.from_residual-in_err-parameters.result c.from_residual-in_err-parameters.ensures.1 in
-    let drawn = c.in_err-parameters.ensures.drawn in
-    rw p.1 (within c.args.numerator.now c.parse_parameters.new.numerator (names noted) 0 (names s) 0 drawn (omega (arith, first, same)) (omega arith))
+    let taken = name_taken g (goal.at.returns-in_err-parameters-clause-numbers g c).In_ok-note_arg_attributes in
+    rw p.1
+    (within c.args.numerator.now c.parse_parameters.new.numerator (identifiers_left (state_of g.X.Expander.answer c.note_arg_attributes.new.parser)) 0
+    (identifiers_left (state_of g.X.Expander.answer c.args.parser.now)) 0 c.in_err-parameters.ensures.numbers (omega (arith, taken)) (omega arith))
 
 pub returns-in_err-check_defined-clause-reads : goal.returns-in_err-check_defined-clause-reads
 returns-in_err-check_defined-clause-reads g c =
-    let A = g.X.Expander.answer in
-    let rules = rules_of c.args.attributes.now in
-    let n = counters_of c.args.numerator.now in
-    let s = state_of A c.args.parser.now in
-    let found = reader.header rules n s in
-    let name = c.in_ok-name.name in
-    let s1 = state_of A c.expect.new.self in
-    let named = c.in_ok-name.ensures.reads in
-    let distinct = c.in_ok-check_options.ensures (ruled rules s1) in
-    let next = c.parse_parameters.new.numerator in
-    let parameters = c.in_ok-parameters.parameters.items in
-    let s2 = state_of A c.parse_parameters.new.parser in
-    let R : State → Type 0 = λ s. reader.parameters rules n s ≡ Ok ((map parameter_tree parameters, counters_of next), s2) in
-    let taken = subst R c.in_ok-note_rules.ensures.notes c.in_ok-parameters.ensures.reads in
+    let s2 = state_of g.X.Expander.answer c.parse_parameters.new.parser in
     let p = err_from_is_err_and c.from_residual-in_err-check_defined.result c.from_residual-in_err-check_defined.ensures.1 in
     let error = c.in_err-check_defined.field-0.0 in
-    let H : List Parameter → Type 0 = λ ps. IsParseError error s2 ⊥ (obeying (reader.undefined (map parameter_tree ps) rules) s2) in
+    let undefined : List Parameter → Read (Unit {0}) = λ ps. obeying (reader.undefined (map parameter_tree ps) (rules_of c.args.attributes.now)) s2 in
+    let P : List Parameter → Type 0 = λ ps. IsParseError error s2 ⊥ (undefined ps) in
+    let fails = undefined_fail (rules_of c.args.attributes.now) (counters_of c.args.numerator.now) (state_of g.X.Expander.answer c.args.parser.now) c.in_ok-name.ensures.reads (c.in_ok-check_options.ensures (ruled (rules_of c.args.attributes.now) (state_of g.X.Expander.answer c.expect.new.self))) (parameters_are g (goal.at.returns-in_err-check_defined-clause-reads g c).In_ok-parameters) in
     rw (p.1, p.2)
-    (failed (obeying (reader.undefined (map parameter_tree parameters) rules) s2) found
-    (undefined_fail rules n s name s1 named distinct (map parameter_tree parameters) (counters_of next) s2 taken) error s2 ⊥ _ (λ k. absurd k)
-    (subst H c.as_slice.ensures.value (c.in_err-check_defined.ensures s2)))
+    (failed (undefined c.in_ok-parameters.parameters.items) _ fails error s2 ⊥ _ (λ k. absurd k)
+    (subst P c.as_slice.ensures.value (c.in_err-check_defined.ensures s2)))
 
-pub returns-in_err-check_defined-clause-drawn : goal.returns-in_err-check_defined-clause-drawn
-returns-in_err-check_defined-clause-drawn g c =
-    let A = g.X.Expander.answer in
-    let s = state_of A c.args.parser.now in
-    let s1 = state_of A c.expect.new.self in
-    let noted = state_of A c.note_rules.new.parser in
-    let first = name_fewer s (c.in_ok-name.name, s1) c.in_ok-name.ensures.reads in
-    let same = noted_names _ s1 noted c.in_ok-note_rules.ensures.notes in
+pub returns-in_err-check_defined-clause-numbers : goal.returns-in_err-check_defined-clause-numbers
+returns-in_err-check_defined-clause-numbers g c =
     let p = err_from_is_err_and c.from_residual-in_err-check_defined.result c.from_residual-in_err-check_defined.ensures.1 in
-    let drawn = c.in_ok-parameters.ensures.drawn in
-    rw p.1
-    (within c.args.numerator.now c.parse_parameters.new.numerator (names noted) (names (state_of A c.parse_parameters.new.parser)) (names s) 0 drawn (omega (arith, first, same))
-    (omega arith))
+    rw p.1 (numbers_taken g (goal.at.returns-in_err-check_defined-clause-numbers g c).In_ok-parameters)
 
 pub returns-in_err-parse_dependencies-clause-reads : goal.returns-in_err-parse_dependencies-clause-reads
 returns-in_err-parse_dependencies-clause-reads g c =
-    let A = g.X.Expander.answer in
-    let rules = rules_of c.args.attributes.now in
-    let n = counters_of c.args.numerator.now in
-    let s = state_of A c.args.parser.now in
-    let found = reader.header rules n s in
-    let name = c.in_ok-name.name in
-    let s1 = state_of A c.expect.new.self in
-    let named = c.in_ok-name.ensures.reads in
-    let distinct = c.in_ok-check_options.ensures (ruled rules s1) in
-    let next = c.parse_parameters.new.numerator in
-    let parameters = c.in_ok-parameters.parameters.items in
-    let s2 = state_of A c.parse_parameters.new.parser in
-    let R : State → Type 0 = λ s. reader.parameters rules n s ≡ Ok ((map parameter_tree parameters, counters_of next), s2) in
-    let taken = subst R c.in_ok-note_rules.ensures.notes c.in_ok-parameters.ensures.reads in
-    let U : List Parameter → Type 0 = λ ps. obeying (reader.undefined (map parameter_tree ps) rules) s2 ≡ Ok (tt, s2) in
-    let defined = subst U c.as_slice.ensures.value (c.in_ok-check_defined.ensures s2) in
     let p = err_from_is_err_and c.from_residual-in_err-parse_dependencies.result c.from_residual-in_err-parse_dependencies.ensures.1 in
-    let left = state_of A c.parse_dependencies.new.parser in
+    let left = state_of g.X.Expander.answer c.parse_dependencies.new.parser in
     let error = c.in_err-parse_dependencies.field-0.0 in
-    let H : List UnresolvedDependency → Type 0 = λ ds. IsParseError error left ⊥ (prepend (map dependency_tree ds) (reader.dependencies s2)) in
+    let priors : List UnresolvedDependency → Read Dependencies = λ ds. prepend (map dependency_tree ds) (reader.dependencies (state_of g.X.Expander.answer c.parse_parameters.new.parser)) in
+    let P : List UnresolvedDependency → Type 0 = λ ds. IsParseError error left ⊥ (priors ds) in
+    let h = goal.at.returns-in_err-parse_dependencies-clause-reads g c in
+    let fails = priors_fail (rules_of c.args.attributes.now) (counters_of c.args.numerator.now) (state_of g.X.Expander.answer c.args.parser.now) c.in_ok-name.ensures.reads (c.in_ok-check_options.ensures (ruled (rules_of c.args.attributes.now) (state_of g.X.Expander.answer c.expect.new.self))) (parameters_are g h.In_ok-parameters) (all_defined g h.In_ok-check_defined) in
     rw (p.1, p.2)
-    (failed (prepend [] (reader.dependencies s2)) found
-    (priors_fail rules n s name s1 named distinct (map parameter_tree parameters) (counters_of next) s2 taken defined) error left ⊥ _ (λ k. absurd k)
-    (subst H c.new-dependencies.ensures.items c.in_err-parse_dependencies.ensures.reads))
+    (failed (priors []) _ fails error left ⊥ _ (λ k. absurd k) (subst P c.new-dependencies.ensures.items c.in_err-parse_dependencies.ensures.reads))
 
-pub returns-in_err-parse_dependencies-clause-drawn : goal.returns-in_err-parse_dependencies-clause-drawn
-returns-in_err-parse_dependencies-clause-drawn g c =
-    let A = g.X.Expander.answer in
-    let s = state_of A c.args.parser.now in
-    let s1 = state_of A c.expect.new.self in
-    let noted = state_of A c.note_rules.new.parser in
-    let first = name_fewer s (c.in_ok-name.name, s1) c.in_ok-name.ensures.reads in
-    let same = noted_names _ s1 noted c.in_ok-note_rules.ensures.notes in
+pub returns-in_err-parse_dependencies-clause-numbers : goal.returns-in_err-parse_dependencies-clause-numbers
+returns-in_err-parse_dependencies-clause-numbers g c =
     let p = err_from_is_err_and c.from_residual-in_err-parse_dependencies.result c.from_residual-in_err-parse_dependencies.ensures.1 in
-    let drawn = c.in_ok-parameters.ensures.drawn in
-    rw p.1
-    (within c.args.numerator.now c.parse_parameters.new.numerator (names noted) (names (state_of A c.parse_parameters.new.parser)) (names s) 0 drawn (omega (arith, first, same))
-    (omega arith))
+    rw p.1 (numbers_taken g (goal.at.returns-in_err-parse_dependencies-clause-numbers g c).In_ok-parameters)
 
 pub returns-in_err-parse_subsequents-clause-reads : goal.returns-in_err-parse_subsequents-clause-reads
 returns-in_err-parse_subsequents-clause-reads g c =
-    let A = g.X.Expander.answer in
-    let rules = rules_of c.args.attributes.now in
-    let n = counters_of c.args.numerator.now in
-    let s = state_of A c.args.parser.now in
-    let found = reader.header rules n s in
-    let name = c.in_ok-name.name in
-    let s1 = state_of A c.expect.new.self in
-    let named = c.in_ok-name.ensures.reads in
-    let distinct = c.in_ok-check_options.ensures (ruled rules s1) in
-    let next = c.parse_parameters.new.numerator in
-    let parameters = c.in_ok-parameters.parameters.items in
-    let s2 = state_of A c.parse_parameters.new.parser in
-    let R : State → Type 0 = λ s. reader.parameters rules n s ≡ Ok ((map parameter_tree parameters, counters_of next), s2) in
-    let taken = subst R c.in_ok-note_rules.ensures.notes c.in_ok-parameters.ensures.reads in
-    let U : List Parameter → Type 0 = λ ps. obeying (reader.undefined (map parameter_tree ps) rules) s2 ≡ Ok (tt, s2) in
-    let defined = subst U c.as_slice.ensures.value (c.in_ok-check_defined.ensures s2) in
-    let s3 = state_of A c.parse_dependencies.new.parser in
+    let p = err_from_is_err_and c.from_residual-in_err-parse_subsequents.result c.from_residual-in_err-parse_subsequents.ensures.1 in
     let priors = c.parse_dependencies.new.dependencies.items in
-    let V : List UnresolvedDependency → Type 0 = λ ds. prepend (map dependency_tree ds) (reader.dependencies s2) ≡ Ok (map dependency_tree priors, s3) in
-    let before = subst V c.new-dependencies.ensures.items c.in_ok-parse_dependencies.ensures.reads in
-    let p = err_from_is_err_and c.from_residual-in_err-parse_subsequents.result c.from_residual-in_err-parse_subsequents.ensures.1 in
+    let h = goal.at.returns-in_err-parse_subsequents-clause-reads g c in
+    let fails =
+    others_fail (rules_of c.args.attributes.now) (counters_of c.args.numerator.now) (state_of g.X.Expander.answer c.args.parser.now) c.in_ok-name.ensures.reads (c.in_ok-check_options.ensures (ruled (rules_of c.args.attributes.now) (state_of g.X.Expander.answer c.expect.new.self)))
+    (parameters_are g h.In_ok-parameters) (all_defined g h.In_ok-check_defined) priors (priors_are g h.In_ok-parse_dependencies) (map dependency_tree priors) in
     rw (p.1, p.2)
-    (failed (prepend (map dependency_tree priors) (reader.subsequents s3)) found
-    (others_fail rules n s name s1 named distinct (map parameter_tree parameters) (counters_of next) s2 taken defined priors s3 before (map dependency_tree priors))
-    c.in_err-parse_subsequents.field-0.0 (state_of A c.parse_subsequents.new.parser) ⊥ _ (λ k. absurd k) c.in_err-parse_subsequents.ensures.reads)
+    (failed (prepend (map dependency_tree priors) (reader.subsequents (state_of g.X.Expander.answer c.parse_dependencies.new.parser))) _ fails c.in_err-parse_subsequents.field-0.0
+    (state_of g.X.Expander.answer c.parse_subsequents.new.parser) ⊥ _ (λ k. absurd k) c.in_err-parse_subsequents.ensures.reads)
 
-pub returns-in_err-parse_subsequents-clause-drawn : goal.returns-in_err-parse_subsequents-clause-drawn
-returns-in_err-parse_subsequents-clause-drawn g c =
-    let A = g.X.Expander.answer in
-    let s = state_of A c.args.parser.now in
-    let s1 = state_of A c.expect.new.self in
-    let noted = state_of A c.note_rules.new.parser in
-    let first = name_fewer s (c.in_ok-name.name, s1) c.in_ok-name.ensures.reads in
-    let same = noted_names _ s1 noted c.in_ok-note_rules.ensures.notes in
+pub returns-in_err-parse_subsequents-clause-numbers : goal.returns-in_err-parse_subsequents-clause-numbers
+returns-in_err-parse_subsequents-clause-numbers g c =
     let p = err_from_is_err_and c.from_residual-in_err-parse_subsequents.result c.from_residual-in_err-parse_subsequents.ensures.1 in
-    let drawn = c.in_ok-parameters.ensures.drawn in
-    rw p.1
-    (within c.args.numerator.now c.parse_parameters.new.numerator (names noted) (names (state_of A c.parse_parameters.new.parser)) (names s) 0 drawn (omega (arith, first, same))
-    (omega arith))
+    rw p.1 (numbers_taken g (goal.at.returns-in_err-parse_subsequents-clause-numbers g c).In_ok-parameters)
 
 pub returns-clause-reads : goal.returns-clause-reads
 returns-clause-reads g c =
-    let A = g.X.Expander.answer in
-    let rules = rules_of c.args.attributes.now in
-    let n = counters_of c.args.numerator.now in
-    let s = state_of A c.args.parser.now in
-    let found = reader.header rules n s in
-    let name = c.in_ok-name.name in
-    let s1 = state_of A c.expect.new.self in
-    let named = c.in_ok-name.ensures.reads in
-    let distinct = c.in_ok-check_options.ensures (ruled rules s1) in
-    let next = c.parse_parameters.new.numerator in
-    let parameters = c.in_ok-parameters.parameters.items in
-    let s2 = state_of A c.parse_parameters.new.parser in
-    let R : State → Type 0 = λ s. reader.parameters rules n s ≡ Ok ((map parameter_tree parameters, counters_of next), s2) in
-    let taken = subst R c.in_ok-note_rules.ensures.notes c.in_ok-parameters.ensures.reads in
-    let U : List Parameter → Type 0 = λ ps. obeying (reader.undefined (map parameter_tree ps) rules) s2 ≡ Ok (tt, s2) in
-    let defined = subst U c.as_slice.ensures.value (c.in_ok-check_defined.ensures s2) in
-    let s3 = state_of A c.parse_dependencies.new.parser in
-    let priors = c.parse_dependencies.new.dependencies.items in
-    let V : List UnresolvedDependency → Type 0 = λ ds. prepend (map dependency_tree ds) (reader.dependencies s2) ≡ Ok (map dependency_tree priors, s3) in
-    let before = subst V c.new-dependencies.ensures.items c.in_ok-parse_dependencies.ensures.reads in
-    let all = c.parse_subsequents.new.dependencies.items in
-    let s4 = state_of A c.parse_subsequents.new.parser in
-    header_read rules n s name s1 named distinct (map parameter_tree parameters) (counters_of next) s2 taken defined priors s3 before all s4 c.in_ok-parse_subsequents.ensures.reads
+    let h = goal.at.returns-clause-reads g c in
+    header_read (rules_of c.args.attributes.now) (counters_of c.args.numerator.now) (state_of g.X.Expander.answer c.args.parser.now) c.in_ok-name.ensures.reads (c.in_ok-check_options.ensures (ruled (rules_of c.args.attributes.now) (state_of g.X.Expander.answer c.expect.new.self)))
+    (parameters_are g h.In_ok-parameters) (all_defined g h.In_ok-check_defined) c.parse_dependencies.new.dependencies.items (priors_are g h.In_ok-parse_dependencies)
+    c.parse_subsequents.new.dependencies.items (state_of g.X.Expander.answer c.parse_subsequents.new.parser) c.in_ok-parse_subsequents.ensures.reads
     c.len-priors.result (omega (arith, c.len-priors.ensures, c.parse_dependencies.new.dependencies.ok.0))
 
 pub returns-clause-priors : goal.returns-clause-priors
@@ -260,18 +203,13 @@ returns-clause-priors g c =
     let others = read_after (map dependency_tree before) (map dependency_tree all) (reader.subsequents s3) s4 c.in_ok-parse_subsequents.ensures.reads in
     omega (arith, c.len-priors.ensures, c.parse_dependencies.new.dependencies.ok.0, priors_within before all others.0 others.2)
 
-pub returns-clause-drawn : goal.returns-clause-drawn
-returns-clause-drawn g c =
-    let A = g.X.Expander.answer in
-    let s = state_of A c.args.parser.now in
-    let s1 = state_of A c.expect.new.self in
-    let noted = state_of A c.note_rules.new.parser in
-    let first = name_fewer s (c.in_ok-name.name, s1) c.in_ok-name.ensures.reads in
-    let same = noted_names _ s1 noted c.in_ok-note_rules.ensures.notes in
-    let s2 = state_of A c.parse_parameters.new.parser in
-    let s3 = state_of A c.parse_dependencies.new.parser in
-    let s4 = state_of A c.parse_subsequents.new.parser in
+pub returns-clause-numbers : goal.returns-clause-numbers
+returns-clause-numbers g c =
+    let s2 = state_of g.X.Expander.answer c.parse_parameters.new.parser in
+    let s3 = state_of g.X.Expander.answer c.parse_dependencies.new.parser in
+    let s4 = state_of g.X.Expander.answer c.parse_subsequents.new.parser in
+    let taken = name_taken g (goal.at.returns-clause-numbers g c).In_ok-note_arg_attributes in
     let before = priors_fewer _ _ s2 s3 c.in_ok-parse_dependencies.ensures.reads in
     let after = others_fewer _ _ s3 s4 c.in_ok-parse_subsequents.ensures.reads in
-    header_drawn c.args.numerator.now c.parse_parameters.new.numerator (names noted) (names s2) (names s) (names s4) c.in_ok-parameters.ensures.drawn (omega (arith, first, same))
-    (omega (arith, before, after))
+    took_in_header c.args.numerator.now c.parse_parameters.new.numerator (identifiers_left (state_of g.X.Expander.answer c.note_arg_attributes.new.parser)) (identifiers_left s2)
+    (identifiers_left (state_of g.X.Expander.answer c.args.parser.now)) (identifiers_left s4) c.in_ok-parameters.ensures.numbers (omega (arith, taken)) (omega (arith, before, after))

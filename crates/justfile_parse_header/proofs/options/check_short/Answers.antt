@@ -11,7 +11,7 @@ returns-then-contains c s =
     let before = c.args.before.now.items in
     let among : list_any (nat_eq option) before ≡ true =
     sym (character_among option before) ∙ ap (λ (l : List ℕ). list_any (λ (d : ℕ). nat_eq d option) l) (sym c.as_slice.ensures.value) ∙ sym c.contains.ensures.value ∙ c.if-contains.true in
-    short_same c.args.recipe before (leaf_attribute_of c.args.attribute.now) s option c.in-Some.place c.in-Some.ensures among c.same_short_error.result c.rule_error.result c.rule_error.ensures
+    short_same c.args.recipe before (leaf_attribute_of c.args.attribute.now) s option c.in-Some.token c.in-Some.ensures among c.same_short_error.result c.rule_error.result c.rule_error.ensures
     c.same_short_error.ensures
 
 pub returns : goal.returns
@@ -20,5 +20,5 @@ returns c s =
     let before = c.args.before.now.items in
     let among : list_any (nat_eq option) before ≡ false =
     sym (character_among option before) ∙ ap (λ (l : List ℕ). list_any (λ (d : ℕ). nat_eq d option) l) (sym c.as_slice.ensures.value) ∙ sym c.contains.ensures.value ∙ c.if-contains.false in
-    short_apart c.args.recipe before (leaf_attribute_of c.args.attribute.now) s option c.in-Some.place c.in-Some.ensures among
+    short_apart c.args.recipe before (leaf_attribute_of c.args.attribute.now) s option c.in-Some.token c.in-Some.ensures among
     ∙ ap (λ (l : List ℕ). Ok (l, s)) (sym c.in_ok-push.ensures.items)

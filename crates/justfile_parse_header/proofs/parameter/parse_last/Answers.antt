@@ -2,27 +2,27 @@ use Rattle.std.proofs.Common.{subst}
 use Rattle.justfile_vocabulary.specs.declared.token_kind.TokenKind.TheVariants as kinds
 use Rattle.justfile_parse_expression.specs.View.{state_of}
 use Rattle.justfile_parse_expression.specs.declared.parser.ExpressionParser.{ExpressionParser}
-use Rattle.justfile_parse_header.specs.Counting.{TookBindingNumbers, names, names_after}
+use Rattle.justfile_parse_header.specs.Counting.{TookBindingNumbers, identifiers_left, identifiers_left_after}
 use Rattle.justfile_parse_header.specs.Tree.{rules_of}
-use Rattle.justfile_parse_header.proofs.Draws.{taken_drawn}
-use Rattle.justfile_parse_header.proofs.Parameters.{same_whole}
+use Rattle.justfile_parse_header.proofs.BindingNumbers.{took_after_token}
+use Rattle.justfile_parse_header.proofs.Parameters.{same_fields}
 use Rattle.justfile_parse_header.proofs.parameter.parse_last.Goals as goal
 
-pub returns-in-Some-clause-drawn : goal.returns-in-Some-clause-drawn
-returns-in-Some-clause-drawn g c =
+pub returns-in-Some-clause-numbers : goal.returns-in-Some-clause-numbers
+returns-in-Some-clause-numbers g c =
     let A = g.X.Expander.answer in
-    taken_drawn c.args.numerator.now c.parse_variadic.new.numerator kinds.Plus (state_of A c.args.parser.now) (c.in-Some._plus, state_of A c.accept.new.self)
-    (names_after c.parse_variadic.result (state_of A c.parse_variadic.new.parser)) c.in-Some.ensures.takes c.parse_variadic.ensures.drawn
+    took_after_token c.args.numerator.now c.parse_variadic.new.numerator kinds.Plus (state_of A c.args.parser.now) (c.in-Some._plus, state_of A c.accept.new.self)
+    (identifiers_left_after c.parse_variadic.result (state_of A c.parse_variadic.new.parser)) c.in-Some.ensures.takes c.parse_variadic.ensures.numbers
 
-pub returns-in-Some-accept-clause-drawn : goal.returns-in-Some-accept-clause-drawn
-returns-in-Some-accept-clause-drawn g c =
+pub returns-in-Some-accept-clause-numbers : goal.returns-in-Some-accept-clause-numbers
+returns-in-Some-accept-clause-numbers g c =
     let A = g.X.Expander.answer in
     let call = c.parse_variadic-in-Some-accept in
-    let following = names_after call.result (state_of A call.new.parser) in
-    let P : ExpressionParser _ → Type 0 = λ p. TookBindingNumbers c.args.numerator.now call.new.numerator (names (state_of A p)) following in
+    let following = identifiers_left_after call.result (state_of A call.new.parser) in
+    let P : ExpressionParser _ → Type 0 = λ p. TookBindingNumbers c.args.numerator.now call.new.numerator (identifiers_left (state_of A p)) following in
     subst P c.in_default.ensures.moves
-    (taken_drawn c.args.numerator.now call.new.numerator kinds.Asterisk (state_of A c.accept.new.self) (c.in-Some-accept._star, state_of A c.accept-2.new.self) following
-    c.in-Some-accept.ensures.takes call.ensures.drawn)
+    (took_after_token c.args.numerator.now call.new.numerator kinds.Asterisk (state_of A c.accept.new.self) (c.in-Some-accept._star, state_of A c.accept-2.new.self) following
+    c.in-Some-accept.ensures.takes call.ensures.numbers)
 
-pub returns-clause-whole : goal.returns-clause-whole
-returns-clause-whole g c = same_whole (rules_of c.args.arg_attributes.now.attributes.now) c.args.parameters.now.list.items
+pub returns-clause-fields : goal.returns-clause-fields
+returns-clause-fields g c = same_fields (rules_of c.args.arg_attributes.now.attributes.now) c.args.parameters.now.list.items

@@ -2,10 +2,10 @@ use Rattle.std.proofs.Common.{◌∙◌, false, ap, map, sym}
 use Rattle.justfile_vocabulary.specs.declared.token_kind.TokenKind.TheVariants as kinds
 use Rattle.justfile_parse_expression.specs.View.{state_of}
 use Rattle.justfile_parse_expression.specs.declared.parser.ExpressionParser.{ExpressionParser}
-use Rattle.justfile_parse_header.specs.Counting.{counters_of, names_after}
+use Rattle.justfile_parse_header.specs.Counting.{counters_of, identifiers_left_after}
 use Rattle.justfile_parse_header.specs.HeaderTable as reader
 use Rattle.justfile_parse_header.specs.Tree.{parameter_tree, rules_of}
-use Rattle.justfile_parse_header.proofs.Draws.{taken_drawn}
+use Rattle.justfile_parse_header.proofs.BindingNumbers.{took_after_token}
 use Rattle.justfile_parse_header.proofs.Parameters.{exported, unexported}
 use Rattle.justfile_parse_header.proofs.parameter.parse_parameter.Goals as goal
 
@@ -16,11 +16,11 @@ returns-in-Some-clause-reads g c =
     rw (exported (rules_of c.args.arg_attributes.now.attributes.now) c.args.kind x (state_of A c.args.parser.now) c.in-Some._dollar (state_of A c.accept.new.self) c.in-Some.ensures.takes)
     c.parse_named.ensures.reads
 
-pub returns-in-Some-clause-drawn : goal.returns-in-Some-clause-drawn
-returns-in-Some-clause-drawn g c =
+pub returns-in-Some-clause-numbers : goal.returns-in-Some-clause-numbers
+returns-in-Some-clause-numbers g c =
     let A = g.X.Expander.answer in
-    taken_drawn c.args.numerator.now c.parse_named.new.numerator kinds.Dollar (state_of A c.args.parser.now) (c.in-Some._dollar, state_of A c.accept.new.self)
-    (names_after c.parse_named.result (state_of A c.parse_named.new.parser)) c.in-Some.ensures.takes c.parse_named.ensures.drawn
+    took_after_token c.args.numerator.now c.parse_named.new.numerator kinds.Dollar (state_of A c.args.parser.now) (c.in-Some._dollar, state_of A c.accept.new.self)
+    (identifiers_left_after c.parse_named.result (state_of A c.parse_named.new.parser)) c.in-Some.ensures.takes c.parse_named.ensures.numbers
 
 pub returns-in-None-clause-reads : goal.returns-in-None-clause-reads
 returns-in-None-clause-reads g c =

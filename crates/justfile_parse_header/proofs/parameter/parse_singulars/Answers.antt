@@ -28,7 +28,7 @@ parameters-preserved g c =
       so_far =
           goes_on (rules_of c.args.arg_attributes.now.attributes.now) (state_of A c.args.parser.now) (state_of A c.parameters.parser) c.args.numerator.now c.parameters.numerator
           c.args.parameters.now.list.items c.parameters.parameters.list.items c.parameters.invariant.so_far (sym c.begins_parameter.ensures ∙ c.if-not-begins_parameter.false)
-          c.parse_parameter.new.numerator c.parse_parameter.new.parameters.list.items (state_of A c.parse_parameter.new.parser) h.reads h.drawn h.whole;
+          c.parse_parameter.new.numerator c.parse_parameter.new.parameters.list.items (state_of A c.parse_parameter.new.parser) h.reads h.numbers h.fields;
     }
 
 pub returns-in_err-parse_parameter-clause-reads : goal.returns-in_err-parse_parameter-clause-reads

@@ -3,7 +3,7 @@ use Rattle.justfile_parse_item.specs.ItemTable as reader
 use Rattle.justfile_parse_item.specs.Tree.{item_tree}
 use Rattle.justfile_parse_attribute.specs.Attributes.{entry_of_pair}
 use Rattle.justfile_parse_expression.specs.View.{state_of}
-use Rattle.justfile_parse_item.proofs.Words.{uncounted}
+use Rattle.justfile_parse_item.proofs.ConstructKeywords.{uncounted}
 use Rattle.justfile_parse_item.proofs.construct.parse_after_keyword.Goals as goal
 
 pub returns-in-Alias-clause-reads : goal.returns-in-Alias-clause-reads

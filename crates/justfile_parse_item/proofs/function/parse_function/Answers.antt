@@ -3,7 +3,7 @@ use Rattle.std.proofs.lemmas.Result.{err_from_is_err_and}
 use Rattle.justfile_model.specs.ReaderState as reading
 use Rattle.justfile_parse_attribute.specs.Attributes.{entry_of_pair}
 use Rattle.justfile_parse_expression.specs.View.{state_of}
-use Rattle.justfile_parse_header.specs.Counting.{counters_of, names}
+use Rattle.justfile_parse_header.specs.Counting.{counters_of, identifiers_left}
 use Rattle.justfile_parse_item.proofs.ItemErrors.{function_attributes_fail, function_errs}
 use Rattle.justfile_parse_item.proofs.CounterSteps.{function_moved}
 use Rattle.justfile_parse_item.proofs.function.parse_function.Goals as goal
@@ -32,25 +32,25 @@ returns-in_err-parameters-clause-moved g c =
     let A = g.X.Expander.answer in
     let opened = state_of A c.expect-2.new.self in
     function_moved c.args.numerator.now c.parse_parameter_names.new.numerator (state_of A c.args.parser.now) (state_of A c.expect.new.self) opened c.in_ok-name.name c.in_ok-expect.field-0
-    0 c.in_ok-name.ensures.reads c.in_ok-expect.ensures.reads c.in_err-parameters.ensures.drawn
+    0 c.in_ok-name.ensures.reads c.in_ok-expect.ensures.reads c.in_err-parameters.ensures.numbers
 
 pub returns-in_err-expect-2-clause-moved : goal.returns-in_err-expect-2-clause-moved
 returns-in_err-expect-2-clause-moved g c =
     let A = g.X.Expander.answer in
     let opened = state_of A c.expect-2.new.self in
     function_moved c.args.numerator.now c.parse_parameter_names.new.numerator (state_of A c.args.parser.now) (state_of A c.expect.new.self) opened c.in_ok-name.name c.in_ok-expect.field-0
-    (names (state_of A c.parse_parameter_names.new.parser)) c.in_ok-name.ensures.reads c.in_ok-expect.ensures.reads c.in_ok-parameters.ensures.drawn
+    (identifiers_left (state_of A c.parse_parameter_names.new.parser)) c.in_ok-name.ensures.reads c.in_ok-expect.ensures.reads c.in_ok-parameters.ensures.numbers
 
 pub returns-in_err-body-clause-moved : goal.returns-in_err-body-clause-moved
 returns-in_err-body-clause-moved g c =
     let A = g.X.Expander.answer in
     let opened = state_of A c.expect-2.new.self in
     function_moved c.args.numerator.now c.parse_parameter_names.new.numerator (state_of A c.args.parser.now) (state_of A c.expect.new.self) opened c.in_ok-name.name c.in_ok-expect.field-0
-    (names (state_of A c.parse_parameter_names.new.parser)) c.in_ok-name.ensures.reads c.in_ok-expect.ensures.reads c.in_ok-parameters.ensures.drawn
+    (identifiers_left (state_of A c.parse_parameter_names.new.parser)) c.in_ok-name.ensures.reads c.in_ok-expect.ensures.reads c.in_ok-parameters.ensures.numbers
 
 pub returns-clause-moved : goal.returns-clause-moved
 returns-clause-moved g c =
     let A = g.X.Expander.answer in
     let opened = state_of A c.expect-2.new.self in
     function_moved c.args.numerator.now c.parse_parameter_names.new.numerator (state_of A c.args.parser.now) (state_of A c.expect.new.self) opened c.in_ok-name.name c.in_ok-expect.field-0
-    (names (state_of A c.parse_parameter_names.new.parser)) c.in_ok-name.ensures.reads c.in_ok-expect.ensures.reads c.in_ok-parameters.ensures.drawn
+    (identifiers_left (state_of A c.parse_parameter_names.new.parser)) c.in_ok-name.ensures.reads c.in_ok-expect.ensures.reads c.in_ok-parameters.ensures.numbers

@@ -10,7 +10,7 @@ use Rattle.justfile_parse_expression.specs.View.{state_of}
 use Rattle.justfile_parse_item.proofs.Hashes.{begins_hash}
 use Rattle.justfile_parse_item.proofs.Lines.{after_comment}
 use Rattle.justfile_parse_item.proofs.ReadEquations.{reads_alike}
-use Rattle.justfile_parse_item.proofs.DerivedItemFields.{after_ok, pushed_whole}
+use Rattle.justfile_parse_item.proofs.DerivedItemFields.{after_ok, pushed_fields}
 use Rattle.justfile_parse_item.proofs.items.parse_after_item.Goals as goal
 
 pub make_comment-requires : goal.make_comment-requires
@@ -28,8 +28,8 @@ returns-in_ok-push_item-in-Some-clause-reads g c =
     ∙ sym (after_comment done (state_of A c.args.parser.now) c.in-Some.comment rest c.in-Some.ensures.takes))
     c.parse_line_end.ensures.reads
 
-pub returns-in_ok-push_item-in-Some-clause-whole : goal.returns-in_ok-push_item-in-Some-clause-whole
-returns-in_ok-push_item-in-Some-clause-whole g c =
+pub returns-in_ok-push_item-in-Some-clause-fields : goal.returns-in_ok-push_item-in-Some-clause-fields
+returns-in_ok-push_item-in-Some-clause-fields g c =
     after_ok c.parse_line_end.result c.args.items.now.items c.push_item.new.items.items c.parse_line_end.new.items.items
-    (pushed_whole c.args.items.now.items c.push_item.new.items.items c.make_comment.result c.in_ok-push_item-in-Some.ensures.pushed c.make_comment.ensures.whole)
-    c.parse_line_end.ensures.whole
+    (pushed_fields c.args.items.now.items c.push_item.new.items.items c.make_comment.result c.in_ok-push_item-in-Some.ensures.pushed c.make_comment.ensures.fields)
+    c.parse_line_end.ensures.fields

@@ -1,8 +1,8 @@
 use Rattle.std.proofs.Common.{◌≡◌, subst, sym}
 use Rattle.justfile_parse_expression.specs.View.{state_of}
 use Rattle.justfile_parse_expression.specs.declared.parser.ExpressionParser.{ExpressionParser}
-use Rattle.justfile_parse_item.specs.MethodResults.{IsMoved}
-use Rattle.justfile_parse_header.specs.Counting.{names}
+use Rattle.justfile_parse_item.specs.MethodResults.{CountersMoved}
+use Rattle.justfile_parse_header.specs.Counting.{identifiers_left}
 use Rattle.justfile_parse_item.proofs.Hashes.{begins_hash}
 use Rattle.justfile_parse_item.proofs.items.parse_item.Goals as goal
 
@@ -18,5 +18,5 @@ parse_construct-requires g c =
 pub returns-clause-moved : goal.returns-clause-moved
 returns-clause-moved g c =
     let A = g.X.Expander.answer in
-    let P : ExpressionParser _ → Type 0 = λ p. IsMoved c.args.numerator.now c.parse_construct.new.numerator (names (state_of A p)) in
+    let P : ExpressionParser _ → Type 0 = λ p. CountersMoved c.args.numerator.now c.parse_construct.new.numerator (identifiers_left (state_of A p)) in
     subst P c.in_default.ensures.moves c.parse_construct.ensures.moved

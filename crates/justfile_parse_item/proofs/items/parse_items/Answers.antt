@@ -33,7 +33,7 @@ lines-preserved g c =
     let P : ExpressionParser _ → Type 0 = λ q. IsReadTo (state_of A c.args.parser.now) (state_of A q) c.args.numerator.now c.lines.numerator c.lines.items.items in
     let Q : ExpressionParser _ → Type 0 = λ q. accept kinds.Eof (state_of A q) ≡ None in
     goes_on (state_of A c.args.parser.now) (state_of A c.accept.new.self) c.args.numerator.now c.lines.numerator c.lines.items.items (subst P here c.lines.invariant)
-    (subst Q here c.in_default.ensures.takes) c.parse_line.new.numerator c.parse_line.new.items.items (state_of A c.parse_line.new.parser) c.in_ok-parse_line.ensures.reads c.in_ok-parse_line.ensures.whole
+    (subst Q here c.in_default.ensures.takes) c.parse_line.new.numerator c.parse_line.new.items.items (state_of A c.parse_line.new.parser) c.in_ok-parse_line.ensures.reads c.in_ok-parse_line.ensures.fields
 
 pub returns-in_err-parse_line-clause-reads : goal.returns-in_err-parse_line-clause-reads
 returns-in_err-parse_line-clause-reads g c =

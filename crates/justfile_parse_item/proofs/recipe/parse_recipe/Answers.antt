@@ -8,30 +8,30 @@ use Rattle.justfile_vocabulary.specs.declared.attribute_kind.AttributeKind.TheVa
 use Rattle.justfile_vocabulary.specs.declared.numerator.Numerator.{Numerator}
 use Rattle.justfile_model.specs.ReaderState as reading
 use Rattle.justfile_parse_item.specs.ItemTable.{has_shebang}
-use Rattle.justfile_parse_item.specs.MethodResults.{IsMoved}
+use Rattle.justfile_parse_item.specs.MethodResults.{CountersMoved}
 use Rattle.justfile_parse_item.specs.Tree.{line_tree}
 use Rattle.justfile_parse_item.specs.DerivedFields.{is_private_item}
 use Rattle.justfile_parse_attribute.specs.Attributes.{entry_of_pair}
 use Rattle.justfile_parse_attribute.proofs.DerivedFieldsKept.{all_keyed}
 use Rattle.justfile_parse_expression.specs.View.{state_of}
 use Rattle.justfile_parse_expression.proofs.Rest.{file_depth_is, import_offsets_are}
-use Rattle.justfile_parse_header.specs.Counting.{counters_of, names}
+use Rattle.justfile_parse_header.specs.Counting.{counters_of, identifiers_left}
 use Rattle.justfile_parse_header.specs.Tree.{header_tree}
-use Rattle.justfile_parse_item.proofs.Constructs.{set_whole, whole_pairs}
-use Rattle.justfile_parse_item.proofs.CounterSteps.{drawn_moved, recipe_moved}
+use Rattle.justfile_parse_item.proofs.Constructs.{set_fields, pair_fields}
+use Rattle.justfile_parse_item.proofs.CounterSteps.{took_moved, recipe_moved}
 use Rattle.justfile_parse_item.proofs.Recipes.{body_stops, exclusion_fails, header_fails, number_stops, recipe_named, recipe_read}
 use Rattle.justfile_parse_item.proofs.recipe.parse_recipe.Goals as goal
 
 pub parse_header-requires : goal.parse_header-requires
 parse_header-requires g c =
-    all_keyed (attributes_of c.in_ok-attributes.attributes) (set_whole c.args.attributes.items (written_of c.in_ok-attributes.attributes) c.in_ok-attributes.ensures.pairs c.requires)
+    all_keyed (attributes_of c.in_ok-attributes.attributes) (set_fields c.args.attributes.items (written_of c.in_ok-attributes.attributes) c.in_ok-attributes.ensures.pairs c.requires)
 
 pub returns-in_err-header-clause-reads : goal.returns-in_err-header-clause-reads
 returns-in_err-header-clause-reads g c =
     let A = g.X.Expander.answer in
     let p = err_from_is_err_and c.from_residual-in_err-header.result c.from_residual-in_err-header.ensures.1 in
     rw (p.1, p.2)
-    (header_fails c.args.quiet (map entry_of_pair c.args.attributes.items) (counters_of c.args.numerator.now) (state_of A c.args.parser.now) (leaf_entries_of c.in_ok-attributes.attributes) (c.in_ok-attributes.ensures.entries (whole_pairs c.args.attributes.items c.requires))
+    (header_fails c.args.quiet (map entry_of_pair c.args.attributes.items) (counters_of c.args.numerator.now) (state_of A c.args.parser.now) (leaf_entries_of c.in_ok-attributes.attributes) (c.in_ok-attributes.ensures.entries (pair_fields c.args.attributes.items c.requires))
     c.in_err-header.field-0.0 (state_of A c.parse_header.new.parser) (reading.NoNumber (counters_of c.parse_header.new.numerator)) c.in_err-header.ensures.reads)
 
 pub returns-in_err-body-clause-reads : goal.returns-in_err-body-clause-reads
@@ -39,7 +39,7 @@ returns-in_err-body-clause-reads g c =
     let A = g.X.Expander.answer in
     let p = err_from_is_err_and c.from_residual-in_err-body.result c.from_residual-in_err-body.ensures.1 in
     rw (p.1, p.2)
-    (body_stops c.args.quiet (map entry_of_pair c.args.attributes.items) (counters_of c.args.numerator.now) (state_of A c.args.parser.now) (leaf_entries_of c.in_ok-attributes.attributes) (c.in_ok-attributes.ensures.entries (whole_pairs c.args.attributes.items c.requires))
+    (body_stops c.args.quiet (map entry_of_pair c.args.attributes.items) (counters_of c.args.numerator.now) (state_of A c.args.parser.now) (leaf_entries_of c.in_ok-attributes.attributes) (c.in_ok-attributes.ensures.entries (pair_fields c.args.attributes.items c.requires))
     (header_tree c.in_ok-header.header) (counters_of c.parse_header.new.numerator) (state_of A c.parse_header.new.parser) c.in_ok-header.ensures.reads
     c.in_err-body.field-0.0 (state_of A c.parse_body_after_header.new.parser) _ c.in_err-body.ensures.reads)
 
@@ -49,7 +49,7 @@ returns-in_err-check_exclusions-clause-reads g c =
     let u = state_of A c.parse_body_after_header.new.parser in
     let p = err_from_is_err_and c.from_residual-in_err-check_exclusions.result c.from_residual-in_err-check_exclusions.ensures.1 in
     rw (p.1, p.2)
-    (exclusion_fails c.args.quiet (map entry_of_pair c.args.attributes.items) (counters_of c.args.numerator.now) (state_of A c.args.parser.now) (leaf_entries_of c.in_ok-attributes.attributes) (c.in_ok-attributes.ensures.entries (whole_pairs c.args.attributes.items c.requires))
+    (exclusion_fails c.args.quiet (map entry_of_pair c.args.attributes.items) (counters_of c.args.numerator.now) (state_of A c.args.parser.now) (leaf_entries_of c.in_ok-attributes.attributes) (c.in_ok-attributes.ensures.entries (pair_fields c.args.attributes.items c.requires))
     (header_tree c.in_ok-header.header) (counters_of c.parse_header.new.numerator) (state_of A c.parse_header.new.parser) c.in_ok-header.ensures.reads
     (c.in_ok-body.body.0, map line_tree c.in_ok-body.body.1.items) u c.in_ok-body.ensures.reads c.in_err-check_exclusions.field-0.0 u _ (c.in_err-check_exclusions.ensures u))
 
@@ -59,7 +59,7 @@ returns-in_err-number-clause-reads g c =
     let u = state_of A c.parse_body_after_header.new.parser in
     let p = err_from_is_err_and c.from_residual-in_err-number.result c.from_residual-in_err-number.ensures.1 in
     rw (p.1, p.2)
-    (number_stops c.args.quiet (map entry_of_pair c.args.attributes.items) (counters_of c.args.numerator.now) (state_of A c.args.parser.now) (leaf_entries_of c.in_ok-attributes.attributes) (c.in_ok-attributes.ensures.entries (whole_pairs c.args.attributes.items c.requires))
+    (number_stops c.args.quiet (map entry_of_pair c.args.attributes.items) (counters_of c.args.numerator.now) (state_of A c.args.parser.now) (leaf_entries_of c.in_ok-attributes.attributes) (c.in_ok-attributes.ensures.entries (pair_fields c.args.attributes.items c.requires))
     (header_tree c.in_ok-header.header) (counters_of c.parse_header.new.numerator) (state_of A c.parse_header.new.parser) c.in_ok-header.ensures.reads
     (c.in_ok-body.body.0, map line_tree c.in_ok-body.body.1.items) u c.in_ok-body.ensures.reads (c.in_ok-check_exclusions.ensures u)
     c.in_err-number.field-0.0 u (reading.NoNumber (counters_of c.next_recipe_number.new.numerator)) (c.in_err-number.ensures.reads u))
@@ -70,7 +70,7 @@ returns-clause-reads g c =
     let q = c.parse_body_after_header.new.parser in
     let u = state_of A q in
     let copied : c.in_ok-import_offsets.import_offsets.items ≡ q.import_offsets.now = search (rules, c.in_ok-import_offsets.ensures.items_if_clones_equal) in
-    recipe_read c.args.quiet (map entry_of_pair c.args.attributes.items) (counters_of c.args.numerator.now) (state_of A c.args.parser.now) (leaf_entries_of c.in_ok-attributes.attributes) (c.in_ok-attributes.ensures.entries (whole_pairs c.args.attributes.items c.requires))
+    recipe_read c.args.quiet (map entry_of_pair c.args.attributes.items) (counters_of c.args.numerator.now) (state_of A c.args.parser.now) (leaf_entries_of c.in_ok-attributes.attributes) (c.in_ok-attributes.ensures.entries (pair_fields c.args.attributes.items c.requires))
     (header_tree c.in_ok-header.header) (counters_of c.parse_header.new.numerator) (state_of A c.parse_header.new.parser) c.in_ok-header.ensures.reads
     (c.in_ok-body.body.0, map line_tree c.in_ok-body.body.1.items) u c.in_ok-body.ensures.reads (c.in_ok-check_exclusions.ensures u)
     c.in_ok-number.number.0 (counters_of c.next_recipe_number.new.numerator) (c.in_ok-number.ensures.reads u)
@@ -80,12 +80,12 @@ returns-clause-reads g c =
     (sym (file_depth_is A q)) (copied ∙ sym (import_offsets_are A q)) c.from_identifier.ensures)
     c.comment_text.ensures refl
 
-pub returns-clause-whole : goal.returns-clause-whole
-returns-clause-whole g c =
+pub returns-clause-fields : goal.returns-clause-fields
+returns-clause-fields g c =
     let set = c.in_ok-attributes.attributes in
     record {
-      attributes = set_whole c.args.attributes.items (written_of set) c.in_ok-attributes.ensures.pairs c.requires;
-      parameters = c.in_ok-header.ensures.whole;
+      attributes = set_fields c.args.attributes.items (written_of set) c.in_ok-attributes.ensures.pairs c.requires;
+      parameters = c.in_ok-header.ensures.fields;
       priors = c.in_ok-header.ensures.priors;
       private = c.is_private_item-private.ensures ∙ ap (λ (name : Token). is_private_item name set) (sym c.from_identifier.ensures);
       shebang =
@@ -96,22 +96,22 @@ returns-clause-whole g c =
 pub returns-clause-moved : goal.returns-clause-moved
 returns-clause-moved g c =
     let A = g.X.Expander.answer in
-    recipe_moved c.args.numerator.now c.parse_header.new.numerator c.next_recipe_number.new.numerator c.in_ok-number.number.0 (state_of A c.parse_body_after_header.new.parser) (names (state_of A c.args.parser.now)) (names (state_of A c.parse_header.new.parser))
-    c.in_ok-header.ensures.drawn (c.in_ok-number.ensures.reads (state_of A c.parse_body_after_header.new.parser))
+    recipe_moved c.args.numerator.now c.parse_header.new.numerator c.next_recipe_number.new.numerator c.in_ok-number.number.0 (state_of A c.parse_body_after_header.new.parser) (identifiers_left (state_of A c.args.parser.now)) (identifiers_left (state_of A c.parse_header.new.parser))
+    c.in_ok-header.ensures.numbers (c.in_ok-number.ensures.reads (state_of A c.parse_body_after_header.new.parser))
 
 pub returns-in_err-header-clause-moved : goal.returns-in_err-header-clause-moved
-returns-in_err-header-clause-moved g c = drawn_moved c.args.numerator.now c.parse_header.new.numerator (names (state_of g.X.Expander.answer c.args.parser.now)) 0 c.in_err-header.ensures.drawn
+returns-in_err-header-clause-moved g c = took_moved c.args.numerator.now c.parse_header.new.numerator (identifiers_left (state_of g.X.Expander.answer c.args.parser.now)) 0 c.in_err-header.ensures.numbers
 
 pub returns-in_err-body-clause-moved : goal.returns-in_err-body-clause-moved
-returns-in_err-body-clause-moved g c = drawn_moved c.args.numerator.now c.parse_header.new.numerator (names (state_of g.X.Expander.answer c.args.parser.now)) (names (state_of g.X.Expander.answer c.parse_header.new.parser) + 1) c.in_ok-header.ensures.drawn
+returns-in_err-body-clause-moved g c = took_moved c.args.numerator.now c.parse_header.new.numerator (identifiers_left (state_of g.X.Expander.answer c.args.parser.now)) (identifiers_left (state_of g.X.Expander.answer c.parse_header.new.parser) + 1) c.in_ok-header.ensures.numbers
 
 pub returns-in_err-check_exclusions-clause-moved : goal.returns-in_err-check_exclusions-clause-moved
-returns-in_err-check_exclusions-clause-moved g c = drawn_moved c.args.numerator.now c.parse_header.new.numerator (names (state_of g.X.Expander.answer c.args.parser.now)) (names (state_of g.X.Expander.answer c.parse_header.new.parser) + 1) c.in_ok-header.ensures.drawn
+returns-in_err-check_exclusions-clause-moved g c = took_moved c.args.numerator.now c.parse_header.new.numerator (identifiers_left (state_of g.X.Expander.answer c.args.parser.now)) (identifiers_left (state_of g.X.Expander.answer c.parse_header.new.parser) + 1) c.in_ok-header.ensures.numbers
 
 pub returns-in_err-import_offsets-clause-moved : goal.returns-in_err-import_offsets-clause-moved
-returns-in_err-import_offsets-clause-moved g c = drawn_moved c.args.numerator.now c.parse_header.new.numerator (names (state_of g.X.Expander.answer c.args.parser.now)) (names (state_of g.X.Expander.answer c.parse_header.new.parser) + 1) c.in_ok-header.ensures.drawn
+returns-in_err-import_offsets-clause-moved g c = took_moved c.args.numerator.now c.parse_header.new.numerator (identifiers_left (state_of g.X.Expander.answer c.args.parser.now)) (identifiers_left (state_of g.X.Expander.answer c.parse_header.new.parser) + 1) c.in_ok-header.ensures.numbers
 
 pub returns-in_err-number-clause-moved : goal.returns-in_err-number-clause-moved
 returns-in_err-number-clause-moved g c =
-    let P : Numerator → Type 0 = λ n. IsMoved c.args.numerator.now n (names (state_of g.X.Expander.answer c.args.parser.now)) in
-    subst P (sym c.in_err-number.ensures.unmoved) (drawn_moved c.args.numerator.now c.parse_header.new.numerator (names (state_of g.X.Expander.answer c.args.parser.now)) (names (state_of g.X.Expander.answer c.parse_header.new.parser) + 1) c.in_ok-header.ensures.drawn)
+    let P : Numerator → Type 0 = λ n. CountersMoved c.args.numerator.now n (identifiers_left (state_of g.X.Expander.answer c.args.parser.now)) in
+    subst P (sym c.in_err-number.ensures.unmoved) (took_moved c.args.numerator.now c.parse_header.new.numerator (identifiers_left (state_of g.X.Expander.answer c.args.parser.now)) (identifiers_left (state_of g.X.Expander.answer c.parse_header.new.parser) + 1) c.in_ok-header.ensures.numbers)

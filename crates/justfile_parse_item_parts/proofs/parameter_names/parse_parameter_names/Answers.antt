@@ -26,7 +26,7 @@ returns-then-branch-clause-reads g c =
     let A = g.X.Expander.answer in
     let h = c.in_ok-parse_next_name.ensures in
     ends (state_of A c.args.parser.now) (state_of A c.names.parser) c.args.numerator.now c.names.numerator c.names.parameters.items c.names.invariant.so_far
-    c.parse_next_name.new.parameters.items c.parse_next_name.new.numerator (state_of A c.parse_next_name.new.parser) h.drawn (rw c.if-branch.true at h.reads)
+    c.parse_next_name.new.parameters.items c.parse_next_name.new.numerator (state_of A c.parse_next_name.new.parser) h.numbers (rw c.if-branch.true at h.reads)
 
 pub names-preserved : goal.names-preserved
 names-preserved g c =
@@ -36,5 +36,5 @@ names-preserved g c =
       ahead = omega (arith, c.names.invariant.ahead, h.progress);
       so_far =
           goes_on (state_of A c.args.parser.now) (state_of A c.names.parser) c.args.numerator.now c.names.numerator c.names.parameters.items c.names.invariant.so_far
-          c.parse_next_name.new.parameters.items c.parse_next_name.new.numerator (state_of A c.parse_next_name.new.parser) h.drawn (rw c.if-branch.false at h.reads);
+          c.parse_next_name.new.parameters.items c.parse_next_name.new.numerator (state_of A c.parse_next_name.new.parser) h.numbers (rw c.if-branch.false at h.reads);
     }

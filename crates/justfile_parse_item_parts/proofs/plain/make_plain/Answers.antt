@@ -11,5 +11,5 @@ use Rattle.justfile_expression.specs.LeafTree.{leaf_tree_of}
 pub returns-clause-reads : goal.returns-clause-reads
 returns-clause-reads c =
     λ s. subst (λ (o : Read LeafValue). ReadsRuled leaf_value_of c.make_literal.result s o)
-    (sym (plain (version_numbers c.args.current) c.args.name c.args.keyword s c.in-Some.literal (leaf_tree_of c.args.value.value) c.in-Some.ensures.literal (sym c.is_plain.ensures ∙ c.if-not-is_plain.false)))
+    (sym (plain (version_numbers c.args.current) c.args.name c.args.keyword s c.in-Some.literal (leaf_tree_of c.args.value.value) c.in-Some.ensures.literal (sym c.is_plain_literal.ensures ∙ c.if-not-is_plain_literal.false)))
     (c.make_literal.ensures.reads s)

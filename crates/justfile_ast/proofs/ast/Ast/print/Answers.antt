@@ -9,9 +9,9 @@ use Rattle.justfile_ast.proofs.ast.Ast.print.Goals as goal
 
 pub returns-clause-reads_back : goal.returns-clause-reads_back
 returns-clause-reads_back c =
-    prints_back (ast_shape c.args.self.now) (indentation_text c.args.indentation) _ (indentation_text_is c.args.indentation) (c.in_ok-write_ast.ensures.ok ∙ ap (λ b. b ++ printed (ast_shape c.args.self.now) (indentation_text c.args.indentation)) c.new-printed.ensures.bytes)
+    prints_back (ast_shape c.args.self.now) (indentation_text c.args.indentation) _ (indentation_text_is c.args.indentation) (c.in_ok-write_ast.ensures ∙ ap (λ b. b ++ printed (ast_shape c.args.self.now) (indentation_text c.args.indentation)) c.new-printed.ensures.bytes)
 
 pub returns-clause-uncommented : goal.returns-clause-uncommented
 returns-clause-uncommented c none =
-    c.in_ok-write_ast.ensures.ok ∙ ap (λ b. b ++ printed (ast_shape c.args.self.now) (indentation_text c.args.indentation)) c.new-printed.ensures.bytes
+    c.in_ok-write_ast.ensures ∙ ap (λ b. b ++ printed (ast_shape c.args.self.now) (indentation_text c.args.indentation)) c.new-printed.ensures.bytes
     ∙ without_comments (ast_shape c.args.self.now) (indentation_text c.args.indentation) none

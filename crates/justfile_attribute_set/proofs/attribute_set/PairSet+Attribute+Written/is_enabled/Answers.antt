@@ -12,4 +12,4 @@ returns c =
     let names_any : c.has_enabler.result ≡ list_any (λ a. is_enabler_kind (kind_of a)) (attributes_of c.args.self.now) =
     c.has_enabler.ensures ∙ ap (list_any (λ (p : Pair). is_enabler_kind (kind_of p.0))) c.deref.ensures.value
     ∙ any_firsts (λ a. is_enabler_kind (kind_of a)) c.args.self.now.pairs.items in
-    c.is_here.ensures ∙ (λ i. not (names_any i) || c.contains.ensures i || c.contains-2.ensures i)
+    c.enables_here.ensures ∙ (λ i. not (names_any i) || c.contains.ensures i || c.contains-2.ensures i)

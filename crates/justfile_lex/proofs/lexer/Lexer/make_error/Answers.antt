@@ -8,7 +8,7 @@ use Rattle.justfile_model.specs.Lexed.{IsFault}
 use Rattle.justfile_model.proofs.NextLaws.{fault_cut}
 use Rattle.justfile_model.specs.LexResult.{IsFrom}
 use Rattle.justfile_lex.specs.Modes.{mode_of}
-use Rattle.justfile_lex.specs.Scanned.{scan_fault, scan_refusal}
+use Rattle.justfile_lex.specs.Scanned.{scan_fault, lexical_error_of}
 use Rattle.justfile_lex.specs.Lexing.{earlier}
 use Rattle.justfile_lex.proofs.LexerLemmas.{next_is}
 use Rattle.justfile_lex.proofs.lexer.Lexer.make_error.Goals as goal
@@ -17,7 +17,7 @@ pub make_error_token-token-requires-clause-within : goal.make_error_token-token-
 make_error_token-token-requires-clause-within c =
     let l = c.args.self.now in
     let at = c.requires.lexing.at_end.cut in
-    let cut = fault_cut (mode_of l.mode) (drop l.offset l.src.now) (IsUtf8-drop l.src.now l.offset c.requires.utf8 at) (scan_refusal c.args.refusal) c.requires.refused in
+    let cut = fault_cut (mode_of l.mode) (drop l.offset l.src.now) (IsUtf8-drop l.src.now l.offset c.requires.utf8 at) (lexical_error_of c.args.refusal) c.requires.refused in
     let from = IsCharBoundary-from_rest _ _ _ at.0 cut.0 in
     let end = subst (IsCharBoundary l.src.now) (omega arith) (IsCharBoundary-from_rest _ _ _ at.0 cut.1) in
     (end.0, from, end)
@@ -34,7 +34,7 @@ returns c =
       is_fault = subst (λ t. IsFault l.src.now (scan_fault c.args.refusal.fault) (tok_of t)) (sym c.new.ensures.token) (record {
         earlier = earlier l;
         begins = lexing.begins;
-        refusal = scan_refusal c.args.refusal;
+        refusal = lexical_error_of c.args.refusal;
         refused = next_is l lexing ∙ c.requires.refused;
         spans = (refl, c.make_error_token-token.ensures.kind, len, c.make_error_token-token.ensures.at);
       });

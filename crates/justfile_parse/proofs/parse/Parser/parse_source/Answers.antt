@@ -7,7 +7,7 @@ use Rattle.justfile_model.specs.SignificantTokens.{identifiers, significant_toke
 use Rattle.justfile_model.specs.Tok.{Tok, tok_of}
 use Rattle.justfile_model.proofs.LexedLaws.{one_list}
 use Rattle.justfile_parse_expression.specs.Conditions.{conditions_of}
-use Rattle.justfile_parse_item.specs.MethodResults.{IsMoved}
+use Rattle.justfile_parse_item.specs.MethodResults.{CountersMoved}
 use Rattle.justfile_parse.proofs.Parsed.{lexical, no_tree, text_parsed}
 use Rattle.justfile_parse.proofs.parse.Parser.parse_source.Goals as goal
 
@@ -32,7 +32,7 @@ returns-clause-parsed g c =
 pub returns-clause-moved : goal.returns-clause-moved
 returns-clause-moved g c tokens lexed =
     let P : List Token → Type 0 = λ ts. Lexed c.args.src.now (map tok_of ts) in
-    let Q : List Tok → Type 0 = λ ts. IsMoved c.args.numerator.now c.parse.new.numerator (identifiers (significant_tokens ts)) in
+    let Q : List Tok → Type 0 = λ ts. CountersMoved c.args.numerator.now c.parse.new.numerator (identifiers (significant_tokens ts)) in
     subst Q (one_list c.args.src.now _ tokens (subst P (sym c.as_slice.ensures.value) c.in_ok-tokens.ensures.tokens) lexed) c.parse.ensures.moved
 
 pub returns-in_err-tokens-clause-no_tree : goal.returns-in_err-tokens-clause-no_tree

@@ -1,5 +1,0 @@
-use Rattle.justfile_parse_expression.proofs.Rows.{format_is}
-use Rattle.justfile_parse_expression.proofs.expression.make_format_string.Goals as goal
-
-pub returns : goal.returns
-returns c = format_is c.args.start c.args.expressions

@@ -1,0 +1,227 @@
+//! How conditionals are parsed, and the conditions of `if` and `assert`.
+ghost use Rattle.std.specs.Prelude.{◌≡◌, ◌<◌, OnOk};
+ghost use Rattle.justfile_model.specs.Expressions.{ends_open};
+ghost use Rattle.justfile_model.specs.Tree as tree;
+ghost use Rattle.justfile_parse_expression.specs.Chains as chains;
+ghost use Rattle.justfile_parse_expression.specs.Chains.{branch_of, link_of};
+ghost use Rattle.justfile_parse_expression.specs.TableReader as reader;
+ghost use Rattle.justfile_parse_expression.specs.MethodResults.{Reads, UnlessMemory};
+ghost use Rattle.justfile_parse_expression.specs.ParsedResults.{Parses};
+ghost use Rattle.justfile_expression.specs.LeafTree.{leaf_tree_of};
+
+use crate::expression::Link;
+use crate::expression_error::{ExpressionError, SyntaxError};
+use crate::parser::{ExpressionParser, is_word};
+use crate::significant::TableEntry;
+use justfile_expression::{Expression, ListFeature};
+use justfile_model::Level;
+use justfile_token::Expander;
+use justfile_vocabulary::{Keyword, TokenKind};
+
+/// What comes next in a conditional: its end, or a branch and the `if` after it.
+#[derive(Drop)]
+pub(crate) enum Branch<'run, 'src> {
+    Last(Box<Expression<'src>>),
+    Next(Link<'run, 'src>, TableEntry<'run, 'src>),
+}
+
+impl<'run, 'src, X: Expander> ExpressionParser<'run, 'src, X> {
+    ghost use Rattle.justfile_parse_expression.specs.View.{tokens_left, state_of};
+
+    /// Parses a conditional, after its `if`.
+    #[cycle(expression)]
+    #[tactic(auto, using(crate::proofs::Branches::conditional_is))]
+    #[inline(never)]
+    pub(crate) fn parse_conditional(
+        &mut self,
+        word: TableEntry<'run, 'src>,
+    ) -> Result<Box<Expression<'src>>, ExpressionError<'src>>
+        ensures reads { Parses X.answer (λ e. leaf_tree_of e.value) result self.old self.new
+            (λ s. reader.read (reader.Conditional word.entry s)) }
+        ensures progress { OnOk result (tokens_left self.new < tokens_left self.old) }
+    {
+        match self.parse_branch(word)? {
+            Branch::Last(last) => Ok(last),
+            Branch::Next(link, next) => self.parse_branches(link, next),
+        }
+    }
+
+    /// Parses the conditional that is the `else` branch of a link, after its `if`, and joins it
+    /// with the link. Such branches can follow one another in any number.
+    #[cycle(expression)]
+    #[tactic(auto, using(crate::proofs::Chains::begins, crate::proofs::Branches::goes_on, crate::proofs::Branches::ends, crate::proofs::Branches::stops))]
+    #[inline(never)]
+    fn parse_branches(
+        &mut self,
+        first: Link<'run, 'src>,
+        word: TableEntry<'run, 'src>,
+    ) -> Result<Box<Expression<'src>>, ExpressionError<'src>>
+        ensures reads { Parses X.answer (λ e. leaf_tree_of e.value) result self.old self.new
+            (chains.branches (link_of first.entry) word.entry) }
+        ensures progress { OnOk result (tokens_left self.new < tokens_left self.old) }
+    {
+        let mut row = Vec::new(self.alloc);
+        let mut link = first;
+        let mut word = word;
+        'branches: loop {
+            match self.parse_branch(word)? {
+                Branch::Last(last) => return self.join_row(row, link, last, Level::Conjunct),
+                Branch::Next(next, after) => {
+                    row.push(link)?;
+                    link = next;
+                    word = after;
+                }
+            }
+        }
+    }
+
+    /// Parses the next part of a conditional, after an `if`.
+    #[cycle(expression)]
+    #[tactic(auto, unfolding(crate::specs::Chains::branch))]
+    fn parse_branch(
+        &mut self,
+        word: TableEntry<'run, 'src>,
+    ) -> Result<Branch<'run, 'src>, ExpressionError<'src>>
+        ensures reads { Parses X.answer branch_of result self.old self.new
+            (chains.branch word.entry) }
+        ensures progress { OnOk result (tokens_left self.new < tokens_left self.old) }
+    {
+        let condition = self.parse_condition()?;
+        let then = self.parse_braced()?;
+        let Some(_else) = self.accept_keyword(Keyword::Else) else {
+            self.note(ListFeature::IfWithoutElse, *word.token)?;
+            return self.end_if(condition, then);
+        };
+        let Some(word) = self.accept_keyword(Keyword::If) else {
+            let otherwise = self.parse_last_branch()?;
+            return self.end_else(condition, then, otherwise);
+        };
+        Ok(Branch::Next(Link::Branch { condition, then }, word))
+    }
+
+    /// Makes a conditional without `else`.
+    fn end_if(
+        &self,
+        condition: Box<Expression<'src>>,
+        then: Box<Expression<'src>>,
+    ) -> Result<Branch<'run, 'src>, ExpressionError<'src>>
+        ensures { UnlessMemory result (λ branch. branch_of branch ≡ chains.End
+            (tree.If (leaf_tree_of condition.entry.value) (leaf_tree_of then.entry.value))) }
+    {
+        let end = self.box_expression(Expression::Conditional {
+            condition,
+            then,
+            otherwise: None,
+        })?;
+        Ok(Branch::Last(end))
+    }
+
+    /// Makes a conditional whose `else` branch is in braces.
+    fn end_else(
+        &self,
+        condition: Box<Expression<'src>>,
+        then: Box<Expression<'src>>,
+        otherwise: Box<Expression<'src>>,
+    ) -> Result<Branch<'run, 'src>, ExpressionError<'src>>
+        ensures { UnlessMemory result (λ branch. branch_of branch
+            ≡ chains.End (tree.IfElse (leaf_tree_of condition.entry.value)
+            (leaf_tree_of then.entry.value) (leaf_tree_of otherwise.entry.value))) }
+    {
+        let end = self.box_expression(Expression::Conditional {
+            condition,
+            then,
+            otherwise: Some(otherwise),
+        })?;
+        Ok(Branch::Last(end))
+    }
+
+    /// Parses the `else` branch of a conditional, after `else`, if it is in braces.
+    #[cycle(expression)]
+    #[tactic(auto, unfolding(crate::specs::Chains::last_branch))]
+    fn parse_last_branch(&mut self) -> Result<Box<Expression<'src>>, ExpressionError<'src>>
+        ensures reads { Parses X.answer (λ e. leaf_tree_of e.value) result self.old self.new
+            chains.last_branch }
+        ensures progress { OnOk result (tokens_left self.new < tokens_left self.old) }
+    {
+        let otherwise = self.parse_braced()?;
+        self.expect_closed(&otherwise)?;
+        Ok(otherwise)
+    }
+
+    /// Parses the condition of an `if` or `assert`.
+    #[cycle(expression)]
+    #[tactic(auto, using(crate::proofs::Rules::note_is), unfolding(justfile_model::specs::ExpressionReader::condition_rule))]
+    pub(crate) fn parse_condition(&mut self) -> Result<Box<Expression<'src>>, ExpressionError<'src>>
+        ensures reads { Parses X.answer (λ e. leaf_tree_of e.value) result self.old self.new
+            reader.condition }
+        ensures progress { OnOk result (tokens_left self.new < tokens_left self.old) }
+    {
+        let first = self.peek_front();
+        let condition = self.parse_level(Level::Expression, true)?;
+        self.note_condition(&condition, first)?;
+        Ok(condition)
+    }
+
+    /// Parses an expression between braces.
+    #[cycle(expression)]
+    #[tactic(auto, using(crate::proofs::Rules::braced_is))]
+    fn parse_braced(&mut self) -> Result<Box<Expression<'src>>, ExpressionError<'src>>
+        ensures reads { Parses X.answer (λ e. leaf_tree_of e.value) result self.old self.new
+            reader.braced }
+        ensures progress { OnOk result (tokens_left self.new < tokens_left self.old) }
+    {
+        self.expect(TokenKind::BraceL)?;
+        self.parse_enclosed(TokenKind::BraceR)
+    }
+
+    /// Refuses an `else` after a branch that ends in a conditional without `else`.
+    #[tactic(auto, unfolding(justfile_model::specs::ReaderState::accept_keyword, justfile_model::specs::ReaderState::refused, crate::specs::TableReader::leaves))]
+    fn expect_closed(&self, branch: &Expression<'src>) -> Result<(), ExpressionError<'src>>
+        ensures reads { Reads (λ _. leaf_tree_of branch.now) result (state_of X.answer self.now)
+            (reader.ended_by (ends_open (leaf_tree_of branch.now)) (leaf_tree_of branch.now)
+            (state_of X.answer self.now)) }
+    {
+        if !ends_open(branch) {
+            return Ok(());
+        }
+        match self.peek() {
+            Some(entry) if is_word(entry, Keyword::Else.lexeme()) => {
+                self.expected_tokens.add_operators_to(Level::Expression);
+                Err(ExpressionError::Refused(SyntaxError::Unexpected))
+            }
+            _ => Ok(()),
+        }
+    }
+}
+
+/// Whether the expression is a conditional whose chain of `else` branches ends in a conditional
+/// without `else`.
+#[tactic(auto, using(crate::proofs::Shapes::assert_ends, crate::proofs::Shapes::format_ends, crate::proofs::Shapes::join_ends))]
+fn ends_open(expression: &Expression<'_>) -> bool
+    ensures { result ≡ ends_open (leaf_tree_of expression.now) }
+{
+    let mut last = expression;
+    'branches: loop {
+        match last {
+            Expression::Conditional { otherwise, .. } => match otherwise {
+                None => return true,
+                Some(other) => last = &**other,
+            },
+            Expression::And { .. }
+            | Expression::Assert { .. }
+            | Expression::Backtick { .. }
+            | Expression::Call { .. }
+            | Expression::Comparison { .. }
+            | Expression::Concatenation { .. }
+            | Expression::FormatString { .. }
+            | Expression::Group { .. }
+            | Expression::Join { .. }
+            | Expression::List { .. }
+            | Expression::ListConcatenation { .. }
+            | Expression::Not { .. }
+            | Expression::Or { .. }
+            | Expression::StringLiteral { .. }
+            | Expression::Variable { .. } => return false,
+        }
+    }
+}

@@ -1,0 +1,421 @@
+//! How values are parsed: what can be on either side of an operator. Literals stand in a file of
+//! their own.
+ghost use Rattle.std.specs.Prelude.{◌≡◌, ◌<◌, ◌≤◌, OnOk, None};
+ghost use Rattle.justfile_token.specs.StringKind.{kind_of};
+ghost use Rattle.justfile_token.specs.Token.{lexeme_of};
+ghost use Rattle.justfile_vocabulary.specs.declared.token_kind.TokenKind.TheVariants as kinds;
+ghost use Rattle.justfile_model.specs.Tree as tree;
+ghost use Rattle.justfile_parse_expression.specs.FormatStrings.{IsEndedAt, IsEndedFrom};
+ghost use Rattle.justfile_parse_expression.specs.Literal.{IsOf};
+ghost use Rattle.justfile_parse_expression.specs.Chains as chains;
+ghost use Rattle.justfile_parse_expression.specs.Chains.{negated};
+ghost use Rattle.justfile_parse_expression.specs.TableReader as reader;
+ghost use Rattle.justfile_parse_expression.specs.MethodResults.{Reads, UnlessMemory};
+ghost use Rattle.justfile_parse_expression.specs.ParsedResults.{Parses};
+ghost use Rattle.justfile_expression.specs.LeafTree.{Literal, Named, format_string_tree, literal_of, leaf_tree_of, trees_of};
+
+use crate::expression_error::{ExpressionError, SyntaxError};
+use crate::feature::find_function_feature;
+use crate::literal::find_kind;
+use crate::parser::ExpressionParser;
+use crate::significant::TableEntry;
+use justfile_expression::{Expression, ListFeature};
+use justfile_model::Level;
+use justfile_token::{Expander, Name, StringLiteral, Token};
+use justfile_vocabulary::{FormatStringPart, Keyword, TokenKind};
+
+impl<'run, 'src, X: Expander> ExpressionParser<'run, 'src, X> {
+    ghost use Rattle.justfile_parse_expression.specs.View.{tokens_left, state_of};
+
+    /// Parses what can be on either side of an operator: a value after `!`, or a value without
+    /// operators outside of delimiters. Looks at two tokens first: for most values they rule out `!`,
+    /// a literal and an assertion.
+    ///
+    /// # Errors
+    ///
+    /// The tokens are refused, a literal has no text, or memory runs out.
+    #[cycle(expression)]
+    #[inline(never)]
+    pub fn parse_value(&mut self) -> Result<Box<Expression<'src>>, ExpressionError<'src>>
+        ensures reads { Parses X.answer (λ e. leaf_tree_of e.value) result self.old self.new
+            reader.value }
+        ensures progress { OnOk result (tokens_left self.new < tokens_left self.old) }
+    {
+        if self.is_plain() {
+            return self.parse_name();
+        }
+        self.parse_any_value()
+    }
+
+    /// Parses any value. Each of the methods below takes one form of value, and leaves the others to
+    /// the next method.
+    #[cycle(expression)]
+    #[tactic(auto, using(crate::proofs::Negations::bare_is))]
+    #[inline(never)]
+    fn parse_any_value(&mut self) -> Result<Box<Expression<'src>>, ExpressionError<'src>>
+        ensures reads { Parses X.answer (λ e. leaf_tree_of e.value) result self.old self.new
+            reader.value }
+        ensures progress { OnOk result (tokens_left self.new < tokens_left self.old) }
+    {
+        let Some(_bang) = self.probe_if(TokenKind::Bang) else {
+            return self.parse_bare();
+        };
+        self.parse_negation()
+    }
+
+    /// Parses a value after any number of `!`.
+    #[cycle(expression)]
+    #[tactic(auto, unfolding(crate::specs::Chains::negation))]
+    #[inline(never)]
+    fn parse_negation(&mut self) -> Result<Box<Expression<'src>>, ExpressionError<'src>>
+        ensures reads { Parses X.answer (λ e. leaf_tree_of e.value) result self.old self.new
+            reader.value }
+        ensures progress { OnOk result (tokens_left self.new < tokens_left self.old) }
+    {
+        let count = self.accept_bangs()?;
+        let operand = self.parse_bare()?;
+        self.negate(operand, count)
+    }
+
+    /// Takes the `!` that come next, and returns how many there are.
+    #[tactic(auto, using(crate::proofs::Negations::begins, crate::proofs::Negations::goes_on, crate::proofs::Negations::ends))]
+    fn accept_bangs(&mut self) -> Result<usize, ExpressionError<'src>>
+        ensures reads { UnlessMemory result (λ count. reader.value (state_of X.answer self.old)
+            ≡ chains.negation count (state_of X.answer self.new)) }
+        ensures progress { tokens_left self.new ≤ tokens_left self.old }
+    {
+        let most = self.count_left();
+        let mut count = 0;
+        while let Some(bang) = self.accept_unrecorded(TokenKind::Bang) {
+            self.note(ListFeature::NegationOperator, *bang.token)?;
+            prove!(count < most);
+            count += 1;
+        }
+        Ok(count)
+    }
+
+    /// Negates a value `count` times.
+    fn negate(
+        &self,
+        operand: Box<Expression<'src>>,
+        count: usize,
+    ) -> Result<Box<Expression<'src>>, ExpressionError<'src>>
+        ensures { UnlessMemory result (λ e. leaf_tree_of e.value
+            ≡ negated count (leaf_tree_of operand.entry.value)) }
+    {
+        let mut whole = operand;
+        for _bang in 0..count {
+            whole = self.box_expression(Expression::Not { operand: whole })?;
+        }
+        Ok(whole)
+    }
+
+    /// Parses a value without `!` before it.
+    #[cycle(expression)]
+    #[tactic(auto, unfolding(crate::specs::Chains::bare))]
+    #[inline(always)]
+    fn parse_bare(&mut self) -> Result<Box<Expression<'src>>, ExpressionError<'src>>
+        ensures reads { Parses X.answer (λ e. leaf_tree_of e.value) result self.old self.new
+            chains.bare }
+        ensures progress { OnOk result (tokens_left self.new < tokens_left self.old) }
+    {
+        match self.parse_literal()? {
+            Some(literal) => Ok(literal),
+            None => self.parse_format(),
+        }
+    }
+
+    /// Parses a format string with interpolations, or another value.
+    #[cycle(expression)]
+    #[tactic(auto, unfolding(justfile_model::specs::ExpressionReader::format_rule))]
+    #[inline(never)]
+    fn parse_format(&mut self) -> Result<Box<Expression<'src>>, ExpressionError<'src>>
+        ensures reads { Parses X.answer (λ e. leaf_tree_of e.value) result self.old self.new
+            reader.format }
+        ensures progress { OnOk result (tokens_left self.new < tokens_left self.old) }
+    {
+        match self.accept_marked(Keyword::F, TokenKind::FormatStringStart) {
+            Some(start) => self.parse_format_string(start),
+            None => self.parse_assert(),
+        }
+    }
+
+    /// Parses a format string, after its start.
+    #[cycle(expression)]
+    #[tactic(auto, using(crate::proofs::Cooked::framed_start, crate::proofs::Rules::format_string_is))]
+    #[inline(never)]
+    fn parse_format_string(
+        &mut self,
+        start: TableEntry<'run, 'src>,
+    ) -> Result<Box<Expression<'src>>, ExpressionError<'src>>
+        requires start { IsOf kinds.FormatStringStart start }
+        requires ended { IsEndedFrom (kind_of (lexeme_of start.token.now))
+            (state_of X.answer self.old) }
+        ensures reads { Parses X.answer (λ e. leaf_tree_of e.value) result self.old self.new
+            (λ s. reader.format_string (start.entry, s)) }
+        ensures progress { OnOk result (tokens_left self.new < tokens_left self.old) }
+    {
+        let literal = self.cook_part(start, find_kind(start), FormatStringPart::Start)?;
+        let expressions = self.parse_parts(start)?;
+        self.box_expression(make_format_string(literal, expressions))
+    }
+
+    /// Parses the expressions after the start of a format string, each with the part after it.
+    #[cycle(expression)]
+    #[tactic(auto, using(crate::proofs::Parts::begins, crate::proofs::Parts::goes_on, crate::proofs::Parts::ends, crate::proofs::Parts::stops_at))]
+    fn parse_parts(
+        &mut self,
+        start: TableEntry<'run, 'src>,
+    ) -> Result<Vec<(Expression<'src>, StringLiteral<'src>)>, ExpressionError<'src>>
+        requires ended { IsEndedFrom (kind_of (lexeme_of start.token.now))
+            (state_of X.answer self.old) }
+        ensures reads { Parses X.answer (λ parts. format_string_tree parts.items) result
+            self.old self.new (reader.format_parts (lexeme_of start.entry.token.now)) }
+        ensures progress { OnOk result (tokens_left self.new < tokens_left self.old) }
+    {
+        let mut parts = Vec::new(self.alloc);
+        'parts: loop {
+            let (expression, literal, is_last) = self.parse_pair(start)?;
+            parts.push((expression, literal))?;
+            if is_last {
+                return Ok(parts);
+            }
+        }
+    }
+
+    /// Parses an expression of a format string and the part after it. Also returns whether that
+    /// part is the last.
+    #[cycle(expression)]
+    #[tactic(auto, unfolding(crate::specs::TableReader::pair))]
+    fn parse_pair(
+        &mut self,
+        start: TableEntry<'run, 'src>,
+    ) -> Result<(Expression<'src>, StringLiteral<'src>, bool), ExpressionError<'src>>
+        requires ended { IsEndedFrom (kind_of (lexeme_of start.token.now))
+            (state_of X.answer self.old) }
+        ensures reads { Parses X.answer (λ x. (leaf_tree_of x.0, Literal (literal_of x.1), x.2))
+            result self.old self.new (reader.pair (lexeme_of start.entry.token.now)) }
+        ensures progress { OnOk result (tokens_left self.new < tokens_left self.old) }
+    {
+        let expression = self.parse_level(Level::Expression, false)?;
+        let (literal, is_last) = self.parse_part(start)?;
+        Ok((Box::into_inner(expression), literal, is_last))
+    }
+
+    /// Parses the part of a format string after an expression. Also returns whether it is the last.
+    #[tactic(auto, using(crate::proofs::Cooked::framed_continue, crate::proofs::FormatStrings::last_ended, crate::proofs::Rules::part_is))]
+    fn parse_part(
+        &mut self,
+        start: TableEntry<'run, 'src>,
+    ) -> Result<(StringLiteral<'src>, bool), ExpressionError<'src>>
+        requires ended { IsEndedAt (kind_of (lexeme_of start.token.now))
+            (state_of X.answer self.old) }
+        ensures reads { Parses X.answer (λ x. (Literal (literal_of x.0), x.1)) result
+            self.old self.new (reader.part (lexeme_of start.entry.token.now)) }
+        ensures progress { OnOk result (tokens_left self.new < tokens_left self.old) }
+    {
+        if let Some(entry) = self.accept(TokenKind::FormatStringContinue) {
+            let literal = self.cook_part(entry, find_kind(start), FormatStringPart::Continue)?;
+            return Ok((literal, false));
+        }
+        let entry = self.expect(TokenKind::FormatStringEnd)?;
+        let literal = self.cook_part(entry, find_kind(start), FormatStringPart::End)?;
+        Ok((literal, true))
+    }
+
+    /// Parses an assertion, or another value.
+    #[cycle(expression)]
+    #[tactic(auto, using(crate::proofs::Rules::assert_is))]
+    fn parse_assert(&mut self) -> Result<Box<Expression<'src>>, ExpressionError<'src>>
+        ensures reads { Parses X.answer (λ e. leaf_tree_of e.value) result self.old self.new
+            reader.assert }
+        ensures progress { OnOk result (tokens_left self.new < tokens_left self.old) }
+    {
+        let Some(word) = self.accept_keyword(Keyword::Assert) else {
+            return self.parse_name();
+        };
+        let name = Name::from_identifier(*word.token);
+        self.expect(TokenKind::ParenL)?;
+        let condition = self.parse_condition()?;
+        let Some(_comma) = self.accept(TokenKind::Comma) else {
+            self.expect(TokenKind::ParenR)?;
+            return self.box_expression(Expression::Assert {
+                condition,
+                message: None,
+                name,
+            });
+        };
+        let message = Some(self.parse_enclosed(TokenKind::ParenR)?);
+        self.box_expression(Expression::Assert {
+            condition,
+            message,
+            name,
+        })
+    }
+
+    /// Parses a call or a variable, or another value.
+    #[cycle(expression)]
+    #[tactic(auto, unfolding(justfile_model::specs::ExpressionReader::name_rule, crate::specs::TableReader::call, crate::specs::TableReader::leaves))]
+    #[inline(always)]
+    fn parse_name(&mut self) -> Result<Box<Expression<'src>>, ExpressionError<'src>>
+        ensures reads { Parses X.answer (λ e. leaf_tree_of e.value) result self.old self.new
+            reader.name }
+        ensures progress { OnOk result (tokens_left self.new < tokens_left self.old) }
+    {
+        let Some(entry) = self.accept_unrecorded(TokenKind::Identifier) else {
+            return self.parse_group();
+        };
+        let Some(_opening) = self.accept(TokenKind::ParenL) else {
+            return self.box_variable(entry);
+        };
+        self.parse_call(entry)
+    }
+
+    /// Makes the expression for a variable, in a box.
+    #[inline(never)]
+    fn box_variable(
+        &self,
+        entry: TableEntry<'run, 'src>,
+    ) -> Result<Box<Expression<'src>>, ExpressionError<'src>>
+        requires { entry.token.now.kind ≡ kinds.Identifier }
+        ensures { UnlessMemory result (λ e. leaf_tree_of e.value
+            ≡ tree.Variable (Named entry.entry.token.now None)) }
+    {
+        self.box_expression(Expression::Variable {
+            name: Name::from_identifier(*entry.token),
+            number: None,
+        })
+    }
+
+    /// Parses a call of the function with this name, after the opening parenthesis.
+    #[cycle(expression)]
+    #[tactic(auto, unfolding(crate::specs::TableReader::call))]
+    #[inline(never)]
+    fn parse_call(
+        &mut self,
+        entry: TableEntry<'run, 'src>,
+    ) -> Result<Box<Expression<'src>>, ExpressionError<'src>>
+        requires { entry.token.now.kind ≡ kinds.Identifier }
+        ensures reads { Reads (λ e. leaf_tree_of e.value) result (state_of X.answer self.new)
+            (reader.call entry.entry (state_of X.answer self.old)) }
+        ensures progress { OnOk result (tokens_left self.new < tokens_left self.old) }
+    {
+        let arguments = self.parse_sequence(TokenKind::ParenR)?;
+        self.note_if(find_function_feature(entry.token.lexeme()), *entry.token)?;
+        let name = Name::from_identifier(*entry.token);
+        self.box_expression(make_call(name, arguments))
+    }
+
+    /// Parses an expression in parentheses, or a list.
+    #[cycle(expression)]
+    #[tactic(auto, using(crate::proofs::Rules::group_is))]
+    #[inline(never)]
+    fn parse_group(&mut self) -> Result<Box<Expression<'src>>, ExpressionError<'src>>
+        ensures reads { Parses X.answer (λ e. leaf_tree_of e.value) result self.old self.new
+            reader.group }
+        ensures progress { OnOk result (tokens_left self.new < tokens_left self.old) }
+    {
+        let Some(_opening) = self.accept_unrecorded(TokenKind::ParenL) else {
+            return self.parse_list();
+        };
+        let contents = self.parse_enclosed(TokenKind::ParenR)?;
+        self.box_expression(Expression::Group { contents })
+    }
+
+    /// Parses a list.
+    #[cycle(expression)]
+    #[tactic(auto, unfolding(justfile_model::specs::ExpressionReader::list_rule, crate::specs::TableReader::leaves))]
+    fn parse_list(&mut self) -> Result<Box<Expression<'src>>, ExpressionError<'src>>
+        ensures reads { Parses X.answer (λ e. leaf_tree_of e.value) result self.old self.new
+            reader.list }
+        ensures progress { OnOk result (tokens_left self.new < tokens_left self.old) }
+    {
+        let Some(opener) = self.accept_unrecorded(TokenKind::BracketL) else {
+            self.expected_tokens.add_value();
+            return Err(ExpressionError::Refused(SyntaxError::Unexpected));
+        };
+        self.note(ListFeature::ListLiteral, *opener.token)?;
+        let elements = self.parse_sequence(TokenKind::BracketR)?;
+        self.box_expression(make_list(*opener.token, elements))
+    }
+
+    /// Parses expressions separated by commas, and the closing delimiter.
+    ///
+    /// # Errors
+    ///
+    /// The tokens are refused, a literal has no text, or memory runs out.
+    #[cycle(expression)]
+    #[tactic(auto, using(crate::proofs::Elements::begins, crate::proofs::Elements::goes_on, crate::proofs::Elements::closes, crate::proofs::Elements::closes_last))]
+    #[inline(never)]
+    pub fn parse_sequence(
+        &mut self,
+        closing: TokenKind,
+    ) -> Result<Vec<Expression<'src>>, ExpressionError<'src>>
+        ensures reads { Parses X.answer (λ es. trees_of es.items) result self.old self.new
+            (λ s. reader.read (reader.Sequence closing s)) }
+        ensures progress { OnOk result (tokens_left self.new < tokens_left self.old) }
+    {
+        // most lists and calls have at most two elements
+        let mut elements = Vec::with_capacity(self.alloc, 2)?;
+        'elements: loop {
+            if let Some(_closing) = self.accept(closing) {
+                return Ok(elements);
+            }
+            let (element, is_last) = self.parse_element(closing)?;
+            elements.push(Box::into_inner(element))?;
+            if is_last {
+                return Ok(elements);
+            }
+        }
+    }
+
+    /// Parses an element of a sequence. Also returns whether the sequence is closed after it.
+    ///
+    /// # Errors
+    ///
+    /// The tokens are refused, a literal has no text, or memory runs out.
+    #[cycle(expression)]
+    #[tactic(auto, unfolding(justfile_model::specs::ExpressionReader::element_rule))]
+    #[inline(always)]
+    pub fn parse_element(
+        &mut self,
+        closing: TokenKind,
+    ) -> Result<(Box<Expression<'src>>, bool), ExpressionError<'src>>
+        ensures reads { Parses X.answer (λ x. (leaf_tree_of x.0.value, x.1)) result
+            self.old self.new (reader.element closing) }
+        ensures progress { OnOk result (tokens_left self.new < tokens_left self.old) }
+    {
+        let element = self.parse_level(Level::Expression, false)?;
+        if let Some(_comma) = self.accept(TokenKind::Comma) {
+            return Ok((element, false));
+        }
+        self.expect(closing)?;
+        Ok((element, true))
+    }
+}
+
+#[tactic(auto, using(crate::proofs::Rows::call_is))]
+fn make_call<'src>(name: Name<'src>, arguments: Vec<Expression<'src>>) -> Expression<'src>
+    ensures { leaf_tree_of result
+        ≡ tree.Call (Named name.entry.token None) (trees_of arguments.entry.items) }
+{
+    Expression::Call { name, arguments }
+}
+
+#[tactic(auto, using(crate::proofs::Rows::list_is))]
+fn make_list<'src>(opener: Token<'src>, elements: Vec<Expression<'src>>) -> Expression<'src>
+    ensures { leaf_tree_of result ≡ tree.ListOf opener.entry (trees_of elements.entry.items) }
+{
+    Expression::List { elements, opener }
+}
+
+#[tactic(auto, using(crate::proofs::Rows::format_is))]
+pub(crate) fn make_format_string<'src>(
+    start: StringLiteral<'src>,
+    expressions: Vec<(Expression<'src>, StringLiteral<'src>)>,
+) -> Expression<'src>
+    ensures { leaf_tree_of result
+        ≡ format_string_tree expressions.entry.items (Literal (literal_of start.entry)) }
+{
+    Expression::FormatString { start, expressions }
+}

@@ -1,0 +1,17 @@
+use Rattle.std.proofs.Common.{map}
+use Rattle.std.proofs.lemmas.Result.{err_from_is_err_and}
+use Rattle.justfile_parse_item.specs.MethodResults.{ReadsUncounted}
+use Rattle.justfile_parse_attribute.specs.Attributes.{entry_of_pair}
+use Rattle.justfile_parse_expression.specs.View.{state_of}
+use Rattle.justfile_parse_item.proofs.ItemErrors.{imported_errs}
+use Rattle.justfile_parse_item.proofs.source.parse_imported.Goals as goal
+
+pub returns-in_err-attributes-clause-reads : goal.returns-in_err-attributes-clause-reads
+unfolding ReadsUncounted
+returns-in_err-attributes-clause-reads g c =
+    let A = g.X.Expander.answer in
+    let p = err_from_is_err_and c.from_residual-in_err-attributes.result c.from_residual-in_err-attributes.ensures.1 in
+    let there = state_of A c.parse_file_path.new.parser in
+    rw (p.1, p.2)
+    (λ n. imported_errs (map entry_of_pair c.args.attributes.items) n (state_of A c.args.parser.now) c.args.optional _ there c.in_ok-literal.ensures.reads
+    c.in_err-attributes.field-0.0 there (c.in_err-attributes.ensures.reads there))

@@ -1,0 +1,17 @@
+use Rattle.std.proofs.Common.{map}
+use Rattle.std.proofs.lemmas.Result.{err_from_is_err_and}
+use Rattle.justfile_parse_item.specs.MethodResults.{ReadsUncounted}
+use Rattle.justfile_parse_attribute.specs.Attributes.{entry_of_pair}
+use Rattle.justfile_parse_expression.specs.View.{state_of}
+use Rattle.justfile_parse_item.proofs.ItemErrors.{module_errs}
+use Rattle.justfile_parse_item.proofs.source.parse_named_module.Goals as goal
+
+pub returns-in_err-attributes-clause-reads : goal.returns-in_err-attributes-clause-reads
+unfolding ReadsUncounted
+returns-in_err-attributes-clause-reads g c =
+    let A = g.X.Expander.answer in
+    let there = state_of A c.parse_optional_path.new.parser in
+    let p = err_from_is_err_and c.from_residual-in_err-attributes.result c.from_residual-in_err-attributes.ensures.1 in
+    rw (p.1, p.2)
+    (λ n. module_errs (map entry_of_pair c.args.attributes.items) n (state_of A c.args.parser.now) c.in_ok-name.name (state_of A c.expect.new.self) c.in_ok-name.ensures.reads
+    c.args.optional _ there c.in_ok-relative.ensures.reads c.in_err-attributes.field-0.0 there (c.in_err-attributes.ensures.reads there))

@@ -1,0 +1,103 @@
+//! Imports and modules: the items that name another file.
+ghost use Rattle.std.specs.Prelude.{◌<◌, IfOk, OnOk, map};
+ghost use Rattle.justfile_parse_item.specs.ItemTable as reader;
+ghost use Rattle.justfile_parse_item.specs.MethodResults.{ReadsUncounted};
+ghost use Rattle.justfile_parse_item.specs.Tree.{item_tree};
+ghost use Rattle.justfile_parse_item.specs.DerivedFields.{HaveDerivedPairFields, HasDerivedItemFields};
+ghost use Rattle.justfile_parse_attribute.specs.Attributes.{entry_of_pair};
+ghost use Rattle.justfile_parse_expression.specs.View.{tokens_left, state_of};
+
+use crate::accept::accept_kind;
+use crate::attribute_checks::check_allowed;
+use justfile_attribute::Attribute;
+use justfile_item::Item;
+use justfile_parse_attribute::ParseError;
+use justfile_parse_expression::ExpressionParser;
+use justfile_parse_item_parts::{parse_file_path, parse_optional_path};
+use justfile_token::{Expander, Name};
+use justfile_vocabulary::{ItemKind, TokenKind};
+use justfile_written::Written;
+
+/// Parses an import after its attributes and `import`: `?` if it is optional, and a path.
+#[tactic(auto, unfolding(crate::specs::MethodResults::ReadsUncounted, justfile_model::specs::Reader::import))]
+pub(crate) fn parse_import<'src, X: Expander>(
+    parser: &mut ExpressionParser<'_, 'src, X>,
+    attributes: Vec<(Attribute<'src>, Written<'src>)>,
+) -> Result<Item<'src>, ParseError<'src>>
+    requires { HaveDerivedPairFields attributes.items }
+    ensures reads { ReadsUncounted item_tree result (state_of X.answer parser.new)
+        (λ n. reader.import (map entry_of_pair attributes.entry.items) n
+        (state_of X.answer parser.old)) }
+    ensures fields { IfOk result HasDerivedItemFields }
+    ensures progress { OnOk result (tokens_left parser.new < tokens_left parser.old) }
+{
+    let optional = accept_kind(parser, TokenKind::QuestionMark);
+    parse_imported(parser, optional, attributes)
+}
+
+/// Parses the path of an import.
+#[tactic(auto, unfolding(crate::specs::MethodResults::ReadsUncounted, justfile_model::specs::Reader::imported, justfile_parse_expression::specs::TableReader::leaves))]
+fn parse_imported<'src, X: Expander>(
+    parser: &mut ExpressionParser<'_, 'src, X>,
+    optional: bool,
+    attributes: Vec<(Attribute<'src>, Written<'src>)>,
+) -> Result<Item<'src>, ParseError<'src>>
+    requires { HaveDerivedPairFields attributes.items }
+    ensures reads { ReadsUncounted item_tree result (state_of X.answer parser.new)
+        (λ n. reader.imported optional (map entry_of_pair attributes.entry.items) n
+        (state_of X.answer parser.old)) }
+    ensures fields { IfOk result HasDerivedItemFields }
+    ensures progress { OnOk result (tokens_left parser.new < tokens_left parser.old) }
+{
+    let (literal, relative) = parse_file_path(parser)?;
+    let attributes = check_allowed(parser.alloc, ItemKind::Import, attributes, literal)?;
+    Ok(Item::Import {
+        attributes,
+        optional,
+        relative,
+    })
+}
+
+/// Parses a module after its attributes and `mod`: `?` if it is optional, a name, and a path if it
+/// has one.
+#[tactic(auto, unfolding(crate::specs::MethodResults::ReadsUncounted, justfile_model::specs::Reader::any_module))]
+pub(crate) fn parse_module<'src, X: Expander>(
+    parser: &mut ExpressionParser<'_, 'src, X>,
+    attributes: Vec<(Attribute<'src>, Written<'src>)>,
+) -> Result<Item<'src>, ParseError<'src>>
+    requires { HaveDerivedPairFields attributes.items }
+    ensures reads { ReadsUncounted item_tree result (state_of X.answer parser.new)
+        (λ n. reader.any_module (map entry_of_pair attributes.entry.items) n
+        (state_of X.answer parser.old)) }
+    ensures fields { IfOk result HasDerivedItemFields }
+    ensures progress { OnOk result (tokens_left parser.new < tokens_left parser.old) }
+{
+    let optional = accept_kind(parser, TokenKind::QuestionMark);
+    parse_named_module(parser, optional, attributes)
+}
+
+/// Parses the name of a module, and its path if it has one.
+#[tactic(auto, unfolding(crate::specs::MethodResults::ReadsUncounted, justfile_model::specs::Reader::named_module, justfile_parse_expression::specs::TableReader::leaves))]
+fn parse_named_module<'src, X: Expander>(
+    parser: &mut ExpressionParser<'_, 'src, X>,
+    optional: bool,
+    attributes: Vec<(Attribute<'src>, Written<'src>)>,
+) -> Result<Item<'src>, ParseError<'src>>
+    requires { HaveDerivedPairFields attributes.items }
+    ensures reads { ReadsUncounted item_tree result (state_of X.answer parser.new)
+        (λ n. reader.named_module optional (map entry_of_pair attributes.entry.items) n
+        (state_of X.answer parser.old)) }
+    ensures fields { IfOk result HasDerivedItemFields }
+    ensures progress { OnOk result (tokens_left parser.new < tokens_left parser.old) }
+{
+    let name = parser.expect(TokenKind::Identifier)?;
+    let relative = parse_optional_path(parser)?;
+    let attributes = check_allowed(parser.alloc, ItemKind::Module, attributes, name)?;
+    Ok(Item::Module {
+        attributes,
+        doc: None,
+        name: Name::from_identifier(*name.token),
+        optional,
+        relative,
+    })
+}

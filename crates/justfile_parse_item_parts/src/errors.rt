@@ -1,0 +1,34 @@
+//! The faults for unknown names and words.
+ghost use Rattle.std.specs.Prelude.{[], ◌∷◌};
+ghost use Rattle.justfile_vocabulary.specs.declared.keyword.Keyword.TheVariants as words;
+ghost use Rattle.justfile_model.specs.ReaderState.{ExpectedKeyword, UnknownSetting};
+ghost use Rattle.justfile_parse_attribute.specs.ParseErrors.{IsFaultOf};
+
+use justfile_token::{CompileErrorKind, Fault, Token};
+use justfile_vocabulary::Keyword;
+use std::alloc::Global;
+
+/// Makes the fault for a name that isn't that of a setting.
+pub(crate) fn unknown_setting_error<'src>(name: Token<'src>) -> Fault<'src>
+    ensures { IsFaultOf (UnknownSetting name.entry) result }
+{
+    Fault::Compile(name.error(CompileErrorKind::UnknownSetting {
+        setting: name.lexeme(),
+    }))
+}
+
+/// Makes the fault for a word that isn't one of these keywords.
+pub(crate) fn expected_keyword_error<'src>(
+    alloc: Global,
+    expected: &[Keyword],
+    found: Token<'src>,
+) -> Fault<'src>
+    ensures { IsFaultOf (ExpectedKeyword expected.now found.entry) result }
+{
+    match Vec::from_slice(alloc, expected) {
+        Ok(expected) => {
+            Fault::Compile(found.error(CompileErrorKind::ExpectedKeyword { expected, found }))
+        }
+        Err(_) => Fault::Memory,
+    }
+}
