@@ -56,9 +56,9 @@ fn follows_keyword<X: Expander>(parser: &ExpressionParser<'_, '_, X>, lookahead:
     match lookahead {
         Lookahead::Assignment => is_assigned_past(parser),
         Lookahead::Import => is_imported_past(parser),
-        Lookahead::Line => is_line_past(parser),
+        Lookahead::Line => peek_name_ends_line(parser),
         Lookahead::Module => is_module_past(parser),
-        Lookahead::Set => is_assigned_past(parser) || is_line_past(parser),
+        Lookahead::Set => is_assigned_past(parser) || peek_name_ends_line(parser),
     }
 }
 
@@ -97,13 +97,13 @@ fn is_module_past<X: Expander>(parser: &ExpressionParser<'_, '_, X>) -> bool
     let name = TokenKind::Identifier;
     let mark = TokenKind::Identifier;
     parser.peek_kinds(&[keyword, TokenKind::QuestionMark])
-        || is_line_past(parser)
+        || peek_name_ends_line(parser)
         || parser.peek_kinds(&[keyword, name, TokenKind::StringToken])
         || parser.peek_kinds(&[keyword, name, mark, TokenKind::StringToken])
 }
 
 /// Whether a name alone on its line follows a keyword.
-fn is_line_past<X: Expander>(parser: &ExpressionParser<'_, '_, X>) -> bool
+fn peek_name_ends_line<X: Expander>(parser: &ExpressionParser<'_, '_, X>) -> bool
     ensures { result ≡ reader.line_past (state_of X.answer parser.now) }
 {
     let keyword = TokenKind::Identifier;
