@@ -2,6 +2,7 @@ pub mod CompileErrorKind
 pub mod Delimiter
 pub mod Excerpt
 pub mod Expander
+pub mod Fault
 pub mod Messages
 pub mod Modulepath
 pub mod Name

@@ -2,6 +2,7 @@ ghost use Rattle.std.specs.Prelude.{◌≡◌};
 
 use crate::compile_error_kind::CompileErrorKind;
 use crate::token::Token;
+use std::error::Error;
 
 /// An error: what is wrong, and the token at which it is reported.
 #[derive(Drop, PartialEq)]
@@ -28,3 +29,5 @@ impl<'src> CompileError<'src> {
         self.token
     }
 }
+
+impl Error for CompileError<'_> {}

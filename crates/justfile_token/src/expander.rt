@@ -38,3 +38,15 @@ pub trait Expander {
             (λ expanded. answer self.now text.now ≡ Ok (string_bytes expanded)) }
         ensures err { IfErr result (Refuses (answer self.now text.now)) };
 }
+
+/// An expander that leaves each text unchanged, as a formatter needs it.
+#[derive(Clone, Copy, Debug)]
+pub struct Unchanged;
+
+impl Expander for Unchanged {
+    ghost answer = { λ _ text. Ok text };
+
+    fn expand(&self, alloc: Global, text: &str) -> Result<String, ExpandFault> {
+        Ok(text.to_string(alloc)?)
+    }
+}

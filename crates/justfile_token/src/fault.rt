@@ -1,5 +1,7 @@
 use crate::compile_error::CompileError;
 use std::alloc::{AllocError, AllocFailed};
+use std::error::Error;
+use std::fmt;
 
 /// Why a call returned no value.
 #[derive(Debug, Drop)]
@@ -36,3 +38,22 @@ impl<'src, T: Drop> From<AllocFailed<T>> for Fault<'src> {
         Fault::Memory
     }
 }
+
+/// Writes the message of an error and, on the lines after it, the excerpt of the line that it is
+/// on; or `out of memory`, or `out of numbers`. No line end is at the end.
+impl fmt::Display for Fault<'_> {
+    ghost use Rattle.std.specs.Prelude.{Some};
+    ghost use Rattle.justfile_token.specs.Fault.{fault_text};
+
+    ghost output = { λ fault. Some (fault_text fault) };
+
+    fn fmt<W: fmt::Write>(&self, f: &mut fmt::Formatter<W>) -> fmt::Result {
+        match self {
+            Fault::Compile(error) => write!(f, "{error}\n{}", error.token),
+            Fault::Memory => f.write_str("out of memory"),
+            Fault::Numbers => f.write_str("out of numbers"),
+        }
+    }
+}
+
+impl Error for Fault<'_> {}

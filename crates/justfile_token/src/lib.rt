@@ -22,7 +22,7 @@ pub mod token;
 pub use crate::compile_error::CompileError;
 pub use crate::compile_error_kind::CompileErrorKind;
 pub use crate::delimiter::Delimiter;
-pub use crate::expander::{ExpandFault, Expander};
+pub use crate::expander::{ExpandFault, Expander, Unchanged};
 pub use crate::fault::{CompileResult, Fault};
 pub use crate::keyed::Keyed;
 pub use crate::modulepath::Modulepath;

@@ -1,4 +1,4 @@
-ghost use Rattle.std.specs.Prelude.{◌≡◌, [], ◌∷◌, ◌++◌, IfOk, OnOk, OnErr, Some, string_bytes};
+ghost use Rattle.std.specs.Prelude.{◌≡◌, [], ◌∷◌, ◌++◌, IfOk, OnOk, OnErr, Some, map, string_bytes};
 
 use crate::namepath::Namepath;
 use crate::path::write_path;
@@ -35,6 +35,13 @@ impl Modulepath {
             path.push(name.token.lexeme().to_string(alloc)?)?;
         }
         Ok(path)
+    }
+
+    /// Returns the names, outermost first.
+    pub fn names(&self) -> &[String]
+        ensures { map string_bytes result.now ≡ names_of self.now }
+    {
+        &self.names
     }
 
     /// Appends the name of a module.

@@ -1,3 +1,5 @@
+ghost use Rattle.std.specs.Prelude.{◌≡◌, None, []};
+
 use crate::namepath::Namepath;
 
 /// The origin of a text: the file, its imports and its module.
@@ -11,4 +13,22 @@ pub struct Source<'a, 'src> {
     pub namepath: Option<&'a Namepath<'src>>,
     /// The working directory of the file's module.
     pub working_directory: &'a str,
+}
+
+impl Source<'_, '_> {
+    /// Returns the origin of a root file: at depth 0, imported by none, in no module, and with an
+    /// empty working directory.
+    pub fn root() -> Self
+        ensures depth { result.file_depth ≡ 0 }
+        ensures imports { result.import_offsets.now ≡ [] }
+        ensures module { result.namepath ≡ None }
+        ensures directory { result.working_directory.now ≡ [] }
+    {
+        Source {
+            file_depth: 0,
+            import_offsets: &[],
+            namepath: None,
+            working_directory: "",
+        }
+    }
 }

@@ -1,4 +1,4 @@
-ghost use Rattle.std.specs.Prelude.{◌≡◌};
+ghost use Rattle.std.specs.Prelude.{◌≡◌, ◌+◌};
 ghost use Rattle.justfile_token.specs.Slice.{IsWithin, slice_of};
 
 use crate::compile_error::CompileError;
@@ -35,6 +35,13 @@ impl<'src> Token<'src> {
         ensures { result.now ≡ slice_of self.now.src.now self.now.offset self.now.length }
     {
         &self.src[self.offset..self.offset + self.length]
+    }
+
+    /// Returns the number of bytes of the source before the end of the token.
+    pub fn end(&self) -> usize
+        ensures { result ≡ self.now.offset + self.now.length }
+    {
+        self.offset + self.length
     }
 
     /// Returns the error of this kind at the token.

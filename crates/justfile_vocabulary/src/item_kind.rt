@@ -63,11 +63,14 @@ impl ItemKind {
     }
 }
 
+/// Ignores width and alignment: the text is written as it is.
 impl fmt::Display for ItemKind {
     ghost use Rattle.std.specs.Prelude.{Some};
     ghost use Rattle.justfile_vocabulary.specs.ItemKind.{item_kind_text};
 
     ghost output = { λ kind. Some (item_kind_text kind) };
+
+    ghost styled_output = { λ kind spec. Some (item_kind_text kind) };
 
     fn fmt<W: fmt::Write>(&self, f: &mut fmt::Formatter<W>) -> fmt::Result {
         f.write_str(self.name())

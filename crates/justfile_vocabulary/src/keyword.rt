@@ -167,11 +167,14 @@ impl Keyword {
     }
 }
 
+/// Ignores width and alignment: the text is written as it is.
 impl fmt::Display for Keyword {
     ghost use Rattle.std.specs.Prelude.{Some};
     ghost use Rattle.justfile_vocabulary.specs.Keyword.{keyword_text};
 
     ghost output = { λ keyword. Some (keyword_text keyword) };
+
+    ghost styled_output = { λ keyword spec. Some (keyword_text keyword) };
 
     fn fmt<W: fmt::Write>(&self, f: &mut fmt::Formatter<W>) -> fmt::Result {
         f.write_str(self.lexeme())

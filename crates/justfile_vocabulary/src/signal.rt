@@ -35,11 +35,14 @@ impl Signal {
     }
 }
 
+/// Ignores width and alignment: the text is written as it is.
 impl fmt::Display for Signal {
     ghost use Rattle.std.specs.Prelude.{Some};
     ghost use Rattle.justfile_vocabulary.specs.Signal.{signal_name};
 
     ghost output = { λ signal. Some (signal_name signal) };
+
+    ghost styled_output = { λ signal spec. Some (signal_name signal) };
 
     fn fmt<W: fmt::Write>(&self, f: &mut fmt::Formatter<W>) -> fmt::Result {
         f.write_str(self.name())

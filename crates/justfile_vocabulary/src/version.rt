@@ -40,6 +40,13 @@ fn split_at_dot(text: &str) -> Option<(&str, &str)>
 impl Version {
     ghost use Rattle.justfile_vocabulary.specs.Version.{IsVersionText, WritesVersion};
 
+    /// The version of `just` whose language this is.
+    pub const CURRENT: Version = Version {
+        major: 1,
+        minor: 58,
+        patch: 0,
+    };
+
     /// Parses the three numbers of a version.
     fn from_numbers(major: &str, minor: &str, patch: &str) -> Option<Self>
         ensures some { IfSome result (WritesVersion major.now minor.now patch.now) }
