@@ -9,8 +9,16 @@ use Rattle.justfile_vocabulary.specs.ByteNames as byte
 abbrev pub is_space_or_tab : ℕ → Bool
 is_space_or_tab b = b == byte.space || b == byte.tab
 
+-- the blank that is repeated
+abbrev pub blank_of : Indentation → ℕ
+blank_of i = i.character
+
+-- how many copies of it there are
+abbrev pub count_of : Indentation → ℕ
+count_of i = i.count
+
 abbrev pub indentation_text : Indentation → List ℕ
-indentation_text i = replicate i.count i.character
+indentation_text i = replicate (count_of i) (blank_of i)
 
 -- The text is one or more copies of the same blank.
 pub record IsIndentation (text : List ℕ) : Type 0 where

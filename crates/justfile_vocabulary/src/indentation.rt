@@ -16,17 +16,18 @@ pub struct Indentation {
 
 impl Indentation {
     ghost use Rattle.std.specs.Prelude.{◌∷◌, []};
+    ghost use Rattle.justfile_vocabulary.specs.Indentation.{blank_of, count_of};
 
     /// Returns the blank that is repeated.
     pub fn blank(self) -> &'static str
-        ensures { result.now ≡ self.character ∷ [] }
+        ensures { result.now ≡ blank_of self ∷ [] }
     {
         if self.character == '\t' { "\t" } else { " " }
     }
 
     /// Returns the number of blanks.
     pub fn count(self) -> usize
-        ensures { result ≡ self.count }
+        ensures { result ≡ count_of self }
     {
         self.count
     }
