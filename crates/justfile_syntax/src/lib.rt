@@ -63,6 +63,11 @@ pub mod fault {
     pub use justfile_token::{CompileResult, Fault};
 }
 
+pub mod format {
+    pub use justfile_canonical::fault::FormatFault;
+    pub use justfile_canonical::formatting::{format_and_forget, format_text};
+}
+
 pub mod fragment {
     pub use justfile_line::Fragment;
 }
@@ -96,6 +101,7 @@ pub mod laws {
     pub use justfile_ast::laws::same_numbers;
     pub use justfile_attribute::laws::{attributes_equal, interpreters_ordered, new_attributes};
     pub use justfile_attribute_set::laws::sets_in_order;
+    pub use justfile_canonical::laws::formatted_texts;
     pub use justfile_expression::laws::{
         cases_equal, cases_ordered, errors_equal, expression_contents_ordered, expressions_ordered,
         literals_ordered, modulepaths_ordered, namepaths_ordered, names_ordered, numbers_ordered,
@@ -172,6 +178,7 @@ pub mod parameter_kind {
 }
 
 pub mod parser {
+    pub use justfile_canonical::root::parse_root;
     pub use justfile_literal::cook_string;
     pub use justfile_parse::significant::{TableEntry, significant};
     pub use justfile_parse::{Parser, RECURSION_LIMIT};

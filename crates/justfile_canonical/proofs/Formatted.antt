@@ -16,7 +16,8 @@ use Rattle.justfile_model.proofs.IndentedShapes.{IsIndentationLiteral, indentati
 use Rattle.justfile_model.proofs.Normal.{normal_printable}
 use Rattle.justfile_round_trip.specs.RoundTrip.{ReadsBack, TextDerives, printed}
 use Rattle.justfile_round_trip.proofs.RoundTrip.{back, one_text, shape_derives}
-use Rattle.justfile_format.specs.Formatting.{HasNone, IsFormatted, IsIndentedBy, conditions, rejected, unprintable}
+use Rattle.justfile_canonical.specs.Formatting.{HasNone, IsFormatted, IsIndentedBy, rejected, unprintable}
+use Rattle.justfile_canonical.specs.Root.{conditions}
 
 -- ---- indentations
 

@@ -8,7 +8,6 @@ use Rattle.justfile_vocabulary.specs.Indentation.{indentation_text}
 use Rattle.justfile_token.specs.StringLiteral.{begins_format_string}
 use Rattle.justfile_token.specs.Token.{lexeme_of}
 use Rattle.justfile_vocabulary.specs.declared.indentation.Indentation.{Indentation}
-use Rattle.justfile_vocabulary.specs.declared.numerator.Numerator.{Numerator}
 use Rattle.justfile_token.specs.declared.string_literal.StringLiteral.{StringLiteral}
 use Rattle.justfile_token.specs.declared.token.Token.{Token}
 use Rattle.justfile_model.specs.Literals.{LiteralFault, cooked_text, expanded_text, string_of, string_text}
@@ -24,8 +23,8 @@ use Rattle.justfile_item.specs.declared.item.Item.{Item}
 use Rattle.justfile_item.specs.declared.item.Item.TheVariants as items
 use Rattle.justfile_ast.specs.declared.ast.Ast.{Ast}
 use Rattle.justfile_parse_item.specs.Filled.{IsFilledItem, IsFilledLiteral, IsFilledSetting}
-use Rattle.justfile_parse.specs.Parsing.{IsParsedText}
-use Rattle.justfile_format.specs.Formatting.{IsFileOf, IsIndentedBy, MatchesLiteral, conditions, unchanged}
+use Rattle.justfile_canonical.specs.Formatting.{IsFileOf, IsIndentedBy, MatchesLiteral}
+use Rattle.justfile_canonical.specs.Root.{IsRoot, unchanged}
 
 -- ---- what the literal stands for
 
@@ -104,9 +103,9 @@ module _ (IsToken : Token → Type 0) where
         (holds_items all (All-tail (IsFilledItem unchanged IsToken depth offsets) i all given))
 
 -- a file that was parsed is that of its text
-pub file_of : (path src : List ℕ) (depth : ℕ) (offsets : List ℕ) (old new : Numerator) (ast : Ast) → IsParsedText conditions path src depth offsets old new ast → IsFileOf src ast
-file_of path src depth offsets old new ast parsed =
-    record { derives = parsed.derives; indented = holds_items _ depth offsets ast.items.items parsed.filled.given }
+pub file_of : (path source : List ℕ) (ast : Ast) → IsRoot path source ast → IsFileOf source ast
+file_of path source ast root =
+    record { derives = root.parsed.derives; indented = holds_items _ 0 [] ast.items.items root.parsed.filled.given }
 
 -- ---- the indentation of the printed text
 

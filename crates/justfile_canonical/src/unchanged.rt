@@ -1,6 +1,6 @@
-//! The expander of the program.
+//! The expander of the usual conditions.
 
-use justfile_syntax::expander::{ExpandFault, Expander};
+use justfile_token::{ExpandFault, Expander};
 use std::alloc::Global;
 
 /// An expander that leaves texts unchanged.

@@ -6,7 +6,8 @@ ghost use Rattle.justfile_model.specs.Printing.{printable};
 ghost use Rattle.justfile_model.specs.Tok.{Tok};
 ghost use Rattle.justfile_model.specs.Tree.{Tree, shape_of};
 ghost use Rattle.justfile_round_trip.specs.RoundTrip.{TextDerives};
-ghost use Rattle.justfile_format.specs.Formatting.{HasNone, IsFormatted, conditions};
+ghost use Rattle.justfile_canonical.specs.Formatting.{HasNone, IsFormatted};
+ghost use Rattle.justfile_canonical.specs.Root.{conditions};
 
 /// A text that derives a printable tree has exactly one canonical text, at its own indentation, and
 /// isn't one of those without a canonical text. Formatting the canonical text returns it unchanged.

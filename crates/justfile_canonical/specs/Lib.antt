@@ -1,0 +1,4 @@
+pub mod Fault
+pub mod Formatting
+pub mod Messages
+pub mod Root
