@@ -169,6 +169,11 @@ pub mod numerator {
     pub use justfile_vocabulary::{Number, Numerator};
 }
 
+pub mod outline {
+    pub use justfile_canonical::reading::symbols;
+    pub use justfile_outline::{Symbol, outline};
+}
+
 pub mod parameter {
     pub use justfile_recipe_header::Parameter;
 }
@@ -178,6 +183,7 @@ pub mod parameter_kind {
 }
 
 pub mod parser {
+    pub use justfile_canonical::reading::{Reader, read_root, release};
     pub use justfile_canonical::root::parse_root;
     pub use justfile_literal::cook_string;
     pub use justfile_parse::significant::{TableEntry, significant};
