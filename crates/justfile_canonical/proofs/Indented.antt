@@ -1,6 +1,6 @@
 -- The indentation of a file's printed text is the text of the literal that sets it.
 use Rattle.std.proofs.Common.{◌≡◌, ℕ, Bool, true, false, List, [], ◌∷◌, ◌++◌, Option, Some, None, Result, Ok, Err, codes, sym, ap, subst, ◌∙◌, if◌then◌else◌}
-use Rattle.std.specs.Prelude.{All, IfSome, string_bytes}
+use Rattle.std.specs.Prelude.{All, IfOk, IfSome, string_bytes}
 use Rattle.std.specs.Option.{option_map}
 use Rattle.std.proofs.lemmas.List.Elements.{All-head, All-tail}
 use Rattle.std.proofs.lemmas.Option.{none-some, same_Some}
@@ -8,6 +8,7 @@ use Rattle.justfile_vocabulary.specs.Indentation.{indentation_text}
 use Rattle.justfile_token.specs.StringLiteral.{begins_format_string}
 use Rattle.justfile_token.specs.Token.{lexeme_of}
 use Rattle.justfile_vocabulary.specs.declared.indentation.Indentation.{Indentation}
+use Rattle.justfile_token.specs.declared.fault.Fault.{Fault}
 use Rattle.justfile_token.specs.declared.string_literal.StringLiteral.{StringLiteral}
 use Rattle.justfile_token.specs.declared.token.Token.{Token}
 use Rattle.justfile_model.specs.Literals.{LiteralFault, cooked_text, expanded_text, string_of, string_text}
@@ -23,7 +24,7 @@ use Rattle.justfile_item.specs.declared.item.Item.{Item}
 use Rattle.justfile_item.specs.declared.item.Item.TheVariants as items
 use Rattle.justfile_ast.specs.declared.ast.Ast.{Ast}
 use Rattle.justfile_parse_item.specs.Filled.{IsFilledItem, IsFilledLiteral, IsFilledSetting}
-use Rattle.justfile_canonical.specs.Formatting.{IsFileOf, IsIndentedBy, MatchesLiteral}
+use Rattle.justfile_canonical.specs.Formatting.{IsFileOf, IsIndented, IsIndentedBy, MatchesLiteral}
 use Rattle.justfile_canonical.specs.Root.{IsRoot, unchanged}
 
 -- ---- what the literal stands for
@@ -102,10 +103,15 @@ module _ (IsToken : Token → Type 0) where
         holds_first (item_indentation i) (items_indentation all) (holds_item i (All-head (IsFilledItem unchanged IsToken depth offsets) i all given))
         (holds_items all (All-tail (IsFilledItem unchanged IsToken depth offsets) i all given))
 
--- a file that was parsed is that of its text
+-- a file that was parsed has the indentation of its literal
+pub indented : (path source : List ℕ) (r : Result Ast Fault) → IfOk r (IsRoot path source) → IfOk r IsIndented
+indented path source (Ok ast) root = holds_items _ 0 [] ast.items.items root.parsed.filled.given
+indented path source (Err fault) root = tt
+
+-- it is that of its text
 pub file_of : (path source : List ℕ) (ast : Ast) → IsRoot path source ast → IsFileOf source ast
 file_of path source ast root =
-    record { derives = root.parsed.derives; indented = holds_items _ 0 [] ast.items.items root.parsed.filled.given }
+    record { derives = root.parsed.derives; indented = indented path source (Ok ast) root }
 
 -- ---- the indentation of the printed text
 

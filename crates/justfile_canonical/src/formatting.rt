@@ -94,11 +94,12 @@ fn printing_indentation(ast: &Ast<'_>) -> Result<Indentation, FormatFault>
     Ok(own_indentation(ast))
 }
 
-/// Returns the indentation of body lines: that of the setting `indentation`, or four spaces.
+/// Returns the indentation of body lines that the canonical text has: that of the setting
+/// `indentation`, or four spaces.
 #[tactic(auto, using(crate::proofs::Indented::indented_by_literal, crate::proofs::Indented::indented_by_default))]
 pub fn own_indentation(ast: &Ast<'_>) -> Indentation
-    requires { IsIndented ast.now }
-    ensures { IsIndentedBy (indentation_of (tree_of ast.now)) (indentation_text result) }
+    ensures { IsIndented ast.now
+        → IsIndentedBy (indentation_of (tree_of ast.now)) (indentation_text result) }
 {
     match ast.indentation() {
         Some(indentation) => indentation,

@@ -1,5 +1,6 @@
 //! Root files: a text without imports, parsed under the usual conditions.
 ghost use Rattle.std.specs.Prelude.{IfOk, IfErr};
+ghost use Rattle.justfile_canonical.specs.Formatting.{IsIndented};
 ghost use Rattle.justfile_canonical.specs.Root.{HasNoRoot, IsRoot};
 
 use crate::unchanged::Unchanged;
@@ -23,13 +24,15 @@ const CURRENT: Version = Version {
 /// # Errors
 ///
 /// As for `Parser::parse_source`.
-#[tactic(auto, using(crate::proofs::Roots::root_of, crate::proofs::Roots::no_root))]
+#[tactic(auto, using(crate::proofs::Roots::root_of, crate::proofs::Roots::no_root, crate::proofs::Indented::indented))]
 pub fn parse_root<'src>(
     alloc: Global,
     path: &'src str,
     source: &'src str,
 ) -> CompileResult<'src, Ast<'src>>
     ensures ok { IfOk result (IsRoot path.now source.now) }
+    // The indentation that the file sets is the text of its literal.
+    ensures indented { IfOk result IsIndented }
     ensures err { IfErr result (HasNoRoot path.now source.now) }
 {
     let mut numerator = Numerator::new(0);
