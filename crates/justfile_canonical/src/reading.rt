@@ -2,8 +2,7 @@
 ghost use Rattle.std.specs.Prelude.{◌≡◌, IfErr, IfOk, OnErr, OnOk, map};
 ghost use Rattle.justfile_ast.specs.declared.ast.Ast.{Ast};
 ghost use Rattle.justfile_outline.specs.Shown.{shown};
-ghost use Rattle.justfile_outline.specs.Symbols.{symbols_of};
-ghost use Rattle.justfile_canonical.specs.Reading.{HasSymbols};
+ghost use Rattle.justfile_canonical.specs.Reading.{HasSymbols, symbols_of};
 ghost use Rattle.justfile_canonical.specs.Root.{HasNoRoot, IsRoot};
 
 use crate::root::parse_root;

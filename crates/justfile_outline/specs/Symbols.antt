@@ -1,7 +1,7 @@
 -- The symbols of a file.
 use Rattle.std.specs.Prelude.{ℕ, Bool, false, ◌==◌, ◌||◌, List, [], ◌∷◌, ◌++◌, Option, None, Some, codes, find, String, string_bytes}
-use Rattle.std.specs.Global.{Global}
-use Rattle.std.specs.List.{filter_map, flat_map}
+use Rattle.std.specs.Global.{Box, Global}
+use Rattle.std.specs.List.{flat_map}
 use Rattle.std.specs.Option.{option_map}
 use Rattle.justfile_vocabulary.specs.declared.attribute_kind.AttributeKind.TheVariants as attribute_kinds
 use Rattle.justfile_vocabulary.specs.declared.item_kind.ItemKind.{ItemKind}
@@ -24,7 +24,6 @@ use Rattle.justfile_item.specs.declared.item.Item.{Item}
 use Rattle.justfile_item.specs.declared.item.Item.TheVariants as items
 use Rattle.justfile_item.specs.declared.recipe.UnresolvedRecipe.{UnresolvedRecipe}
 use Rattle.justfile_item.specs.declared.set.Set.{Set}
-use Rattle.justfile_ast.specs.declared.ast.Ast.{Ast}
 use Rattle.justfile_outline.specs.Shown.{Shown}
 
 -- the text of an expression that is a plain literal
@@ -32,9 +31,13 @@ abbrev pub literal_text : Expression → Option (List ℕ)
 literal_text (StringLiteral literal) = Some (string_bytes literal.cooked)
 literal_text _ = None
 
+abbrev pub optional_text : Option (Box Expression) → Option (List ℕ)
+optional_text None = None
+optional_text (Some text) = literal_text text.value
+
 -- the text of an attribute `doc`, if that is a plain literal
 abbrev pub attribute_doc : Attribute → Option (List ℕ)
-attribute_doc (Doc (Some text)) = literal_text text.value
+attribute_doc (Doc text) = optional_text text
 attribute_doc _ = None
 
 -- the doc by the attribute `doc`, if there is one, and otherwise that of a comment
@@ -45,13 +48,13 @@ doc_by (Some attribute) comment = attribute_doc attribute
 abbrev pub doc_in : List Attribute → (comment : Option (List ℕ)) → Option (List ℕ)
 doc_in attributes comment = doc_by (find (is_of_kind attribute_kinds.Doc) attributes) comment
 
-abbrev pub group_name : Attribute → Option (List ℕ)
-group_name (Group name) = Some (string_bytes name.cooked)
-group_name _ = None
+abbrev pub group_names : Attribute → List (List ℕ)
+group_names (Group name) = string_bytes name.cooked ∷ []
+group_names _ = []
 
 -- the names of the groups
 abbrev pub groups_in : List Attribute → List (List ℕ)
-groups_in attributes = filter_map group_name attributes
+groups_in attributes = flat_map group_names attributes
 
 -- whether a name is private: whether it begins with `_`
 abbrev pub is_private_name : List ℕ → Bool
@@ -111,7 +114,3 @@ item_symbols items.Newline = []
 item_symbols (items.Recipe r) = recipe_symbol r ∷ []
 item_symbols (items.Setting s) = setting_symbol s ∷ []
 item_symbols (items.Unexport set name) = unexport_symbol set name ∷ []
-
--- the symbols of a file, in order
-abbrev pub symbols_of : Ast → List Shown
-symbols_of ast = flat_map item_symbols ast.items.items

@@ -31,6 +31,7 @@ pub fn outline<'src>(items: &[Item<'src>], alloc: Global) -> Result<Vec<Symbol<'
 }
 
 /// Appends the symbol of an item, if it has a name.
+#[tactic(auto, using(crate::proofs::Parts::outlined))]
 fn push_symbol<'src>(
     item: &Item<'src>,
     alloc: Global,
@@ -59,12 +60,13 @@ fn push_symbol<'src>(
 }
 
 /// Appends the symbol of a result, or returns the result's error.
+#[tactic(auto, using(crate::proofs::Parts::pushed_symbol))]
 fn push<'src>(
     symbols: &mut Vec<Symbol<'src>>,
     made: Result<Symbol<'src>, AllocError>,
 ) -> Result<(), AllocError>
-    ensures { OnOk result ((symbol : Symbol) × (made.entry ≡ Ok symbol)
-        × (symbols.new.items ≡ symbols.old.items ++ symbol ∷ [])) }
+    ensures { OnOk result ((symbol : Symbol) × (made.entry ≡ Ok symbol) × (map shown symbols.new.items
+        ≡ map shown symbols.old.items ++ shown symbol ∷ [])) }
 {
     symbols.push(made?)?;
     Ok(())

@@ -1,12 +1,12 @@
 //! The parts of symbols: docs, groups, parameters, and whether a name is private.
-ghost use Rattle.std.specs.Prelude.{◌≡◌, ◌++◌, IfOk, OnOk, codes, map, string_bytes};
+ghost use Rattle.std.specs.Prelude.{◌≡◌, ◌++◌, ◌∷◌, [], IfOk, OnOk, codes, map, string_bytes};
 ghost use Rattle.std.specs.List.{flat_map};
 ghost use Rattle.std.specs.Option.{option_map};
 ghost use Rattle.justfile_attribute_set.specs.AttributeSet.{attributes_of};
 ghost use Rattle.justfile_attribute_set.specs.Keys.{firsts};
 ghost use Rattle.justfile_recipe_header.specs.Header.{parameters_text};
 ghost use Rattle.justfile_token.specs.Name.{name_text};
-ghost use Rattle.justfile_outline.specs.Symbols.{attribute_doc, doc_in, groups_in, is_private, is_private_name, literal_text, name_part};
+ghost use Rattle.justfile_outline.specs.Symbols.{attribute_doc, doc_in, group_names, groups_in, is_private, is_private_name, literal_text, name_part, optional_text};
 
 use justfile_attribute::Attribute;
 use justfile_attribute_set::{AttributeSet, Written};
@@ -32,20 +32,33 @@ pub(crate) fn doc_of(
 }
 
 /// Returns the text of an attribute `doc`, if that is a plain literal.
+#[tactic(auto, using(crate::proofs::Parts::not_doc))]
 fn attribute_doc(attribute: &Attribute<'_>, alloc: Global) -> Result<Option<String>, AllocError>
-    ensures { IfOk result
-        (λ doc. option_map string_bytes doc ≡ attribute_doc attribute.now) }
+    ensures { IfOk result (λ doc. option_map string_bytes doc ≡ attribute_doc attribute.now) }
 {
     match attribute {
-        Attribute::Doc(Some(text)) => literal_text(text, alloc),
+        Attribute::Doc(text) => optional_text(text, alloc),
         _ => Ok(None),
     }
 }
 
+/// Returns the text of an optional expression, if it is a plain literal.
+fn optional_text(
+    expression: &Option<Box<Expression<'_>>>,
+    alloc: Global,
+) -> Result<Option<String>, AllocError>
+    ensures { IfOk result (λ text. option_map string_bytes text ≡ optional_text expression.now) }
+{
+    match expression {
+        Some(expression) => literal_text(expression, alloc),
+        None => Ok(None),
+    }
+}
+
 /// Returns the text of an expression that is a plain literal.
+#[tactic(auto, using(crate::proofs::Parts::not_literal))]
 fn literal_text(expression: &Expression<'_>, alloc: Global) -> Result<Option<String>, AllocError>
-    ensures { IfOk result
-        (λ text. option_map string_bytes text ≡ literal_text expression.now) }
+    ensures { IfOk result (λ text. option_map string_bytes text ≡ literal_text expression.now) }
 {
     match expression {
         Expression::StringLiteral { string_literal } => {
@@ -75,11 +88,35 @@ pub(crate) fn group_texts(
 {
     let mut texts = Vec::new(alloc);
     for pair in pairs {
-        if let Attribute::Group(name) = &pair.0 {
-            texts.push(name.cooked.as_str().to_string(alloc)?)?;
-        }
+        push_group(&pair.0, alloc, &mut texts)?;
     }
     Ok(texts)
+}
+
+/// Appends the name of the group, if the attribute is one.
+#[tactic(auto, using(crate::proofs::Parts::not_group, crate::proofs::Parts::pushed_text))]
+fn push_group(
+    attribute: &Attribute<'_>,
+    alloc: Global,
+    texts: &mut Vec<String>,
+) -> Result<(), AllocError>
+    ensures { OnOk result (map string_bytes texts.new.items
+        ≡ map string_bytes texts.old.items ++ group_names attribute.now) }
+{
+    match attribute {
+        Attribute::Group(name) => push_text(name.cooked.as_str(), alloc, texts),
+        _ => Ok(()),
+    }
+}
+
+/// Appends a copy of a text.
+#[tactic(auto, using(crate::proofs::Parts::pushed_text))]
+fn push_text(text: &str, alloc: Global, texts: &mut Vec<String>) -> Result<(), AllocError>
+    ensures { OnOk result (map string_bytes texts.new.items
+        ≡ map string_bytes texts.old.items ++ text.now ∷ []) }
+{
+    texts.push(text.to_string(alloc)?)?;
+    Ok(())
 }
 
 /// Returns the printed text of the parameters, each after a space.
