@@ -4,6 +4,7 @@
 - Each link between documents resolves, its heading included.
 - Each path and each name in backticks exists in the repository: as a file, as a folder, or as a word of its code, comments aside.
   Where a crate is named with them, as in `NAME` of `CRATE`, they exist in that crate.
+- Each block of code after a line that ends in a path in backticks and a colon stands in that file, line by line.
 - Each count that can be computed is as stated: rows, wrong bodies, crates, and the table of sizes.
 
 Prints what it finds, and ends with 1 if it found something. With --write it rewrites the table of docs/SIZES.md.
@@ -33,7 +34,6 @@ EXCEPTIONS = {
         autogroup kernel lw mm nice proc sched_autogroup_enabled setsid transparent_hugepage vimrc
     """,
     "placeholders, and prefixes of names": "CASE CRATE FIELD MODULE NAME PID TYPE entries_ over_",
-    "the program in docs/LIBRARY.md": "recipes",
 }
 WORD = re.compile(r"[A-Za-z_]\w*")
 PATH = re.compile(
@@ -125,6 +125,26 @@ def check_span(code, crate):
             if crate and word not in words(crate):
                 return f"{word}: not in {crate}"
     return None
+
+
+def quotes(text):
+    """Each block of code with the path that the line before it names, as in `crates/NAME/src/lib.rt`:, and its line number."""
+    for found in re.finditer(r"`([\w./-]+/[\w./-]+)`:\n\n```\w*\n(.*?)^```$", text, re.M | re.S):
+        yield text.count("\n", 0, found.start()) + 1, found.group(1), found.group(2)
+
+
+def check_quotes(file, text):
+    """A quoted block stands in its source. A line `...` in it stands for any lines."""
+    for number, path, block in quotes(text):
+        source = TOP / path
+        if not source.is_file():
+            continue
+        have, at = source.read_text(), 0
+        for part in re.split(r"^ *\.\.\.\n", block, flags=re.M):
+            part = part.strip("\n")
+            if part and (at := have.find(part, at)) < 0:
+                yield f"{file}:{number}: the code isn't that of {path}: {part.splitlines()[0]}"
+                break
 
 
 @cache
@@ -227,6 +247,7 @@ def main():
     for file in DOCUMENTS:
         text = (TOP / file).read_text()
         found.extend(f"{file}: {it}" for it in check_links(file, text))
+        found.extend(check_quotes(file, text))
         for number, code, crate in spans(text):
             if wrong := check_span(code, crate):
                 found.append(f"{file}:{number}: `{code}`: {wrong}")

@@ -1,6 +1,4 @@
-pub mod Formatted
-pub mod Indented
+pub mod Failures
 pub mod Outcomes
-pub mod Rejected
 pub mod WholeInput
 pub mod Written

@@ -1,19 +1,13 @@
 -- What a failure leaves, and its reason.
-use Rattle.std.proofs.Common.{◌≡◌, ◌≢◌, ℕ, List, [], ◌∷◌, append-nil, Option, Result, Ok, Err, codes, sym, subst}
+use Rattle.std.proofs.Common.{ℕ, List, [], ◌∷◌, append-nil, Option, Result, Ok, Err, sym}
 use Rattle.std.specs.Prelude.{OnErr, OnOk}
 use Rattle.std.specs.Io.KnownBytes.{Appends, Keeps}
 use Rattle.std.proofs.KnownBytes.{Appends-kept}
-use Rattle.justfile_vocabulary.specs.Numerator.{bindings_of, recipes_of}
-use Rattle.justfile_vocabulary.specs.declared.numerator.Numerator.{Numerator}
-use Rattle.justfile_token.specs.declared.fault.Fault.{Fault}
-use Rattle.justfile_token.specs.declared.fault.Fault.TheVariants.{Numbers}
-use Rattle.justfile_model.specs.Files.{NumbersSuffice}
 use Rattle.justfile_ast.specs.Written.{AppendsPart}
 use Rattle.justfile_ast.specs.declared.write_fault.WriteFault.{WriteFault}
-use Rattle.justfile_parse.specs.Parsing.{HasNoTree}
-use Rattle.justfile_format.specs.Formatting.{Formats, IsFormatted, conditions}
-use Rattle.justfile_format.specs.Outcome.{AppendsBeginning, FormatsBeginning, LacksNumbers}
-use Rattle.justfile_format.specs.declared.failure.Failure.TheVariants as failures
+use Rattle.justfile_canonical.specs.Formatting.{IsFormatted}
+use Rattle.justfile_format.specs.Formatting.{Formats}
+use Rattle.justfile_format.specs.Outcome.{AppendsBeginning, FormatsBeginning}
 
 whole : (old new : Option (List ℕ)) (text : List ℕ) → Appends old new text → AppendsBeginning old new text
 whole old new text h = record { written = text; rest = []; is = sym (append-nil text); appended = h }
@@ -38,18 +32,3 @@ unflushed source old mid new f kept = record {
   formatted = f.formatted;
   written = whole old new f.canonical (Appends-kept old mid new f.canonical f.written kept);
 }
-
--- a parse from 0 on that wants a number
-pub lacking : (source : List ℕ) (old new : Numerator) (fault : Fault) → HasNoTree conditions (codes "justfile") source old new fault → fault ≡ Numbers
-    → bindings_of old ≡ 0 → recipes_of old ≡ 0 → LacksNumbers source
-lacking source old new fault none is no_binding no_recipe =
-    let h = subst (HasNoTree conditions (codes "justfile") source old new) is none in
-    record {
-      old = old;
-      new = new;
-      no_binding = no_binding;
-      no_recipe = no_recipe;
-      wants = h.0;
-      never_enough = λ limit tree features derives enough.
-          h.1 limit tree features derives (subst (λ n. NumbersSuffice n (recipes_of old) tree) (sym no_binding) (subst (λ n. NumbersSuffice 0 n tree) (sym no_recipe) enough));
-    }

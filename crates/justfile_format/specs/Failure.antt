@@ -1,8 +1,7 @@
 -- Why nothing was formatted: exit statuses, and the lines for standard error.
-use Rattle.std.specs.Prelude.{◌≡◌, ℕ, List, ◌++◌, codes, string_bytes}
-use Rattle.justfile_token.specs.Excerpt.{excerpt_text}
-use Rattle.justfile_token.specs.Messages.{message_text}
-use Rattle.justfile_token.specs.declared.compile_error.CompileError.{CompileError}
+use Rattle.std.specs.Prelude.{ℕ, List, codes, string_bytes}
+use Rattle.justfile_canonical.specs.declared.fault.FormatFault.{FormatFault}
+use Rattle.justfile_canonical.specs.declared.fault.FormatFault.TheVariants as faults
 use Rattle.justfile_format.specs.declared.failure.Failure.{Failure}
 use Rattle.justfile_format.specs.declared.failure.Failure.TheVariants.{Usage, Reading, NotUtf8, Rejected, NotPrintable, Writing, Memory, Numbers}
 
@@ -21,15 +20,12 @@ failure_text Writing = codes "error: writing failed\n"
 failure_text Memory = codes "error: out of memory\n"
 failure_text Numbers = codes "error: out of numbers\n"
 
--- the message of an error, and the excerpt of the line that it is on
-abbrev pub error_text : CompileError → List ℕ
-error_text e = codes "error: " ++ message_text e ++ codes "\n" ++ excerpt_text e.token ++ codes "\n"
-
--- The failure is the one for the error, or memory ran out.
-abbrev pub IsRejectionFor : CompileError → Failure → Type 0
-IsRejectionFor e (Rejected lines) = string_bytes lines ≡ error_text e
-IsRejectionFor e Memory = Unit {0}
-IsRejectionFor e _ = ⊥
+-- the failure for a fault of formatting
+abbrev pub failure_of : FormatFault → Failure
+failure_of (faults.Rejected lines) = Rejected lines
+failure_of faults.NotPrintable = NotPrintable
+failure_of faults.Memory = Memory
+failure_of faults.Numbers = Numbers
 
 -- If the failure is that of a text that isn't a justfile, `Holds` applies to its lines.
 abbrev pub IfRejected : (List ℕ → Type 0) → Failure → Type 0
@@ -49,12 +45,6 @@ IsOfText NotPrintable = Unit {0}
 IsOfText Memory = Unit {0}
 IsOfText Numbers = Unit {0}
 IsOfText _ = ⊥
-
--- The failure is one of printing a file.
-abbrev pub IsOfPrinting : Failure → Type 0
-IsOfPrinting NotPrintable = Unit {0}
-IsOfPrinting Memory = Unit {0}
-IsOfPrinting _ = ⊥
 
 -- The failure is one of formatting a text or of writing the result.
 abbrev pub IsOfTextOrWriting : Failure → Type 0

@@ -2,18 +2,10 @@
 use Rattle.std.specs.Prelude.{◌≡◌, ◌≢◌, ℕ, List, ◌++◌, Option, IfSome, String, string_bytes}
 use Rattle.std.specs.Io.KnownBytes.{Appends}
 use Rattle.std.specs.Str.{IsUtf8}
-use Rattle.justfile_vocabulary.specs.Numerator.{bindings_of, recipes_of}
-use Rattle.justfile_vocabulary.specs.declared.numerator.Numerator.{Numerator}
-use Rattle.justfile_model.specs.Conditions.{with_limit}
-use Rattle.justfile_model.specs.Features.{Noted}
-use Rattle.justfile_model.specs.Files.{NumbersSuffice}
-use Rattle.justfile_model.specs.Tok.{Tok}
-use Rattle.justfile_model.specs.Tree.{Tree}
-use Rattle.justfile_round_trip.specs.RoundTrip.{TextDerives}
-use Rattle.justfile_parse.specs.Parsing.{TextWantsNumber}
 use Rattle.justfile_format.specs.Arguments.{AsksCheck, AsksFormat}
 use Rattle.justfile_format.specs.Failure.{failure_text, status_of}
-use Rattle.justfile_format.specs.Formatting.{IsFormatted, IsRejection, IsUnprintable, conditions}
+use Rattle.justfile_canonical.specs.Formatting.{IsFormatted, IsUnprintable, LacksNumbers}
+use Rattle.justfile_format.specs.Formatting.{IsRejection}
 use Rattle.justfile_format.specs.declared.failure.Failure.{Failure}
 use Rattle.justfile_format.specs.declared.failure.Failure.TheVariants.{Usage, Reading, NotUtf8, Rejected, NotPrintable, Writing, Memory, Numbers}
 
@@ -29,17 +21,6 @@ pub record FormatsBeginning (source : List ℕ) (old new : Option (List ℕ)) : 
   pub canonical : List ℕ
   pub formatted : IsFormatted source canonical
   pub written : AppendsBeginning old new canonical
-
--- Counting from 0, a number is needed in the text and there is none, and the numbers suffice for no tree that derives under any limit of
--- depth.
-pub record LacksNumbers (source : List ℕ) : Type 0 where
-  pub old : Numerator
-  pub new : Numerator
-  pub no_binding : bindings_of old ≡ 0
-  pub no_recipe : recipes_of old ≡ 0
-  pub wants : TextWantsNumber conditions source old new
-  pub never_enough : (limit : ℕ) (tree : Tree) (features : List (Noted Tok)) → TextDerives (with_limit limit conditions) source tree features
-      → NumbersSuffice 0 0 tree → ⊥
 
 -- What a failure implies about the arguments, the input, and the output before and after. That reading failed or memory ran out implies
 -- nothing.

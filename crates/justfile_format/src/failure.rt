@@ -3,6 +3,7 @@ ghost use Rattle.std.specs.Prelude.{◌≡◌};
 ghost use Rattle.justfile_format.specs.Failure.{failure_text, status_of};
 ghost use Rattle.justfile_format.specs.Outcome.{AppendsBeginning};
 
+use justfile_syntax::format::FormatFault;
 use justfile_syntax::write_fault::{WriteFault, write_whole};
 use std::alloc::{AllocError, AllocFailed};
 use std::io::Write;
@@ -45,6 +46,21 @@ impl<T: Drop> From<AllocFailed<T>> for Failure {
 
     fn from(_: AllocFailed<T>) -> Self {
         Failure::Memory
+    }
+}
+
+impl From<FormatFault> for Failure {
+    ghost use Rattle.justfile_format.specs.Failure.{failure_of};
+
+    ghost from_gives = { λ fault failure. failure ≡ failure_of fault };
+
+    fn from(fault: FormatFault) -> Self {
+        match fault {
+            FormatFault::Rejected(lines) => Failure::Rejected(lines),
+            FormatFault::NotPrintable => Failure::NotPrintable,
+            FormatFault::Memory => Failure::Memory,
+            FormatFault::Numbers => Failure::Numbers,
+        }
     }
 }
 

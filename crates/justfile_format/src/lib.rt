@@ -4,6 +4,4 @@
 pub mod failure;
 pub mod formatting;
 mod input;
-pub mod laws;
 pub mod run;
-mod unchanged;

@@ -5,8 +5,9 @@ ghost use Rattle.std.specs.Str.{IsUtf8};
 ghost use Rattle.justfile_format.specs.declared.failure.Failure.TheVariants as failures;
 ghost use Rattle.justfile_format.specs.Arguments.{AsksCheck, AsksFormat};
 ghost use Rattle.justfile_format.specs.Failure.{IfRejected};
-ghost use Rattle.justfile_format.specs.Formatting.{IsFormatted, IsRejection, IsUnprintable, Formats, Differs, HasNone};
-ghost use Rattle.justfile_format.specs.Outcome.{Fails, FormatsBeginning, LacksNumbers};
+ghost use Rattle.justfile_canonical.specs.Formatting.{HasNone, IsFormatted, IsUnprintable, LacksNumbers};
+ghost use Rattle.justfile_format.specs.Formatting.{IsRejection, Formats, Differs};
+ghost use Rattle.justfile_format.specs.Outcome.{Fails, FormatsBeginning};
 
 use crate::failure::{Failure, report};
 use crate::formatting::{format_text, format_to};

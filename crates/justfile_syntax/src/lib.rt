@@ -2,100 +2,156 @@
 #![tactic(auto)]
 
 pub mod alias {
+    //! Aliases of recipes.
+
     pub use justfile_item::Alias;
 }
 
 pub mod assignment {
+    //! Assignments of variables.
+
     pub use justfile_item::Assignment;
 }
 
 pub mod ast {
+    //! Files: `Ast` has the items, and prints them.
+
     pub use justfile_ast::Ast;
 }
 
 pub mod attribute {
+    //! Attributes: their kinds, what they hold, and their order.
+
     pub use justfile_attribute::{Attribute, attribute_content_cmp};
     pub use justfile_attribute_rules::KeywordArguments;
     pub use justfile_vocabulary::AttributeKind;
 }
 
 pub mod attribute_set {
-    pub use justfile_attribute_set::{AttributeSet, IntoKeys, IntoNamed, Keys, Written};
+    //! The attributes of an item, in the order of their content.
+
+    pub use justfile_attribute_set::{
+        AttributeSet, ContentOrder, IntoKeys, IntoNamed, Keys, PairSet, Written,
+    };
 }
 
 pub mod binding {
+    //! Names with a value.
+
     pub use justfile_item::Binding;
 }
 
 pub mod byte_class {
+    //! The classes of bytes that the lexer tells apart.
+
     pub use justfile_vocabulary::byte_class::{ByteClass, byte_class};
 }
 
 pub mod compile_error {
+    //! Errors: what is wrong, and at which token.
+
     pub use justfile_token::CompileError;
 }
 
 pub mod compile_error_kind {
+    //! What can be wrong with a text. Displayed by `CompileError` as `just`'s message.
+
     pub use justfile_token::CompileErrorKind;
 }
 
 pub mod conditional_operator {
+    //! The operators that compare: `==`, `!=`, `=~`, `!~`.
+
     pub use justfile_model::ConditionalOperator;
 }
 
 pub mod count {
+    //! Counts with their nouns, as messages show them.
+
     pub use justfile_vocabulary::Count;
 }
 
 pub mod delimiter {
+    //! Brackets, as messages name them.
+
     pub use justfile_token::Delimiter;
 }
 
 pub mod expander {
+    //! What expands the texts of `x'..'`.
+
     pub use justfile_token::{ExpandFault, Expander};
 }
 
 pub mod expression {
+    //! Expressions.
+
     pub use justfile_expression::Expression;
 }
 
 pub mod fault {
+    //! Why a call that parses has no result.
+
     pub use justfile_token::{CompileResult, Fault};
 }
 
+pub mod format {
+    //! From a text to its canonical text.
+
+    pub use justfile_canonical::fault::FormatFault;
+    pub use justfile_canonical::formatting::{format_and_forget, format_text, own_indentation};
+}
+
 pub mod fragment {
+    //! The parts of body lines: texts and interpolations.
+
     pub use justfile_line::Fragment;
 }
 
 pub mod function_definition {
+    //! Functions that a file defines.
+
     pub use justfile_item::FunctionDefinition;
 }
 
 pub mod indentation {
+    //! The indentation of printed body lines.
+
     pub use justfile_vocabulary::Indentation;
 }
 
 pub mod interpreter {
+    //! Commands that run scripts, with their arguments.
+
     pub use justfile_attribute::Interpreter;
 }
 
 pub mod item {
+    //! The items of files, and their kinds.
+
     pub use justfile_item::Item;
     pub use justfile_vocabulary::ItemKind;
 }
 
 pub mod keyed {
+    //! Values that have a name by which they are found.
+
     pub use justfile_token::Keyed;
 }
 
 pub mod keyword {
+    //! The words that have a meaning where the grammar allows them.
+
     pub use justfile_vocabulary::Keyword;
 }
 
 pub mod laws {
+    //! Statements about the definitions, as contracts of functions that do nothing.
+
     pub use justfile_ast::laws::same_numbers;
     pub use justfile_attribute::laws::{attributes_equal, interpreters_ordered, new_attributes};
     pub use justfile_attribute_set::laws::sets_in_order;
+    pub use justfile_canonical::laws::formatted_texts;
     pub use justfile_expression::laws::{
         cases_equal, cases_ordered, errors_equal, expression_contents_ordered, expressions_ordered,
         literals_ordered, modulepaths_ordered, namepaths_ordered, names_ordered, numbers_ordered,
@@ -128,117 +184,182 @@ pub mod laws {
 }
 
 pub mod lexer {
+    //! From a text to its tokens.
+
     pub use justfile_lex::Lexer;
 }
 
 pub mod line {
+    //! The lines of bodies.
+
     pub use justfile_line::Line;
 }
 
 pub mod list {
+    //! Lists of alternatives, as messages show them.
+
     pub use justfile_vocabulary::List;
 }
 
 pub mod list_feature {
+    //! The uses of the language that need `set lists`.
+
     pub use justfile_vocabulary::ListFeature;
 }
 
 pub mod list_operator {
+    //! The operators that join lists: `+` and `/`.
+
     pub use justfile_expression::ListOperator;
 }
 
 pub mod modulepath {
+    //! The names of the modules that contain a file.
+
     pub use justfile_token::Modulepath;
 }
 
 pub mod name {
+    //! Names, with their tokens.
+
     pub use justfile_token::Name;
 }
 
 pub mod namepath {
+    //! Paths of names, with `::` between them.
+
     pub use justfile_token::Namepath;
 }
 
 pub mod numerator {
+    //! The numbers of bindings and recipes, and what hands them out.
+
     pub use justfile_vocabulary::{Number, Numerator};
 }
 
+pub mod outline {
+    //! The symbols of a file: its named items as plain values.
+
+    pub use justfile_canonical::reading::symbols;
+    pub use justfile_outline::{Symbol, outline};
+}
+
 pub mod parameter {
+    //! Parameters of recipes.
+
     pub use justfile_recipe_header::Parameter;
 }
 
 pub mod parameter_kind {
+    //! How many arguments a parameter takes.
+
     pub use justfile_recipe_header::ParameterKind;
 }
 
 pub mod parser {
+    //! From a text or its tokens to a file.
+
+    pub use justfile_canonical::reading::{Reader, read_root, release};
+    pub use justfile_canonical::root::parse_root;
     pub use justfile_literal::cook_string;
     pub use justfile_parse::significant::{TableEntry, significant};
     pub use justfile_parse::{Parser, RECURSION_LIMIT};
 }
 
 pub mod recipe {
+    //! Recipes.
+
     pub use justfile_item::UnresolvedRecipe;
 }
 
 pub mod set {
+    //! Settings with their attributes.
+
     pub use justfile_item::Set;
 }
 
 pub mod setting {
+    //! What settings hold, their defaults and their conflicts.
+
     pub use justfile_setting::Setting;
 }
 
 pub mod sigil {
+    //! The marks before body lines: `@`, `-` and `?`.
+
     pub use justfile_line::Sigil;
 }
 
 pub mod signal {
+    //! The signals that `continue` takes.
+
     pub use justfile_vocabulary::Signal;
 }
 
 pub mod source {
+    //! Where a text comes from: its imports and its module.
+
     pub use justfile_token::Source;
 }
 
 pub mod string_kind {
+    //! The delimiters of literals.
+
     pub use justfile_token::{StringDelimiter, StringKind};
 }
 
 pub mod string_literal {
+    //! Literals, with their texts.
+
     pub use justfile_token::StringLiteral;
     pub use justfile_vocabulary::FormatStringPart;
 }
 
 pub mod switch {
+    //! How options of recipes are written on the command line.
+
     pub use justfile_vocabulary::Switch;
 }
 
 pub mod token {
+    //! Tokens: parts of a text, with their places.
+
     pub use justfile_token::Token;
 }
 
 pub mod token_kind {
+    //! The kinds of tokens.
+
     pub use justfile_vocabulary::TokenKind;
 }
 
 pub mod unindent {
+    //! Texts without their indentation.
+
     pub use justfile_literal::unindent::unindent;
 }
 
 pub mod unresolved_dependency {
+    //! Dependencies of recipes, by name.
+
     pub use justfile_recipe_header::{DependencyArgument, UnresolvedDependency};
 }
 
 pub mod unstable_feature {
+    //! The features that need `set unstable`.
+
     pub use justfile_vocabulary::UnstableFeature;
 }
 
 pub mod version {
+    //! Versions of `just`.
+
     pub use justfile_vocabulary::Version;
 }
 
 pub mod write_fault {
+    //! Why a text wasn't written, and a call that writes all bytes.
+
     pub use justfile_ast::{WriteFault, write_whole};
 }
 

@@ -1,0 +1,46 @@
+//! Callers with contracts: from a text to the printed text of its tree.
+#![tactic(auto)]
+
+ghost use Rattle.std.specs.Prelude.{◌≡◌, IfOk, string_bytes};
+ghost use Rattle.justfile_syntax.specs.Files.{ast_shape};
+ghost use Rattle.justfile_syntax.specs.Printing.{printed};
+ghost use Rattle.justfile_syntax.specs.Words.{indentation_text};
+ghost use Rattle.formatted.specs.Formatted.{IsFormattedAsSet, IsFormattedAt};
+
+use justfile_syntax::ast::Ast;
+use justfile_syntax::fault::CompileResult;
+use justfile_syntax::format::own_indentation;
+use justfile_syntax::indentation::Indentation;
+use justfile_syntax::parser::{parse_root, release};
+use std::alloc::{AllocError, Global};
+
+/// Returns the formatted text of a justfile, at this indentation.
+pub fn formatted(alloc: Global, text: &str, indentation: Indentation) -> CompileResult<'_, String>
+    ensures { IfOk result (λ formatted. IsFormattedAt text.now (indentation_text indentation)
+        (string_bytes formatted)) }
+{
+    let ast = parse_root(alloc, "justfile", text)?;
+    let formatted = print(&ast, alloc, indentation);
+    release(ast);
+    Ok(formatted?)
+}
+
+/// Returns the formatted text of a justfile, at the indentation that it sets.
+pub fn formatted_as_set(alloc: Global, text: &str) -> CompileResult<'_, String>
+    ensures { IfOk result
+        (λ formatted. IsFormattedAsSet text.now (string_bytes formatted)) }
+{
+    let ast = parse_root(alloc, "justfile", text)?;
+    let indentation = own_indentation(&ast);
+    let formatted = print(&ast, alloc, indentation);
+    release(ast);
+    Ok(formatted?)
+}
+
+/// Returns the printed text of a file.
+fn print(ast: &Ast<'_>, alloc: Global, indentation: Indentation) -> Result<String, AllocError>
+    ensures { IfOk result (λ text. string_bytes text
+        ≡ printed (ast_shape ast.now) (indentation_text indentation)) }
+{
+    ast.print(alloc, indentation)
+}

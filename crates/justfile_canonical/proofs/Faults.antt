@@ -1,0 +1,61 @@
+-- Why a text isn't formatted.
+use Rattle.std.proofs.Common.{◌≡◌, ◌⊎◌, inl, inr, ℕ, List, sym, subst}
+use Rattle.std.specs.Str.{IsUtf8}
+use Rattle.justfile_vocabulary.specs.Numerator.{bindings_of, recipes_of}
+use Rattle.justfile_vocabulary.specs.declared.numerator.Numerator.{Numerator}
+use Rattle.justfile_token.specs.declared.compile_error.CompileError.{CompileError}
+use Rattle.justfile_token.specs.declared.fault.Fault.{Fault}
+use Rattle.justfile_token.specs.declared.fault.Fault.TheVariants.{Compile, Numbers}
+use Rattle.justfile_model.specs.Files.{NumbersSuffice}
+use Rattle.justfile_ast.specs.declared.ast.Ast.{Ast}
+use Rattle.justfile_parse.specs.Parsing.{HasNoTree, IsTreeless}
+use Rattle.justfile_canonical.specs.Fault.{IsFaultOf, IsFaultOfPrinting, IsRejectionFor}
+use Rattle.justfile_canonical.specs.Formatting.{IsFileOf, LacksNumbers}
+use Rattle.justfile_canonical.specs.Root.{HasNoRoot, conditions}
+use Rattle.justfile_canonical.specs.declared.fault.FormatFault.{FormatFault}
+use Rattle.justfile_canonical.specs.declared.fault.FormatFault.TheVariants as faults
+
+without_numbers : {A B C : Type 0} → (A × B) ⊎ C → A ⊎ C
+without_numbers (inl p) = inl p.0
+without_numbers (inr q) = inr q
+
+-- a text that isn't a justfile has an error, and the fault has its message
+told : (path source : List ℕ) (old new : Numerator) (e : CompileError) (f : FormatFault) → IsUtf8 source → IsTreeless conditions path source old new e
+    → IsRejectionFor e f → IsFaultOf path source f
+told path source old new e (faults.Rejected lines) utf8 treeless is = record {
+  rejected = record { utf8 = utf8; derives_none = treeless.derives_none };
+  error = e;
+  from = treeless.from;
+  cause = without_numbers treeless.cause;
+  is = is;
+}
+told path source old new e faults.Memory utf8 treeless is = tt
+told path source old new e faults.NotPrintable utf8 treeless is = absurd is
+told path source old new e faults.Numbers utf8 treeless is = absurd is
+
+pub rejection_of : (path source : List ℕ) (fault : Fault) (e : CompileError) (f : FormatFault) → IsUtf8 source → HasNoRoot path source fault → fault ≡ Compile e
+    → IsRejectionFor e f → IsFaultOf path source f
+rejection_of path source fault e f utf8 root is told_of =
+    told path source root.old root.new e f utf8 (subst (HasNoTree conditions path source root.old root.new) is root.no_tree) told_of
+
+-- a parse from 0 on that wants a number
+pub lacking : (path source : List ℕ) (fault : Fault) → HasNoRoot path source fault → fault ≡ Numbers → LacksNumbers source
+lacking path source fault root is =
+    let h = subst (HasNoTree conditions path source root.old root.new) is root.no_tree in
+    record {
+      old = root.old;
+      new = root.new;
+      no_binding = root.no_binding;
+      no_recipe = root.no_recipe;
+      wants = h.0;
+      never_enough = λ limit tree features derives enough.
+          h.1 limit tree features derives
+          (subst (λ n. NumbersSuffice n (recipes_of root.old) tree) (sym root.no_binding) (subst (λ n. NumbersSuffice 0 n tree) (sym root.no_recipe) enough));
+    }
+
+-- a file of the text that isn't printed
+pub unprinted : (path source : List ℕ) (ast : Ast) (f : FormatFault) → IsFileOf source ast → IsFaultOfPrinting ast f → IsFaultOf path source f
+unprinted path source ast faults.NotPrintable file h = record { tree = _; features = _; derives = file.derives; cannot_be_printed = h }
+unprinted path source ast faults.Memory file h = tt
+unprinted path source ast (faults.Rejected lines) file h = absurd h
+unprinted path source ast faults.Numbers file h = absurd h

@@ -1,0 +1,136 @@
+-- The indentation of a file's printed text is the text of the literal that sets it.
+use Rattle.std.proofs.Common.{◌≡◌, ℕ, Bool, true, false, List, [], ◌∷◌, ◌++◌, Option, Some, None, Result, Ok, Err, codes, sym, ap, subst, ◌∙◌, if◌then◌else◌}
+use Rattle.std.specs.Prelude.{All, IfOk, IfSome, string_bytes}
+use Rattle.std.specs.Option.{option_map}
+use Rattle.std.proofs.lemmas.List.Elements.{All-head, All-tail}
+use Rattle.std.proofs.lemmas.Option.{none-some, same_Some}
+use Rattle.justfile_vocabulary.specs.Indentation.{indentation_text}
+use Rattle.justfile_token.specs.StringLiteral.{begins_format_string}
+use Rattle.justfile_token.specs.Token.{lexeme_of}
+use Rattle.justfile_vocabulary.specs.declared.indentation.Indentation.{Indentation}
+use Rattle.justfile_token.specs.declared.fault.Fault.{Fault}
+use Rattle.justfile_token.specs.declared.string_literal.StringLiteral.{StringLiteral}
+use Rattle.justfile_token.specs.declared.token.Token.{Token}
+use Rattle.justfile_model.specs.Literals.{LiteralFault, cooked_text, expanded_text, string_of, string_text}
+use Rattle.justfile_model.specs.RecipeRules.{or_else}
+use Rattle.justfile_model.specs.Tok.{Tok}
+use Rattle.justfile_expression.specs.Expression.{literal_tok}
+use Rattle.justfile_attribute_set.specs.AttributeSet.{attributes_of}
+use Rattle.justfile_attribute_set.specs.Attributes.{are_enabled}
+use Rattle.justfile_setting.specs.declared.setting.Setting.{Setting}
+use Rattle.justfile_setting.specs.declared.setting.Setting.TheVariants as settings
+use Rattle.justfile_item.specs.Indented.{indentation_set, item_indentation, items_indentation}
+use Rattle.justfile_item.specs.declared.item.Item.{Item}
+use Rattle.justfile_item.specs.declared.item.Item.TheVariants as items
+use Rattle.justfile_ast.specs.declared.ast.Ast.{Ast}
+use Rattle.justfile_parse_item.specs.Filled.{IsFilledItem, IsFilledLiteral, IsFilledSetting}
+use Rattle.justfile_canonical.specs.Formatting.{IsFileOf, IsIndented, IsIndentedBy, MatchesLiteral}
+use Rattle.justfile_canonical.specs.Root.{IsRoot, unchanged}
+
+-- ---- what the literal stands for
+
+unexpanded : (r : Result (List ℕ) LiteralFault) (text : List ℕ) → expanded_text unchanged r ≡ Ok text → r ≡ Ok text
+unexpanded (Ok t) text h = h
+unexpanded (Err fault) text h = h
+
+plain : (expanded : Bool) (lexeme text : List ℕ) → cooked_text unchanged (string_of expanded lexeme) ≡ Ok text → string_text lexeme ≡ Ok text
+plain false lexeme text h = h
+plain true lexeme text h = unexpanded (string_text lexeme) text h
+
+module _ (IsToken : Token → Type 0) where
+  holds_literal : (literal : StringLiteral) (indentation : Indentation) → IsFilledLiteral unchanged IsToken literal
+      → indentation_text indentation ≡ string_bytes literal.cooked → MatchesLiteral (literal, indentation)
+  holds_literal literal indentation given e =
+      ap (λ part. string_text ((if begins_format_string part then codes "f" else []) ++ lexeme_of literal.token)) given.part
+      ∙ plain literal.expand (lexeme_of literal.token) (string_bytes literal.cooked) given.cooked
+      ∙ ap (λ (text : List ℕ). Ok text) (sym e)
+
+  holds_set : (s : Setting) → IsFilledSetting unchanged IsToken s → IfSome (indentation_set s) MatchesLiteral
+  holds_set (settings.Indentation literal indentation) given = holds_literal literal indentation given.0 given.1
+  holds_set (settings.AllowDuplicateRecipes value) given = tt
+  holds_set (settings.AllowDuplicateVariables value) given = tt
+  holds_set (settings.DefaultList value) given = tt
+  holds_set (settings.DefaultScript value) given = tt
+  holds_set (settings.DotenvCommand value) given = tt
+  holds_set (settings.DotenvFilename value) given = tt
+  holds_set (settings.DotenvLoad value) given = tt
+  holds_set (settings.DotenvOverride value) given = tt
+  holds_set (settings.DotenvPath value) given = tt
+  holds_set (settings.DotenvRequired value) given = tt
+  holds_set (settings.Export value) given = tt
+  holds_set (settings.Fallback value) given = tt
+  holds_set (settings.Guards value) given = tt
+  holds_set (settings.IgnoreComments value) given = tt
+  holds_set (settings.Lazy value) given = tt
+  holds_set (settings.Lists value) given = tt
+  holds_set (settings.MinimumVersion literal) given = tt
+  holds_set (settings.NoCd value) given = tt
+  holds_set (settings.NoExitMessage value) given = tt
+  holds_set (settings.PositionalArguments value) given = tt
+  holds_set (settings.Quiet value) given = tt
+  holds_set (settings.ScriptInterpreter interpreter) given = tt
+  holds_set (settings.Shell interpreter) given = tt
+  holds_set (settings.Tempdir value) given = tt
+  holds_set (settings.Unstable value) given = tt
+  holds_set (settings.WindowsPowerShell value) given = tt
+  holds_set (settings.WindowsShell interpreter) given = tt
+  holds_set (settings.WorkingDirectory value) given = tt
+
+  holds_if : (b : Bool) (s : Setting) → IsFilledSetting unchanged IsToken s → IfSome (if b then indentation_set s else None) MatchesLiteral
+  holds_if true s given = holds_set s given
+  holds_if false s given = tt
+
+  module _ (depth : ℕ) (offsets : List ℕ) where
+    holds_item : (i : Item) → IsFilledItem unchanged IsToken depth offsets i → IfSome (item_indentation i) MatchesLiteral
+    holds_item (items.Alias a) given = tt
+    holds_item (items.Assignment a) given = tt
+    holds_item (items.Comment text) given = tt
+    holds_item (items.Function f) given = tt
+    holds_item (items.Import attributes optional relative) given = tt
+    holds_item (items.Module attributes doc name optional relative) given = tt
+    holds_item items.Newline given = tt
+    holds_item (items.Recipe r) given = tt
+    holds_item (items.Setting s) given = holds_if (are_enabled (attributes_of s.attributes)) s.value.value given.value
+    holds_item (items.Unexport attributes name) given = tt
+
+    holds_first : (o found : Option (StringLiteral × Indentation)) → IfSome o MatchesLiteral → IfSome found MatchesLiteral → IfSome (or_else o found) MatchesLiteral
+    holds_first None found h k = k
+    holds_first (Some p) found h k = h
+
+    holds_items : (all : List Item) → All (IsFilledItem unchanged IsToken depth offsets) all → IfSome (items_indentation all) MatchesLiteral
+    holds_items [] given = tt
+    holds_items (i ∷ all) given =
+        holds_first (item_indentation i) (items_indentation all) (holds_item i (All-head (IsFilledItem unchanged IsToken depth offsets) i all given))
+        (holds_items all (All-tail (IsFilledItem unchanged IsToken depth offsets) i all given))
+
+-- a file that was parsed has the indentation of its literal
+pub indented : (path source : List ℕ) (r : Result Ast Fault) → IfOk r (IsRoot path source) → IfOk r IsIndented
+indented path source (Ok ast) root = holds_items _ 0 [] ast.items.items root.parsed.filled.given
+indented path source (Err fault) root = tt
+
+-- it is that of its text
+pub file_of : (path source : List ℕ) (ast : Ast) → IsRoot path source ast → IsFileOf source ast
+file_of path source ast root =
+    record { derives = root.parsed.derives; indented = indented path source (Ok ast) root }
+
+-- ---- the indentation of the printed text
+
+literal_by : (found : Option (StringLiteral × Indentation)) (indentation : Indentation) → Some indentation ≡ option_map (λ p. p.1) found → IfSome found MatchesLiteral
+    → IsIndentedBy (option_map (λ p. literal_tok p.0) found) (indentation_text indentation)
+literal_by None indentation e h = absurd (none-some indentation (sym e))
+literal_by (Some p) indentation e h = h ∙ ap (λ (i : Indentation). Ok (indentation_text i)) (sym (same_Some indentation p.1 e))
+
+default_by : (found : Option (StringLiteral × Indentation)) (text : List ℕ) → None ≡ option_map (λ (p : StringLiteral × Indentation). p.1) found → text ≡ codes "    "
+    → IsIndentedBy (option_map (λ p. literal_tok p.0) found) text
+default_by None text e h = h
+default_by (Some p) text e h = absurd (none-some p.1 e)
+
+-- the file has a setting `indentation`
+pub indented_by_literal : (found : Option (StringLiteral × Indentation)) (literal : Option Tok) (indentation : Indentation) → Some indentation ≡ option_map (λ p. p.1) found
+    → literal ≡ option_map (λ p. literal_tok p.0) found → IfSome found MatchesLiteral → IsIndentedBy literal (indentation_text indentation)
+indented_by_literal found literal indentation e l h = subst (λ (t : Option Tok). IsIndentedBy t (indentation_text indentation)) (sym l) (literal_by found indentation e h)
+
+-- the file doesn't have one
+pub indented_by_default : (found : Option (StringLiteral × Indentation)) (literal : Option Tok) (text : List ℕ) → None ≡ option_map (λ (p : StringLiteral × Indentation). p.1) found
+    → literal ≡ option_map (λ p. literal_tok p.0) found → text ≡ codes "    " → IsIndentedBy literal text
+indented_by_default found literal text e l h = subst (λ (t : Option Tok). IsIndentedBy t text) (sym l) (default_by found text e h)

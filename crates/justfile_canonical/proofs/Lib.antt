@@ -1,0 +1,4 @@
+pub mod Faults
+pub mod Formatted
+pub mod Indented
+pub mod Roots

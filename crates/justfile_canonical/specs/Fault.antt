@@ -1,0 +1,36 @@
+-- Why a text isn't formatted.
+use Rattle.std.specs.Prelude.{◌≡◌, ℕ, false, List, codes, string_bytes}
+use Rattle.justfile_token.specs.declared.compile_error.CompileError.{CompileError}
+use Rattle.justfile_model.specs.Printing.{printable}
+use Rattle.justfile_ast.specs.Ast.{ast_shape}
+use Rattle.justfile_ast.specs.declared.ast.Ast.{Ast}
+use Rattle.justfile_canonical.specs.Formatting.{IsRejection, IsUnprintable, LacksNumbers}
+use Rattle.justfile_canonical.specs.Messages.{error_text}
+use Rattle.justfile_canonical.specs.declared.fault.FormatFault.{FormatFault}
+use Rattle.justfile_canonical.specs.declared.fault.FormatFault.TheVariants.{Rejected, NotPrintable, Memory, Numbers}
+
+-- the lines that tell a user about it
+abbrev pub fault_text : FormatFault → List ℕ
+fault_text (Rejected lines) = string_bytes lines
+fault_text NotPrintable = codes "error: a body line ends in a carriage return\n"
+fault_text Memory = codes "error: out of memory\n"
+fault_text Numbers = codes "error: out of numbers\n"
+
+-- What a fault implies about the text of a file at this path. That memory ran out implies nothing.
+abbrev pub IsFaultOf : (path source : List ℕ) → FormatFault → Type 0
+IsFaultOf path source (Rejected lines) = IsRejection path source (string_bytes lines)
+IsFaultOf path source NotPrintable = IsUnprintable source
+IsFaultOf path source Memory = Unit {0}
+IsFaultOf path source Numbers = LacksNumbers source
+
+-- The fault is the one for the error, or memory ran out.
+abbrev pub IsRejectionFor : CompileError → FormatFault → Type 0
+IsRejectionFor e (Rejected lines) = string_bytes lines ≡ error_text e
+IsRejectionFor e Memory = Unit {0}
+IsRejectionFor e _ = ⊥
+
+-- The fault is one of printing a file: a line of a body ends in a carriage return, or memory ran out.
+abbrev pub IsFaultOfPrinting : Ast → FormatFault → Type 0
+IsFaultOfPrinting ast NotPrintable = printable (ast_shape ast) ≡ false
+IsFaultOfPrinting ast Memory = Unit {0}
+IsFaultOfPrinting ast _ = ⊥

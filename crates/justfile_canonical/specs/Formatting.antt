@@ -1,0 +1,98 @@
+-- The canonical text of a justfile.
+use Rattle.std.specs.Prelude.{◌≡◌, ◌⊎◌, ℕ, true, false, List, Option, Some, None, Ok, IfSome, codes}
+use Rattle.std.specs.Str.{IsUtf8}
+use Rattle.justfile_vocabulary.specs.Indentation.{indentation_text}
+use Rattle.justfile_vocabulary.specs.Numerator.{bindings_of, recipes_of}
+use Rattle.justfile_vocabulary.specs.declared.indentation.Indentation.{Indentation}
+use Rattle.justfile_vocabulary.specs.declared.numerator.Numerator.{Numerator}
+use Rattle.justfile_token.specs.declared.compile_error.CompileError.{CompileError}
+use Rattle.justfile_token.specs.declared.string_literal.StringLiteral.{StringLiteral}
+use Rattle.justfile_model.specs.LexResult.{IsFrom, IsLexicalError}
+use Rattle.justfile_model.specs.Conditions.{with_limit}
+use Rattle.justfile_model.specs.Enabled.{indentation_of}
+use Rattle.justfile_model.specs.Features.{Noted}
+use Rattle.justfile_model.specs.Files.{NumbersSuffice}
+use Rattle.justfile_model.specs.Literals.{string_text}
+use Rattle.justfile_model.specs.Printing.{printable}
+use Rattle.justfile_model.specs.Tok.{Tok}
+use Rattle.justfile_model.specs.Tree.{Tree, shape_of}
+use Rattle.justfile_expression.specs.Expression.{literal_tok}
+use Rattle.justfile_item.specs.Indented.{items_indentation}
+use Rattle.justfile_ast.specs.Ast.{features_of, tree_of}
+use Rattle.justfile_ast.specs.declared.ast.Ast.{Ast}
+use Rattle.justfile_round_trip.specs.RoundTrip.{TextDerives, printed}
+use Rattle.justfile_parse.specs.Parsing.{IsTextRefused, TextWantsNumber}
+use Rattle.justfile_canonical.specs.Messages.{error_text}
+use Rattle.justfile_canonical.specs.Root.{conditions}
+
+-- The indentation of body lines is the text of the literal in the setting `indentation`, or four spaces if there is no such setting.
+abbrev pub IsIndentedBy : Option Tok → (indentation : List ℕ) → Type 0
+IsIndentedBy None indentation = indentation ≡ codes "    "
+IsIndentedBy (Some literal) indentation = string_text literal.lexeme ≡ Ok indentation
+
+-- The text is a justfile that can be printed, and `canonical` is its canonical text, at its own indentation.
+pub record IsFormatted (source canonical : List ℕ) : Type 0 where
+  pub tree : Tree
+  pub features : List (Noted Tok)
+  pub derives : TextDerives conditions source tree features
+  pub can_be_printed : printable (shape_of tree) ≡ true
+  pub indentation : List ℕ
+  pub is_indented : IsIndentedBy (indentation_of tree) indentation
+  pub is : canonical ≡ printed (shape_of tree) indentation
+
+-- The bytes are UTF-8, but not a justfile.
+pub record IsRejectedText (source : List ℕ) : Type 0 where
+  pub utf8 : IsUtf8 source
+  pub derives_none : (tree : Tree) (features : List (Noted Tok)) → TextDerives conditions source tree features → ⊥
+
+-- The text isn't a justfile, and the lines tell which error is the cause: a fault of lexing, or the one for which its tokens are refused,
+-- at a part of the text. The path is that of the file.
+pub record IsRejection (path source lines : List ℕ) : Type 0 where
+  pub rejected : IsRejectedText source
+  pub error : CompileError
+  pub from : IsFrom path source error.token
+  pub cause : IsLexicalError path source error ⊎ IsTextRefused conditions source error
+  pub is : lines ≡ error_text error
+
+-- The text is a justfile, but a line of a body ends in a carriage return.
+pub record IsUnprintable (source : List ℕ) : Type 0 where
+  pub tree : Tree
+  pub features : List (Noted Tok)
+  pub derives : TextDerives conditions source tree features
+  pub cannot_be_printed : printable (shape_of tree) ≡ false
+
+-- why bytes that are UTF-8 have no canonical text
+pub data HasNone (source : List ℕ) : Type 0 where
+  rejected : IsRejectedText source → HasNone source
+  unprintable : IsUnprintable source → HasNone source
+
+-- Counting from 0, a number is needed in the text and there is none, and the numbers suffice for no tree that derives under any limit of
+-- depth.
+pub record LacksNumbers (source : List ℕ) : Type 0 where
+  pub old : Numerator
+  pub new : Numerator
+  pub no_binding : bindings_of old ≡ 0
+  pub no_recipe : recipes_of old ≡ 0
+  pub wants : TextWantsNumber conditions source old new
+  pub never_enough : (limit : ℕ) (tree : Tree) (features : List (Noted Tok)) → TextDerives (with_limit limit conditions) source tree features
+      → NumbersSuffice 0 0 tree → ⊥
+
+-- The indentation is the text of its literal.
+abbrev pub MatchesLiteral : StringLiteral × Indentation → Type 0
+MatchesLiteral p = string_text (literal_tok p.0).lexeme ≡ Ok (indentation_text p.1)
+
+-- The file's indentation, if it sets one, is the text of its literal.
+abbrev pub IsIndented : Ast → Type 0
+IsIndented ast = IfSome (items_indentation ast.items.items) MatchesLiteral
+
+-- The file is that of the text.
+pub record IsFileOf (source : List ℕ) (ast : Ast) : Type 0 where
+  pub derives : TextDerives conditions source (tree_of ast) (features_of ast)
+  pub indented : IsIndented ast
+
+-- The file can be printed, and `canonical` is its canonical text.
+pub record IsPrinted (ast : Ast) (canonical : List ℕ) : Type 0 where
+  pub can_be_printed : printable (shape_of (tree_of ast)) ≡ true
+  pub indentation : List ℕ
+  pub is_indented : IsIndentedBy (indentation_of (tree_of ast)) indentation
+  pub is : canonical ≡ printed (shape_of (tree_of ast)) indentation

@@ -1,0 +1,5 @@
+pub mod Fault
+pub mod Formatting
+pub mod Messages
+pub mod Reading
+pub mod Root

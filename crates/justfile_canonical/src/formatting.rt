@@ -1,0 +1,108 @@
+//! From a text to its canonical text.
+ghost use Rattle.std.specs.Prelude.{◌≡◌, IfErr, IfOk, OnOk, false, string_bytes, true};
+ghost use Rattle.justfile_canonical.specs.declared.fault.FormatFault.TheVariants as faults;
+ghost use Rattle.justfile_canonical.specs.Fault.{IsFaultOf, IsFaultOfPrinting, IsRejectionFor};
+ghost use Rattle.justfile_canonical.specs.Formatting.{IsFileOf, IsFormatted, IsIndented, IsIndentedBy, IsPrinted};
+ghost use Rattle.justfile_vocabulary.specs.Indentation.{indentation_text};
+ghost use Rattle.justfile_ast.specs.Ast.{ast_shape, tree_of};
+ghost use Rattle.justfile_model.specs.Enabled.{indentation_of};
+ghost use Rattle.justfile_model.specs.Printing.{printable};
+
+use crate::fault::FormatFault;
+use crate::root::parse_root;
+use justfile_ast::Ast;
+use justfile_token::{CompileError, Fault};
+use justfile_vocabulary::Indentation;
+use std::alloc::Global;
+use std::mem;
+
+/// Returns the canonical text of a justfile, at the indentation that it sets or four spaces. Errors
+/// name this path.
+///
+/// # Errors
+///
+/// The text isn't a justfile or can't be printed, or memory or numbers run out.
+pub fn format_text(alloc: Global, path: &str, source: &str) -> Result<String, FormatFault>
+    ensures ok { IfOk result (λ text. IsFormatted source.now (string_bytes text)) }
+    ensures err { IfErr result (IsFaultOf path.now source.now) }
+{
+    let ast = parse(alloc, path, source)?;
+    print(&ast, alloc)
+}
+
+/// Does the same as `format_text`, but doesn't free the tree: for a program that ends soon. Freeing
+/// it node by node takes an eighth of the time, while the system frees all memory at once.
+///
+/// # Errors
+///
+/// As for `format_text`.
+pub fn format_and_forget(alloc: Global, path: &str, source: &str) -> Result<String, FormatFault>
+    ensures ok { IfOk result (λ text. IsFormatted source.now (string_bytes text)) }
+    ensures err { IfErr result (IsFaultOf path.now source.now) }
+{
+    let ast = parse(alloc, path, source)?;
+    let text = print(&ast, alloc)?;
+    mem::forget(ast);
+    Ok(text)
+}
+
+/// Parses a text as the root file at this path.
+fn parse<'src>(alloc: Global, path: &'src str, source: &'src str) -> Result<Ast<'src>, FormatFault>
+    ensures ok { IfOk result (IsFileOf source.now) }
+    ensures err { IfErr result (IsFaultOf path.now source.now) }
+{
+    match parse_root(alloc, path, source) {
+        Ok(ast) => Ok(ast),
+        Err(Fault::Compile(error)) => Err(rejected_fault(alloc, &error)),
+        Err(Fault::Memory) => Err(FormatFault::Memory),
+        Err(Fault::Numbers) => Err(FormatFault::Numbers),
+    }
+}
+
+/// Makes the fault for an error: its message, and the excerpt of the line that it is on.
+fn rejected_fault(alloc: Global, error: &CompileError<'_>) -> FormatFault
+    ensures { IsRejectionFor error.now result }
+{
+    match format!(in alloc; "error: {error}\n{}\n", error.token) {
+        Ok(lines) => FormatFault::Rejected(lines),
+        Err(_) => FormatFault::Memory,
+    }
+}
+
+/// Returns the canonical text of a file.
+fn print(ast: &Ast<'_>, alloc: Global) -> Result<String, FormatFault>
+    requires { IsIndented ast.now }
+    ensures ok { IfOk result (λ text. IsPrinted ast.now (string_bytes text)) }
+    ensures err { IfErr result (IsFaultOfPrinting ast.now) }
+{
+    let indentation = printing_indentation(ast)?;
+    Ok(ast.print(alloc, indentation)?)
+}
+
+/// Returns the indentation of body lines, or `NotPrintable` if the file can't be printed.
+fn printing_indentation(ast: &Ast<'_>) -> Result<Indentation, FormatFault>
+    requires { IsIndented ast.now }
+    ensures printable { OnOk result (printable (ast_shape ast.now) ≡ true) }
+    ensures indented { IfOk result (λ indentation. IsIndentedBy (indentation_of (tree_of ast.now))
+        (indentation_text indentation)) }
+    ensures unprintable { IfErr result (λ e. (e ≡ faults.NotPrintable)
+        × (printable (ast_shape ast.now) ≡ false)) }
+{
+    if !ast.printable() {
+        return Err(FormatFault::NotPrintable);
+    }
+    Ok(own_indentation(ast))
+}
+
+/// Returns the indentation of body lines that the canonical text has: that of the setting
+/// `indentation`, or four spaces.
+#[tactic(auto, using(crate::proofs::Indented::indented_by_literal, crate::proofs::Indented::indented_by_default))]
+pub fn own_indentation(ast: &Ast<'_>) -> Indentation
+    ensures { IsIndented ast.now
+        → IsIndentedBy (indentation_of (tree_of ast.now)) (indentation_text result) }
+{
+    match ast.indentation() {
+        Some(indentation) => indentation,
+        None => Indentation::default(),
+    }
+}

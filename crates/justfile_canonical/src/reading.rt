@@ -1,0 +1,77 @@
+//! A file that is parsed, lent and freed here, so that it never stands in a caller's frame.
+ghost use Rattle.std.specs.Prelude.{◌≡◌, IfErr, IfOk, OnErr, OnOk, map};
+ghost use Rattle.justfile_ast.specs.declared.ast.Ast.{Ast};
+ghost use Rattle.justfile_outline.specs.Shown.{shown};
+ghost use Rattle.justfile_canonical.specs.Reading.{HasSymbols, symbols_of};
+ghost use Rattle.justfile_canonical.specs.Root.{HasNoRoot, IsRoot};
+
+use crate::root::parse_root;
+use justfile_ast::Ast;
+use justfile_outline::{Symbol, outline};
+use justfile_token::CompileResult;
+use std::alloc::{AllocError, Global};
+
+/// What is done with a file.
+pub trait Reader {
+    /// Reading the file changed the first reader into the second.
+    ghost reads: { Self → Ast → Self → Type 0 };
+
+    /// Reads the file.
+    fn read(&mut self, ast: &Ast<'_>)
+        ensures { reads self.old ast.now self.new };
+}
+
+/// Parses a text as the root file at this path, and lends it to the reader.
+///
+/// # Errors
+///
+/// As for `parse_root`. Then the reader is unchanged.
+pub fn read_root<'src, R: Reader>(
+    alloc: Global,
+    path: &'src str,
+    source: &'src str,
+    reader: &mut R,
+) -> CompileResult<'src, ()>
+    ensures ok { OnOk result
+        ((ast : Ast) × IsRoot path.now source.now ast × R.reads reader.old ast reader.new) }
+    ensures err { IfErr result (HasNoRoot path.now source.now) }
+    ensures unread { OnErr result (reader.new ≡ reader.old) }
+{
+    match parse_root(alloc, path, source) {
+        Ok(ast) => {
+            reader.read(&ast);
+            Ok(())
+        }
+        Err(fault) => Err(fault),
+    }
+}
+
+/// Parses a text as the root file at this path, and returns its symbols.
+///
+/// # Errors
+///
+/// As for `parse_root`.
+pub fn symbols<'src>(
+    alloc: Global,
+    path: &'src str,
+    source: &'src str,
+) -> CompileResult<'src, Vec<Symbol<'src>>>
+    ensures ok { IfOk result
+        (λ symbols. HasSymbols path.now source.now (map shown symbols.items)) }
+    ensures err { IfErr result (HasNoRoot path.now source.now) }
+{
+    let ast = parse_root(alloc, path, source)?;
+    Ok(outline_file(&ast, alloc)?)
+}
+
+/// Returns the symbols of a file.
+fn outline_file<'src>(ast: &Ast<'src>, alloc: Global) -> Result<Vec<Symbol<'src>>, AllocError>
+    ensures { IfOk result (λ symbols. map shown symbols.items ≡ symbols_of ast.now) }
+{
+    outline(&ast.items, alloc)
+}
+
+/// Frees a file.
+pub fn release(ast: Ast<'_>) {
+    drop(ast);
+}

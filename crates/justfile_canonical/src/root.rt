@@ -1,0 +1,55 @@
+//! Root files: a text without imports, parsed under the usual conditions.
+ghost use Rattle.std.specs.Prelude.{IfOk, IfErr};
+ghost use Rattle.justfile_canonical.specs.Formatting.{IsIndented};
+ghost use Rattle.justfile_canonical.specs.Root.{HasNoRoot, IsRoot};
+
+use crate::unchanged::Unchanged;
+use justfile_ast::Ast;
+use justfile_parse::{Parser, RECURSION_LIMIT};
+use justfile_token::{CompileResult, Source};
+use justfile_vocabulary::{Numerator, Version};
+use std::alloc::Global;
+
+/// The running version, under which texts are parsed.
+const CURRENT: Version = Version {
+    major: 1,
+    minor: 58,
+    patch: 0,
+};
+
+/// Parses a text as the root file at this path: at depth 0, in no module, with numbers from 0 on,
+/// under the usual limit of depth and this library's version. The texts of literals with the mark
+/// `x` are left as they are. The path is only named in errors.
+///
+/// # Errors
+///
+/// As for `Parser::parse_source`.
+#[tactic(auto, using(crate::proofs::Roots::root_of, crate::proofs::Roots::no_root, crate::proofs::Indented::indented))]
+pub fn parse_root<'src>(
+    alloc: Global,
+    path: &'src str,
+    source: &'src str,
+) -> CompileResult<'src, Ast<'src>>
+    ensures ok { IfOk result (IsRoot path.now source.now) }
+    // The indentation that the file sets is the text of its literal.
+    ensures indented { IfOk result IsIndented }
+    ensures err { IfErr result (HasNoRoot path.now source.now) }
+{
+    let mut numerator = Numerator::new(0);
+    let place = Source {
+        file_depth: 0,
+        import_offsets: &[],
+        namepath: None,
+        working_directory: "",
+    };
+    Parser::parse_source(
+        alloc,
+        &mut numerator,
+        path,
+        &place,
+        source,
+        &Unchanged,
+        CURRENT,
+        RECURSION_LIMIT,
+    )
+}

@@ -1,0 +1,34 @@
+-- What the failure for a fault of formatting implies.
+use Rattle.std.proofs.Common.{◌≡◌, ℕ, List, codes}
+use Rattle.justfile_canonical.specs.Fault.{IsFaultOf}
+use Rattle.justfile_canonical.specs.Formatting.{IsUnprintable, LacksNumbers}
+use Rattle.justfile_canonical.specs.declared.fault.FormatFault.{FormatFault}
+use Rattle.justfile_canonical.specs.declared.fault.FormatFault.TheVariants as faults
+use Rattle.justfile_format.specs.Failure.{IfRejected, IsOfText, failure_of}
+use Rattle.justfile_format.specs.Formatting.{IsRejection}
+use Rattle.justfile_format.specs.declared.failure.Failure.{Failure}
+use Rattle.justfile_format.specs.declared.failure.Failure.TheVariants as failures
+
+pub rejected : (source : List ℕ) (fault : FormatFault) → IsFaultOf (codes "justfile") source fault → IfRejected (IsRejection source) (failure_of fault)
+rejected source (faults.Rejected lines) why = why
+rejected source faults.NotPrintable why = tt
+rejected source faults.Memory why = tt
+rejected source faults.Numbers why = tt
+
+pub unprintable : (source : List ℕ) (fault : FormatFault) → IsFaultOf (codes "justfile") source fault → failure_of fault ≡ failures.NotPrintable → IsUnprintable source
+unprintable source (faults.Rejected lines) why is = absurd (grind is)
+unprintable source faults.NotPrintable why is = why
+unprintable source faults.Memory why is = absurd (grind is)
+unprintable source faults.Numbers why is = absurd (grind is)
+
+pub numbers : (source : List ℕ) (fault : FormatFault) → IsFaultOf (codes "justfile") source fault → failure_of fault ≡ failures.Numbers → LacksNumbers source
+numbers source (faults.Rejected lines) why is = absurd (grind is)
+numbers source faults.NotPrintable why is = absurd (grind is)
+numbers source faults.Memory why is = absurd (grind is)
+numbers source faults.Numbers why is = why
+
+pub of_text : (fault : FormatFault) → IsOfText (failure_of fault)
+of_text (faults.Rejected lines) = tt
+of_text faults.NotPrintable = tt
+of_text faults.Memory = tt
+of_text faults.Numbers = tt

@@ -1,0 +1,8 @@
+use Rattle.std.proofs.Common.{arith}
+use Rattle.justfile_outline.proofs.Parts.{gathered}
+use Rattle.justfile_outline.specs.Symbols.{item_symbols}
+use Rattle.justfile_outline.proofs.outline.outline.Goals as goal
+
+pub loop-item-preserved : goal.loop-item-preserved
+loop-item-preserved c =
+    gathered item_symbols c.args.items.now c.loop-item.item-index c.item-item.result _ _ (omega arith) c.item-item.is c.loop-item.invariant c.in_ok-push_symbol.ensures

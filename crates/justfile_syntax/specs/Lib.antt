@@ -1,0 +1,17 @@
+pub mod Attributes
+pub mod Derivations
+pub mod Errors
+pub mod Expressions
+pub mod Files
+pub mod Formatting
+pub mod ItemKinds
+pub mod Items
+pub mod Lexing
+pub mod Literals
+pub mod Parsing
+pub mod Printing
+pub mod Roots
+pub mod Symbols
+pub mod Tokens
+pub mod Trees
+pub mod Words
