@@ -291,3 +291,12 @@ impl PartialEq for PairSet<Attribute<'_>, Written<'_>> {
         have_same_keys(&self.pairs, &other.pairs)
     }
 }
+
+impl Eq for PairSet<Attribute<'_>, Written<'_>> {
+    ghost use Rattle.std.specs.Cmp.{on_equiv};
+    ghost use Rattle.std.specs.Cmp.Lexicographic.{lists_equiv};
+    ghost use Rattle.justfile_attribute.specs.contracts.attribute.AttributeEq.TheImpl.Laws.{laws-law as attribute_equiv};
+    ghost use Rattle.justfile_attribute_set.specs.AttributeSet.{attributes_of};
+
+    ghost laws = { on_equiv attributes_of (lists_equiv attribute_equiv) };
+}
