@@ -6,4 +6,5 @@ pub mod formatting;
 mod input;
 pub mod laws;
 pub mod run;
+pub mod system;
 mod unchanged;
