@@ -6,6 +6,7 @@
  *              onward: this call and all after it are refused
  *              short: this call moves one byte (read and write)
  * FAULT_MARK   a file that is made once a call was refused or shortened
+ * FAULT_AFTER  a line: calls count from when it is written until the next write; without it all count
  */
 #define _GNU_SOURCE
 #include <errno.h>
@@ -22,20 +23,23 @@ extern void *__libc_realloc(void *block, size_t size);
 
 enum answer { AS_IT_IS, REFUSED, SHORTENED };
 
-static const char *call_name, *how, *mark;
+static const char *call_name, *how, *mark, *after;
 static long at, calls;
+static int counts;
 
 __attribute__((constructor)) static void begin(void) {
     const char *number = getenv("FAULT_AT");
     how = getenv("FAULT_HOW");
     mark = getenv("FAULT_MARK");
+    after = getenv("FAULT_AFTER");
+    counts = !after;
     at = number ? atol(number) : 0;
     call_name = at && how && mark ? getenv("FAULT_CALL") : NULL;
 }
 
 /* Counts a call, and returns whether it is refused or shortened. */
 static enum answer count(const char *name) {
-    if (!call_name || strcmp(name, call_name) != 0)
+    if (!counts || !call_name || strcmp(name, call_name) != 0)
         return AS_IT_IS;
     calls += 1;
     if (calls < at || (calls > at && strcmp(how, "onward") != 0))
@@ -86,8 +90,15 @@ ssize_t read(int file, void *bytes, size_t length) {
     return most < 0 ? -1 : syscall(SYS_read, file, bytes, (size_t)most);
 }
 
+/* Whether bytes are the line after which calls count. */
+static int is_line(const char *bytes, size_t length) {
+    return length == strlen(after) + 1 && memcmp(bytes, after, length - 1) == 0 && bytes[length - 1] == '\n';
+}
+
 ssize_t write(int file, const void *bytes, size_t length) {
     ssize_t most = moved("write", length);
+    if (after)
+        counts = is_line(bytes, length);
     return most < 0 ? -1 : syscall(SYS_write, file, bytes, (size_t)most);
 }
 

@@ -1,17 +1,27 @@
 #!/bin/sh
-# Refuses each allocation, read and write of the built program justfmt in turn: faults.sh [PROGRAM]
+# Refuses each allocation, read and write of built programs in turn: faults.sh [PROGRAM [CALLS]]
 #
-# The program is run on a longer justfile and a short one, with --check on one and on its formatted text,
+# PROGRAM is justfmt. It is run on a longer justfile and a short one, with --check on one and on its formatted text,
 # on a text that isn't a justfile and on one that can't be printed. In each run one allocation is refused,
 # alone or with all after it, or one read or write fails or moves one byte. Every run has to end as if
 # nothing failed, or with status 3 and the one line for it, having written a beginning of the text.
-# Prints a row for each kind of run, and ends with 1 if a run ended otherwise. Needs gcc.
+# Prints a row for each kind of run.
+#
+# CALLS is justfile_growths. With an argument it makes each call of the library once and then again, and
+# judges both results. In each run one allocation of one call is refused, alone or with all after it of
+# that call. The call has to return that memory ran out, or its plain result, and all others their plain
+# results. Prints a row for each call.
+#
+# Ends with 1 if a run ended otherwise. Needs gcc.
 set -u
 top=$(cd "$(dirname "$0")/.." && pwd)
 program=${1:-$top/crates/justfmt/out/justfmt}
+calls=${2:-$top/crates/justfile_growths/out/justfile_growths}
 work=$(mktemp -d) || exit 2
 trap 'rm -rf "$work"' EXIT
-[ -x "$program" ] || { echo "faults.sh: no program $program: rt run in crates/justfmt builds it" >&2; exit 2; }
+for it in "$program" "$calls"; do
+    [ -x "$it" ] || { echo "faults.sh: no program $it: rt run in its crate builds it" >&2; exit 2; }
+done
 gcc -O2 -Wall -shared -fPIC -o "$work/faults.so" "$top/bench/faults.c" || exit 2
 status=0
 
@@ -84,6 +94,51 @@ sweep_all() {
     sweep "$1" write short 'error: writing failed'
 }
 
+# Refuses each allocation of a call of the library in turn: CALL HOW, where CALL is the line that is written
+# before it.
+sweep_call() {
+    number=0 plainly=0 failed=0 wrong=0
+    sed "s/^$1: plain, then plain$/$1: refused, then plain/" "$work/plain_output" >"$work/line"
+    while :; do
+        number=$((number + 1))
+        rm -f "$work/mark"
+        run LD_PRELOAD="$work/faults.so" FAULT_CALL=malloc FAULT_AT="$number" FAULT_HOW="$2" \
+            FAULT_AFTER="$1" FAULT_MARK="$work/mark" "$calls" once
+        ended=$?
+        [ -e "$work/mark" ] || break
+        if [ "$ended" = 0 ] && cmp -s "$work/output" "$work/line" && [ ! -s "$work/errors" ]; then
+            failed=$((failed + 1))
+        elif is_plain "$ended"; then
+            plainly=$((plainly + 1))
+        else
+            wrong=$((wrong + 1))
+            status=1
+            echo "wrong: $1: malloc $number $2: status $ended" >&2
+        fi
+    done
+    echo "| $1 | $2 | $((number - 1)) | $failed | $plainly | $wrong |"
+}
+
+# All sweeps over calls of the library. Where nothing is refused, each call has to return its plain result.
+sweep_calls() {
+    : >"$work/input"
+    run "$calls" once
+    plain=$?
+    mv "$work/output" "$work/plain_output"
+    mv "$work/errors" "$work/plain_errors"
+    echo
+    echo "| call | how | runs | memory ran out | as where nothing fails | wrong |"
+    echo "|---|---|---:|---:|---:|---:|"
+    for call in lexing parsing printing; do
+        if [ "$plain" != 0 ] || ! grep -qx "$call: plain, then plain" "$work/plain_output"; then
+            echo "wrong: $call, where nothing is refused" >&2
+            exit 1
+        fi
+        sweep_call "$call" alone
+        sweep_call "$call" onward
+    done
+}
+
 # The longer justfile is read and written in several calls.
 echo "| text | call | how | runs | as where nothing fails | status 3 and its line | standard error cut off | wrong |"
 echo "|---|---|---|---:|---:|---:|---:|---:|"
@@ -116,4 +171,6 @@ printf 'a := b\nfoo:\n  {{}}\n' >"$work/input"
 sweep_all "a refused text" ""
 printf 'foo:\n  a\r\r\n' >"$work/input"
 sweep_all "an unprintable file" ""
+
+sweep_calls
 exit $status

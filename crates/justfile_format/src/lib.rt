@@ -5,3 +5,4 @@ pub mod failure;
 pub mod formatting;
 mod input;
 pub mod run;
+pub mod system;

@@ -1,7 +1,7 @@
-//! What the calls return if memory is scarce.
+//! The calls, and whether what they return is right.
 
 use crate::counts::Outcome;
-use crate::scarcity::{AMPLE, Scarcity};
+use crate::scarcity::Scarcity;
 use crate::text::{BINDINGS, PRINTED, RECIPES};
 use justfile_syntax::ast::Ast;
 use justfile_syntax::expander::{ExpandFault, Expander};
@@ -13,7 +13,7 @@ use justfile_syntax::parser::{Parser, RECURSION_LIMIT};
 use justfile_syntax::source::Source;
 use justfile_syntax::token::Token;
 use justfile_syntax::version::Version;
-use std::alloc::Global;
+use std::alloc::{AllocError, Global};
 
 /// An expander that leaves each text unchanged.
 struct Unchanged;
@@ -66,17 +66,16 @@ fn numbers(numerator: &mut Numerator) -> Option<(u32, u32)> {
     Some((bindings, recipes))
 }
 
-/// Lexes the text with `size` bytes of memory, and compares the result with these tokens.
-pub(crate) fn lex_with<'src>(
-    alloc: Global,
-    scarcity: &mut Scarcity,
-    size: usize,
-    text: &'src str,
+/// Lexes the text.
+pub(crate) fn lex<'src>(alloc: Global, text: &'src str) -> CompileResult<'src, Vec<Token<'src>>> {
+    Lexer::lex(alloc, "justfile", text)
+}
+
+/// Compares a result of lexing with these tokens.
+pub(crate) fn judge_tokens<'src>(
+    answer: CompileResult<'src, Vec<Token<'src>>>,
     tokens: &[Token<'src>],
 ) -> Outcome {
-    scarcity.leave(alloc, size);
-    let answer = Lexer::lex(alloc, "justfile", text);
-    scarcity.end();
     match answer {
         Ok(found) => {
             if found.as_slice() == tokens {
@@ -90,8 +89,47 @@ pub(crate) fn lex_with<'src>(
     }
 }
 
-/// Parses the text with `size` bytes of memory, and checks the result. If memory runs out, the
-/// numerator may not have given more numbers than the justfile has.
+/// Checks a result of parsing. If memory ran out, the numerator may not have given more numbers than
+/// the justfile has.
+pub(crate) fn judge_file(
+    answer: CompileResult<'_, Ast<'_>>,
+    alloc: Global,
+    numerator: &mut Numerator,
+) -> Outcome {
+    let (bindings, recipes) = numbers(numerator).unwrap_or((u32::MAX, u32::MAX));
+    match answer {
+        Ok(ast) if bindings == BINDINGS && recipes == RECIPES => {
+            judge_text(ast.print(alloc, Indentation::default()))
+        }
+        Err(Fault::Memory) if bindings <= BINDINGS && recipes <= RECIPES => Outcome::Refused,
+        _ => Outcome::Wrong,
+    }
+}
+
+/// Checks a result of printing.
+pub(crate) fn judge_text(answer: Result<String, AllocError>) -> Outcome {
+    match answer {
+        Ok(printed) if printed.as_str() == PRINTED => Outcome::Plain,
+        Ok(_) => Outcome::Wrong,
+        Err(_) => Outcome::Refused,
+    }
+}
+
+/// Lexes the text with `size` bytes of memory, and compares the result with these tokens.
+pub(crate) fn lex_with<'src>(
+    alloc: Global,
+    scarcity: &mut Scarcity,
+    size: usize,
+    text: &'src str,
+    tokens: &[Token<'src>],
+) -> Outcome {
+    scarcity.leave(alloc, size);
+    let answer = lex(alloc, text);
+    scarcity.end();
+    judge_tokens(answer, tokens)
+}
+
+/// Parses the text with `size` bytes of memory, and checks the result.
 pub(crate) fn parse_with(
     alloc: Global,
     scarcity: &mut Scarcity,
@@ -102,14 +140,7 @@ pub(crate) fn parse_with(
     scarcity.leave(alloc, size);
     let answer = parse(alloc, &mut numerator, text);
     scarcity.end();
-    let (bindings, recipes) = numbers(&mut numerator).unwrap_or((u32::MAX, u32::MAX));
-    match answer {
-        Ok(ast) if bindings == BINDINGS && recipes == RECIPES => {
-            print_with(&ast, alloc, scarcity, AMPLE)
-        }
-        Err(Fault::Memory) if bindings <= BINDINGS && recipes <= RECIPES => Outcome::Refused,
-        _ => Outcome::Wrong,
-    }
+    judge_file(answer, alloc, &mut numerator)
 }
 
 /// Prints the file with `size` bytes of memory, and checks the result.
@@ -122,9 +153,5 @@ pub(crate) fn print_with(
     scarcity.leave(alloc, size);
     let answer = ast.print(alloc, Indentation::default());
     scarcity.end();
-    match answer {
-        Ok(printed) if printed.as_str() == PRINTED => Outcome::Plain,
-        Ok(_) => Outcome::Wrong,
-        Err(_) => Outcome::Refused,
-    }
+    judge_text(answer)
 }

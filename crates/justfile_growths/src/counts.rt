@@ -11,6 +11,17 @@ pub(crate) enum Outcome {
     Wrong,
 }
 
+impl Outcome {
+    /// Returns the word for the outcome.
+    pub(crate) fn name(self) -> &'static str {
+        match self {
+            Outcome::Plain => "plain",
+            Outcome::Refused => "refused",
+            Outcome::Wrong => "wrong",
+        }
+    }
+}
+
 /// How many calls ran out of memory, and how many were wrong.
 #[derive(Drop)]
 pub(crate) struct Counts {

@@ -5,24 +5,28 @@
 //! it returns with ample memory; and the same call has to succeed directly afterwards, with ample
 //! memory. This is repeated for each size of the block, in steps of the smallest unit of the
 //! system's heap, until the block is more than large enough.
+//!
+//! With an argument, the program takes no memory and makes each call once, between lines that it
+//! writes: a library that is loaded before it can refuse one of the call's requests.
 #![tactic(auto)]
 
 mod answers;
 mod counts;
+mod once;
 mod scarcity;
 mod text;
 
-use crate::answers::{lex_with, parse, parse_with, print_with};
+use crate::answers::{lex, lex_with, parse, parse_with, print_with};
 use crate::counts::Counts;
+use crate::once::run_once;
 use crate::scarcity::{AMPLE, Scarcity};
 use crate::text::TEXT;
 use justfile_syntax::ast::Ast;
 use justfile_syntax::fault::Fault;
-use justfile_syntax::lexer::Lexer;
 use justfile_syntax::numerator::Numerator;
 use justfile_syntax::token::Token;
 use std::alloc::{AllocError, Global};
-use std::io;
+use std::{env, io};
 
 /// The step between two sizes of the block, in bytes.
 const STEP: usize = 16;
@@ -63,22 +67,31 @@ fn sweep<'src>(
 
 /// Makes the calls for a justfile with scarce memory, and returns their outcomes.
 fn run(alloc: Global, text: &str) -> Result<Outcomes, Fault<'_>> {
-    let tokens = Lexer::lex(alloc, "justfile", text)?;
+    let tokens = lex(alloc, text)?;
     match parse(alloc, &mut Numerator::new(0), text) {
         Ok(mut ast) => Ok(sweep(&mut ast, alloc, text, &tokens)?),
         Err(fault) => Err(fault),
     }
 }
 
-fn main(rt: HostRuntime) -> io::Result<()> {
-    let text = TEXT.to_string(rt.alloc())?;
-    match run(rt.alloc(), text.as_str()) {
+/// Makes the calls with scarce memory, and writes what is to be said about their outcomes.
+fn run_scarcely(rt: &HostRuntime, text: &str) -> io::Result<()> {
+    match run(rt.alloc(), text) {
         Ok(outcomes) => {
             println!(rt; "lexing: {}", outcomes.lexing.verdict())?;
             println!(rt; "parsing: {}", outcomes.parsing.verdict())?;
-            println!(rt; "printing: {}", outcomes.printing.verdict())?;
+            println!(rt; "printing: {}", outcomes.printing.verdict())
         }
-        Err(_) => println!(rt; "no answer with ample memory")?,
+        Err(_) => println!(rt; "no answer with ample memory"),
+    }
+}
+
+fn main(rt: HostRuntime) -> io::Result<()> {
+    let text = TEXT.to_string(rt.alloc())?;
+    if env::args(&rt)?.count() > 1 {
+        run_once(&rt, text.as_str())?;
+    } else {
+        run_scarcely(&rt, text.as_str())?;
     }
     println!(rt; "the text is unchanged: {}", text.as_str() == TEXT)
 }

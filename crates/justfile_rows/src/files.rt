@@ -103,12 +103,12 @@ fn push_of_items(items: &[Item<'_>], answer: &mut Answer, word: Word, fields: &[
 }
 
 /// Writes what a row's word asks for about a file's printed text.
-fn push_printed(ast: &Ast<'_>, answer: &mut Answer, word: Word, fields: &[String]) {
+fn push_printed(ast: &mut Ast<'_>, answer: &mut Answer, word: Word, fields: &[String]) {
     let indentation = indentation_for(word, fields);
     match word {
         Word::Copies => copies(ast, answer, indentation),
         Word::ExpandsTo => push_value_and_text(ast, answer),
-        Word::PrintsItem => prints_item(&ast.items, answer, indentation),
+        Word::PrintsItem => prints_item(ast, answer, indentation),
         _ => prints(ast, answer, indentation, limit_of(word, fields)),
     }
 }

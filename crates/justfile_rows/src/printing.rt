@@ -4,28 +4,56 @@
 use crate::expansion::Expansion;
 use crate::files::parse;
 use crate::refusal::push_fault;
+use crate::stream::Stream;
 use justfile_syntax::ast::Ast;
 use justfile_syntax::indentation::Indentation;
 use justfile_syntax::item::Item;
-use row_notation::Answer;
+use row_notation::{Answer, Text};
+use std::alloc::Global;
 
 /// Writes a file's printed text at an indentation.
 pub(crate) fn copies(ast: &Ast<'_>, answer: &mut Answer, indentation: Indentation) {
     answer.push_made(ast.print(answer.alloc(), indentation));
 }
 
-/// Writes a file's printed text at an indentation. If it says that it isn't printable, writes
-/// `unprintable` after it; otherwise, if the printed text doesn't settle under a limit of depth,
-/// writes what it is printed to instead.
+/// Writes a file's printed text at an indentation, and what it writes to writers if that is
+/// another. If it says that it isn't printable, writes `unprintable` after it; otherwise, if the
+/// printed text doesn't settle under a limit of depth, writes what it is printed to instead.
 pub(crate) fn prints(ast: &Ast<'_>, answer: &mut Answer, indentation: Indentation, limit: usize) {
     let Ok(printed) = ast.print(answer.alloc(), indentation) else {
         return answer.fail();
     };
     answer.push(printed.as_str());
+    writes(ast, answer, indentation, printed.as_str());
     if ast.printable() {
         settles(answer, indentation, limit, printed.as_str());
     } else {
         answer.push("unprintable");
+    }
+}
+
+/// Writes what a file prints to a writer that takes all bytes of a call, and to one that takes one
+/// byte, unless that is its printed text.
+fn writes(ast: &Ast<'_>, answer: &mut Answer, indentation: Indentation, printed: &str) {
+    writes_at(ast, answer, indentation, printed, usize::MAX);
+    writes_at(ast, answer, indentation, printed, 1);
+}
+
+/// Writes what a file prints to a writer that takes at most `most_bytes` bytes in a call, unless
+/// that is its printed text.
+fn writes_at(
+    ast: &Ast<'_>,
+    answer: &mut Answer,
+    indentation: Indentation,
+    printed: &str,
+    most_bytes: usize,
+) {
+    let mut writer = Stream::new(answer.alloc(), b"", most_bytes);
+    let is_written = ast.print_to(indentation, &mut writer).is_ok();
+    answer.push_if("unwritten", !is_written);
+    if writer.text() != printed {
+        answer.push("written");
+        answer.push(writer.text());
     }
 }
 
@@ -51,11 +79,29 @@ fn prints_once(ast: &mut Ast<'_>, answer: &mut Answer, indentation: Indentation)
 
 /// Writes whether the first item of a file has a body, and the item's own printed text at an
 /// indentation. For an alias, an assignment or a setting, also writes the text that it displays.
-pub(crate) fn prints_item(items: &[Item<'_>], answer: &mut Answer, indentation: Indentation) {
-    if items.is_empty() {
+/// Then drops the other items, and writes what the file prints to writers unless that is the text of
+/// its item and a line feed.
+pub(crate) fn prints_item(ast: &mut Ast<'_>, answer: &mut Answer, indentation: Indentation) {
+    if ast.items.is_empty() {
         return answer.push("none");
     }
-    push_item(&items[0], answer, indentation)
+    push_item(&ast.items[0], answer, indentation);
+    let line = line_of(&ast.items[0], answer.alloc(), indentation);
+    keep_first(&mut ast.items);
+    writes(ast, answer, indentation, line.as_str());
+}
+
+/// Returns an item's own printed text and a line feed.
+fn line_of(item: &Item<'_>, alloc: Global, indentation: Indentation) -> Text {
+    let mut line = Text::new(alloc);
+    line.put_made(item.print(alloc, indentation));
+    line.put("\n");
+    line
+}
+
+/// Drops all items but the first.
+fn keep_first(items: &mut Vec<Item<'_>>) {
+    items.truncate(1);
 }
 
 fn push_item(item: &Item<'_>, answer: &mut Answer, indentation: Indentation) {

@@ -1,11 +1,13 @@
 //! Runs of the program `justfmt`.
 
-use crate::stream::{MOST_BYTES, Stream};
+use crate::stream::Stream;
 use crate::word::Word;
 use justfile_format::run::run;
 use row_notation::{Answer, field_at, number_at};
 use std::alloc::{AllocError, Global};
-use std::str;
+
+/// How many bytes a call reads or writes at most.
+const MOST_BYTES: usize = 2;
 
 /// The streams of a run.
 #[derive(Drop)]
@@ -19,9 +21,9 @@ impl<'row> Streams<'row> {
     /// Makes the streams of a run with this standard input.
     fn new(alloc: Global, input: &'row [u8]) -> Self {
         Streams {
-            input: Stream::new(alloc, input),
-            output: Stream::new(alloc, b""),
-            errors: Stream::new(alloc, b""),
+            input: Stream::new(alloc, input, MOST_BYTES),
+            output: Stream::new(alloc, b"", MOST_BYTES),
+            errors: Stream::new(alloc, b"", MOST_BYTES),
         }
     }
 
@@ -54,23 +56,18 @@ impl<'row> Streams<'row> {
     }
 }
 
-/// Returns the text that bytes encode, or `not UTF-8`.
-fn text_of(bytes: &[u8]) -> &str {
-    str::from_utf8(bytes).unwrap_or("not UTF-8")
-}
-
-/// Returns a list of one argument, or of none if it is empty.
-fn arguments(alloc: Global, argument: &str) -> Result<Vec<String>, AllocError> {
+/// Returns the arguments that a field lists, with blanks between them.
+fn arguments(alloc: Global, listed: &str) -> Result<Vec<String>, AllocError> {
     let mut arguments = Vec::new(alloc);
-    if !argument.is_empty() {
+    for argument in listed.split_whitespace() {
         arguments.push(argument.to_string(alloc)?)?;
     }
     Ok(arguments)
 }
 
-/// Runs the program with one argument, or none if it is empty, and returns its exit status.
-fn run_over(answer: &mut Answer, argument: &str, streams: &mut Streams<'_>) -> u8 {
-    match arguments(answer.alloc(), argument) {
+/// Runs the program with the arguments that a field lists, and returns its exit status.
+fn run_over(answer: &mut Answer, listed: &str, streams: &mut Streams<'_>) -> u8 {
+    match arguments(answer.alloc(), listed) {
         Ok(arguments) => streams.run(answer.alloc(), arguments.as_slice()),
         Err(_) => {
             answer.fail();
@@ -80,26 +77,26 @@ fn run_over(answer: &mut Answer, argument: &str, streams: &mut Streams<'_>) -> u
 }
 
 /// Writes the status of a run, its output, and what it wrote to standard error.
-fn push_run(answer: &mut Answer, argument: &str, streams: &mut Streams<'_>) {
-    let status = run_over(answer, argument, streams);
+fn push_run(answer: &mut Answer, listed: &str, streams: &mut Streams<'_>) {
+    let status = run_over(answer, listed, streams);
     answer.push_number(status as usize);
-    answer.push(text_of(&streams.output.written));
-    answer.push(text_of(&streams.errors.written));
+    answer.push(streams.output.text());
+    answer.push(streams.errors.text());
 }
 
 /// Writes the run of a row, in which the input, a stream or nothing fails.
 pub(crate) fn runs(answer: &mut Answer, word: Word, fields: &[String]) {
     let is_plain = word == Word::Run;
     let name = if is_plain { "" } else { field_at(fields, 0) };
-    let argument_place = if is_plain { 0 } else { 2 };
+    let arguments_place = if is_plain { 0 } else { 2 };
     let input = if name == "encoding" {
         b"\xff"
     } else {
-        field_at(fields, argument_place + 1).as_bytes()
+        field_at(fields, arguments_place + 1).as_bytes()
     };
     let mut streams = Streams::new(answer.alloc(), input);
     streams.fail(name, number_at(fields, 1), MOST_BYTES);
-    push_run(answer, field_at(fields, argument_place), &mut streams);
+    push_run(answer, field_at(fields, arguments_place), &mut streams);
 }
 
 /// How many calls fail in turn at most.
@@ -141,7 +138,7 @@ fn break_at(
     if streams.errors.has_failed {
         push_begun(answer, "errors", &streams.errors, &plain.errors);
     } else {
-        answer.push(text_of(&streams.errors.written));
+        answer.push(streams.errors.text());
     }
     streams.has_failed()
 }
@@ -157,7 +154,7 @@ fn push_begun(answer: &mut Answer, word: &str, stream: &Stream<'_>, plain: &Stre
 pub(crate) fn formats(answer: &mut Answer, source: &str) {
     let mut streams = Streams::new(answer.alloc(), source.as_bytes());
     let status = run_over(answer, "", &mut streams);
-    let formatted = text_of(&streams.output.written);
+    let formatted = streams.output.text();
     answer.push(formatted);
     push_rest(answer, status, &streams);
     push_again(answer, "", formatted, formatted);
@@ -169,7 +166,7 @@ pub(crate) fn formats(answer: &mut Answer, source: &str) {
 fn push_again(answer: &mut Answer, argument: &str, formatted: &str, expected: &str) {
     let mut streams = Streams::new(answer.alloc(), formatted.as_bytes());
     let status = run_over(answer, argument, &mut streams);
-    let written = text_of(&streams.output.written);
+    let written = streams.output.text();
     answer.push_if("unsettled", written != expected);
     push_rest(answer, status, &streams);
 }
@@ -180,6 +177,6 @@ fn push_rest(answer: &mut Answer, status: u8, streams: &Streams<'_>) {
     if status != 0 {
         answer.push_number(status as usize);
     }
-    let errors = text_of(&streams.errors.written);
+    let errors = streams.errors.text();
     answer.push_if(errors, !errors.is_empty());
 }

@@ -43,7 +43,7 @@ fn insert<'row>(
 }
 
 /// Writes the numbers that the variables of a text's first item get: first with the bindings of the
-/// second field alone, and then also with the context of the first field.
+/// second field alone, then also with the context of the first field, and then with neither.
 pub(crate) fn resolves(answer: &mut Answer, fields: &[String]) {
     let text = field_at(fields, 2);
     match parse(answer.alloc(), &Expansion::Unchanged, RECURSION_LIMIT, text) {
@@ -56,8 +56,9 @@ pub(crate) fn resolves(answer: &mut Answer, fields: &[String]) {
 fn resolve_by_fields<'src>(items: &mut [Item<'src>], answer: &mut Answer, fields: &'src [String]) {
     let context = numbers_of(answer.alloc(), field_at(fields, 0));
     let bindings = numbers_of(answer.alloc(), field_at(fields, 1));
+    let none = HashMap::new(answer.alloc());
     match (context, bindings) {
-        (Ok(context), Ok(bindings)) => resolve_first(items, answer, &context, &bindings),
+        (Ok(context), Ok(bindings)) => resolve_first(items, answer, &context, &bindings, &none),
         _ => answer.fail(),
     }
 }
@@ -68,15 +69,16 @@ fn resolve_first<'src>(
     answer: &mut Answer,
     context: &HashMap<&'src str, Number>,
     bindings: &HashMap<&'src str, Number>,
+    none: &HashMap<&'src str, Number>,
 ) {
     if items.is_empty() {
         return answer.push("none");
     }
     match &mut items[0] {
         Item::Assignment(assignment) => {
-            resolve_value(&mut assignment.value, answer, context, bindings);
+            resolve_value(&mut assignment.value, answer, context, bindings, none);
         }
-        Item::Setting(set) => resolve_setting(&mut set.value, answer, context, bindings),
+        Item::Setting(set) => resolve_setting(&mut set.value, answer, context, bindings, none),
         _ => answer.push("none"),
     }
 }
@@ -87,10 +89,13 @@ fn resolve_setting<'src>(
     answer: &mut Answer,
     context: &HashMap<&'src str, Number>,
     bindings: &HashMap<&'src str, Number>,
+    none: &HashMap<&'src str, Number>,
 ) {
     setting.resolve_variables(None, bindings);
     push_setting(setting, answer);
     setting.resolve_variables(Some(context), bindings);
+    push_setting(setting, answer);
+    setting.resolve_variables(None, none);
     push_setting(setting, answer);
 }
 
@@ -100,9 +105,10 @@ fn resolve_value<'src>(
     answer: &mut Answer,
     context: &HashMap<&'src str, Number>,
     bindings: &HashMap<&'src str, Number>,
+    none: &HashMap<&'src str, Number>,
 ) {
     match copy_of(value, answer.alloc()) {
-        Ok(before) => resolve_from(value, &before, answer, context, bindings),
+        Ok(before) => resolve_from(value, &before, answer, context, bindings, none),
         Err(_) => answer.fail(),
     }
 }
@@ -113,10 +119,13 @@ fn resolve_from<'src>(
     answer: &mut Answer,
     context: &HashMap<&'src str, Number>,
     bindings: &HashMap<&'src str, Number>,
+    none: &HashMap<&'src str, Number>,
 ) {
     value.resolve_variables(None, bindings);
     push_resolved(before, value, answer);
     value.resolve_variables(Some(context), bindings);
+    push_resolved(before, value, answer);
+    value.resolve_variables(None, none);
     push_resolved(before, value, answer);
 }
 

@@ -26,7 +26,7 @@ fn push_joined<'src>(
     comment: Option<&'src str>,
 ) {
     match joined(set, answer.alloc(), name, comment) {
-        Ok(mut made) => push_set(set, &mut made, answer),
+        Ok(mut made) => push_set(set, &mut made, answer, name),
         Err(_) => answer.fail(),
     }
 }
@@ -46,10 +46,15 @@ fn joined<'src>(
     AttributeSet::from_entries(alloc, entries)
 }
 
-/// Makes a set from a set's attributes and their names, without comments.
-fn named<'src>(set: &AttributeSet<'src>, alloc: Global) -> Result<AttributeSet<'src>, AllocError> {
+/// Makes a set from the attributes of two sets and their names, without comments.
+fn named<'src>(
+    earlier: &AttributeSet<'src>,
+    later: &AttributeSet<'src>,
+    alloc: Global,
+) -> Result<AttributeSet<'src>, AllocError> {
     let mut pairs = Vec::new(alloc);
-    put_pairs(&mut pairs, copies(set, alloc)?)?;
+    put_pairs(&mut pairs, copies(earlier, alloc)?)?;
+    put_pairs(&mut pairs, copies(later, alloc)?)?;
     AttributeSet::from_pairs(alloc, pairs)
 }
 
@@ -95,29 +100,44 @@ fn put_entries<'src, K: Drop>(
 }
 
 /// Writes the attributes of a set, its groups, and whether one is `private`. Writes `unequal` after
-/// them if the set isn't equal to `made`.
-fn push_set<'src>(set: &AttributeSet<'src>, made: &mut AttributeSet<'src>, answer: &mut Answer) {
+/// them if the set isn't equal to `made`, in which each attribute has this name.
+fn push_set<'src>(
+    set: &AttributeSet<'src>,
+    made: &mut AttributeSet<'src>,
+    answer: &mut Answer,
+    name: Name<'src>,
+) {
     let is_equal = *set == *made && set.len() == made.len();
     push_members(made, answer);
     answer.push_if("unequal", !is_equal);
-    push_named(made, answer);
+    push_named(set, made, answer, name);
 }
 
-/// Writes `unnamed` if the set made from a set's attributes and names isn't equal to it, and
-/// `commented` if that set has a comment.
-fn push_named<'src>(set: &AttributeSet<'src>, answer: &mut Answer) {
-    match named(set, answer.alloc()) {
+/// Makes a set from the attributes and names of a set, and then of an equal one in which each
+/// attribute has the name `name`. Writes `unnamed` if the result isn't equal to them, and what is
+/// wrong with what it has beside its attributes.
+fn push_named<'src>(
+    set: &AttributeSet<'src>,
+    later: &AttributeSet<'src>,
+    answer: &mut Answer,
+    name: Name<'src>,
+) {
+    match named(set, later, answer.alloc()) {
         Ok(mut made) => {
-            answer.push_if("unnamed", *set != made);
-            answer.push_if("commented", has_comment(&mut made));
+            answer.push_if("unnamed", *later != made);
+            push_unwanted(&mut made, answer, name);
         }
         Err(_) => answer.fail(),
     }
 }
 
-/// Whether an attribute of a set has a comment.
-fn has_comment(set: &mut AttributeSet<'_>) -> bool {
-    set.written().iter().any(|pair| pair.1.comment.is_some())
+/// Writes `earlier` for each attribute of a set that has another name than `name`, and `commented`
+/// for each that has a comment.
+fn push_unwanted<'src>(set: &mut AttributeSet<'src>, answer: &mut Answer, name: Name<'src>) {
+    for (_, written) in set.written() {
+        answer.push_if("earlier", written.name.offset != name.offset);
+        answer.push_if("commented", written.comment.is_some());
+    }
 }
 
 /// Writes the attributes of a set, its groups, and whether one is `private`.

@@ -1,10 +1,8 @@
-//! Streams of the program that can be made to fail.
+//! Streams in memory, which move few bytes in a call and can be made to fail.
 
 use std::alloc::Global;
 use std::io::{self, ErrorKind, Read, Write};
-
-/// How many bytes a call reads or writes at most.
-pub(crate) const MOST_BYTES: usize = 2;
+use std::str;
 
 /// A stream that is read or written to.
 #[derive(Drop)]
@@ -13,6 +11,8 @@ pub(crate) struct Stream<'row> {
     pub(crate) unread: &'row [u8],
     /// The bytes that were written.
     pub(crate) written: Vec<u8>,
+    /// How many bytes a call reads or writes at most.
+    most_bytes: usize,
     /// After how many more reads or writes it fails.
     calls: u32,
     /// How many bytes the last of these calls reads or writes at most.
@@ -24,13 +24,15 @@ pub(crate) struct Stream<'row> {
 }
 
 impl<'row> Stream<'row> {
-    /// Makes a stream with these bytes to read, which takes all that is written, and doesn't fail.
-    pub(crate) fn new(alloc: Global, unread: &'row [u8]) -> Self {
+    /// Makes a stream with these bytes to read, which moves at most `most_bytes` bytes in a call and
+    /// doesn't fail.
+    pub(crate) fn new(alloc: Global, unread: &'row [u8], most_bytes: usize) -> Self {
         Stream {
             unread,
             written: Vec::new(alloc),
+            most_bytes,
             calls: u32::MAX,
-            last_bytes: MOST_BYTES,
+            last_bytes: most_bytes,
             has_failed: false,
             fails_at_flush: false,
         }
@@ -43,6 +45,11 @@ impl<'row> Stream<'row> {
         self.last_bytes = last_bytes;
     }
 
+    /// Returns what was written, or `not UTF-8`.
+    pub(crate) fn text(&self) -> &str {
+        str::from_utf8(&self.written).unwrap_or("not UTF-8")
+    }
+
     /// Counts a read or a write, and returns how many bytes it can have.
     fn count(&mut self) -> io::Result<usize> {
         match self.calls.checked_sub(1) {
@@ -51,7 +58,7 @@ impl<'row> Stream<'row> {
                 Ok(if calls == 0 {
                     self.last_bytes
                 } else {
-                    MOST_BYTES
+                    self.most_bytes
                 })
             }
             None => {
