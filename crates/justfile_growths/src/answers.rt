@@ -4,7 +4,7 @@ use crate::counts::Outcome;
 use crate::scarcity::Scarcity;
 use crate::text::{BINDINGS, PRINTED, RECIPES};
 use justfile_syntax::ast::Ast;
-use justfile_syntax::expander::{ExpandFault, Expander};
+use justfile_syntax::expander::Unchanged;
 use justfile_syntax::fault::{CompileResult, Fault};
 use justfile_syntax::indentation::Indentation;
 use justfile_syntax::lexer::Lexer;
@@ -15,46 +15,20 @@ use justfile_syntax::token::Token;
 use justfile_syntax::version::Version;
 use std::alloc::{AllocError, Global};
 
-/// An expander that leaves each text unchanged.
-struct Unchanged;
-
-impl Expander for Unchanged {
-    ghost use Rattle.std.specs.Prelude.{Ok};
-
-    ghost answer = { λ _ text. Ok text };
-
-    fn expand(&self, alloc: Global, text: &str) -> Result<String, ExpandFault> {
-        Ok(text.to_string(alloc)?)
-    }
-}
-
-/// The version of the language.
-const CURRENT: Version = Version {
-    major: 1,
-    minor: 58,
-    patch: 0,
-};
-
 /// Parses the justfile.
 pub(crate) fn parse<'src>(
     alloc: Global,
     numerator: &mut Numerator,
     text: &'src str,
 ) -> CompileResult<'src, Ast<'src>> {
-    let source = Source {
-        file_depth: 0,
-        import_offsets: &[],
-        namepath: None,
-        working_directory: "",
-    };
     Parser::parse_source(
         alloc,
         numerator,
         "justfile",
-        &source,
+        &Source::root(),
         text,
         &Unchanged,
-        CURRENT,
+        Version::CURRENT,
         RECURSION_LIMIT,
     )
 }

@@ -29,13 +29,6 @@ use justfile_syntax::version::Version;
 use row_notation::{Answer, Text, field_at, number_at};
 use std::alloc::Global;
 
-/// The version of the language.
-const CURRENT: Version = Version {
-    major: 1,
-    minor: 58,
-    patch: 0,
-};
-
 /// Parses a text under a limit of depth, with numbers from a numerator.
 fn parse_from<'src>(
     alloc: Global,
@@ -51,7 +44,14 @@ fn parse_from<'src>(
         working_directory: WORKING_DIRECTORY,
     };
     Parser::parse_source(
-        alloc, numerator, "justfile", &source, text, expansion, CURRENT, limit,
+        alloc,
+        numerator,
+        "justfile",
+        &source,
+        text,
+        expansion,
+        Version::CURRENT,
+        limit,
     )
 }
 

@@ -80,7 +80,7 @@ pub mod delimiter {
 pub mod expander {
     //! What expands the texts of `x'..'`.
 
-    pub use justfile_token::{ExpandFault, Expander};
+    pub use justfile_token::{ExpandFault, Expander, Unchanged};
 }
 
 pub mod expression {

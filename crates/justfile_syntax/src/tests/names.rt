@@ -2,6 +2,7 @@
 
 use crate::assignment::Assignment;
 use crate::ast::Ast;
+use crate::expander::Unchanged;
 use crate::item::Item;
 use crate::lexer::Lexer;
 use crate::modulepath::Modulepath;
@@ -9,7 +10,8 @@ use crate::name::Name;
 use crate::namepath::Namepath;
 use crate::numerator::{Number, Numerator};
 use crate::parser::{Parser, RECURSION_LIMIT};
-use crate::tests::support::{CURRENT, Unchanged, holds, names, same, same_text};
+use crate::tests::support::{holds, names, same, same_text};
+use crate::version::Version;
 use std::alloc::{AllocError, Global};
 use std::process::Abort;
 
@@ -148,7 +150,7 @@ fn compare_module(
         tokens.as_slice(),
         "/home/m",
         &Unchanged,
-        CURRENT,
+        Version::CURRENT,
         RECURSION_LIMIT,
     ) {
         Ok(mut ast) => compare_file(&mut ast, rt, alloc),

@@ -1,33 +1,12 @@
 //! Helpers for the tests of several files.
 
-use crate::expander::{ExpandFault, Expander};
 use crate::lexer::Lexer;
 use crate::name::Name;
 use crate::token::Token;
 use crate::token_kind::TokenKind;
-use crate::version::Version;
 use std::alloc::Global;
 use std::fmt::Debug;
 use std::process::Abort;
-
-pub(crate) const CURRENT: Version = Version {
-    major: 1,
-    minor: 58,
-    patch: 0,
-};
-
-/// An expander that leaves each text unchanged.
-pub(crate) struct Unchanged;
-
-impl Expander for Unchanged {
-    ghost use Rattle.std.specs.Prelude.{Ok};
-
-    ghost answer = { λ _ text. Ok text };
-
-    fn expand(&self, alloc: Global, text: &str) -> Result<String, ExpandFault> {
-        Ok(text.to_string(alloc)?)
-    }
-}
 
 /// Checks that a text is the expected one. A failure names `of`, which it belongs to.
 pub(crate) fn same_text(rt: &impl Abort, of: &str, found: &str, wanted: &str) {

@@ -1,11 +1,13 @@
 //! Printing to writers that take few bytes, and that fail.
 
 use crate::ast::Ast;
+use crate::expander::Unchanged;
 use crate::indentation::Indentation;
 use crate::numerator::Numerator;
 use crate::parser::{Parser, RECURSION_LIMIT};
 use crate::source::Source;
-use crate::tests::support::{CURRENT, Unchanged, same};
+use crate::tests::support::same;
+use crate::version::Version;
 use crate::write_fault::WriteFault;
 use std::alloc::Global;
 use std::io::{self, ErrorKind, Write};
@@ -97,21 +99,15 @@ fn compare_rows(ast: &mut Ast<'_>, rt: &impl Abort, alloc: Global) {
 
 /// Checks what the file of a text prints.
 fn compare_text(rt: &impl Abort, alloc: Global, text: &str) {
-    let source = Source {
-        file_depth: 0,
-        import_offsets: &[],
-        namepath: None,
-        working_directory: "/home",
-    };
     let mut numerator = Numerator::new(0);
     match Parser::parse_source(
         alloc,
         &mut numerator,
         "justfile",
-        &source,
+        &Source::root(),
         text,
         &Unchanged,
-        CURRENT,
+        Version::CURRENT,
         RECURSION_LIMIT,
     ) {
         Ok(mut ast) => compare_rows(&mut ast, rt, alloc),
