@@ -1,5 +1,7 @@
--- Copies of the groups in the first pairs of a list.
-use Rattle.std.proofs.Common.{◌≡◌, ◌∙◌, ℕ, ◌+◌, ◌<◌, List, [], ◌∷◌, ◌++◌, Option, Some, None, length, take, get_or, refl, sym, ap, subst}
+-- Copies of the groups in the first pairs of a list, and their names.
+use Rattle.std.proofs.Common.{◌≡◌, ◌∙◌, ℕ, ◌+◌, ◌<◌, List, [], ◌∷◌, ◌++◌, Option, Some, None, length, map, take, get_or, refl, sym, ap, subst}
+use Rattle.std.specs.Prelude.{string_bytes}
+use Rattle.std.specs.Borrow.{Bor}
 use Rattle.std.specs.List.{AllZip, cons_option, filter_map}
 use Rattle.std.proofs.lemmas.List.{append-nil, map-append, take_more}
 use Rattle.std.proofs.lemmas.List.Elements.{AllZip-push, filter_map-append}
@@ -33,6 +35,24 @@ one_more copies later all i p copy group h is e same f so_far =
     subst (λ l. AllZip IsSameLiteral l (groups_in (firsts (take (i + 1) all)))) (sym f)
     (subst (AllZip IsSameLiteral (copies ++ copy ∷ [])) (sym (groups_at all i p (Some group) h is e))
     (AllZip-push IsSameLiteral copies (groups_in (firsts (take i all))) copy group so_far same))
+
+abbrev name_of : StringLiteral → List ℕ
+name_of group = string_bytes group.cooked
+
+abbrev pub AreNames : (names : List (Bor (List ℕ))) → (all : List Pair) → ℕ → Type 0
+AreNames names all i = map (λ name. name.now) names ≡ map name_of (groups_in (firsts (take i all)))
+
+-- the next pair isn't a group
+pub no_name : (names : List (Bor (List ℕ))) (all : List Pair) (i : ℕ) (p : Pair) → i < length all → p ≡ get_or all i p → group_of p.0 ≡ None
+    → AreNames names all i → AreNames names all (i + 1)
+no_name names all i p h is e so_far = so_far ∙ ap (map name_of) (sym (groups_at all i p None h is e ∙ append-nil (groups_in (firsts (take i all)))))
+
+-- the next pair is a group, whose name was added
+pub one_name : (names later : List (Bor (List ℕ))) (all : List Pair) (i : ℕ) (p : Pair) (name : Bor (List ℕ)) (group : StringLiteral) → i < length all → p ≡ get_or all i p
+    → group_of p.0 ≡ Some group → name.now ≡ name_of group → later ≡ names ++ name ∷ [] → AreNames names all i → AreNames later all (i + 1)
+one_name names later all i p name group h is e same f so_far =
+    ap (map (λ (n : Bor (List ℕ)). n.now)) f ∙ map-append (λ (n : Bor (List ℕ)). n.now) names (name ∷ []) ∙ (λ j. so_far j ++ same j ∷ [])
+    ∙ sym (map-append name_of (groups_in (firsts (take i all))) (group ∷ [])) ∙ ap (map name_of) (sym (groups_at all i p (Some group) h is e))
 
 pub none_group : (a : Attribute) → ((l : StringLiteral) → a ≡ attributes.Group l → ⊥) → group_of a ≡ None
 none_group (attributes.Group l) h = absurd (h l refl)

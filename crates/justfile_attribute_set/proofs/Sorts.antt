@@ -7,7 +7,7 @@ use Rattle.justfile_model.specs.ContentKeys.{entry_cmp}
 use Rattle.justfile_model.specs.ContentLeafLaws.{content_total}
 use Rattle.justfile_model.specs.KeyLaws.{key_total}
 use Rattle.justfile_model.specs.Order.{in_order}
-use Rattle.justfile_model.proofs.OrderLaws.{sorted_from_order}
+use Rattle.justfile_model.proofs.OrderLaws.{sorted_from_order, sorted_stays}
 use Rattle.justfile_model.proofs.OrderMaps.{in_order_map_where}
 use Rattle.justfile_expression.specs.LeafViews.{views_leaves}
 use Rattle.justfile_attribute.specs.New.{HasDerivedAttributeFields}
@@ -24,6 +24,11 @@ pair_total V = on_total (λ (p : Attribute × V). content_key p.0) (key_total co
 pub sorted_in_order : (xs ys : List Pair) → ys ≡ in_order pair_cmp xs → AreInOrder attribute_content_cmp ys
 unfolding AreInOrder
 sorted_in_order xs ys e = sorted_from_order (pair_total Written) xs ys e
+
+-- sorting pairs that are in order changes nothing
+pub order_stays : (xs : List Pair) → AreInOrder attribute_content_cmp xs → in_order pair_cmp xs ≡ xs
+unfolding AreInOrder
+order_stays xs h = sorted_stays (pair_total Written) xs h
 
 -- pairs whose derived fields are right compare as their entries do
 entries_compare : (x y : Pair) → HasDerivedAttributeFields x.0 → HasDerivedAttributeFields y.0 → entry_cmp views_leaves (leaf_entry_of x) (leaf_entry_of y) ≡ pair_cmp x y

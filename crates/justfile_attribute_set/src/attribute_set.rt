@@ -1,5 +1,5 @@
 //! Sets of attributes: how they are made, read, copied and checked.
-ghost use Rattle.std.specs.Prelude.{◌≡◌, [], length, find, map, not, None, IfErr, IfOk, OnOk};
+ghost use Rattle.std.specs.Prelude.{◌≡◌, [], length, find, map, not, None, IfErr, IfOk, OnOk, string_bytes};
 ghost use Rattle.std.specs.Cmp.{on_per};
 ghost use Rattle.std.specs.Cmp.Lexicographic.{lists_per, pointwise};
 ghost use Rattle.std.specs.List.{All, AllZip};
@@ -193,6 +193,24 @@ impl<'src> PairSet<Attribute<'src>, Written<'src>> {
         Ok(groups)
     }
 
+    /// Returns the names of the groups, in order.
+    ///
+    /// # Errors
+    ///
+    /// `AllocError` if out of memory.
+    pub fn group_names(&self, alloc: Global) -> Result<Vec<&str>, AllocError>
+        ensures { IfOk result (λ names. map (λ name. name.now) names.items
+            ≡ map (λ group. string_bytes group.cooked) (groups_in (attributes_of self.now))) }
+    {
+        let mut names = Vec::new(alloc);
+        for pair in &self.pairs {
+            if let Attribute::Group(name) = &pair.0 {
+                names.push(name.cooked.as_str())?;
+            }
+        }
+        Ok(names)
+    }
+
     /// Whether there is an attribute `private`.
     pub fn private(&self) -> bool
         ensures { result ≡ has_kind kinds.Private (attributes_of self.now) }
@@ -237,6 +255,16 @@ impl<'src> PairSet<Attribute<'src>, Written<'src>> {
         ensures { result.now ≡ written_of self.now }
     {
         &self.pairs
+    }
+
+    /// Returns the attributes in order, each with its name and its optional comment, by value.
+    /// `from_parsed` makes the same set of them.
+    #[tactic(auto, using(crate::proofs::Sorts::order_stays))]
+    pub fn into_written(self) -> Vec<(Attribute<'src>, Written<'src>)>
+        ensures pairs { result.items ≡ written_of self.entry }
+        ensures in_order { in_order pair_cmp result.items ≡ result.items }
+    {
+        self.pairs
     }
 
     /// Refuses attributes that an item of this kind, named by `item_token`, may not have. The rule

@@ -11,8 +11,10 @@ pub mod LeafLaws
 pub mod LeafViews
 pub mod LeafTree
 pub mod ListOperator
+pub mod Nodes
 pub mod Order
 pub mod Orders
+pub mod Parts
 pub mod Resolved
 pub mod RightSides
 pub mod SeenKeys

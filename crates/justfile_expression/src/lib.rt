@@ -8,6 +8,7 @@ pub mod laws;
 mod leaf_order;
 mod list_operator;
 mod order;
+mod parts;
 mod print;
 mod resolve;
 pub mod sink;

@@ -1,5 +1,5 @@
 -- The tree of a setting: the definitions' view of the code's type.
-use Rattle.std.specs.Prelude.{◌≡◌, ℕ, Bool, true, false, List, [], ◌∷◌, ◌++◌, string_bytes}
+use Rattle.std.specs.Prelude.{◌≡◌, ℕ, Bool, true, false, List, [], ◌∷◌, ◌++◌, Option, Some, None, string_bytes}
 use Rattle.std.specs.Global.{Box}
 use Rattle.std.specs.List.{flat_map}
 use Rattle.justfile_attribute.specs.declared.interpreter.Interpreter.{Interpreter}
@@ -125,6 +125,11 @@ HasDerivedSettingFields _ = Unit {0}
 abbrev pub is_default : {A B : Type 0} → SettingValue A B → Bool
 is_default (tree.Truth value) = value
 is_default _ = false
+
+-- the truth of a value that is `true` or `false`
+abbrev pub truth_of : {A B : Type 0} → SettingValue A B → Option Bool
+truth_of (tree.Truth value) = Some value
+truth_of _ = None
 
 -- the names of the settings that conflict with this one
 abbrev pub conflicts : Setting → List Keyword

@@ -11,3 +11,4 @@ mod value;
 pub use crate::form::{SettingForm, setting_form};
 pub use crate::print::write_setting;
 pub use crate::setting::Setting;
+pub use crate::value::Value;

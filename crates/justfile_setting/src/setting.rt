@@ -1,7 +1,8 @@
 //! The type of settings, with their keywords, their values and their conflicts.
 ghost use Rattle.std.specs.Prelude.{◌≡◌};
-ghost use Rattle.justfile_setting.specs.Setting.{conflicts, is_default, keyword_of, value_of};
-ghost use Rattle.justfile_setting.specs.Value.{value_seen};
+ghost use Rattle.justfile_setting.specs.LeafSetting.{leaf_value_of};
+ghost use Rattle.justfile_setting.specs.Setting.{conflicts, is_default, keyword_of, truth_of, value_of};
+ghost use Rattle.justfile_setting.specs.Value.{leaf_value_seen, value_seen};
 
 use crate::value::Value;
 use justfile_attribute::Interpreter;
@@ -110,9 +111,20 @@ impl<'src> Setting<'src> {
         }
     }
 
+    /// Whether the setting is on, if its value is `true` or `false`, and `None` if it is another.
+    pub fn truth(&self) -> Option<bool>
+        ensures { result ≡ truth_of (value_of self.now) }
+    {
+        match self.value() {
+            Value::Truth(value) => Some(*value),
+            _ => None,
+        }
+    }
+
     /// Returns the value of the setting.
-    pub(crate) fn value<'a>(&'a self) -> Value<'a, 'src>
-        ensures { value_seen result ≡ value_of self.now }
+    pub fn value<'a>(&'a self) -> Value<'a, 'src>
+        ensures tree { value_seen result ≡ value_of self.now }
+        ensures leaves { leaf_value_seen result ≡ leaf_value_of self.now }
     {
         match self {
             Setting::AllowDuplicateRecipes(value) => Value::Truth(value),
