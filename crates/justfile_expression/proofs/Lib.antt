@@ -12,7 +12,8 @@ pub mod ListLoops
 mod Loops
 mod Nodes
 pub mod PutLemmas
-mod Resolved
+pub mod Resolved
 mod RightSides
+pub mod ResolvedKeys
 mod Rows
 mod Walk

@@ -13,6 +13,7 @@ pub mod LeafTree
 pub mod ListOperator
 pub mod Order
 pub mod Orders
+pub mod Pushed
 pub mod Resolved
 pub mod RightSides
 pub mod SeenKeys
