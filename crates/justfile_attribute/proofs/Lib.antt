@@ -5,5 +5,6 @@ mod Equalities
 mod LeafTexts
 pub mod Ordered
 pub mod Printed
+pub mod ResolvedKeys
 pub mod Shown
 pub mod Walk

@@ -4,7 +4,9 @@ pub mod Cached
 pub mod New
 pub mod Order
 pub mod Print
+pub mod Resolved
 pub mod Equal
+pub mod Expressions
 pub mod Interpreter
 pub mod InterpreterOrder
 pub mod Interpreters

@@ -4,6 +4,7 @@
 pub mod attribute;
 mod cache_values;
 mod copy;
+mod expressions;
 mod interpreter;
 mod interpreters;
 pub mod laws;
@@ -12,8 +13,10 @@ mod order;
 mod part;
 mod parts_order;
 mod print;
+mod resolve;
 
 pub use crate::attribute::Attribute;
+pub use crate::expressions::push_attribute;
 pub use crate::interpreter::Interpreter;
 pub use crate::order::attribute_content_cmp;
 pub use crate::print::{write_attribute, write_literal};

@@ -6,5 +6,6 @@ mod Firsts
 mod Groups
 mod LastKept
 mod Named
+mod ResolvedPairs
 mod SeenKinds
 mod Sorts

@@ -1,9 +1,11 @@
 pub mod AttributeSet
 pub mod Attributes
 pub mod Copies
+pub mod Expressions
 pub mod InOrder
 pub mod IntoKeys
 pub mod IntoNamed
 pub mod Keys
 pub mod PairSet
 pub mod Pairs
+pub mod Resolved

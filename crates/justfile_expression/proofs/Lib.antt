@@ -13,7 +13,8 @@ mod Loops
 mod Nodes
 mod PartLemmas
 pub mod PutLemmas
-mod Resolved
+pub mod Resolved
 mod RightSides
+pub mod ResolvedKeys
 mod Rows
 mod Walk

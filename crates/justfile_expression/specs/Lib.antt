@@ -15,6 +15,7 @@ pub mod Nodes
 pub mod Order
 pub mod Orders
 pub mod Parts
+pub mod Pushed
 pub mod Resolved
 pub mod RightSides
 pub mod SeenKeys

@@ -4,6 +4,8 @@
 mod children;
 mod content;
 pub mod expression;
+pub mod has_expressions;
+pub mod has_variables;
 pub mod laws;
 mod leaf_order;
 mod list_operator;
@@ -18,6 +20,10 @@ mod words;
 pub use crate::children::child;
 pub use crate::content::{literal_content_cmp, token_content_cmp};
 pub use crate::expression::{Expression, copy_boxed, copy_optional};
+pub use crate::has_expressions::{
+    HasExpressions, push_all, push_each, push_expression, push_optional,
+};
+pub use crate::has_variables::{HasVariables, resolve_each, resolve_optional};
 pub use crate::list_operator::ListOperator;
 pub use crate::print::{put_piece, write_expression};
 pub use crate::resolve::resolve_expressions;

@@ -1,6 +1,7 @@
 //! Lines in the bodies of recipes, and how they are printed.
 #![tactic(auto)]
 
+mod expressions;
 pub mod fragment;
 pub mod laws;
 pub mod line;

@@ -1,6 +1,7 @@
 //! Parameters and dependencies of recipes, and how they are printed.
 #![tactic(auto)]
 
+mod expressions;
 pub mod laws;
 pub mod parameter;
 mod parameter_kind;

@@ -1,4 +1,5 @@
 pub mod Copies
+pub mod Expressions
 pub mod Form
 pub mod LeafSetting
 pub mod Print

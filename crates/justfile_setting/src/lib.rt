@@ -2,12 +2,14 @@
 #![tactic(auto)]
 
 mod copy;
+mod expressions;
 mod form;
 mod print;
 mod resolve;
 pub mod setting;
 mod value;
 
+pub use crate::expressions::push_setting;
 pub use crate::form::{SettingForm, setting_form};
 pub use crate::print::write_setting;
 pub use crate::setting::Setting;

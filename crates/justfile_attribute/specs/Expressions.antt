@@ -1,0 +1,25 @@
+-- The expressions of an attribute.
+use Rattle.std.specs.Prelude.{List, [], ◌∷◌, ◌++◌, Option, None, Some}
+use Rattle.std.specs.Global.{Box}
+use Rattle.justfile_token.specs.declared.name.Name.{Name}
+use Rattle.justfile_expression.specs.Pushed.{optional_expressions}
+use Rattle.justfile_expression.specs.declared.expression.Expression.{Expression}
+use Rattle.justfile_attribute.specs.declared.attribute.Attribute.{Attribute}
+use Rattle.justfile_attribute.specs.declared.attribute.Attribute.TheVariants as attributes
+
+-- the value of an optional key, as a list
+abbrev pub property_expressions : Option (Name × Box Expression) → List Expression
+property_expressions None = []
+property_expressions (Some p) = p.1.value ∷ []
+
+-- the expressions that an attribute has directly, in the order of printing
+abbrev pub attribute_expressions : Attribute → List Expression
+attribute_expressions (attributes.Arg flag help help_property long long_key max max_key min min_key multiple name pattern short short_key value) =
+    property_expressions pattern ++ optional_expressions value ++ property_expressions help_property
+attribute_expressions (attributes.Cache extra inputs outputs) = optional_expressions extra ++ optional_expressions inputs ++ optional_expressions outputs
+attribute_expressions (attributes.Confirm prompt) = optional_expressions prompt
+attribute_expressions (attributes.Doc doc) = optional_expressions doc
+attribute_expressions (attributes.Env name value) = name.value ∷ value.value ∷ []
+attribute_expressions (attributes.Timestamp format) = optional_expressions format
+attribute_expressions (attributes.WorkingDirectory path) = path.value ∷ []
+attribute_expressions _ = []

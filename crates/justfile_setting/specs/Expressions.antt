@@ -1,0 +1,22 @@
+-- The expressions of a setting.
+use Rattle.std.specs.Prelude.{List, [], ◌∷◌}
+use Rattle.justfile_attribute.specs.declared.interpreter.Interpreter.{Interpreter}
+use Rattle.justfile_expression.specs.declared.expression.Expression.{Expression}
+use Rattle.justfile_setting.specs.declared.setting.Setting.{Setting}
+use Rattle.justfile_setting.specs.declared.setting.Setting.TheVariants as settings
+
+-- the command of an interpreter and its arguments
+abbrev pub interpreter_expressions : Interpreter Expression → List Expression
+interpreter_expressions interpreter = interpreter.command ∷ interpreter.arguments.items
+
+-- the expressions that a setting has directly, in the order of printing
+abbrev pub setting_expressions : Setting → List Expression
+setting_expressions (settings.DotenvCommand value) = value.value ∷ []
+setting_expressions (settings.DotenvFilename value) = value.value ∷ []
+setting_expressions (settings.DotenvPath value) = value.value ∷ []
+setting_expressions (settings.ScriptInterpreter interpreter) = interpreter_expressions interpreter.value
+setting_expressions (settings.Shell interpreter) = interpreter_expressions interpreter.value
+setting_expressions (settings.Tempdir value) = value.value ∷ []
+setting_expressions (settings.WindowsShell interpreter) = interpreter_expressions interpreter.value
+setting_expressions (settings.WorkingDirectory value) = value.value ∷ []
+setting_expressions _ = []
