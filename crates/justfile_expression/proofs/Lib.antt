@@ -11,6 +11,7 @@ mod Joined
 pub mod ListLoops
 mod Loops
 mod Nodes
+mod OrderSteps
 pub mod PutLemmas
 mod Resolved
 mod RightSides

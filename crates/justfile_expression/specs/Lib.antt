@@ -12,6 +12,7 @@ pub mod LeafViews
 pub mod LeafTree
 pub mod ListOperator
 pub mod Order
+pub mod OrderSteps
 pub mod Orders
 pub mod Resolved
 pub mod RightSides
