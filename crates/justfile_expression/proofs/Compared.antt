@@ -10,12 +10,13 @@ use Rattle.std.proofs.lemmas.Bool.Decides.{nat_tests}
 use Rattle.justfile_token.specs.declared.name.Name.{Name}
 use Rattle.justfile_token.specs.declared.token.Token.{Token}
 use Rattle.justfile_token.specs.declared.string_literal.StringLiteral.{StringLiteral}
-use Rattle.justfile_model.specs.Key.{Key, node, end, next, row, keys_of, key_cmp, keys_cmp}
+use Rattle.justfile_model.specs.Key.{Key, label, node, end, next, row, keys_of, key_cmp, keys_cmp}
 use Rattle.justfile_model.specs.KeyLaws.{then_end}
 use Rattle.justfile_model.specs.declared.conditional_operator.ConditionalOperator.{ConditionalOperator}
 use Rattle.justfile_expression.specs.Content.{leaf_order}
 use Rattle.justfile_expression.specs.Leaf.{KeyLeaf, operator, text, token, operator_cmp, text_cmp, token_key, literal_key}
 use Rattle.justfile_expression.specs.Order.{key, option_key, part_key, row_keys, row_parts}
+use Rattle.justfile_expression.specs.OrderSteps.{left_key, option_presence}
 use Rattle.justfile_expression.specs.declared.leaf_order.LeafOrder.{LeafOrder}
 use Rattle.justfile_expression.specs.declared.leaf_order.LeafOrder.TheVariants.{Whole, Content}
 use Rattle.justfile_expression.specs.declared.expression.Expression.{Expression, Assert, Call, Conditional, FormatString, List as List_of, Row_of-Expression as ExpressionRow, end_of-Expression as row_end, more_of-Expression as row_more, Row_of-Expression-FormatString-1-2 as FormatRow, end_of-Expression-FormatString-1-2 as format_row_end, more_of-Expression-FormatString-1-2 as format_row_more, items-the_row-Expression, items-the_row-Expression-FormatString-1-2, items_hidden-the_row-Expression-0, items_hidden-the_row-Expression-FormatString-1-2-1}
@@ -39,12 +40,9 @@ module _ {X : Type 0} (R : X → X → Ordering) where
   at_end xs zs ys i m n r z a b h k l w e =
       e ∙ (λ j. nat_cmp ((a ∙ ap length (sym z)) j) (b j)) ∙ sym (tail zs ys i h k l) ∙ w ∙ ap (λ q. slice_cmp R q ys) z
 
--- ---- two or three comparisons, as a chain that ends with `Equal`
+-- ---- three comparisons, as a chain that ends with `Equal`
 
-pub two_and_no_more : {a b p q : Ordering} (r : Ordering) → p ≡ a → q ≡ b → r ≡ ordering_then p q → r ≡ ordering_then a (ordering_then b Equal)
-two_and_no_more {a} {b} r e f g = g ∙ (λ i. ordering_then (e i) (f i)) ∙ ap (ordering_then a) (sym (then_end b))
-
-then_then : (a b c : Ordering) → ordering_then (ordering_then a b) c ≡ ordering_then a (ordering_then b c)
+pub then_then : (a b c : Ordering) → ordering_then (ordering_then a b) c ≡ ordering_then a (ordering_then b c)
 then_then Less b c = refl
 then_then Equal b c = refl
 then_then Greater b c = refl
@@ -93,7 +91,7 @@ abbrev assert_key : Expression → Option (Box Expression) → Name → Key KeyL
 assert_key condition message name = node 1 (next (key condition) (next (option_key message) (next (token_key name.token) end)))
 
 abbrev conditional_key : (condition branch : Expression) → Option (Box Expression) → Key KeyLeaf
-conditional_key condition branch otherwise = node 6 (next (key condition) (next (key branch) (next (option_key otherwise) end)))
+conditional_key condition branch otherwise = node 6 (next (key condition) (next (key branch) (next (option_presence otherwise) end)))
 
 abbrev list_key : List Expression → Token → Key KeyLeaf
 list_key elements opener = node 10 (next (row (keys_of key elements)) (next (token_key opener) end))
@@ -103,7 +101,7 @@ key_assert condition None name = refl
 key_assert condition (Some message) name = refl
 
 key_conditional : (condition branch : Box Expression) (otherwise : Option (Box Expression))
-    → conditional_key condition.value branch.value otherwise ≡ key (Conditional condition branch otherwise)
+    → conditional_key condition.value branch.value otherwise ≡ left_key (Conditional condition branch otherwise)
 key_conditional condition branch None = refl
 key_conditional condition branch (Some otherwise) = refl
 
@@ -130,7 +128,7 @@ module _ (R : KeyLeaf → KeyLeaf → Ordering) where
   from_assert condition message name k r e = e ∙ ap (λ l. key_cmp R l k) (key_assert condition message name)
 
   pub from_conditional : (condition branch : Box Expression) (otherwise : Option (Box Expression)) (k : Key KeyLeaf) (r : Ordering)
-      → r ≡ key_cmp R (conditional_key condition.value branch.value otherwise) k → r ≡ key_cmp R (key (Conditional condition branch otherwise)) k
+      → r ≡ key_cmp R (conditional_key condition.value branch.value otherwise) k → r ≡ key_cmp R (left_key (Conditional condition branch otherwise)) k
   from_conditional condition branch otherwise k r e = e ∙ ap (λ l. key_cmp R l k) (key_conditional condition branch otherwise)
 
   pub from_call : (name : Name) (v : Vec Expression) (k : Key KeyLeaf) (r : Ordering) → r ≡ key_cmp R (call_key name v.items) k → r ≡ key_cmp R (key (Call name v)) k
@@ -142,7 +140,13 @@ module _ (R : KeyLeaf → KeyLeaf → Ordering) where
   pub from_list : (v : Vec Expression) (opener : Token) (k : Key KeyLeaf) (r : Ordering) → r ≡ key_cmp R (list_key v.items opener) k → r ≡ key_cmp R (key (List_of v opener)) k
   from_list v opener k r e = e ∙ ap (λ l. key_cmp R l k) (key_list v opener)
 
-  -- two binary operations of the same case, by their fields: p compares the first ones, and q the second ones
+  presences : (m n : Option (Box Expression)) → nat_cmp (label (option_presence m)) (label (option_presence n)) ≡ key_cmp R (option_presence m) (option_presence n)
+  presences None None = refl
+  presences None (Some n) = refl
+  presences (Some m) None = refl
+  presences (Some m) (Some n) = refl
+
+  -- two expressions of the same case, by their fields: p compares the first ones, and q the second ones
 
   pub both_asserts : (e : Expression) (m : Option (Box Expression)) (name : Name) (condition : Box Expression) (message : Option (Box Expression)) (other : Name)
       (p q s o r : Ordering) → p ≡ key_cmp R (key e) (key condition.value) → q ≡ key_cmp R (option_key m) (option_key message)
@@ -153,10 +157,10 @@ module _ (R : KeyLeaf → KeyLeaf → Ordering) where
 
   pub both_conditionals : (e b : Expression) (m : Option (Box Expression)) (condition branch : Box Expression) (otherwise : Option (Box Expression))
       (p q s o r : Ordering) → p ≡ key_cmp R (key e) (key condition.value) → q ≡ key_cmp R (key b) (key branch.value)
-      → s ≡ key_cmp R (option_key m) (option_key otherwise) → o ≡ ordering_then p q → r ≡ ordering_then o s
-      → r ≡ key_cmp R (conditional_key e b m) (key (Conditional condition branch otherwise))
+      → s ≡ nat_cmp (label (option_presence m)) (label (option_presence otherwise)) → o ≡ ordering_then p q → r ≡ ordering_then o s
+      → r ≡ key_cmp R (conditional_key e b m) (left_key (Conditional condition branch otherwise))
   both_conditionals e b m condition branch otherwise p q s o r f g h i j =
-      three_and_no_more r f g h i j ∙ ap (key_cmp R (conditional_key e b m)) (key_conditional condition branch otherwise)
+      three_and_no_more r f g (h ∙ presences m otherwise) i j ∙ ap (key_cmp R (conditional_key e b m)) (key_conditional condition branch otherwise)
 
   pub both_calls : (name other : Name) (xs : List Expression) (v : Vec Expression) (p q r : Ordering)
       → p ≡ key_cmp R (token_key name.token) (token_key other.token) → q ≡ slice_cmp (on key (key_cmp R)) xs v.items → r ≡ ordering_then p q

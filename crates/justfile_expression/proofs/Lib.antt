@@ -11,6 +11,7 @@ mod Joined
 pub mod ListLoops
 mod Loops
 mod Nodes
+mod OrderSteps
 mod PartLemmas
 pub mod PutLemmas
 pub mod Resolved

@@ -1,5 +1,5 @@
 -- Rows of expressions: each is the right side of the one before.
-use Rattle.std.proofs.Common.{◌≡◌, ℕ, ◌+◌, ◌<◌, None, Some, Option, IfSome, List, [], ◌∷◌, ◌++◌, length, reverse, sym, ap, ◌∙◌, subst, arith}
+use Rattle.std.proofs.Common.{◌≡◌, ℕ, ◌+◌, ◌<◌, ◌≤◌, None, Some, Option, IfSome, List, [], ◌∷◌, ◌++◌, length, reverse, sym, ap, ◌∙◌, subst, arith}
 use Rattle.std.proofs.lemmas.List.{reverse-append}
 use Rattle.std.proofs.lemmas.List.Elements.{All-nil, All-push, All-pop}
 use Rattle.std.specs.Borrow.{Bor}
@@ -18,6 +18,10 @@ pub falls : (e : Expression) (answer : Option (Bor Expression))
     → IfSome answer (IsLessDeep e) → row_left answer < size-Expression e + 1
 falls e None smaller = omega arith
 falls e (Some r) smaller = omega (arith, smaller)
+
+-- a bound on what is left bounds the next expression
+pub next_shallow : (rest : Option (Bor Expression)) (next : Bor Expression) (n : ℕ) → rest ≡ Some next → row_left rest ≤ n → size-Expression next.now + 1 ≤ n
+next_shallow rest next n is h = subst (λ (r : Option (Bor Expression)). row_left r ≤ n) is h
 
 -- a row without expressions yet
 pub begun : (row : List (Bor Expression)) (whole : Expression) (right : Option Expression) → row ≡ [] → right ≡ right_side whole → IsRow (reverse row) whole right

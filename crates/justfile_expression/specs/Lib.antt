@@ -13,6 +13,7 @@ pub mod LeafTree
 pub mod ListOperator
 pub mod Nodes
 pub mod Order
+pub mod OrderSteps
 pub mod Orders
 pub mod Parts
 pub mod Pushed

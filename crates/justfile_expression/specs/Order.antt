@@ -3,7 +3,6 @@ use Rattle.std.specs.Prelude.{Option, Some, None, string_bytes}
 use Rattle.std.specs.Global.{Box}
 use Rattle.std.specs.declared.cmp.Ordering.{Ordering}
 use Rattle.justfile_token.specs.declared.string_literal.StringLiteral as literals
-use Rattle.justfile_token.specs.declared.token.Token.{Token}
 use Rattle.justfile_model.specs.Key.{Key, Keys, node, end, next, row, absent_key, present_key, key_cmp}
 use Rattle.justfile_expression.specs.Leaf.{KeyLeaf, leaf_cmp, token_key, literal_key, operator_key, number_key, text_key}
 use Rattle.justfile_expression.specs.declared.expression.Expression.{Expression, And', Assert', Backtick, Call', Comparison', Concatenation', Conditional', FormatString', Group', Join', List', ListConcatenation', Not', Or', StringLiteral, Variable, Held-Expression-Assert-1 as OptionalExpression, None', Some', Row_of-Expression as ExpressionRow, end_of-Expression as row_end, more_of-Expression as row_more, Row_of-Expression-FormatString-1-2 as FormatRow, end_of-Expression-FormatString-1-2 as format_row_end, more_of-Expression-FormatString-1-2 as format_row_more}
@@ -39,10 +38,6 @@ abbrev mutual
   pub row_parts : {m : _} → FormatRow m → Keys KeyLeaf
   row_parts format_row_end = end
   row_parts (format_row_more e l others) = next (row (next (key e) (next (literal_key l) end))) (row_parts others)
-
--- the keys of the fields of a binary operation
-abbrev pub operation_keys : (lhs : Expression) (operator : Token) (rhs : Expression) → Keys KeyLeaf
-operation_keys lhs operator rhs = next (key lhs) (next (token_key operator) (next (key rhs) end))
 
 -- the key of an expression of a format string and the part after it
 abbrev pub part_key : Expression × literals.StringLiteral → Key KeyLeaf

@@ -4,15 +4,16 @@ ghost use Rattle.std.specs.Prelude.{◌≡◌, Some, string_bytes};
 ghost use Rattle.std.proofs.Common.{refl};
 ghost use Rattle.std.specs.Cmp.{eq_by_cmp_equiv, on_total, partial_equiv_from_equiv, partial_order_from_total};
 ghost use Rattle.std.specs.Cmp.Lexicographic.{slice_cmp};
-ghost use Rattle.std.specs.Ordering.{eq_by_cmp, on};
-ghost use Rattle.justfile_model.specs.Key.{label, node, end, next, row, keys_of, key_cmp, keys_cmp};
+ghost use Rattle.std.specs.Ordering.{eq_by_cmp, nat_cmp, on};
+ghost use Rattle.justfile_model.specs.Key.{label, node, end, next, row, keys_of, key_cmp};
 ghost use Rattle.justfile_model.specs.KeyLaws.{key_total};
 ghost use Rattle.justfile_expression.specs.Content.{expression_content_cmp, leaf_order};
-ghost use Rattle.justfile_expression.specs.Leaf.{token_key, literal_key, operator_key, number_key, text_key};
+ghost use Rattle.justfile_expression.specs.Leaf.{token, token_key, literal_key, operator_key, number_key, text_key};
 ghost use Rattle.justfile_expression.specs.LeafLaws.{leaf_total};
-ghost use Rattle.justfile_expression.specs.Order.{expression_cmp, key, operation_keys, option_key, part_key};
+ghost use Rattle.justfile_expression.specs.Order.{expression_cmp, key, option_key, part_key};
+ghost use Rattle.justfile_expression.specs.OrderSteps.{both_cmp, left_key, option_presence, token_after};
 
-use crate::expression::Expression;
+use crate::expression::{Expression, right_side};
 use crate::leaf_order::LeafOrder;
 use justfile_model::ConditionalOperator;
 use justfile_token::{Name, StringLiteral, Token};
@@ -79,7 +80,8 @@ fn compare_whole<'src>(expression: &Expression<'src>, other: &Expression<'src>) 
 }
 
 /// Compares two expressions: by the declared order of the cases, and within a case by its fields in
-/// declared order.
+/// declared order. Expressions nest to the right without a limit, so a loop goes along the right
+/// sides of both. `after` is the order of what follows these, which counts only if they are equal.
 #[cycle(order)]
 fn compare<'src>(
     leaves: LeafOrder,
@@ -88,8 +90,58 @@ fn compare<'src>(
 ) -> Ordering
     ensures { result ≡ key_cmp (leaf_order leaves) (key expression.now) (key other.now) }
 {
+    let mut after = Ordering::Equal;
+    let mut rest = Some(expression);
+    let mut other_rest = Some(other);
+    while let Some(next) = rest {
+        let Some(other_next) = other_rest else {
+            return after;
+        };
+        let order = compare_left(leaves, next, other_next);
+        if order.is_ne() {
+            return order;
+        }
+        after = compare_after(leaves, next, other_next).then(after);
+        rest = right_side(next);
+        other_rest = right_side(other_next);
+    }
+    after
+}
+
+/// Compares what follows the right sides of two expressions: for comparisons the tokens of their
+/// operators, and otherwise nothing.
+fn compare_after<'src>(
+    leaves: LeafOrder,
+    expression: &Expression<'src>,
+    other: &Expression<'src>,
+) -> Ordering
+    ensures { result ≡ both_cmp (λ s t. leaf_order leaves (token s) (token t))
+        (token_after expression.now) (token_after other.now) }
+{
     match expression {
-        Expression::And { lhs, rhs } => compare_and(leaves, lhs, rhs, other),
+        Expression::Comparison { token, .. } => match other {
+            Expression::Comparison {
+                token: other_token,
+                ..
+            } => leaves.tokens(token, other_token),
+            _ => Ordering::Equal,
+        },
+        _ => Ordering::Equal,
+    }
+}
+
+/// Compares two expressions up to their right sides; conditionals also by whether they have an
+/// `else` branch.
+#[cycle(order)]
+fn compare_left<'src>(
+    leaves: LeafOrder,
+    expression: &Expression<'src>,
+    other: &Expression<'src>,
+) -> Ordering
+    ensures { result ≡ key_cmp (leaf_order leaves) (left_key expression.now) (left_key other.now) }
+{
+    match expression {
+        Expression::And { lhs, .. } => compare_and(leaves, lhs, other),
         Expression::Assert {
             condition,
             message,
@@ -99,14 +151,11 @@ fn compare<'src>(
             leaves, contents, token, other,
         ),
         Expression::Call { name, arguments } => compare_call(leaves, name, arguments, other),
-        Expression::Comparison {
-            lhs,
-            operator,
-            rhs,
-            token,
-        } => compare_comparison(leaves, lhs, operator, rhs, token, other),
-        Expression::Concatenation { lhs, operator, rhs } => compare_concatenation(
-            leaves, lhs, operator, rhs, other,
+        Expression::Comparison { lhs, operator, .. } => compare_comparison(
+            leaves, lhs, operator, other,
+        ),
+        Expression::Concatenation { lhs, operator, .. } => compare_concatenation(
+            leaves, lhs, operator, other,
         ),
         Expression::Conditional {
             condition,
@@ -120,13 +169,13 @@ fn compare<'src>(
             other,
         ),
         Expression::Group { contents } => compare_group(leaves, contents, other),
-        Expression::Join { lhs, operator, rhs } => compare_join(leaves, lhs, operator, rhs, other),
+        Expression::Join { lhs, operator, .. } => compare_join(leaves, lhs, operator, other),
         Expression::List { elements, opener } => compare_list(leaves, elements, opener, other),
-        Expression::ListConcatenation { lhs, operator, rhs } => compare_list_concatenation(
-            leaves, lhs, operator, rhs, other,
+        Expression::ListConcatenation { lhs, operator, .. } => compare_list_concatenation(
+            leaves, lhs, operator, other,
         ),
-        Expression::Not { operand } => compare_not(leaves, operand, other),
-        Expression::Or { lhs, rhs } => compare_or(leaves, lhs, rhs, other),
+        Expression::Not { .. } => compare_not(leaves, other),
+        Expression::Or { lhs, .. } => compare_or(leaves, lhs, other),
         Expression::StringLiteral { string_literal } => compare_string_literal(
             leaves,
             string_literal,
@@ -136,22 +185,18 @@ fn compare<'src>(
     }
 }
 
-/// Compares a conjunction, given by its fields, to another expression.
+/// Compares a conjunction, given by its left side, to another expression up to the right sides.
 #[cycle(order)]
 fn compare_and<'src>(
     leaves: LeafOrder,
     lhs: &Expression<'src>,
-    rhs: &Expression<'src>,
     other: &Expression<'src>,
 ) -> Ordering
-    ensures { result ≡ key_cmp (leaf_order leaves)
-        (node 0 (next (key lhs.now) (next (key rhs.now) end))) (key other.now) }
+    ensures { result
+        ≡ key_cmp (leaf_order leaves) (node 0 (next (key lhs.now) end)) (left_key other.now) }
 {
     match other {
-        Expression::And {
-            lhs: other_lhs,
-            rhs: other_rhs,
-        } => compare(leaves, lhs, other_lhs).then(compare(leaves, rhs, other_rhs)),
+        Expression::And { lhs: other_lhs, .. } => compare(leaves, lhs, other_lhs),
         _ => 0.cmp(&case_index(other)),
     }
 }
@@ -166,7 +211,7 @@ fn compare_assert<'src>(
     other: &Expression<'src>,
 ) -> Ordering
     ensures { result ≡ key_cmp (leaf_order leaves) (node 1 (next (key condition.now)
-        (next (option_key message.now) (next (token_key name.now.token) end)))) (key other.now) }
+        (next (option_key message.now) (next (token_key name.now.token) end)))) (left_key other.now) }
 {
     match other {
         Expression::Assert {
@@ -189,7 +234,7 @@ fn compare_backtick<'src>(
 ) -> Ordering
     ensures { result ≡ key_cmp (leaf_order leaves)
         (node 2 (next (text_key (string_bytes contents.now)) (next (token_key token.now) end)))
-        (key other.now) }
+        (left_key other.now) }
 {
     match other {
         Expression::Backtick {
@@ -212,7 +257,7 @@ fn compare_call<'src>(
 ) -> Ordering
     ensures { result ≡ key_cmp (leaf_order leaves) (node 3
         (next (token_key name.now.token) (next (row (keys_of key arguments.now.items)) end)))
-        (key other.now) }
+        (left_key other.now) }
 {
     match other {
         Expression::Call {
@@ -225,65 +270,51 @@ fn compare_call<'src>(
     }
 }
 
-/// Compares a comparison, given by its fields, to another expression.
+/// Compares a comparison, given by what comes before its right side, to another expression up to
+/// the right sides.
 #[cycle(order)]
 fn compare_comparison<'src>(
     leaves: LeafOrder,
     lhs: &Expression<'src>,
     operator: &ConditionalOperator,
-    rhs: &Expression<'src>,
-    token: &Token<'src>,
     other: &Expression<'src>,
 ) -> Ordering
-    ensures { result
-        ≡ key_cmp (leaf_order leaves) (node 4 (next (key lhs.now) (next (operator_key operator.now)
-        (next (key rhs.now) (next (token_key token.now) end))))) (key other.now) }
+    ensures { result ≡ key_cmp (leaf_order leaves)
+        (node 4 (next (key lhs.now) (next (operator_key operator.now) end))) (left_key other.now) }
 {
     match other {
         Expression::Comparison {
             lhs: other_lhs,
             operator: other_operator,
-            rhs: other_rhs,
-            token: other_token,
-        } => compare(leaves, lhs, other_lhs)
-            .then(leaves.operators(operator, other_operator))
-            .then(compare(leaves, rhs, other_rhs))
-            .then(leaves.tokens(token, other_token)),
+            ..
+        } => compare(leaves, lhs, other_lhs).then(leaves.operators(operator, other_operator)),
         _ => 4.cmp(&case_index(other)),
     }
 }
 
-/// Compares a concatenation, given by its fields, to another expression.
+/// Compares a concatenation, given by its left side and operator, to another expression up to
+/// the right sides.
 #[cycle(order)]
 fn compare_concatenation<'src>(
     leaves: LeafOrder,
     lhs: &Expression<'src>,
     operator: &Token<'src>,
-    rhs: &Expression<'src>,
     other: &Expression<'src>,
 ) -> Ordering
     ensures { result ≡ key_cmp (leaf_order leaves)
-        (node 5 (operation_keys lhs.now operator.now rhs.now)) (key other.now) }
+        (node 5 (next (key lhs.now) (next (token_key operator.now) end))) (left_key other.now) }
 {
     match other {
         Expression::Concatenation {
             lhs: other_lhs,
             operator: other_operator,
-            rhs: other_rhs,
-        } => compare_operations(
-            leaves,
-            lhs,
-            operator,
-            rhs,
-            other_lhs,
-            other_operator,
-            other_rhs,
-        ),
+            ..
+        } => compare(leaves, lhs, other_lhs).then(leaves.tokens(operator, other_operator)),
         _ => 5.cmp(&case_index(other)),
     }
 }
 
-/// Compares a conditional, given by its fields, to another expression.
+/// Compares a conditional, given by its fields, to another expression up to the right sides.
 #[cycle(order)]
 fn compare_conditional<'src>(
     leaves: LeafOrder,
@@ -293,7 +324,7 @@ fn compare_conditional<'src>(
     other: &Expression<'src>,
 ) -> Ordering
     ensures { result ≡ key_cmp (leaf_order leaves) (node 6 (next (key condition.now)
-        (next (key branch.now) (next (option_key otherwise.now) end)))) (key other.now) }
+        (next (key branch.now) (next (option_presence otherwise.now) end)))) (left_key other.now) }
 {
     match other {
         Expression::Conditional {
@@ -302,7 +333,7 @@ fn compare_conditional<'src>(
             otherwise: other_otherwise,
         } => compare(leaves, condition, other_condition)
             .then(compare(leaves, branch, other_branch))
-            .then(compare_options(leaves, otherwise, other_otherwise)),
+            .then(compare_presence(otherwise, other_otherwise)),
         _ => 6.cmp(&case_index(other)),
     }
 }
@@ -316,7 +347,7 @@ fn compare_format_string<'src>(
     other: &Expression<'src>,
 ) -> Ordering
     ensures { result ≡ key_cmp (leaf_order leaves) (node 7 (next (literal_key start.now)
-        (next (row (keys_of part_key expressions.now.items)) end))) (key other.now) }
+        (next (row (keys_of part_key expressions.now.items)) end))) (left_key other.now) }
 {
     match other {
         Expression::FormatString {
@@ -361,7 +392,7 @@ fn compare_group<'src>(
     other: &Expression<'src>,
 ) -> Ordering
     ensures { result
-        ≡ key_cmp (leaf_order leaves) (node 8 (next (key contents.now) end)) (key other.now) }
+        ≡ key_cmp (leaf_order leaves) (node 8 (next (key contents.now) end)) (left_key other.now) }
 {
     match other {
         Expression::Group {
@@ -371,28 +402,45 @@ fn compare_group<'src>(
     }
 }
 
-/// Compares a join, given by its fields, to another expression.
+/// Compares a join, given by its left side and operator, to another expression up to the right
+/// sides.
 #[cycle(order)]
 fn compare_join<'src>(
     leaves: LeafOrder,
     lhs: &Option<Box<Expression<'src>>>,
     operator: &Token<'src>,
-    rhs: &Expression<'src>,
     other: &Expression<'src>,
 ) -> Ordering
     ensures { result ≡ key_cmp (leaf_order leaves) (node 9
-        (next (option_key lhs.now) (next (token_key operator.now) (next (key rhs.now) end))))
-        (key other.now) }
+        (next (option_key lhs.now) (next (token_key operator.now) end))) (left_key other.now) }
 {
     match other {
         Expression::Join {
             lhs: other_lhs,
             operator: other_operator,
-            rhs: other_rhs,
-        } => compare_options(leaves, lhs, other_lhs)
-            .then(leaves.tokens(operator, other_operator))
-            .then(compare(leaves, rhs, other_rhs)),
+            ..
+        } => compare_options(leaves, lhs, other_lhs).then(leaves.tokens(operator, other_operator)),
         _ => 9.cmp(&case_index(other)),
+    }
+}
+
+/// Compares whether two optional expressions are present. An absent one comes first.
+fn compare_presence(
+    expression: &Option<Box<Expression<'_>>>,
+    other: &Option<Box<Expression<'_>>>,
+) -> Ordering
+    ensures { result ≡ nat_cmp (label (option_presence expression.now))
+        (label (option_presence other.now)) }
+{
+    match expression {
+        None => match other {
+            None => Ordering::Equal,
+            Some(_) => Ordering::Less,
+        },
+        Some(_) => match other {
+            None => Ordering::Greater,
+            Some(_) => Ordering::Equal,
+        },
     }
 }
 
@@ -428,7 +476,7 @@ fn compare_list<'src>(
 ) -> Ordering
     ensures { result ≡ key_cmp (leaf_order leaves)
         (node 10 (next (row (keys_of key elements.now.items)) (next (token_key opener.now) end)))
-        (key other.now) }
+        (left_key other.now) }
 {
     match other {
         Expression::List {
@@ -464,89 +512,46 @@ fn compare_all<'src>(
     expressions.len().cmp(&others.len())
 }
 
-/// Compares a concatenation of lists, given by its fields, to another expression.
+/// Compares a concatenation of lists, given by its left side and operator, to another expression up to
+/// the right sides.
 #[cycle(order)]
 fn compare_list_concatenation<'src>(
     leaves: LeafOrder,
     lhs: &Expression<'src>,
     operator: &Token<'src>,
-    rhs: &Expression<'src>,
     other: &Expression<'src>,
 ) -> Ordering
     ensures { result ≡ key_cmp (leaf_order leaves)
-        (node 11 (operation_keys lhs.now operator.now rhs.now)) (key other.now) }
+        (node 11 (next (key lhs.now) (next (token_key operator.now) end))) (left_key other.now) }
 {
     match other {
         Expression::ListConcatenation {
             lhs: other_lhs,
             operator: other_operator,
-            rhs: other_rhs,
-        } => compare_operations(
-            leaves,
-            lhs,
-            operator,
-            rhs,
-            other_lhs,
-            other_operator,
-            other_rhs,
-        ),
+            ..
+        } => compare(leaves, lhs, other_lhs).then(leaves.tokens(operator, other_operator)),
         _ => 11.cmp(&case_index(other)),
     }
 }
 
-/// Compares two binary operations of the same case: left sides, then operators, then right sides.
-#[cycle(order)]
-fn compare_operations<'src>(
-    leaves: LeafOrder,
-    lhs: &Expression<'src>,
-    operator: &Token<'src>,
-    rhs: &Expression<'src>,
-    other_lhs: &Expression<'src>,
-    other_operator: &Token<'src>,
-    other_rhs: &Expression<'src>,
-) -> Ordering
-    ensures { result ≡ keys_cmp (leaf_order leaves) (operation_keys lhs.now operator.now rhs.now)
-        (operation_keys other_lhs.now other_operator.now other_rhs.now) }
-{
-    compare(leaves, lhs, other_lhs)
-        .then(leaves.tokens(operator, other_operator))
-        .then(compare(leaves, rhs, other_rhs))
-}
-
-/// Compares a negation, given by its operand, to another expression.
-#[cycle(order)]
-fn compare_not<'src>(
-    leaves: LeafOrder,
-    operand: &Expression<'src>,
-    other: &Expression<'src>,
-) -> Ordering
-    ensures { result
-        ≡ key_cmp (leaf_order leaves) (node 12 (next (key operand.now) end)) (key other.now) }
+/// Compares a negation to another expression up to the right sides.
+fn compare_not(leaves: LeafOrder, other: &Expression<'_>) -> Ordering
+    ensures { result ≡ key_cmp (leaf_order leaves) (node 12 end) (left_key other.now) }
 {
     match other {
-        Expression::Not {
-            operand: other_operand,
-        } => compare(leaves, operand, other_operand),
+        Expression::Not { .. } => Ordering::Equal,
         _ => 12.cmp(&case_index(other)),
     }
 }
 
-/// Compares a disjunction, given by its fields, to another expression.
+/// Compares a disjunction, given by its left side, to another expression up to the right sides.
 #[cycle(order)]
-fn compare_or<'src>(
-    leaves: LeafOrder,
-    lhs: &Expression<'src>,
-    rhs: &Expression<'src>,
-    other: &Expression<'src>,
-) -> Ordering
-    ensures { result ≡ key_cmp (leaf_order leaves)
-        (node 13 (next (key lhs.now) (next (key rhs.now) end))) (key other.now) }
+fn compare_or<'src>(leaves: LeafOrder, lhs: &Expression<'src>, other: &Expression<'src>) -> Ordering
+    ensures { result
+        ≡ key_cmp (leaf_order leaves) (node 13 (next (key lhs.now) end)) (left_key other.now) }
 {
     match other {
-        Expression::Or {
-            lhs: other_lhs,
-            rhs: other_rhs,
-        } => compare(leaves, lhs, other_lhs).then(compare(leaves, rhs, other_rhs)),
+        Expression::Or { lhs: other_lhs, .. } => compare(leaves, lhs, other_lhs),
         _ => 13.cmp(&case_index(other)),
     }
 }
@@ -558,7 +563,7 @@ fn compare_string_literal<'src>(
     other: &Expression<'src>,
 ) -> Ordering
     ensures { result ≡ key_cmp (leaf_order leaves)
-        (node 14 (next (literal_key string_literal.now) end)) (key other.now) }
+        (node 14 (next (literal_key string_literal.now) end)) (left_key other.now) }
 {
     match other {
         Expression::StringLiteral {
@@ -577,7 +582,7 @@ fn compare_variable<'src>(
 ) -> Ordering
     ensures { result ≡ key_cmp (leaf_order leaves)
         (node 15 (next (token_key name.now.token) (next (number_key number.now) end)))
-        (key other.now) }
+        (left_key other.now) }
 {
     match other {
         Expression::Variable {
@@ -592,7 +597,7 @@ fn compare_variable<'src>(
 
 /// Returns the index of an expression's case in the declared order, counted from 0.
 fn case_index(expression: &Expression<'_>) -> u8
-    ensures { result ≡ label (key expression.now) }
+    ensures { result ≡ label (left_key expression.now) }
 {
     match expression {
         Expression::And { .. } => 0,

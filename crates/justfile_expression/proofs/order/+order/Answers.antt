@@ -1,19 +1,23 @@
-use Rattle.std.proofs.Common.{rules}
+use Rattle.std.proofs.Common.{◌∙◌, ap, sym, rules, arith}
 use Rattle.std.specs.Ordering.{on}
 use Rattle.justfile_model.specs.Key.{key_cmp}
 use Rattle.justfile_expression.specs.Content.{leaf_order}
+use Rattle.justfile_model.specs.KeyLaws.{then_end}
 use Rattle.justfile_expression.specs.Order.{key, part_key}
-use Rattle.justfile_expression.proofs.Compared.{at_end, from_assert, from_call, from_conditional, from_format, from_list, both_asserts, both_calls, both_conditionals, both_formats, both_lists, two_and_no_more}
+use Rattle.justfile_expression.specs.OrderSteps.{left_key}
+use Rattle.justfile_expression.proofs.Compared.{at_end, from_assert, from_call, from_conditional, from_format, from_list, both_asserts, both_calls, both_conditionals, both_formats, both_lists}
+use Rattle.justfile_expression.proofs.OrderSteps.{decided, first_ended, next_two, no_difference, second_ended, stepped}
+use Rattle.justfile_expression.proofs.RightSides.{falls, next_shallow, row_left}
 use Rattle.justfile_expression.proofs.order.+order.Goals as goal
 
-pub compare-returns-in-Call : goal.compare-returns-in-Call
-compare-returns-in-Call t c = rw c.in-Call.is (from_call (leaf_order c.args.leaves) c.in-Call.name c.in-Call.arguments (key c.args.other.now) _ c.compare_call.ensures)
+pub compare_left-returns-in-Call : goal.compare_left-returns-in-Call
+compare_left-returns-in-Call t c = rw c.in-Call.is (from_call (leaf_order c.args.leaves) c.in-Call.name c.in-Call.arguments (left_key c.args.other.now) _ c.compare_call.ensures)
 
-pub compare-returns-in-FormatString : goal.compare-returns-in-FormatString
-compare-returns-in-FormatString t c = rw c.in-FormatString.is (from_format (leaf_order c.args.leaves) c.in-FormatString.start c.in-FormatString.expressions (key c.args.other.now) _ c.compare_format_string.ensures)
+pub compare_left-returns-in-FormatString : goal.compare_left-returns-in-FormatString
+compare_left-returns-in-FormatString t c = rw c.in-FormatString.is (from_format (leaf_order c.args.leaves) c.in-FormatString.start c.in-FormatString.expressions (left_key c.args.other.now) _ c.compare_format_string.ensures)
 
-pub compare-returns-in-List : goal.compare-returns-in-List
-compare-returns-in-List t c = rw c.in-List.is (from_list (leaf_order c.args.leaves) c.in-List.elements c.in-List.opener (key c.args.other.now) _ c.compare_list.ensures)
+pub compare_left-returns-in-List : goal.compare_left-returns-in-List
+compare_left-returns-in-List t c = rw c.in-List.is (from_list (leaf_order c.args.leaves) c.in-List.elements c.in-List.opener (left_key c.args.other.now) _ c.compare_list.ensures)
 
 pub compare_call-returns-in-Call : goal.compare_call-returns-in-Call
 compare_call-returns-in-Call t c =
@@ -40,31 +44,17 @@ compare_parts-returns t c =
     at_end (on part_key (key_cmp (leaf_order c.args.leaves))) c.args.expressions.now.items c.deref-expression-items.result.now c.args.others.now.items c.loop-i.i c.len-2.result c.len-3.result c.cmp.result
     (search rules) (search rules) (search rules) c.loop-i-test.false (search rules) c.loop-i.invariant.0 c.loop-i.invariant.1 c.cmp.ensures
 
-pub compare-returns-in-And : goal.compare-returns-in-And
-compare-returns-in-And t c = rw c.in-And.is (rw (c.deref.ensures, c.deref-in-And.ensures) at c.compare_and.ensures)
-
-pub compare-returns-in-Assert : goal.compare-returns-in-Assert
-compare-returns-in-Assert t c =
+pub compare_left-returns-in-Assert : goal.compare_left-returns-in-Assert
+compare_left-returns-in-Assert t c =
     rw c.in-Assert.is
-    (from_assert (leaf_order c.args.leaves) c.in-Assert.condition c.in-Assert.message c.in-Assert.name (key c.args.other.now) _
+    (from_assert (leaf_order c.args.leaves) c.in-Assert.condition c.in-Assert.message c.in-Assert.name (left_key c.args.other.now) _
     (rw c.deref-in-Assert.ensures at c.compare_assert.ensures))
 
-pub compare-returns-in-Conditional : goal.compare-returns-in-Conditional
-compare-returns-in-Conditional t c =
+pub compare_left-returns-in-Conditional : goal.compare_left-returns-in-Conditional
+compare_left-returns-in-Conditional t c =
     rw c.in-Conditional.is
-    (from_conditional (leaf_order c.args.leaves) c.in-Conditional.condition c.in-Conditional.branch c.in-Conditional.otherwise (key c.args.other.now) _
+    (from_conditional (leaf_order c.args.leaves) c.in-Conditional.condition c.in-Conditional.branch c.in-Conditional.otherwise (left_key c.args.other.now) _
     (rw (c.deref-in-Conditional.ensures, c.deref-in-Conditional-2.ensures) at c.compare_conditional.ensures))
-
-pub compare-returns-in-Or : goal.compare-returns-in-Or
-compare-returns-in-Or t c = rw c.in-Or.is (rw (c.deref-in-Or.ensures, c.deref-in-Or-2.ensures) at c.compare_or.ensures)
-
-pub compare_and-returns-in-And : goal.compare_and-returns-in-And
-compare_and-returns-in-And t c =
-    rw c.in-And.is (two_and_no_more _ (rw c.deref.ensures at c.compare.ensures) (rw c.deref-in-And.ensures at c.compare-in-And.ensures) c.then.ensures)
-
-pub compare_or-returns-in-Or : goal.compare_or-returns-in-Or
-compare_or-returns-in-Or t c =
-    rw c.in-Or.is (two_and_no_more _ (rw c.deref.ensures at c.compare.ensures) (rw c.deref-in-Or.ensures at c.compare-in-Or.ensures) c.then.ensures)
 
 pub compare_assert-returns-in-Assert : goal.compare_assert-returns-in-Assert
 compare_assert-returns-in-Assert t c =
@@ -78,4 +68,35 @@ compare_conditional-returns-in-Conditional t c =
     rw c.in-Conditional.is
     (both_conditionals (leaf_order c.args.leaves) c.args.condition.now c.args.branch.now c.args.otherwise.now c.in-Conditional.other_condition
     c.in-Conditional.other_branch c.in-Conditional.other_otherwise _ _ _ _ _ (rw c.deref.ensures at c.compare.ensures)
-    (rw c.deref-in-Conditional.ensures at c.compare-in-Conditional.ensures) c.compare_options.ensures c.then.ensures c.then-in-Conditional.ensures)
+    (rw c.deref-in-Conditional.ensures at c.compare-in-Conditional.ensures) c.compare_presence.ensures c.then.ensures c.then-in-Conditional.ensures)
+
+pub compare-loop-rest-init : goal.compare-loop-rest-init
+compare-loop-rest-init t c = record { shallow = omega arith; same = then_end _ }
+
+pub compare-compare_left-order-requires : goal.compare-compare_left-order-requires
+compare-compare_left-order-requires t c = omega (arith, next_shallow c.loop-rest.rest c.in-Some.next _ c.in-Some.is c.loop-rest.invariant.shallow, c.decreases)
+
+pub compare-loop-rest-smaller : goal.compare-loop-rest-smaller
+compare-loop-rest-smaller t c = omega (arith, falls c.in-Some.next.now c.right_side-rest.result c.right_side-rest.ensures.smaller, ap row_left c.in-Some.is)
+
+pub compare-loop-rest-preserved : goal.compare-loop-rest-preserved
+compare-loop-rest-preserved t c = record {
+  shallow = omega (arith, falls c.in-Some.next.now c.right_side-rest.result c.right_side-rest.ensures.smaller, next_shallow c.loop-rest.rest c.in-Some.next _ c.in-Some.is c.loop-rest.invariant.shallow);
+  same =
+      stepped (leaf_order c.args.leaves) c.in-Some.next.now c.in-Some-other_rest.other_next.now c.right_side-rest.result c.right_side-other_rest.result
+      c.compare_left-order.result c.compare_after.result c.loop-rest.after c.then-after.result _ c.compare_left-order.ensures (no_difference c.compare_left-order.result (sym c.is_ne.ensures ∙ c.if-is_ne.false))
+      c.right_side-rest.ensures.is c.right_side-other_rest.ensures.is c.compare_after.ensures c.then-after.ensures
+      (next_two (leaf_order c.args.leaves) c.loop-rest.rest c.loop-rest.other_rest c.in-Some.next c.in-Some-other_rest.other_next c.loop-rest.after _ c.in-Some.is c.in-Some-other_rest.is c.loop-rest.invariant.same);
+}
+
+pub compare-returns-in_default-other_rest : goal.compare-returns-in_default-other_rest
+compare-returns-in_default-other_rest t c =
+    second_ended (leaf_order c.args.leaves) c.loop-rest.rest c.loop-rest.other_rest c.in-Some.next c.loop-rest.after _ c.in-Some.is c.in_default-other_rest.is c.loop-rest.invariant.same
+
+pub compare-returns-then-is_ne : goal.compare-returns-then-is_ne
+compare-returns-then-is_ne t c =
+    decided (leaf_order c.args.leaves) c.in-Some.next.now c.in-Some-other_rest.other_next.now c.compare_left-order.result c.loop-rest.after _ c.compare_left-order.ensures (sym c.is_ne.ensures ∙ c.if-is_ne.true)
+    (next_two (leaf_order c.args.leaves) c.loop-rest.rest c.loop-rest.other_rest c.in-Some.next c.in-Some-other_rest.other_next c.loop-rest.after _ c.in-Some.is c.in-Some-other_rest.is c.loop-rest.invariant.same)
+
+pub compare-returns : goal.compare-returns
+compare-returns t c = first_ended (leaf_order c.args.leaves) c.loop-rest.rest c.loop-rest.other_rest c.loop-rest.after _ c.in_default.is c.loop-rest.invariant.same
