@@ -3,8 +3,10 @@ pub mod Attributes
 pub mod Copies
 pub mod Doc
 pub mod Equal
+pub mod Expressions
 pub mod FunctionParameter
 pub mod Indented
 pub mod Item
 pub mod ItemText
 pub mod Recipe
+pub mod Resolved

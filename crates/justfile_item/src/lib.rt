@@ -8,11 +8,13 @@ pub mod binding;
 mod comment;
 mod copy;
 mod doc;
+mod expressions;
 pub mod function_definition;
 pub mod item;
 pub mod laws;
 mod path;
 pub mod recipe;
+mod resolve;
 pub mod set;
 
 pub use crate::alias::Alias;
