@@ -7,4 +7,6 @@ pub mod FunctionParameter
 pub mod Indented
 pub mod Item
 pub mod ItemText
+pub mod Parts
+pub mod Private
 pub mod Recipe

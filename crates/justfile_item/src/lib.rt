@@ -11,7 +11,9 @@ mod doc;
 pub mod function_definition;
 pub mod item;
 pub mod laws;
+mod parts;
 mod path;
+mod private;
 pub mod recipe;
 pub mod set;
 
@@ -20,5 +22,6 @@ pub use crate::assignment::Assignment;
 pub use crate::binding::Binding;
 pub use crate::function_definition::FunctionDefinition;
 pub use crate::item::{Item, is_printable, item_indentation, write_item};
+pub use crate::private::is_private_item;
 pub use crate::recipe::UnresolvedRecipe;
 pub use crate::set::Set;
