@@ -8,5 +8,7 @@ pub mod FunctionParameter
 pub mod Indented
 pub mod Item
 pub mod ItemText
+pub mod Parts
+pub mod Private
 pub mod Recipe
 pub mod Resolved

@@ -1,5 +1,5 @@
 //! Aliases of recipes.
-ghost use Rattle.std.specs.Prelude.{◌≡◌, ◌&&◌, IfOk};
+ghost use Rattle.std.specs.Prelude.{◌≡◌, ◌&&◌, IfOk, not};
 ghost use Rattle.std.specs.Cmp.{and_per, on_per};
 ghost use Rattle.justfile_attribute_set.specs.contracts.attribute_set.PairSetAttributeWrittenPartialEq.TheImpl as sets;
 ghost use Rattle.justfile_attribute_set.specs.contracts.attribute_set.PairSetAttributeWrittenPartialEq.TheImpl.Laws.{laws-law as set_per};
@@ -8,8 +8,10 @@ ghost use Rattle.justfile_token.specs.contracts.name.NamePartialEq.TheImpl.Laws.
 ghost use Rattle.justfile_expression.specs.Sink.{Puts};
 ghost use Rattle.justfile_item.specs.Copies.{IsSameAlias};
 ghost use Rattle.justfile_item.specs.ItemText.{alias_text_of};
+ghost use Rattle.justfile_item.specs.Private.{is_private_item};
 
 use crate::attributes::are_equal;
+use crate::private::is_private_item;
 use justfile_attribute_set::AttributeSet;
 use justfile_expression::{Sink, put_piece};
 use justfile_recipe_header::write_namepath;
@@ -42,6 +44,16 @@ impl<'src> Alias<'src, Namepath<'src>> {
             }),
             Err(fault) => Err(fault),
         }
+    }
+}
+
+impl<'src, T> Alias<'src, T> {
+    /// Whether lists of recipes show the alias: its name doesn't begin with `_`, and it has no
+    /// attribute `private`.
+    pub fn is_public(&self) -> bool
+        ensures { result ≡ not (is_private_item self.now.name.token self.now.attributes) }
+    {
+        !is_private_item(self.name.token, &self.attributes)
     }
 }
 

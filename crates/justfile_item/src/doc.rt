@@ -40,7 +40,7 @@ pub(crate) fn shown_doc<'a>(
 }
 
 /// Returns the text of an optional doc.
-fn text_of(doc: &Option<String>) -> Option<&str>
+pub(crate) fn text_of(doc: &Option<String>) -> Option<&str>
     ensures { option_copied result ≡ option_map string_bytes doc.now }
 {
     match doc {

@@ -18,7 +18,7 @@ use justfile_recipe_header::{
     Parameter, UnresolvedDependency, put_piece_if, write_dependencies, write_parameters,
     write_subsequents,
 };
-use justfile_token::Name;
+use justfile_token::{Keyed, Name};
 use justfile_vocabulary::{Indentation, Number};
 use std::alloc::{AllocError, Global};
 use std::fmt;
@@ -103,6 +103,17 @@ impl<'src> UnresolvedRecipe<'src> {
         ensures { result ≡ printable_body (line_shapes self.now.body.items) }
     {
         are_printable(&self.body)
+    }
+}
+
+/// The key of a recipe is its name.
+impl<'src> Keyed<'src> for UnresolvedRecipe<'src> {
+    ghost use Rattle.justfile_token.specs.Name.{name_text};
+
+    ghost key_text = { λ recipe. name_text recipe.name };
+
+    fn key(&self) -> &'src str {
+        self.name.token.lexeme()
     }
 }
 

@@ -1,12 +1,11 @@
 -- The derived fields of a construct: those that follow from its name, attributes, value and body, and what the tree doesn't show of its
 -- attributes.
-use Rattle.std.specs.Prelude.{◌≡◌, ◌≤◌, ℕ, All, Bool, IsTrue, ◌||◌, ◌==◌, List, codes, length, nat_eq, slice_index, map}
+use Rattle.std.specs.Prelude.{◌≡◌, ◌≤◌, All, IsTrue, ◌||◌, List, codes, length, nat_eq, map}
 use Rattle.std.specs.List.{starts_with}
 use Rattle.justfile_attribute_set.specs.AttributeSet.{AttributeSet, attributes_of}
 use Rattle.justfile_attribute_set.specs.Attributes.{has_kind}
-use Rattle.justfile_token.specs.Token.{lexeme_of}
 use Rattle.justfile_vocabulary.specs.declared.attribute_kind.AttributeKind.TheVariants as kinds
-use Rattle.justfile_token.specs.declared.token.Token.{Token}
+pub use Rattle.justfile_item.specs.Private.{is_private_item}
 use Rattle.justfile_item.specs.declared.binding.Binding.{Binding}
 use Rattle.justfile_item.specs.declared.item.Item.{Item}
 use Rattle.justfile_item.specs.declared.item.Item.TheVariants.{Alias, Assignment, Comment, Function, Import, Module, Newline, Recipe, Setting, Unexport}
@@ -20,15 +19,6 @@ use Rattle.justfile_parse_header.specs.ArgAttribute.{HaveDerivedParameterFields}
 use Rattle.justfile_parse_header.specs.Tree.{rules_of}
 use Rattle.justfile_setting.specs.Setting.{HasDerivedSettingFields}
 use Rattle.justfile_expression.specs.declared.expression.Expression.{Expression}
-use Rattle.justfile_vocabulary.specs.ByteNames as byte
-
--- whether a name is private: whether it begins with `_`
-abbrev pub is_private_name : List ℕ → Bool
-is_private_name name = slice_index name 0 == byte.underscore
-
--- whether an item is private: whether its name is, or it has the attribute `private`
-abbrev pub is_private_item : (name : Token) → AttributeSet → Bool
-is_private_item name set = is_private_name (lexeme_of name) || has_kind kinds.Private (attributes_of set)
 
 -- The derived fields of a construct's attributes are right.
 abbrev pub HasDerivedSetAttributes : AttributeSet → Type 0

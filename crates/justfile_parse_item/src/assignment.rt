@@ -10,9 +10,9 @@ ghost use Rattle.justfile_parse_expression.specs.Significant.{significant_of};
 ghost use Rattle.justfile_parse_expression.specs.View.{tokens_left, state_of};
 ghost use Rattle.justfile_parse_header.specs.Counting.{counters_of, ParsesCounted};
 
-use crate::attribute_checks::{check_allowed, is_private_item};
+use crate::attribute_checks::check_allowed;
 use justfile_attribute::Attribute;
-use justfile_item::{Binding, Item};
+use justfile_item::{Binding, Item, is_private_item};
 use justfile_parse_attribute::ParseError;
 use justfile_parse_expression::ExpressionParser;
 use justfile_parse_header::next_binding_number;

@@ -6,7 +6,7 @@ ghost use Rattle.justfile_model.specs.RecipeRules.{exclusions_broken};
 ghost use Rattle.justfile_parse_item.specs.Exclusions.{IsExclusion};
 ghost use Rattle.justfile_parse_item.specs.ExtraneousFault.{IsExtraneousFault};
 ghost use Rattle.justfile_parse_item.specs.ItemTable as reader;
-ghost use Rattle.justfile_parse_item.specs.DerivedFields.{HaveDerivedPairFields, HasDerivedSetAttributes, is_private_item, is_private_name};
+ghost use Rattle.justfile_parse_item.specs.DerivedFields.{HaveDerivedPairFields, HasDerivedSetAttributes};
 ghost use Rattle.justfile_parse_attribute.specs.Attributes.{entry_of_pair};
 ghost use Rattle.justfile_parse_attribute.specs.ParseErrors.{ReadsRuled, ChecksRules};
 ghost use Rattle.justfile_parse_expression.specs.TableReader.{State};
@@ -101,18 +101,4 @@ pub(crate) fn extraneous_error<'src>(count: usize, opener: Token<'src>) -> Fault
     ensures { IsExtraneousFault count opener.entry result }
 {
     Fault::Compile(opener.error(CompileErrorKind::ExtraneousAttributes { count }))
-}
-
-/// Whether an item with this name and these attributes is private.
-pub(crate) fn is_private_item(name: Token<'_>, attributes: &AttributeSet<'_>) -> bool
-    ensures { result ≡ is_private_item name.entry attributes.now }
-{
-    is_private_name(name.lexeme().as_bytes()) || attributes.private()
-}
-
-/// Whether a name is private: whether it begins with `_`.
-fn is_private_name(name: &[u8]) -> bool
-    ensures { result ≡ is_private_name name.now }
-{
-    name.first() == Some(&b'_')
 }

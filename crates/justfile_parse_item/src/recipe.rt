@@ -15,11 +15,11 @@ ghost use Rattle.justfile_parse_expression.specs.View.{tokens_left, state_of};
 ghost use Rattle.justfile_parse_header.specs.Counting.{ReadsCountedExpression, counters_of, ParsesCounted};
 
 use crate::accept::accept_kind;
-use crate::attribute_checks::{check_exclusions, is_private_item};
+use crate::attribute_checks::check_exclusions;
 use crate::body::parse_body_after_header;
 use justfile_attribute::Attribute;
 use justfile_attribute_set::AttributeSet;
-use justfile_item::UnresolvedRecipe;
+use justfile_item::{UnresolvedRecipe, is_private_item};
 use justfile_line::Line;
 use justfile_parse_attribute::{ParseError, comment_text};
 use justfile_parse_expression::{ExpressionError, ExpressionParser};

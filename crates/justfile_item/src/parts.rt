@@ -1,0 +1,104 @@
+//! What items of several kinds have: a kind, a name, and a doc.
+ghost use Rattle.std.specs.Prelude.{◌≡◌};
+ghost use Rattle.std.specs.Option.{option_copied};
+ghost use Rattle.justfile_item.specs.Parts as parts;
+ghost use Rattle.justfile_item.specs.Parts.{attribute_doc, item_doc, item_kind, item_name, literal_text_of};
+
+use crate::doc::text_of;
+use crate::item::Item;
+use justfile_attribute::Attribute;
+use justfile_attribute_set::AttributeSet;
+use justfile_expression::Expression;
+use justfile_token::Name;
+use justfile_vocabulary::{AttributeKind, ItemKind};
+
+impl<'src> Item<'src> {
+    /// Returns the kind of the item.
+    pub fn kind(&self) -> ItemKind
+        ensures { result ≡ item_kind self.now }
+    {
+        match self {
+            Item::Alias(_) => ItemKind::Alias,
+            Item::Assignment(_) => ItemKind::Assignment,
+            Item::Comment(_) => ItemKind::Comment,
+            Item::Function(_) => ItemKind::Function,
+            Item::Import { .. } => ItemKind::Import,
+            Item::Module { .. } => ItemKind::Module,
+            Item::Newline => ItemKind::Newline,
+            Item::Recipe(_) => ItemKind::Recipe,
+            Item::Setting(_) => ItemKind::Setting,
+            Item::Unexport { .. } => ItemKind::Unexport,
+        }
+    }
+
+    /// Returns the name that the item defines, sets or removes. Comments, line ends and imports
+    /// have none.
+    pub fn name(&self) -> Option<Name<'src>>
+        ensures { result ≡ item_name self.now }
+    {
+        match self {
+            Item::Alias(alias) => Some(alias.name),
+            Item::Assignment(assignment) => Some(assignment.name),
+            Item::Comment(_) | Item::Newline | Item::Import { .. } => None,
+            Item::Function(function) => Some(function.name),
+            Item::Module { name, .. } | Item::Unexport { name, .. } => Some(*name),
+            Item::Recipe(recipe) => Some(recipe.name),
+            Item::Setting(set) => Some(set.name),
+        }
+    }
+
+    /// Returns the doc that lists show beside a recipe or a module. With an attribute `doc` it is
+    /// the text of its argument, or `None` if it has no argument or one that isn't a literal.
+    /// Without one it is the text of the comment before the item, if that is its doc. Other items
+    /// have none.
+    pub fn doc(&self) -> Option<&str>
+        ensures { option_copied result ≡ item_doc self.now }
+    {
+        match self {
+            Item::Module {
+                attributes,
+                doc,
+                ..
+            } => listed_doc(attributes, doc),
+            Item::Recipe(recipe) => listed_doc(&recipe.attributes, &recipe.doc),
+            Item::Alias(_)
+            | Item::Assignment(_)
+            | Item::Comment(_)
+            | Item::Function(_)
+            | Item::Import { .. }
+            | Item::Newline
+            | Item::Setting(_)
+            | Item::Unexport { .. } => None,
+        }
+    }
+}
+
+/// Returns the doc of a construct: that of its attribute `doc`, or else its comment.
+fn listed_doc<'a>(attributes: &'a AttributeSet<'_>, comment: &'a Option<String>) -> Option<&'a str>
+    ensures { option_copied result ≡ parts.listed_doc attributes.now comment.now }
+{
+    match attributes.get(AttributeKind::Doc) {
+        Some(attribute) => attribute_doc(attribute),
+        None => text_of(comment),
+    }
+}
+
+/// Returns the text of an attribute `doc`.
+fn attribute_doc<'a>(attribute: &'a Attribute<'_>) -> Option<&'a str>
+    ensures { option_copied result ≡ attribute_doc attribute.now }
+{
+    match attribute {
+        Attribute::Doc(Some(argument)) => literal_text(argument),
+        _ => None,
+    }
+}
+
+/// Returns the text of an expression that is a literal.
+fn literal_text<'a>(expression: &'a Expression<'_>) -> Option<&'a str>
+    ensures { option_copied result ≡ literal_text_of expression.now }
+{
+    match expression.as_string_literal() {
+        Some(literal) => Some(literal.cooked.as_str()),
+        None => None,
+    }
+}
