@@ -1,6 +1,7 @@
-//! What items of several kinds have: a kind, a name, and a doc.
-ghost use Rattle.std.specs.Prelude.{◌≡◌};
+//! What items of several kinds have: a kind, a name, attributes, and a doc.
+ghost use Rattle.std.specs.Prelude.{◌≡◌, Some};
 ghost use Rattle.std.specs.Option.{option_copied};
+ghost use Rattle.justfile_item.specs.ItemText.{item_attributes};
 ghost use Rattle.justfile_item.specs.Parts as parts;
 ghost use Rattle.justfile_item.specs.Parts.{attribute_doc, item_doc, item_kind, item_name, literal_text_of};
 
@@ -47,6 +48,23 @@ impl<'src> Item<'src> {
         }
     }
 
+    /// Returns the attributes of the item. Comments and line ends have none.
+    pub fn attributes(&self) -> Option<&AttributeSet<'src>>
+        ensures { option_copied result ≡ item_attributes self.now }
+    {
+        match self {
+            Item::Alias(alias) => some_set(&alias.attributes),
+            Item::Assignment(assignment) => some_set(&assignment.attributes),
+            Item::Comment(_) | Item::Newline => None,
+            Item::Function(function) => some_set(&function.attributes),
+            Item::Import { attributes, .. }
+            | Item::Module { attributes, .. }
+            | Item::Unexport { attributes, .. } => some_set(attributes),
+            Item::Recipe(recipe) => some_set(&recipe.attributes),
+            Item::Setting(set) => some_set(&set.attributes),
+        }
+    }
+
     /// Returns the doc that lists show beside a recipe or a module. With an attribute `doc` it is
     /// the text of its argument, or `None` if it has no argument or one that isn't a literal.
     /// Without one it is the text of the comment before the item, if that is its doc. Other items
@@ -71,6 +89,13 @@ impl<'src> Item<'src> {
             | Item::Unexport { .. } => None,
         }
     }
+}
+
+/// Returns attributes that are there.
+fn some_set<'a, 'src>(attributes: &'a AttributeSet<'src>) -> Option<&'a AttributeSet<'src>>
+    ensures { option_copied result ≡ Some attributes.now }
+{
+    Some(attributes)
 }
 
 /// Returns the doc of a construct: that of its attribute `doc`, or else its comment.
