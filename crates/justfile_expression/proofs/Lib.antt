@@ -14,6 +14,7 @@ mod Nodes
 mod OrderSteps
 pub mod PutLemmas
 mod Resolved
+mod ResolvedSteps
 mod RightSides
 mod Rows
 mod Walk

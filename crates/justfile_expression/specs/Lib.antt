@@ -15,6 +15,7 @@ pub mod Order
 pub mod OrderSteps
 pub mod Orders
 pub mod Resolved
+pub mod ResolvedSteps
 pub mod RightSides
 pub mod SeenKeys
 pub mod Sink
