@@ -15,6 +15,7 @@ mod OrderSteps
 mod PartLemmas
 pub mod PutLemmas
 pub mod Resolved
+mod ResolvedSteps
 mod RightSides
 pub mod ResolvedKeys
 mod Rows

@@ -18,6 +18,7 @@ pub mod Orders
 pub mod Parts
 pub mod Pushed
 pub mod Resolved
+pub mod ResolvedSteps
 pub mod RightSides
 pub mod SeenKeys
 pub mod Sink

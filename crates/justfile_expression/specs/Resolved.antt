@@ -71,16 +71,3 @@ module _ (numbers : (name : List ℕ) → Option Number) where
   -- the same for an expression of a format string and the part after it
   abbrev pub IsResolvedPart : (resolved original : Expression × literals.StringLiteral) → Type 0
   IsResolvedPart resolved original = IsResolved resolved.0 original.0 × (resolved.1 ≡ original.1)
-
--- a binary operation whose operands are both present
-abbrev pub IsOperation : Expression → Type 0
-IsOperation (And' p lhs q rhs) = Unit {0}
-IsOperation (Comparison' p lhs operator q rhs token) = Unit {0}
-IsOperation (Concatenation' p lhs operator q rhs) = Unit {0}
-IsOperation (ListConcatenation' p lhs operator q rhs) = Unit {0}
-IsOperation (Or' p lhs q rhs) = Unit {0}
-IsOperation _ = ⊥
-
-abbrev pub IsConditional : Expression → Type 0
-IsConditional (Conditional' p condition q branch otherwise) = Unit {0}
-IsConditional _ = ⊥

@@ -1,13 +1,18 @@
 //! Resolution of variables: the number of the binding that each one refers to.
-ghost use Rattle.std.specs.Prelude.{◌≡◌};
+ghost use Rattle.std.specs.Prelude.{◌≡◌, ◌<◌, None, IfSome, is_some};
 ghost use Rattle.std.specs.List.{AllZip};
 ghost use Rattle.justfile_token.specs.Name.{name_text};
-ghost use Rattle.justfile_expression.specs.Resolved.{IsConditional, IsOperation, IsResolved, IsResolvedOption, IsResolvedPart, number_of, numbers_of};
+ghost use Rattle.justfile_expression.specs.Resolved.{IsResolved, IsResolvedOption, IsResolvedPart, number_of, numbers_of};
+ghost use Rattle.justfile_expression.specs.ResolvedSteps.{IsExchanged, IsResolvedLeft, rejoined};
+ghost use Rattle.justfile_expression.specs.RightSides.{right_side};
+ghost use Rattle.justfile_expression.specs.declared.expression.Expression.{size-Expression};
 
+use crate::expression;
 use crate::expression::Expression;
-use justfile_token::{Name, StringLiteral};
-use justfile_vocabulary::Number;
+use justfile_token::{Name, StringLiteral, Token};
+use justfile_vocabulary::{Number, TokenKind};
 use std::collections::HashMap;
+use std::mem;
 
 /// The numbers of names. A context, if there is one, takes precedence over the bindings.
 #[derive(Clone, Copy)]
@@ -60,13 +65,112 @@ pub fn resolve_expressions<'src>(
     resolve_all(expressions, &Numbers { context, bindings });
 }
 
-/// Sets the number of each variable of an expression.
+/// Sets the number of each variable of an expression. Expressions nest to the right without a limit,
+/// so a loop goes along the right sides, and another one back.
 #[cycle(resolve)]
 fn resolve<'src>(expression: &mut Expression<'src>, numbers: &Numbers<'_, 'src>)
     ensures { IsResolved (numbers_of numbers.now) expression.new expression.old }
 {
+    let mut parents = placeholder();
+    resolve_row(expression, &mut parents, numbers);
+    rejoin(expression, &mut parents);
+}
+
+/// Returns an expression without a right side that takes no memory.
+fn placeholder<'src>() -> Expression<'src>
+    ensures { right_side result ≡ None }
+{
+    let token = Token {
+        column: 0,
+        kind: TokenKind::Identifier,
+        length: 0,
+        line: 0,
+        offset: 0,
+        path: "",
+        src: "",
+    };
+    Expression::Variable {
+        name: Name::from_identifier(token),
+        number: None,
+    }
+}
+
+/// Sets the numbers of the variables of an expression, of its right side, of the right side of that
+/// one, and so on. `expression` ends as the last of these, and `parents` as the others, from the
+/// inside out: each has the next one in the place of its right side.
+#[cycle(resolve)]
+fn resolve_row<'src>(
+    expression: &mut Expression<'src>,
+    parents: &mut Expression<'src>,
+    numbers: &Numbers<'_, 'src>,
+)
+    requires { right_side parents.old ≡ None }
+    ensures { IsResolved (numbers_of numbers.now) (rejoined parents.new expression.new)
+        expression.old }
+{
+    while has_right(expression) {
+        resolve_left(expression, numbers);
+        exchange_right(expression, parents);
+        mem::swap(expression, parents);
+    }
+    resolve_left(expression, numbers);
+}
+
+/// Joins an expression with its parents, from the inside out.
+fn rejoin<'src>(expression: &mut Expression<'src>, parents: &mut Expression<'src>)
+    ensures { expression.new ≡ rejoined parents.old expression.old }
+{
+    while has_right(parents) {
+        exchange_right(parents, expression);
+        mem::swap(parents, expression);
+    }
+}
+
+/// Whether an expression has a right side. That one is less deep.
+fn has_right(expression: &Expression<'_>) -> bool
+    ensures is { result ≡ is_some (right_side expression.now) }
+    ensures smaller { IfSome (right_side expression.now)
+        (λ right. size-Expression right < size-Expression expression.now) }
+{
+    expression::right_side(expression).is_some()
+}
+
+/// Exchanges the right side of an expression, if it has one, and `other`.
+fn exchange_right<'src>(expression: &mut Expression<'src>, other: &mut Expression<'src>)
+    ensures { IsExchanged expression.old other.old expression.new other.new
+        (right_side expression.old) }
+{
     match expression {
-        Expression::And { .. } => resolve_operation(expression, numbers),
+        Expression::And { rhs, .. } => mem::swap(rhs.as_mut(), other),
+        Expression::Assert { .. } => {}
+        Expression::Backtick { .. } => {}
+        Expression::Call { .. } => {}
+        Expression::Comparison { rhs, .. } => mem::swap(rhs.as_mut(), other),
+        Expression::Concatenation { rhs, .. } => mem::swap(rhs.as_mut(), other),
+        Expression::Conditional { otherwise, .. } => {
+            if let Some(otherwise) = otherwise {
+                mem::swap(otherwise.as_mut(), other);
+            }
+        }
+        Expression::FormatString { .. } => {}
+        Expression::Group { .. } => {}
+        Expression::Join { rhs, .. } => mem::swap(rhs.as_mut(), other),
+        Expression::List { .. } => {}
+        Expression::ListConcatenation { rhs, .. } => mem::swap(rhs.as_mut(), other),
+        Expression::Not { operand } => mem::swap(operand.as_mut(), other),
+        Expression::Or { rhs, .. } => mem::swap(rhs.as_mut(), other),
+        Expression::StringLiteral { .. } => {}
+        Expression::Variable { .. } => {}
+    }
+}
+
+/// Sets the numbers of the variables of an expression, except for those in its right side.
+#[cycle(resolve)]
+fn resolve_left<'src>(expression: &mut Expression<'src>, numbers: &Numbers<'_, 'src>)
+    ensures { IsResolvedLeft (numbers_of numbers.now) expression.new expression.old }
+{
+    match expression {
+        Expression::And { lhs, .. } => resolve(lhs, numbers),
         Expression::Assert { condition, .. } => {
             resolve(condition, numbers);
             if let Expression::Assert { message, .. } = expression {
@@ -75,21 +179,21 @@ fn resolve<'src>(expression: &mut Expression<'src>, numbers: &Numbers<'_, 'src>)
         }
         Expression::Backtick { .. } => {}
         Expression::Call { arguments, .. } => resolve_all(arguments, numbers),
-        Expression::Comparison { .. } => resolve_operation(expression, numbers),
-        Expression::Concatenation { .. } => resolve_operation(expression, numbers),
-        Expression::Conditional { .. } => resolve_conditional(expression, numbers),
-        Expression::FormatString { expressions, .. } => resolve_parts(expressions, numbers),
-        Expression::Group { contents } => resolve(contents, numbers),
-        Expression::Join { lhs, .. } => {
-            resolve_option(lhs, numbers);
-            if let Expression::Join { rhs, .. } = expression {
-                resolve(rhs, numbers);
+        Expression::Comparison { lhs, .. } => resolve(lhs, numbers),
+        Expression::Concatenation { lhs, .. } => resolve(lhs, numbers),
+        Expression::Conditional { condition, .. } => {
+            resolve(condition, numbers);
+            if let Expression::Conditional { then: branch, .. } = expression {
+                resolve(branch, numbers);
             }
         }
+        Expression::FormatString { expressions, .. } => resolve_parts(expressions, numbers),
+        Expression::Group { contents } => resolve(contents, numbers),
+        Expression::Join { lhs, .. } => resolve_option(lhs, numbers),
         Expression::List { elements, .. } => resolve_all(elements, numbers),
-        Expression::ListConcatenation { .. } => resolve_operation(expression, numbers),
-        Expression::Not { operand } => resolve(operand, numbers),
-        Expression::Or { .. } => resolve_operation(expression, numbers),
+        Expression::ListConcatenation { lhs, .. } => resolve(lhs, numbers),
+        Expression::Not { .. } => {}
+        Expression::Or { lhs, .. } => resolve(lhs, numbers),
         Expression::StringLiteral { .. } => {}
         Expression::Variable { name, .. } => {
             let found = numbers.number(name);
@@ -97,64 +201,6 @@ fn resolve<'src>(expression: &mut Expression<'src>, numbers: &Numbers<'_, 'src>)
                 *number = found;
             }
         }
-    }
-}
-
-/// Sets the numbers of the variables of an operation with two operands.
-#[cycle(resolve)]
-fn resolve_operation<'src>(expression: &mut Expression<'src>, numbers: &Numbers<'_, 'src>)
-    requires { IsOperation expression.old }
-    ensures { IsResolved (numbers_of numbers.now) expression.new expression.old }
-{
-    match expression {
-        Expression::And { lhs, .. } => {
-            resolve(lhs, numbers);
-            if let Expression::And { rhs, .. } = expression {
-                resolve(rhs, numbers);
-            }
-        }
-        Expression::Comparison { lhs, .. } => {
-            resolve(lhs, numbers);
-            if let Expression::Comparison { rhs, .. } = expression {
-                resolve(rhs, numbers);
-            }
-        }
-        Expression::Concatenation { lhs, .. } => {
-            resolve(lhs, numbers);
-            if let Expression::Concatenation { rhs, .. } = expression {
-                resolve(rhs, numbers);
-            }
-        }
-        Expression::ListConcatenation { lhs, .. } => {
-            resolve(lhs, numbers);
-            if let Expression::ListConcatenation { rhs, .. } = expression {
-                resolve(rhs, numbers);
-            }
-        }
-        Expression::Or { lhs, .. } => {
-            resolve(lhs, numbers);
-            if let Expression::Or { rhs, .. } = expression {
-                resolve(rhs, numbers);
-            }
-        }
-        _ => {}
-    }
-}
-
-/// Sets the numbers of the variables of a conditional.
-#[cycle(resolve)]
-fn resolve_conditional<'src>(expression: &mut Expression<'src>, numbers: &Numbers<'_, 'src>)
-    requires { IsConditional expression.old }
-    ensures { IsResolved (numbers_of numbers.now) expression.new expression.old }
-{
-    if let Expression::Conditional { condition, .. } = expression {
-        resolve(condition, numbers);
-    }
-    if let Expression::Conditional { then: branch, .. } = expression {
-        resolve(branch, numbers);
-    }
-    if let Expression::Conditional { otherwise, .. } = expression {
-        resolve_option(otherwise, numbers);
     }
 }
 
