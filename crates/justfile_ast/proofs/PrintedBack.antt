@@ -17,8 +17,8 @@ prints_back shape indentation bytes is e = record {
       (subst (λ (b : List ℕ). ReadsBack conditions (shape_of tree) features indentation b)
       (ap (λ s. printed s indentation) same ∙ sym e)
       (back conditions source tree features indentation is derives (ap printable same ∙ fine)));
-  apart = λ conditions source other tree twin features others derives same fine twins fine_too alike.
-      sym (apart conditions source other tree twin features others indentation is derives twins (ap printable same ∙ fine) fine_too
+  apart = λ conditions limit source other tree twin features others derives same fine twins fine_too alike.
+      sym (apart conditions limit source other tree twin features others indentation is derives twins (ap printable same ∙ fine) fine_too
       (ap (λ s. printed s indentation) same ∙ sym e ∙ sym alike)) ∙ ap normal same;
   least = λ conditions source tree features derives same fine.
       let again = back conditions source tree features indentation is derives (ap printable same ∙ fine) in

@@ -107,6 +107,14 @@ impl<'src> Ast<'src> {
             → string_bytes printed
             ≡ uncommented_text (normal (ast_shape self.now)) (indentation_text indentation)) }
     {
+        self.printed_text(alloc, indentation)
+    }
+
+    /// Returns the printed text of the file: `print`, with a shorter contract.
+    fn printed_text(&self, alloc: Global, indentation: Indentation) -> Result<String, AllocError>
+        ensures { IfOk result (λ printed. string_bytes printed
+            ≡ text (normal (ast_shape self.now)) (indentation_text indentation)) }
+    {
         let mut printed = String::new(alloc);
         write_ast(self, indentation, &mut printed)?;
         Ok(printed)

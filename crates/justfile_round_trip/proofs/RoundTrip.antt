@@ -15,7 +15,7 @@ use Rattle.justfile_vocabulary.specs.contracts.list_feature.ListFeature.{the_typ
 use Rattle.justfile_vocabulary.specs.declared.list_feature.ListFeature.{ListFeature}
 use Rattle.justfile_model.specs.Docs.{Nothing, documented}
 use Rattle.justfile_model.specs.Features.{ConstructFeatures, Noted, over_noted}
-use Rattle.justfile_model.specs.Conditions.{Conditions}
+use Rattle.justfile_model.specs.Conditions.{Conditions, with_limit}
 use Rattle.justfile_model.specs.Expressions.{BelowLimit}
 use Rattle.justfile_model.specs.Grammar.{File}
 use Rattle.justfile_model.specs.NormalShape.{normal}
@@ -32,6 +32,7 @@ use Rattle.justfile_model.proofs.Agreement.{one_tree}
 use Rattle.justfile_model.proofs.CarryExpressions.{Same, Pairs, nil, cons}
 use Rattle.justfile_model.proofs.Leaves.{lexemes, elsewhere, file_forgets, file_lifts}
 use Rattle.justfile_model.proofs.LexedLaws.{one_list}
+use Rattle.justfile_model.proofs.Needs.{relimited}
 use Rattle.justfile_model.proofs.Normal.{normal_twice, normal_literals, normal_bindings, normal_recipes}
 use Rattle.justfile_round_trip.specs.RoundTrip.{TextDerives, times, ReadsBack, printed}
 use Rattle.justfile_round_trip.proofs.LexedModes.{Mark, placed, tok_at, toks, lexed}
@@ -241,19 +242,26 @@ module _ (conditions : Conditions) where
       let tokens = one_list source h.tokens q.tokens h.lexed q.lexed in
       (one_tree conditions (significant_tokens q.tokens) t u fs gs (subst (λ ts. FileDerives conditions (significant_tokens ts) t fs) tokens h.file) q.file).0
 
-  pub apart : (source other : List ℕ) (t u : Tree) (fs gs : List (Noted Tok)) (indentation : List ℕ) → IsIndentation indentation → TextDerives conditions source t fs → TextDerives conditions other u gs → printable (shape_of t) ≡ true → printable (shape_of u) ≡ true → printed (shape_of t) indentation ≡ printed (shape_of u) indentation
-      → normal (shape_of t) ≡ normal (shape_of u)
-  apart source other t u fs gs indentation i h q p r same =
-      let x = back source t fs indentation i h p in
-      let y = back other u gs indentation i q r in
-      let one = one_text (printed (shape_of u) indentation) x.tree y.tree x.found y.found (subst (λ r. TextDerives conditions r x.tree x.found) same x.derives) y.derives in
-      sym x.same_shape ∙ ap shape_of one ∙ y.same_shape
-
   pub fixed : (source : List ℕ) (t u : Tree) (fs gs : List (Noted Tok)) (indentation : List ℕ) → IsIndentation indentation → TextDerives conditions source t fs → printable (shape_of t) ≡ true → TextDerives conditions (printed (shape_of t) indentation) u gs
       → printed (shape_of u) indentation ≡ printed (shape_of t) indentation
   fixed source t u fs gs indentation i h p q =
       let x = back source t fs indentation i h p in
       ap (λ y. printed (shape_of y) indentation) (one_text (printed (shape_of t) indentation) u x.tree gs x.found q x.derives) ∙ x.printed_again
+
+-- two trees that a text derives under two limits are the same
+one_text_under : (conditions : Conditions) (limit : ℕ) (source : List ℕ) (t u : Tree) (fs gs : List (Noted Tok)) → TextDerives conditions source t fs → TextDerives (with_limit limit conditions) source u gs → t ≡ u
+one_text_under conditions limit source t u fs gs h q =
+    let there = subst (λ ts. FileDerives (with_limit limit conditions) (significant_tokens ts) u gs) (one_list source q.tokens h.tokens q.lexed h.lexed) q.file in
+    let under = relimited conditions (significant_tokens h.tokens) (with_limit limit conditions) t u fs gs h.file there in
+    (one_tree (with_limit limit conditions) (significant_tokens h.tokens) t u fs gs under there).0
+
+pub apart : (conditions : Conditions) (limit : ℕ) (source other : List ℕ) (t u : Tree) (fs gs : List (Noted Tok)) (indentation : List ℕ) → IsIndentation indentation → TextDerives conditions source t fs → TextDerives (with_limit limit conditions) other u gs → printable (shape_of t) ≡ true → printable (shape_of u) ≡ true → printed (shape_of t) indentation ≡ printed (shape_of u) indentation
+    → normal (shape_of t) ≡ normal (shape_of u)
+apart conditions limit source other t u fs gs indentation i h q p r same =
+    let x = back conditions source t fs indentation i h p in
+    let y = back (with_limit limit conditions) other u gs indentation i q r in
+    let one = one_text_under conditions limit (printed (shape_of u) indentation) x.tree y.tree x.found y.found (subst (λ r. TextDerives conditions r x.tree x.found) same x.derives) y.derives in
+    sym x.same_shape ∙ ap shape_of one ∙ y.same_shape
 
 pub alike : (s r : Shape) (indentation : List ℕ) → normal s ≡ normal r → printed s indentation ≡ printed r indentation
 alike s r indentation e = ap (λ x. text x indentation) e

@@ -8,7 +8,7 @@ ghost use Rattle.justfile_token.specs.declared.string_kind.StringKind.{StringKin
 ghost use Rattle.justfile_vocabulary.specs.declared.token_kind.TokenKind.TheVariants.{StringToken};
 ghost use Rattle.justfile_token.specs.StringKind.{is_quote};
 ghost use Rattle.justfile_model.specs.Bytes.{is_interpolation_start};
-ghost use Rattle.justfile_model.specs.Conditions.{Conditions};
+ghost use Rattle.justfile_model.specs.Conditions.{Conditions, with_limit};
 ghost use Rattle.justfile_model.specs.Features.{Noted};
 ghost use Rattle.justfile_model.specs.LiteralText.{raw_len};
 ghost use Rattle.justfile_model.specs.Modes.{Mode};
@@ -25,7 +25,8 @@ ghost use Rattle.justfile_round_trip.specs.RoundTrip.{TextDerives, ReadsBack, pr
 /// The printed text of a printable shape derives the normal form of that shape, with each feature
 /// equally often, the same texts of literals, and the same numbers of bindings and recipes. Two
 /// such shapes have the same printed text, with the same indentation, exactly if their normal forms
-/// are equal. Printing the printed text gives the same text.
+/// are equal, whatever the depth limits under which they are derived. Printing the printed text
+/// gives the same text.
 pub fn reads_back()
     ensures back { (conditions : Conditions) (source : List ℕ) (tree : Tree)
         (features : List (Noted Tok))
@@ -35,11 +36,12 @@ pub fn reads_back()
         (printed (shape_of tree) indentation) }
     ensures alike { (shape other : Shape) (indentation : List ℕ) → normal shape ≡ normal other
         → printed shape indentation ≡ printed other indentation }
-    ensures apart { (conditions : Conditions) (source other : List ℕ) (tree twin : Tree)
+    ensures apart { (conditions : Conditions) (limit : ℕ) (source other : List ℕ) (tree twin : Tree)
         (features others : List (Noted Tok))
         (indentation : List ℕ) → IsIndentation indentation
         → TextDerives conditions source tree features
-        → TextDerives conditions other twin others → printable (shape_of tree) ≡ true
+        → TextDerives (with_limit limit conditions) other twin others
+        → printable (shape_of tree) ≡ true
         → printable (shape_of twin) ≡ true
         → printed (shape_of tree) indentation ≡ printed (shape_of twin) indentation
         → normal (shape_of tree) ≡ normal (shape_of twin) }
