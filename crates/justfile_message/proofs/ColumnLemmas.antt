@@ -1,8 +1,6 @@
 -- Invariants of the loops over the characters of a line.
-use Rattle.std.proofs.Common.{◌≡◌, ℕ, zero, suc, ◌+◌, ◌<◌, ◌≤◌, ◌^◌, ◌/◌, ◌%◌, max, if◌then◌else◌, Bool, true, List, [], ◌∷◌, ◌++◌, Option, Some, None, unwrap_or, IsUtf8, length, take, drop, get_or, sym, ap, subst, ◌∙◌, arith, append_assoc, append-nil, length-append, zero-add, suc-add}
+use Rattle.std.proofs.Common.{◌≡◌, ℕ, zero, suc, ◌+◌, ◌<◌, ◌≤◌, ◌^◌, ◌/◌, ◌%◌, max, if◌then◌else◌, Bool, true, List, [], ◌∷◌, ◌++◌, IsUtf8, length, take, drop, get_or, sym, ap, subst, ◌∙◌, arith, append_assoc, append-nil, length-append, zero-add, suc-add}
 use Rattle.std.specs.Prelude.{chars, filter, sum_by}
-use Rattle.std.specs.Borrow.{Bor}
-use Rattle.std.specs.Option.{option_map}
 use Rattle.std.specs.List.{repeat}
 use Rattle.std.specs.Fmt.{IsDefaultSpec, IsPlainFormatter, HasWritten, HasWrittenStyled, decimal}
 use Rattle.std.specs.Str.Iter.{char_indices_rest, char_indices_offset, char_indices_steps}
@@ -15,12 +13,6 @@ use Rattle.std.proofs.lemmas.List.Elements.{filter-append}
 use Rattle.std.proofs.lemmas.List.Sums.{sum_by-append}
 use Rattle.std.proofs.lemmas.Str.{IsUtf8-past_char, chars_past_char, chars-nil}
 use Rattle.justfile_message.specs.Columns.{is_among, placed_from, width_among, width_of}
-
--- the text of an optional reference, or the empty text of the other one if there is none
-pub now-unwrap_or : (o : Option (Bor (List ℕ))) (other : Bor (List ℕ)) (text : Option (List ℕ))
-    → option_map (λ r. r.now) o ≡ text → other.now ≡ [] → (unwrap_or o other).now ≡ unwrap_or text []
-now-unwrap_or None other text same empty = empty ∙ ap (λ t. unwrap_or t []) same
-now-unwrap_or (Some r) other text same empty = ap (λ t. unwrap_or t []) same
 
 -- the characters of a line come with their places
 pub YieldsList-from_char_indices : {s : _} (line : List ℕ) → IsUtf8 line → char_indices_rest s ≡ line → char_indices_offset s ≡ 0

@@ -1,7 +1,9 @@
 //! Lines of a text as messages show them, and the screen columns of their characters.
 ghost use Rattle.std.specs.Prelude.{◌≡◌, ◌+◌, ◌<◌, ◌↔◌, IsTrue, Some, codes, length, max};
 ghost use Rattle.std.specs.Fmt.{DisplaysOnOk, decimal};
-ghost use Rattle.std.specs.List.{repeat};
+ghost use Rattle.std.specs.List.{repeat, slice_get};
+ghost use Rattle.std.specs.Option.{option_map};
+ghost use Rattle.std.specs.Str.Lines.{lines};
 ghost use Rattle.justfile_message.specs.Columns.{is_among, line_at, shown_line, width_in, width_of};
 
 use std::fmt;
@@ -32,7 +34,17 @@ pub fn digit_count(number: u128) -> usize
 pub fn line_at(text: &str, number: usize) -> &str
     ensures { result.now ≡ line_at text.now number }
 {
-    text.lines().nth(number).unwrap_or("")
+    match find_line(text, number) {
+        Some(line) => line,
+        None => "",
+    }
+}
+
+/// Returns the line with this number, from 0, without its line end, if there is such a line.
+fn find_line(text: &str, number: usize) -> Option<&str>
+    ensures { option_map (λ line. line.now) result ≡ slice_get (lines text.now) number }
+{
+    text.lines().nth(number)
 }
 
 /// Returns the number of columns that a character takes on the screen.

@@ -10,6 +10,7 @@ use crate::items::{
     unstable,
 };
 use crate::orders::orders;
+use crate::parts::parts;
 use crate::printing::{copies, prints, prints_item};
 use crate::recipes::push_of_recipe;
 use crate::refusal::{push_expected, push_fault, push_message};
@@ -96,6 +97,7 @@ fn push_of_items(items: &[Item<'_>], answer: &mut Answer, word: Word, fields: &[
         Word::Keys => keys(items, answer),
         Word::Expands | Word::Literal | Word::Value => push_of_value(items, answer, word),
         Word::Orders => orders(items, answer),
+        Word::Parts => parts(items, answer),
         Word::Sets => sets(items, answer),
         Word::Settings => settings(items, answer),
         _ => push_of_recipe(items, answer, word, fields),

@@ -180,13 +180,13 @@ fn put_path(path: &Option<StringLiteral<'_>>, shown: &mut Text) {
     }
 }
 
-/// Writes the key of an item that has one. That of a recipe is its name.
+/// Writes the key of an item that has one.
 fn push_key(item: &Item<'_>, answer: &mut Answer) {
     match item {
         Item::Alias(alias) => answer.push(alias.key()),
         Item::Assignment(assignment) => answer.push(assignment.key()),
         Item::Function(function) => answer.push(function.key()),
-        Item::Recipe(recipe) => answer.push(recipe.name.key()),
+        Item::Recipe(recipe) => answer.push(recipe.key()),
         Item::Setting(set) => answer.push(set.key()),
         _ => {}
     }
@@ -312,15 +312,10 @@ fn push_enabled(item: &Item<'_>, answer: &mut Answer) {
 
 /// Writes the name of an item, if it has one. That of an import is its path.
 fn push_name(item: &Item<'_>, answer: &mut Answer) {
-    match item {
-        Item::Alias(alias) => answer.push(alias.name.lexeme()),
-        Item::Assignment(assignment) => answer.push(assignment.name.lexeme()),
-        Item::Comment(_) | Item::Newline => {}
-        Item::Function(function) => answer.push(function.name.lexeme()),
-        Item::Import { relative, .. } => answer.push(relative.token.lexeme()),
-        Item::Module { name, .. } => answer.push(name.lexeme()),
-        Item::Recipe(recipe) => answer.push(recipe.name.lexeme()),
-        Item::Setting(set) => answer.push(set.name.lexeme()),
-        Item::Unexport { name, .. } => answer.push(name.lexeme()),
+    if let Item::Import { relative, .. } = item {
+        return answer.push(relative.token.lexeme());
+    }
+    if let Some(name) = item.name() {
+        answer.push(name.lexeme());
     }
 }

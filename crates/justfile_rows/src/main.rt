@@ -21,6 +21,7 @@ mod items;
 mod judge;
 mod lexing;
 mod orders;
+mod parts;
 mod printing;
 mod program;
 mod recipes;

@@ -4,9 +4,7 @@ use crate::expansion::Expansion;
 use crate::files::parse;
 use crate::orders::{copy_of, push_order};
 use crate::refusal::push_fault;
-use justfile_expression::child;
 use justfile_syntax::expression::Expression;
-use justfile_syntax::interpreter::Interpreter;
 use justfile_syntax::item::Item;
 use justfile_syntax::name::Name;
 use justfile_syntax::numerator::Number;
@@ -79,8 +77,24 @@ fn resolve_first<'src>(
             resolve_value(&mut assignment.value, answer, context, bindings, none);
         }
         Item::Setting(set) => resolve_setting(&mut set.value, answer, context, bindings, none),
-        _ => answer.push("none"),
+        item => resolve_item(item, answer, context, bindings, none),
     }
+}
+
+/// Resolves an item.
+fn resolve_item<'src>(
+    item: &mut Item<'src>,
+    answer: &mut Answer,
+    context: &HashMap<&'src str, Number>,
+    bindings: &HashMap<&'src str, Number>,
+    none: &HashMap<&'src str, Number>,
+) {
+    item.resolve_variables(None, bindings);
+    push_item(item, answer);
+    item.resolve_variables(Some(context), bindings);
+    push_item(item, answer);
+    item.resolve_variables(None, none);
+    push_item(item, answer);
 }
 
 /// Resolves a setting.
@@ -137,24 +151,24 @@ fn push_resolved<'src>(before: &Expression<'src>, value: &Expression<'src>, answ
 
 /// Writes the variables of the values that a setting holds.
 fn push_setting(setting: &Setting<'_>, answer: &mut Answer) {
-    match setting {
-        Setting::DotenvCommand(value) => push_variables(value, answer),
-        Setting::DotenvFilename(value) => push_variables(value, answer),
-        Setting::DotenvPath(value) => push_variables(value, answer),
-        Setting::ScriptInterpreter(interpreter) => push_interpreter(interpreter, answer),
-        Setting::Shell(interpreter) => push_interpreter(interpreter, answer),
-        Setting::Tempdir(value) => push_variables(value, answer),
-        Setting::WindowsShell(interpreter) => push_interpreter(interpreter, answer),
-        Setting::WorkingDirectory(value) => push_variables(value, answer),
-        _ => {}
+    match setting.expressions(answer.alloc()) {
+        Ok(values) => push_values(&values, answer),
+        Err(_) => answer.fail(),
     }
 }
 
-/// Writes the variables of an interpreter: those of its command, and then those of its arguments.
-fn push_interpreter(interpreter: &Interpreter<Expression<'_>>, answer: &mut Answer) {
-    push_variables(&interpreter.command, answer);
-    for argument in &interpreter.arguments {
-        push_variables(argument, answer);
+/// Writes the variables of the expressions of an item.
+fn push_item(item: &Item<'_>, answer: &mut Answer) {
+    match item.expressions(answer.alloc()) {
+        Ok(values) => push_values(&values, answer),
+        Err(_) => answer.fail(),
+    }
+}
+
+/// Writes the variables of values.
+fn push_values(values: &[&Expression<'_>], answer: &mut Answer) {
+    for value in values {
+        push_variables(value, answer);
     }
 }
 
@@ -163,8 +177,8 @@ fn push_interpreter(interpreter: &Interpreter<Expression<'_>>, answer: &mut Answ
 fn push_variables(value: &Expression<'_>, answer: &mut Answer) {
     push_variable(value, answer);
     for place in 0..usize::MAX {
-        match child(value, place) {
-            Some((part, _)) => push_part(part, answer),
+        match value.child(place) {
+            Some(part) => push_part(part, answer),
             None => return,
         }
     }
@@ -174,8 +188,8 @@ fn push_variables(value: &Expression<'_>, answer: &mut Answer) {
 fn push_part(part: &Expression<'_>, answer: &mut Answer) {
     push_variable(part, answer);
     for place in 0..usize::MAX {
-        match child(part, place) {
-            Some((inner, _)) => push_variable(inner, answer),
+        match part.child(place) {
+            Some(inner) => push_variable(inner, answer),
             None => return,
         }
     }

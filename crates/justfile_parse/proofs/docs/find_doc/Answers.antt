@@ -15,12 +15,12 @@ find_text-requires c =
 pub returns-then-is_newline : goal.returns-then-is_newline
 returns-then-is_newline c =
     c.find_text.ensures
-    ∙ sym (after_line c.args.items.now (length c.args.items.now - 1) (length c.args.items.now - 2) (length c.args.items.now - 3) (omega arith) (omega arith) (omega arith)
+    ∙ sym (after_line c.args.items.now (length c.args.items.now - 1) (length c.args.items.now - 2) _ (omega arith) (omega arith) (omega arith)
     c.index-items-count.result c.index-items-count-2.result c.index-items-count-3.result c.index-items-count.is c.index-items-count-2.is c.index-items-count-3.is
     c.in_ok-comment.comment.now (sym c.is_newline.ensures ∙ c.if-not-is_newline.false) (sym c.in_ok-comment.ensures) (sym c.is_newline-2.ensures ∙ c.if-is_newline.true))
 
 pub returns-else-is_newline : goal.returns-else-is_newline
 returns-else-is_newline c =
-    sym (after_other c.args.items.now (length c.args.items.now - 1) (length c.args.items.now - 2) (length c.args.items.now - 3) (omega arith) (omega arith) (omega arith)
+    sym (after_other c.args.items.now (length c.args.items.now - 1) (length c.args.items.now - 2) _ (omega arith) (omega arith) (omega arith)
     c.index-items-count.result c.index-items-count-2.result c.index-items-count-3.result c.index-items-count.is c.index-items-count-2.is c.index-items-count-3.is
     c.in_ok-comment.comment.now (sym c.is_newline.ensures ∙ c.if-not-is_newline.false) (sym c.in_ok-comment.ensures) (sym c.is_newline-2.ensures ∙ c.if-is_newline.false))
