@@ -21,7 +21,7 @@ SIZES = TOP / "docs/SIZES.md"
 
 # Names in backticks that the repository's code doesn't have, each group with its reason.
 EXCEPTIONS = {
-    "Rust, and tools": "FromIterator callgrind tool valgrind write_all",
+    "Rust, and tools": "FromIterator callgrind len_utf16 tool valgrind write_all",
     "what the Rust crate has and this repository doesn't": """
         ArgumentPatternRegex ConstEval absolute recipe_path references variable_references
     """,

@@ -24,7 +24,6 @@ const CURRENT: Version = Version {
 /// # Errors
 ///
 /// As for `Parser::parse_source`.
-#[tactic(auto, using(crate::proofs::Roots::root_of, crate::proofs::Roots::no_root, crate::proofs::Indented::indented))]
 pub fn parse_root<'src>(
     alloc: Global,
     path: &'src str,

@@ -32,7 +32,7 @@ pub(crate) fn doc_of(
 }
 
 /// Returns the text of an attribute `doc`, if that is a plain literal.
-#[tactic(auto, using(crate::proofs::Parts::not_doc))]
+#[tactic(auto, using(crate::proofs::Shows::not_doc))]
 fn attribute_doc(attribute: &Attribute<'_>, alloc: Global) -> Result<Option<String>, AllocError>
     ensures { IfOk result (λ doc. option_map string_bytes doc ≡ attribute_doc attribute.now) }
 {
@@ -56,7 +56,7 @@ fn optional_text(
 }
 
 /// Returns the text of an expression that is a plain literal.
-#[tactic(auto, using(crate::proofs::Parts::not_literal))]
+#[tactic(auto, using(crate::proofs::Shows::not_literal))]
 fn literal_text(expression: &Expression<'_>, alloc: Global) -> Result<Option<String>, AllocError>
     ensures { IfOk result (λ text. option_map string_bytes text ≡ literal_text expression.now) }
 {
@@ -94,7 +94,7 @@ pub(crate) fn group_texts(
 }
 
 /// Appends the name of the group, if the attribute is one.
-#[tactic(auto, using(crate::proofs::Parts::not_group, crate::proofs::Parts::pushed_text))]
+#[tactic(auto, using(crate::proofs::Shows::not_group, crate::proofs::Shows::pushed_text))]
 fn push_group(
     attribute: &Attribute<'_>,
     alloc: Global,
@@ -110,7 +110,7 @@ fn push_group(
 }
 
 /// Appends a copy of a text.
-#[tactic(auto, using(crate::proofs::Parts::pushed_text))]
+#[tactic(auto, using(crate::proofs::Shows::pushed_text))]
 fn push_text(text: &str, alloc: Global, texts: &mut Vec<String>) -> Result<(), AllocError>
     ensures { OnOk result (map string_bytes texts.new.items
         ≡ map string_bytes texts.old.items ++ text.now ∷ []) }
@@ -146,9 +146,10 @@ pub(crate) fn names_text(
 }
 
 /// Appends a space and a name.
+#[tactic(auto, using(crate::proofs::Shows::joined))]
 fn push_name(text: &mut String, name: Name<'_>) -> Result<(), AllocError>
     ensures { OnOk result
-        (string_bytes text.new ≡ string_bytes text.old ++ codes " " ++ name_text name.entry) }
+        (string_bytes text.new ≡ string_bytes text.old ++ (codes " " ++ name_text name.entry)) }
 {
     text.push_str(" ")?;
     text.push_str(name.lexeme())

@@ -40,7 +40,7 @@ pub(crate) fn make_symbol<'src>(
     is_private: bool,
 ) -> Result<Symbol<'src>, AllocError>
     ensures { IfOk result (λ symbol. shown symbol ≡ symbol_of attributes.now kind name.entry
-        (string_bytes parameters.entry) comment.now is_private) }
+        (string_bytes parameters) comment.now is_private) }
 {
     let doc = doc_of(attributes, alloc, comment)?;
     let groups = group_texts(attributes.written(), alloc)?;

@@ -1,5 +1,5 @@
 use Rattle.std.proofs.Common.{arith}
-use Rattle.justfile_outline.proofs.Parts.{collected}
+use Rattle.justfile_outline.proofs.Shows.{collected}
 use Rattle.justfile_outline.specs.Symbols.{group_names}
 use Rattle.justfile_outline.proofs.parts.group_texts.Goals as goal
 

@@ -1,5 +1,5 @@
 use Rattle.std.proofs.Common.{arith}
-use Rattle.justfile_outline.proofs.Parts.{gathered}
+use Rattle.justfile_outline.proofs.Shows.{gathered}
 use Rattle.justfile_outline.specs.Symbols.{name_part}
 use Rattle.justfile_outline.proofs.parts.names_text.Goals as goal
 

@@ -31,7 +31,7 @@ pub fn outline<'src>(items: &[Item<'src>], alloc: Global) -> Result<Vec<Symbol<'
 }
 
 /// Appends the symbol of an item, if it has a name.
-#[tactic(auto, using(crate::proofs::Parts::outlined))]
+#[tactic(auto, using(crate::proofs::Shows::outlined))]
 fn push_symbol<'src>(
     item: &Item<'src>,
     alloc: Global,
@@ -60,7 +60,6 @@ fn push_symbol<'src>(
 }
 
 /// Appends the symbol of a result, or returns the result's error.
-#[tactic(auto, using(crate::proofs::Parts::pushed_symbol))]
 fn push<'src>(
     symbols: &mut Vec<Symbol<'src>>,
     made: Result<Symbol<'src>, AllocError>,

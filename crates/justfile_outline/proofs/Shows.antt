@@ -1,5 +1,5 @@
 -- The parts of symbols, and what a loop adds for each element.
-use Rattle.std.proofs.Common.{◌≡◌, ◌∙◌, ◌<◌, ◌+◌, ℕ, List, [], ◌∷◌, ◌++◌, Option, None, Result, Ok, Err, map, length, take, get_or, String, refl, sym, ap, subst}
+use Rattle.std.proofs.Common.{◌≡◌, ◌∙◌, ◌<◌, ◌+◌, ℕ, List, [], ◌∷◌, ◌++◌, Option, None, Result, Ok, Err, map, length, take, get_or, String, refl, sym, ap, append_assoc, subst}
 use Rattle.std.specs.Global.{Box, Global}
 use Rattle.std.specs.List.{flat_map}
 use Rattle.std.specs.Prelude.{IfOk, OnOk, string_bytes}
@@ -27,6 +27,9 @@ not_group (Group name) never = absurd (never name refl)
 not_group _ never = refl
 
 -- ---- one more element
+
+pub joined : (t u v a b : List ℕ) → u ≡ t ++ a → v ≡ u ++ b → v ≡ t ++ (a ++ b)
+joined t u v a b p q = q ∙ ap (λ x. x ++ b) p ∙ append_assoc t a b
 
 pub pushed_text : (old new : List (String Global)) (text : String Global) (bytes : List ℕ) → new ≡ old ++ text ∷ [] → string_bytes text ≡ bytes
     → map string_bytes new ≡ map string_bytes old ++ bytes ∷ []

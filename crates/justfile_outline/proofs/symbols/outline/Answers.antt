@@ -1,7 +1,7 @@
 use Rattle.std.proofs.Common.{arith}
-use Rattle.justfile_outline.proofs.Parts.{gathered}
+use Rattle.justfile_outline.proofs.Shows.{gathered}
 use Rattle.justfile_outline.specs.Symbols.{item_symbols}
-use Rattle.justfile_outline.proofs.outline.outline.Goals as goal
+use Rattle.justfile_outline.proofs.symbols.outline.Goals as goal
 
 pub loop-item-preserved : goal.loop-item-preserved
 loop-item-preserved c =
