@@ -7,4 +7,3 @@ pub mod formatting;
 pub mod laws;
 pub mod reading;
 pub mod root;
-mod unchanged;

@@ -3,19 +3,11 @@ ghost use Rattle.std.specs.Prelude.{IfOk, IfErr};
 ghost use Rattle.justfile_canonical.specs.Formatting.{IsIndented};
 ghost use Rattle.justfile_canonical.specs.Root.{HasNoRoot, IsRoot};
 
-use crate::unchanged::Unchanged;
 use justfile_ast::Ast;
 use justfile_parse::{Parser, RECURSION_LIMIT};
-use justfile_token::{CompileResult, Source};
+use justfile_token::{CompileResult, Source, Unchanged};
 use justfile_vocabulary::{Numerator, Version};
 use std::alloc::Global;
-
-/// The running version, under which texts are parsed.
-const CURRENT: Version = Version {
-    major: 1,
-    minor: 58,
-    patch: 0,
-};
 
 /// Parses a text as the root file at this path: at depth 0, in no module, with numbers from 0 on,
 /// under the usual limit of depth and this library's version. The texts of literals with the mark
@@ -35,20 +27,14 @@ pub fn parse_root<'src>(
     ensures err { IfErr result (HasNoRoot path.now source.now) }
 {
     let mut numerator = Numerator::new(0);
-    let place = Source {
-        file_depth: 0,
-        import_offsets: &[],
-        namepath: None,
-        working_directory: "",
-    };
     Parser::parse_source(
         alloc,
         &mut numerator,
         path,
-        &place,
+        &Source::root(),
         source,
         &Unchanged,
-        CURRENT,
+        Version::CURRENT,
         RECURSION_LIMIT,
     )
 }
