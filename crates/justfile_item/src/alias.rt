@@ -21,7 +21,7 @@ use std::fmt;
 
 /// An alias: another name for its target. In a file, the target is the path of a recipe.
 #[derive(Drop)]
-pub struct Alias<'src, T> {
+pub struct Alias<'src, T = Namepath<'src>> {
     /// The attributes.
     pub attributes: AttributeSet<'src>,
     /// The new name.

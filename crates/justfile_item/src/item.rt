@@ -29,7 +29,7 @@ use std::alloc::{AllocError, Global};
 /// An item of a file, as in `docs/LANGUAGE.md`.
 #[derive(Drop)]
 pub enum Item<'src> {
-    Alias(Alias<'src, Namepath<'src>>),
+    Alias(Alias<'src>),
     Assignment(Assignment<'src>),
     /// A comment, without whitespace at its end.
     Comment(&'src str),

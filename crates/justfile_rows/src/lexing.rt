@@ -79,6 +79,7 @@ fn follows(text: &str, before: &str, token: &Token<'_>) -> bool {
         && token.line == line
         && token.column == column
         && token.length == token.lexeme().len()
+        && token.end() == before.len() + token.length
         && token.path == "justfile"
         && token.src == text
 }

@@ -1,12 +1,13 @@
 //! What items of all kinds have, as rows show it.
 
 use crate::items::{put_expression, put_if, put_marked};
+use justfile_syntax::attribute_set::AttributeSet;
 use justfile_syntax::expression::Expression;
 use justfile_syntax::item::Item;
 use row_notation::{Answer, Text};
 
-/// Writes what each item has: its kind, its name, the kinds of its attributes, its doc, and its
-/// expressions, each with the lexeme that it begins with.
+/// Writes what each item has: its kind, its name, the kinds of its attributes, its groups, its doc,
+/// the truth of a setting, and its expressions, each with the lexeme that it begins with.
 pub(crate) fn parts(items: &[Item<'_>], answer: &mut Answer) {
     for item in items {
         push_parts(item, answer);
@@ -19,6 +20,7 @@ fn push_parts(item: &Item<'_>, answer: &mut Answer) {
     put_item_name(item, &mut shown);
     put_kinds(item, &mut shown);
     put_item_doc(item, &mut shown);
+    put_truth(item, &mut shown);
     match item.expressions(answer.alloc()) {
         Ok(expressions) => put_expressions(&expressions, &mut shown),
         Err(_) => answer.fail(),
@@ -39,6 +41,19 @@ fn put_kinds(item: &Item<'_>, shown: &mut Text) {
         for attribute in attributes {
             put_marked(shown, " attribute ", attribute.kind().name());
         }
+        put_groups(attributes, shown);
+    }
+}
+
+/// Writes the names of the groups.
+fn put_groups(attributes: &AttributeSet<'_>, shown: &mut Text) {
+    match attributes.group_names(shown.alloc()) {
+        Ok(names) => {
+            for name in &names {
+                put_marked(shown, " group ", name);
+            }
+        }
+        Err(_) => shown.fail(),
     }
 }
 
@@ -46,6 +61,14 @@ fn put_kinds(item: &Item<'_>, shown: &mut Text) {
 fn put_item_doc(item: &Item<'_>, shown: &mut Text) {
     if let Some(doc) = item.doc() {
         put_marked(shown, " doc ", doc);
+    }
+}
+
+/// Writes the value of a setting that is true or false.
+fn put_truth(item: &Item<'_>, shown: &mut Text) {
+    if let Item::Setting(set) = item {
+        put_if(shown, " true", set.value.truth() == Some(true));
+        put_if(shown, " false", set.value.truth() == Some(false));
     }
 }
 

@@ -162,11 +162,25 @@ pub(crate) fn push_expected(answer: &mut Answer, text: &str, fault: &Fault<'_>) 
     }
 }
 
-/// Writes the message of an error; or another fault.
+/// Writes the message of an error; or another fault. Writes `undisplayed` if the fault doesn't
+/// display the message and the excerpt.
 pub(crate) fn push_message(answer: &mut Answer, text: &str, fault: &Fault<'_>) {
     match fault {
-        Fault::Compile(error) => answer.push_made(format!(in answer.alloc(); "{error}")),
+        Fault::Compile(error) => {
+            let alloc = answer.alloc();
+            answer.push_made(format!(in alloc; "{error}"));
+            let shown = format!(in alloc; "{error}\n{}", error.token);
+            answer.push_if("undisplayed", !are_equal(&fault.to_string(alloc), &shown));
+        }
         fault => push_fault(answer, text, fault),
+    }
+}
+
+/// Whether two texts were made and are equal.
+fn are_equal(one: &Result<String, AllocError>, other: &Result<String, AllocError>) -> bool {
+    match (one, other) {
+        (Ok(one), Ok(other)) => one == other,
+        _ => false,
     }
 }
 
