@@ -1,6 +1,7 @@
 -- The formatted text of a justfile.
 use Rattle.std.specs.Prelude.{◌≡◌, ℕ, List}
 use Rattle.justfile_syntax.specs.Derivations.{Noted, TextDerives}
+use Rattle.justfile_syntax.specs.Files.{Ast, tree_of}
 use Rattle.justfile_syntax.specs.Formatting.{IsIndentedBy}
 use Rattle.justfile_syntax.specs.Printing.{printed}
 use Rattle.justfile_syntax.specs.Roots.{conditions}
@@ -22,3 +23,9 @@ pub record IsFormattedAsSet (source formatted : List ℕ) : Type 0 where
   pub indentation : List ℕ
   pub is_set : IsIndentedBy (indentation_of tree) indentation
   pub is : formatted ≡ printed (shape_of tree) indentation
+
+-- The same for a file.
+pub record IsPrintedAsSet (ast : Ast) (formatted : List ℕ) : Type 0 where
+  pub indentation : List ℕ
+  pub is_set : IsIndentedBy (indentation_of (tree_of ast)) indentation
+  pub is : formatted ≡ printed (shape_of (tree_of ast)) indentation

@@ -3,9 +3,10 @@
 
 ghost use Rattle.std.specs.Prelude.{◌≡◌, IfOk, string_bytes};
 ghost use Rattle.justfile_syntax.specs.Files.{ast_shape};
+ghost use Rattle.justfile_syntax.specs.Formatting.{IsIndented};
 ghost use Rattle.justfile_syntax.specs.Printing.{printed};
 ghost use Rattle.justfile_syntax.specs.Words.{indentation_text};
-ghost use Rattle.formatted.specs.Formatted.{IsFormattedAsSet, IsFormattedAt};
+ghost use Rattle.formatted.specs.Formatted.{IsFormattedAsSet, IsFormattedAt, IsPrintedAsSet};
 
 use justfile_syntax::ast::Ast;
 use justfile_syntax::fault::CompileResult;
@@ -19,8 +20,8 @@ pub fn formatted(alloc: Global, text: &str, indentation: Indentation) -> Compile
     ensures { IfOk result (λ formatted. IsFormattedAt text.now (indentation_text indentation)
         (string_bytes formatted)) }
 {
-    let ast = parse_root(alloc, "justfile", text)?;
-    let formatted = print(&ast, alloc, indentation);
+    let mut ast = parse_root(alloc, "justfile", text)?;
+    let formatted = print(&mut ast, alloc, indentation);
     release(ast);
     Ok(formatted?)
 }
@@ -30,17 +31,24 @@ pub fn formatted_as_set(alloc: Global, text: &str) -> CompileResult<'_, String>
     ensures { IfOk result
         (λ formatted. IsFormattedAsSet text.now (string_bytes formatted)) }
 {
-    let ast = parse_root(alloc, "justfile", text)?;
-    let indentation = own_indentation(&ast);
-    let formatted = print(&ast, alloc, indentation);
+    let mut ast = parse_root(alloc, "justfile", text)?;
+    let formatted = print_as_set(&mut ast, alloc);
     release(ast);
     Ok(formatted?)
 }
 
 /// Returns the printed text of a file.
-fn print(ast: &Ast<'_>, alloc: Global, indentation: Indentation) -> Result<String, AllocError>
+fn print(ast: &mut Ast<'_>, alloc: Global, indentation: Indentation) -> Result<String, AllocError>
     ensures { IfOk result (λ text. string_bytes text
-        ≡ printed (ast_shape ast.now) (indentation_text indentation)) }
+        ≡ printed (ast_shape ast.old) (indentation_text indentation)) }
 {
+    ast.print(alloc, indentation)
+}
+
+/// Returns the printed text of a file, at the indentation that it sets.
+fn print_as_set(ast: &mut Ast<'_>, alloc: Global) -> Result<String, AllocError>
+    ensures { IsIndented ast.old → IfOk result (λ text. IsPrintedAsSet ast.old (string_bytes text)) }
+{
+    let indentation = own_indentation(ast);
     ast.print(alloc, indentation)
 }

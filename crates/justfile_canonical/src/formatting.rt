@@ -26,8 +26,8 @@ pub fn format_text(alloc: Global, path: &str, source: &str) -> Result<String, Fo
     ensures ok { IfOk result (λ text. IsFormatted source.now (string_bytes text)) }
     ensures err { IfErr result (IsFaultOf path.now source.now) }
 {
-    let ast = parse(alloc, path, source)?;
-    print(&ast, alloc)
+    let mut ast = parse(alloc, path, source)?;
+    print(&mut ast, alloc)
 }
 
 /// Does the same as `format_text`, but doesn't free the tree: for a program that ends soon. Freeing
@@ -40,8 +40,8 @@ pub fn format_and_forget(alloc: Global, path: &str, source: &str) -> Result<Stri
     ensures ok { IfOk result (λ text. IsFormatted source.now (string_bytes text)) }
     ensures err { IfErr result (IsFaultOf path.now source.now) }
 {
-    let ast = parse(alloc, path, source)?;
-    let text = print(&ast, alloc)?;
+    let mut ast = parse(alloc, path, source)?;
+    let text = print(&mut ast, alloc)?;
     mem::forget(ast);
     Ok(text)
 }
@@ -69,11 +69,12 @@ fn rejected_fault(alloc: Global, error: &CompileError<'_>) -> FormatFault
     }
 }
 
-/// Returns the canonical text of a file.
-fn print(ast: &Ast<'_>, alloc: Global) -> Result<String, FormatFault>
-    requires { IsIndented ast.now }
-    ensures ok { IfOk result (λ text. IsPrinted ast.now (string_bytes text)) }
-    ensures err { IfErr result (IsFaultOfPrinting ast.now) }
+/// Returns the canonical text of a file. It is passed as `&mut` because the check of a caller that
+/// holds the file can't tell of a shared reference.
+fn print(ast: &mut Ast<'_>, alloc: Global) -> Result<String, FormatFault>
+    requires { IsIndented ast.old }
+    ensures ok { IfOk result (λ text. IsPrinted ast.old (string_bytes text)) }
+    ensures err { IfErr result (IsFaultOfPrinting ast.old) }
 {
     let indentation = printing_indentation(ast)?;
     Ok(ast.print(alloc, indentation)?)

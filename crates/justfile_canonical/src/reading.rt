@@ -17,8 +17,8 @@ pub trait Reader {
     ghost reads: { Self → Ast → Self → Type 0 };
 
     /// Reads the file.
-    fn read(&mut self, ast: &Ast<'_>)
-        ensures { reads self.old ast.now self.new };
+    fn read(ast: &Ast<'_>, reader: &mut Self)
+        ensures { reads reader.old ast.now reader.new };
 }
 
 /// Parses a text as the root file at this path, and lends it to the reader.
@@ -38,12 +38,19 @@ pub fn read_root<'src, R: Reader>(
     ensures unread { OnErr result (reader.new ≡ reader.old) }
 {
     match parse_root(alloc, path, source) {
-        Ok(ast) => {
-            reader.read(&ast);
+        Ok(mut ast) => {
+            lend(&mut ast, reader);
             Ok(())
         }
         Err(fault) => Err(fault),
     }
+}
+
+/// Lends a file to a reader.
+fn lend<R: Reader>(ast: &mut Ast<'_>, reader: &mut R)
+    ensures { R.reads reader.old ast.old reader.new }
+{
+    R::read(ast, reader);
 }
 
 /// Parses a text as the root file at this path, and returns its symbols.
@@ -60,13 +67,13 @@ pub fn symbols<'src>(
         (λ symbols. HasSymbols path.now source.now (map shown symbols.items)) }
     ensures err { IfErr result (HasNoRoot path.now source.now) }
 {
-    let ast = parse_root(alloc, path, source)?;
-    Ok(outline_file(&ast, alloc)?)
+    let mut ast = parse_root(alloc, path, source)?;
+    Ok(outline_file(&mut ast, alloc)?)
 }
 
 /// Returns the symbols of a file.
-fn outline_file<'src>(ast: &Ast<'src>, alloc: Global) -> Result<Vec<Symbol<'src>>, AllocError>
-    ensures { IfOk result (λ symbols. map shown symbols.items ≡ symbols_of ast.now) }
+fn outline_file<'src>(ast: &mut Ast<'src>, alloc: Global) -> Result<Vec<Symbol<'src>>, AllocError>
+    ensures { IfOk result (λ symbols. map shown symbols.items ≡ symbols_of ast.old) }
 {
     outline(&ast.items, alloc)
 }
