@@ -27,11 +27,17 @@ pub fn parse_root<'src>(
     ensures err { IfErr result (HasNoRoot path.now source.now) }
 {
     let mut numerator = Numerator::new(0);
+    let place = Source {
+        file_depth: 0,
+        import_offsets: &[],
+        namepath: None,
+        working_directory: "",
+    };
     Parser::parse_source(
         alloc,
         &mut numerator,
         path,
-        &Source::root(),
+        &place,
         source,
         &Unchanged,
         Version::CURRENT,
