@@ -1,7 +1,7 @@
 //! A run of the program.
 ghost use Rattle.std.specs.Prelude.{◌≡◌, IfErr, IfOk, IfSome, map, string_bytes};
 ghost use Rattle.std.specs.Io.KnownBytes.{Appends};
-ghost use Rattle.recipes.specs.Listing.{HasListing, Lists};
+ghost use Rattle.recipes.specs.Lists.{HasListing, Lists};
 
 use crate::listing::listing;
 use justfile_syntax::fault::{CompileResult, Fault};
@@ -52,10 +52,6 @@ fn write<W: Write>(text: &str, writer: &mut W) -> u8
 fn report<E: Write>(fault: &Fault<'_>, errors: &mut E) -> u8
     ensures { result ≡ 1 }
 {
-    let _ = match fault {
-        Fault::Compile(error) => write!(errors, "error: {error}\n{}\n", error.token),
-        Fault::Memory => errors.write_all(b"error: out of memory\n"),
-        Fault::Numbers => errors.write_all(b"error: out of numbers\n"),
-    };
+    let _ = write!(errors, "error: {fault}\n");
     1
 }
