@@ -16,15 +16,15 @@ rejected source faults.Memory why = tt
 rejected source faults.Numbers why = tt
 
 pub unprintable : (source : List ℕ) (fault : FormatFault) → IsFaultOf (codes "justfile") source fault → failure_of fault ≡ failures.NotPrintable → IsUnprintable source
-unprintable source (faults.Rejected lines) why is = absurd (grind is)
+unprintable source (faults.Rejected lines) why is = absurd (cc)
 unprintable source faults.NotPrintable why is = why
-unprintable source faults.Memory why is = absurd (grind is)
-unprintable source faults.Numbers why is = absurd (grind is)
+unprintable source faults.Memory why is = absurd (cc)
+unprintable source faults.Numbers why is = absurd (cc)
 
 pub numbers : (source : List ℕ) (fault : FormatFault) → IsFaultOf (codes "justfile") source fault → failure_of fault ≡ failures.Numbers → LacksNumbers source
-numbers source (faults.Rejected lines) why is = absurd (grind is)
-numbers source faults.NotPrintable why is = absurd (grind is)
-numbers source faults.Memory why is = absurd (grind is)
+numbers source (faults.Rejected lines) why is = absurd (cc)
+numbers source faults.NotPrintable why is = absurd (cc)
+numbers source faults.Memory why is = absurd (cc)
 numbers source faults.Numbers why is = why
 
 pub of_text : (fault : FormatFault) → IsOfText (failure_of fault)

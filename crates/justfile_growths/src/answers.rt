@@ -65,19 +65,22 @@ pub(crate) fn judge_tokens<'src>(
 
 /// Checks a result of parsing. If memory ran out, the numerator may not have given more numbers than
 /// the justfile has.
-pub(crate) fn judge_file(
-    answer: CompileResult<'_, Ast<'_>>,
+pub(crate) fn judge_file<'src>(
+    answer: CompileResult<'src, Ast<'src>>,
     alloc: Global,
     numerator: &mut Numerator,
 ) -> Outcome {
     let (bindings, recipes) = numbers(numerator).unwrap_or((u32::MAX, u32::MAX));
     match answer {
-        Ok(ast) if bindings == BINDINGS && recipes == RECIPES => {
-            judge_text(ast.print(alloc, Indentation::default()))
-        }
+        Ok(mut ast) if bindings == BINDINGS && recipes == RECIPES => judge_printed(&mut ast, alloc),
         Err(Fault::Memory) if bindings <= BINDINGS && recipes <= RECIPES => Outcome::Refused,
         _ => Outcome::Wrong,
     }
+}
+
+/// Checks what a file prints.
+fn judge_printed(ast: &mut Ast<'_>, alloc: Global) -> Outcome {
+    judge_text(ast.print(alloc, Indentation::default()))
 }
 
 /// Checks a result of printing.

@@ -20,11 +20,29 @@ pub fn run<R: Read, W: Write, E: Write>(
     ensures { result ≡ 0 → IfSome (R.remaining reader.old)
         (λ source. Lists source (W.contents writer.old) (W.contents writer.new)) }
 {
-    let mut text = String::new(alloc);
-    if reader.read_to_string(&mut text).is_err() {
-        return 1;
+    match read(alloc, reader) {
+        Some(text) => write_list(alloc, text.as_str(), writer, errors),
+        None => 1,
     }
-    match list(alloc, text.as_str()) {
+}
+
+/// Reads the whole text of a reader. Returns `None` if that fails.
+fn read<R: Read>(alloc: Global, reader: &mut R) -> Option<String>
+    ensures { IfSome result (λ text. IfSome (R.remaining reader.old)
+        (λ source. string_bytes text ≡ source)) }
+{
+    let mut text = String::new(alloc);
+    match reader.read_to_string(&mut text) {
+        Ok(_) => Some(text),
+        Err(_) => None,
+    }
+}
+
+/// Writes the list of the recipes of a justfile, or why there is none. Returns 0 or 1.
+fn write_list<W: Write, E: Write>(alloc: Global, source: &str, writer: &mut W, errors: &mut E) -> u8
+    ensures { result ≡ 0 → Lists source.now (W.contents writer.old) (W.contents writer.new) }
+{
+    match list(alloc, source) {
         Ok(listing) => write(listing.as_str(), writer),
         Err(fault) => report(&fault, errors),
     }
