@@ -55,6 +55,14 @@ def row_texts():
         yield f"{name}, refused", OPERANDS, lambda n: "a := " + part * n + "\n"
 
 
+def compared_texts():
+    """Two attributes of one recipe that begin with the same row, which are compared for their order."""
+    for name, (part, last) in ROWS.items():
+        yield f"{name}, compared", OPERANDS // 2, lambda n: (
+            f"[env({part * n}{last}, a), env({part * n}{last}, b)]\nfoo:\n"
+        )
+
+
 def shuffled(count):
     """The numbers below count, in an order that is the same in each run."""
     numbers = list(range(count))
@@ -104,7 +112,7 @@ def main():
     path = os.path.join(folder, "text")
     print("| text | parts | bytes | status | seconds | MB | seconds of twice as many | MB |")
     print("|---|---:|---:|---:|---:|---:|---:|---:|")
-    for texts, count in ((row_texts(), 1), (attribute_texts(), 3), (part_texts(), 3)):
+    for texts, count in ((row_texts(), 1), (compared_texts(), 1), (attribute_texts(), 3), (part_texts(), 3)):
         for name, parts, text in texts:
             size, status, seconds, peak = measured(program, path, text(parts), count)
             _, twice_status, twice, twice_peak = measured(program, path, text(2 * parts), count)
