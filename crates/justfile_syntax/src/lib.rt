@@ -129,7 +129,7 @@ pub mod interpreter {
 pub mod item {
     //! The items of files, and their kinds.
 
-    pub use justfile_item::Item;
+    pub use justfile_item::{Item, is_private_item};
     pub use justfile_vocabulary::ItemKind;
 }
 
@@ -281,7 +281,7 @@ pub mod set {
 pub mod setting {
     //! What settings hold, their defaults and their conflicts.
 
-    pub use justfile_setting::Setting;
+    pub use justfile_setting::{Setting, Value};
 }
 
 pub mod sigil {
