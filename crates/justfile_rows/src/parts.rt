@@ -5,6 +5,7 @@ use justfile_syntax::attribute_set::AttributeSet;
 use justfile_syntax::expression::Expression;
 use justfile_syntax::item::Item;
 use row_notation::{Answer, Text};
+use std::alloc::AllocError;
 
 /// Writes what each item has: its kind, its name, the kinds of its attributes, its groups, its doc,
 /// the truth of a setting, and its expressions, each with the lexeme that it begins with.
@@ -21,9 +22,8 @@ fn push_parts(item: &Item<'_>, answer: &mut Answer) {
     put_kinds(item, &mut shown);
     put_item_doc(item, &mut shown);
     put_truth(item, &mut shown);
-    match item.expressions(answer.alloc()) {
-        Ok(expressions) => put_expressions(&expressions, &mut shown),
-        Err(_) => answer.fail(),
+    if put_expressions(item, &mut shown).is_err() {
+        answer.fail();
     }
     answer.push_text(shown);
 }
@@ -72,12 +72,14 @@ fn put_truth(item: &Item<'_>, shown: &mut Text) {
     }
 }
 
-/// Writes expressions, each in brackets after the lexeme that it begins with, and in place of a
-/// literal its text in ‹›.
-fn put_expressions(expressions: &[&Expression<'_>], shown: &mut Text) {
-    for expression in expressions {
-        put_part(expression, shown);
+/// Writes the expressions of an item, each in brackets after the lexeme that it begins with, and in
+/// place of a literal its text in ‹›.
+fn put_expressions(item: &Item<'_>, shown: &mut Text) -> Result<(), AllocError> {
+    let expressions = item.expressions(shown.alloc())?;
+    for place in 0..expressions.len() {
+        put_part(expressions[place], shown);
     }
+    Ok(())
 }
 
 fn put_part(expression: &Expression<'_>, shown: &mut Text) {

@@ -151,25 +151,32 @@ fn push_resolved<'src>(before: &Expression<'src>, value: &Expression<'src>, answ
 
 /// Writes the variables of the values that a setting holds.
 fn push_setting(setting: &Setting<'_>, answer: &mut Answer) {
-    match setting.expressions(answer.alloc()) {
-        Ok(values) => push_values(&values, answer),
-        Err(_) => answer.fail(),
+    if push_of_setting(setting, answer).is_err() {
+        answer.fail();
     }
+}
+
+fn push_of_setting(setting: &Setting<'_>, answer: &mut Answer) -> Result<(), AllocError> {
+    let values = setting.expressions(answer.alloc())?;
+    for place in 0..values.len() {
+        push_variables(values[place], answer);
+    }
+    Ok(())
 }
 
 /// Writes the variables of the expressions of an item.
 fn push_item(item: &Item<'_>, answer: &mut Answer) {
-    match item.expressions(answer.alloc()) {
-        Ok(values) => push_values(&values, answer),
-        Err(_) => answer.fail(),
+    if push_of_item(item, answer).is_err() {
+        answer.fail();
     }
 }
 
-/// Writes the variables of values.
-fn push_values(values: &[&Expression<'_>], answer: &mut Answer) {
-    for value in values {
-        push_variables(value, answer);
+fn push_of_item(item: &Item<'_>, answer: &mut Answer) -> Result<(), AllocError> {
+    let values = item.expressions(answer.alloc())?;
+    for place in 0..values.len() {
+        push_variables(values[place], answer);
     }
+    Ok(())
 }
 
 /// Writes the variables of a value: the value itself if it is one, and those in it and in its
