@@ -12,3 +12,4 @@ pub mod PieceSound
 pub mod TextLines
 pub mod Texts
 pub mod PieceLists
+pub mod Verbatim

@@ -12,4 +12,4 @@ pub mod unindent;
 
 pub use crate::cook::cook_string;
 pub use crate::format::format_part;
-pub use crate::literal::{command, string_literal};
+pub use crate::literal::{command, string_literal, verbatim_text};

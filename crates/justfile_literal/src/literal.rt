@@ -1,6 +1,7 @@
-ghost use Rattle.std.specs.Prelude.{◌≡◌, IfErr, IfOk, IsTrue, Ok, string_bytes};
+ghost use Rattle.std.specs.Prelude.{◌≡◌, IfErr, IfOk, IfSome, IsFalse, IsTrue, Ok, string_bytes};
 ghost use Rattle.justfile_token.specs.StringKind.{kind_of};
 ghost use Rattle.justfile_token.specs.Token.{lexeme_of};
+ghost use Rattle.justfile_model.specs.Cook.{Cooks};
 ghost use Rattle.justfile_model.specs.Literals.{Expansions, Command, between_quotes, by_answer, cooked_text, flush_text, string_of, string_text};
 ghost use Rattle.justfile_literal.specs.Literal.{IsStringOf, IsTextFault, answers_by, is_quoted};
 
@@ -41,6 +42,31 @@ pub fn string_literal<'src, X: Expander>(
         part: None,
         token,
     })
+}
+
+/// Returns the text between the quotes, if that is the text of the string: the quotes aren't
+/// tripled, and there is no escape between them.
+#[inline(always)]
+pub fn verbatim_text(lexeme: &str) -> Option<&str>
+    requires { IsTrue (is_quoted lexeme.now) }
+    ensures { IfSome result (λ text. string_text lexeme.now ≡ Ok text.now) }
+{
+    let kind = literal_kind(lexeme);
+    if kind.indented() {
+        return None;
+    }
+    let text = between_quotes(lexeme);
+    if kind.processes_escape_sequences() && has_backslash(text) {
+        return None;
+    }
+    Some(text)
+}
+
+/// Whether there is a backslash in the text.
+fn has_backslash(text: &str) -> bool
+    ensures { IsFalse result → Cooks text.now text.now }
+{
+    text.contains('\\')
 }
 
 /// Returns the command between backticks.

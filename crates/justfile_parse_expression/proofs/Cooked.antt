@@ -1,5 +1,5 @@
 -- Literals with their texts, and the errors of literals that have none.
-use Rattle.std.proofs.Common.{◌≡◌, Bool, true, false, IsTrue, ℕ, List, Option, Some, None, is_some, unwrap_or, Result, Ok, Err, refl, sym, ap, ◌∙◌, subst}
+use Rattle.std.proofs.Common.{◌≡◌, Bool, true, false, IsTrue, ℕ, List, Option, Some, None, is_some, unwrap_or, Result, Ok, Err, refl, sym, ap, string_bytes, ◌∙◌, subst}
 use Rattle.justfile_token.specs.StringKind.{kind_of}
 use Rattle.justfile_token.specs.Token.{lexeme_of}
 use Rattle.justfile_vocabulary.specs.declared.format_string_part.FormatStringPart.{FormatStringPart}
@@ -20,7 +20,7 @@ use Rattle.justfile_model.specs.ReaderState.{NotCooked}
 use Rattle.justfile_parse_expression.specs.TableReader as reader
 use Rattle.justfile_parse_expression.specs.TableReader.{ReadError, State, leaves, part_by, string_leaf}
 use Rattle.justfile_model.specs.Literals as literal
-use Rattle.justfile_model.specs.Literals.{Expansions, LiteralFault, Unasked, cooked_text, format_text, string_of}
+use Rattle.justfile_model.specs.Literals.{Expansions, LiteralFault, Unasked, cooked_text, format_text, string_of, string_text}
 use Rattle.justfile_model.specs.Tree as tree
 use Rattle.justfile_parse_expression.specs.Fault.{IsLiteralFault, is_literal_kind, literal_fault}
 use Rattle.justfile_parse_expression.specs.Literal.{is_delimited, is_sound}
@@ -110,6 +110,11 @@ module _ {X : Type 0} (answer : X → List ℕ → Result (List ℕ) (List ℕ))
     pub string_refused : (fault : Fault) (stop : ExpressionError) → IsTextFault (cooked_text by (string_of expand (lexeme_of entry.token.now))) entry.token.now fault → IsErrorOfLiteral stop fault → IsExpressionError stop (state_of answer p) ⊥ (string_leaf expand (entry, state_of answer p))
     unfolding string_leaf expressions.cooked leaves state_of state_at
     string_refused fault stop h is = text_refused _ (state_of answer p) (cooked_text by (string_of expand (lexeme_of entry.token.now))) entry fault stop h is
+
+  -- a string whose text is between its quotes
+  pub verbatim_given : (l : StringLiteral) → l.token ≡ entry.token.now → string_text (lexeme_of entry.token.now) ≡ Ok (string_bytes l.cooked) → l.expand ≡ false → l.kind ≡ kind_of (lexeme_of entry.token.now) → l.part ≡ None
+      → string_leaf false (entry, state_of answer p) ≡ Ok (Literal (literal_of l), state_of answer p)
+  verbatim_given l token text expand kind part = string_given false l (record { token_is = token; cooked = text; expand_is = expand; kind = kind; part = part })
 
   pub command_given : (text : List ℕ) → ((expander : Expansions) → cooked_text expander (literal.Command (lexeme_of entry.token.now)) ≡ Ok text) → reader.backtick (entry, state_of answer p) ≡ Ok (tree.Backtick (Command entry.token.now text), state_of answer p)
   unfolding expressions.backtick expressions.cooked leaves state_of state_at

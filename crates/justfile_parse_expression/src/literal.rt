@@ -1,7 +1,8 @@
-ghost use Rattle.std.specs.Prelude.{◌≡◌, IsTrue, IfOk, option_map};
+ghost use Rattle.std.specs.Prelude.{◌≡◌, IsTrue, IfOk, Ok, false, option_map};
 ghost use Rattle.justfile_token.specs.StringKind.{kind_of};
 ghost use Rattle.justfile_token.specs.Token.{lexeme_of};
 ghost use Rattle.justfile_vocabulary.specs.declared.token_kind.TokenKind.TheVariants as kinds;
+ghost use Rattle.justfile_model.specs.Literals.{string_text};
 ghost use Rattle.justfile_literal.specs.Literal.{is_part};
 ghost use Rattle.justfile_parse_expression.specs.Fault.{IsLiteralFault};
 ghost use Rattle.justfile_parse_expression.specs.Literal.{IsOf};
@@ -15,7 +16,7 @@ use crate::parser::ExpressionParser;
 use crate::significant::TableEntry;
 use crate::value::make_format_string;
 use justfile_expression::Expression;
-use justfile_literal::{command, format_part, string_literal};
+use justfile_literal::{command, format_part, string_literal, verbatim_text};
 use justfile_token::{Expander, Fault, StringKind, StringLiteral};
 use justfile_vocabulary::{FormatStringPart, Keyword, TokenKind};
 use std::alloc::Global;
@@ -48,7 +49,7 @@ impl<'run, 'src, X: Expander> ExpressionParser<'run, 'src, X> {
     }
 
     /// Makes the expression for a string.
-    #[tactic(auto, using(crate::proofs::Rules::string_is))]
+    #[tactic(auto, using(crate::proofs::Cooked::quoted_string, crate::proofs::Rules::string_is))]
     fn cook_string(
         &self,
         entry: TableEntry<'run, 'src>,
@@ -58,8 +59,52 @@ impl<'run, 'src, X: Expander> ExpressionParser<'run, 'src, X> {
         ensures reads { Reads (λ e. leaf_tree_of e.value) result (state_of X.answer self.now)
             (reader.literal_string expand (entry.entry, state_of X.answer self.now)) }
     {
+        if !expand {
+            if let Some(text) = verbatim_text(entry.token.lexeme()) {
+                return self.box_verbatim(entry, text);
+            }
+        }
         let string_literal = self.cook_literal(entry, expand)?;
         self.box_expression(Expression::StringLiteral { string_literal })
+    }
+
+    /// Makes the expression for a string whose text is this one, which is between its quotes.
+    #[inline(always)]
+    #[tactic(auto, using(crate::proofs::Rules::string_is))]
+    fn box_verbatim(
+        &self,
+        entry: TableEntry<'run, 'src>,
+        text: &str,
+    ) -> Result<Box<Expression<'src>>, ExpressionError<'src>>
+        requires { string_text (lexeme_of entry.token.now) ≡ Ok text.now }
+        ensures reads { Reads (λ e. leaf_tree_of e.value) result (state_of X.answer self.now)
+            (reader.literal_string false (entry.entry, state_of X.answer self.now)) }
+    {
+        let string_literal = self.copy_literal(entry, text)?;
+        self.box_expression(Expression::StringLiteral { string_literal })
+    }
+
+    /// Makes the literal for a string whose text is this one, which is between its quotes.
+    #[inline(always)]
+    #[tactic(auto, using(crate::proofs::Cooked::verbatim_given))]
+    fn copy_literal(
+        &self,
+        entry: TableEntry<'run, 'src>,
+        text: &str,
+    ) -> Result<StringLiteral<'src>, ExpressionError<'src>>
+        requires { string_text (lexeme_of entry.token.now) ≡ Ok text.now }
+        ensures reads { Reads (λ l. Literal (literal_of l)) result (state_of X.answer self.now)
+            (reader.string_leaf false (entry.entry, state_of X.answer self.now)) }
+        ensures expand { IfOk result (λ l. l.expand ≡ false) }
+    {
+        let cooked = text.to_string(self.alloc)?;
+        Ok(StringLiteral {
+            cooked,
+            expand: false,
+            kind: find_kind(entry),
+            part: None,
+            token: *entry.token,
+        })
     }
 
     /// Makes the literal for a string, with its text expanded if `expand`.
