@@ -21,9 +21,9 @@ def hints():
         crate, _, *parts = file.relative_to(CRATES).with_suffix("").parts
         owner = hint = None
         for line in file.read_text().split("\n"):
-            impl = re.match(r"impl(?:<[^>]*>)? (\w+)", line)
+            impl = re.match(r"impl(?:<(?:[^<>]|<[^<>]*>)*>)? (\w+)(?:<[^>]*>)?(?: for (\w+))?", line)
             if impl or line.startswith("}"):
-                owner = impl.group(1) if impl else None
+                owner = (impl.group(2) or "") + impl.group(1) if impl else None
             given = re.match(r"\s*#\[inline\((always|never)\)\]", line)
             name = re.match(r"(\s*)(?:pub(?:\([^)]*\))? )?(?:const )?fn (\w+)", line)
             if given:
@@ -41,7 +41,7 @@ def main():
     for line in module.read_text().split("\n"):
         if FILL.match(line):
             continue
-        name = re.match(r'define .*@"?([\w:]+)(?:::<#[^>]*>)?', line)
+        name = re.match(r'define .*@"?((?:\w+::)*\w+)(?:::<#[^>]*>)?["(]', line)
         if name and name.group(1) in found:
             line = re.sub(r"\) #0 \{$", f") #0 {found[name.group(1)]} {{", line)
         made.append(line)
