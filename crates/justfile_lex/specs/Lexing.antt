@@ -1,11 +1,12 @@
 -- The state of the lexer.
-use Rattle.std.specs.Prelude.{◌≡◌, ℕ, ◌+◌, ◌<◌, ◌==◌, Bool, true, false, slice_index, List, ◌∷◌, map, reverse, All, IfSome}
+use Rattle.std.specs.Prelude.{◌≡◌, ℕ, ◌+◌, ◌<◌, ◌==◌, Bool, true, false, not, slice_index, List, ◌∷◌, map, reverse, All, IfSome}
 use Rattle.std.specs.Str.{IsCharBoundary}
 use Rattle.justfile_vocabulary.specs.declared.token_kind.TokenKind.{TokenKind}
 use Rattle.justfile_vocabulary.specs.declared.token_kind.TokenKind.TheVariants.{Backtick, ByteOrderMark, Eol, FormatStringContinue, FormatStringEnd, FormatStringStart, InterpolationStart, StringToken, Whitespace}
 use Rattle.justfile_lex.specs.declared.lexer.Lexer.{Lexer}
 use Rattle.justfile_token.specs.Slice.{slice_of}
 use Rattle.justfile_vocabulary.specs.ByteNames as byte
+use Rattle.justfile_model.specs.Bytes.{is_blank}
 use Rattle.justfile_model.specs.Places.{IsPlace}
 use Rattle.justfile_model.specs.Tok.{Tok, tok_of}
 use Rattle.justfile_model.specs.Modes.{mode, mode_after}
@@ -29,6 +30,11 @@ is_searched InterpolationStart = true
 is_searched StringToken = true
 is_searched Whitespace = true
 is_searched _ = false
+
+-- Tokens of the kind that begin with this byte have no line feed: they aren't searched, or they are blanks.
+abbrev pub is_on_line : TokenKind → (first : ℕ) → Bool
+is_on_line Whitespace first = is_blank first
+is_on_line kind first = not (is_searched kind)
 
 -- no line feed is among the first bytes
 abbrev pub HasNoFeed : List ℕ → (count : ℕ) → Type 0

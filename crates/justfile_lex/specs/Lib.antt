@@ -1,3 +1,4 @@
+pub mod Explained
 pub mod Layouts
 pub mod Lexing
 pub mod Modes

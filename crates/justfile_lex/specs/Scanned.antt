@@ -1,11 +1,12 @@
 -- The results of scanning, as values of the definitions.
-use Rattle.std.specs.Prelude.{ℕ, [], ◌∷◌, Result, Ok, Err}
+use Rattle.std.specs.Prelude.{ℕ, Bool, true, false, if◌then◌else◌, [], ◌∷◌, Option, None, Some}
 use Rattle.justfile_vocabulary.specs.declared.token_kind.TokenKind.{TokenKind}
+use Rattle.justfile_vocabulary.specs.declared.token_kind.TokenKind.TheVariants.{Unspecified}
+use Rattle.justfile_lex.specs.declared.scan_error.Scanned.{Scanned}
 use Rattle.justfile_lex.specs.declared.scan_error.ScanError.{ScanError as ScanError}
 use Rattle.justfile_lex.specs.declared.lexical_fault.LexicalFault.{LexicalFault as CodeFault}
 use Rattle.justfile_lex.specs.declared.lexical_fault.LexicalFault.TheVariants as faults
 use Rattle.justfile_model.specs.LexicalFault.{LexicalFault, EscapeEndOfFile, InconsistentLeadingWhitespace, InvalidEscapeSequence, MismatchedClosingDelimiter, MixedLeadingWhitespace, UnexpectedCharacter, UnexpectedClosingDelimiter, UnexpectedEndOfToken, UnknownStartOfToken, UnpairedCarriageReturn, UnterminatedBacktick, UnterminatedString, LexicalError, Here}
-use Rattle.justfile_model.specs.Next.{NextToken}
 
 abbrev pub scan_fault : CodeFault → LexicalFault
 scan_fault faults.EscapeEndOfFile = EscapeEndOfFile
@@ -24,6 +25,11 @@ scan_fault faults.UnterminatedString = UnterminatedString
 abbrev pub lexical_error_of : ScanError → LexicalError
 lexical_error_of r = Here (scan_fault r.fault) r.skip r.length
 
-abbrev pub next_token_of : Result (TokenKind × ℕ) ScanError → NextToken
-next_token_of (Ok x) = Ok x
-next_token_of (Err r) = Err (lexical_error_of r)
+-- a kind that tokens have
+abbrev pub names_token : TokenKind → Bool
+names_token Unspecified = false
+names_token _ = true
+
+-- the kind and the length of the token that a scan found
+abbrev pub found_of : Scanned → Option (TokenKind × ℕ)
+found_of s = if names_token s.kind then Some (s.kind, s.length) else None

@@ -35,7 +35,7 @@ pub(crate) fn blank_len(bytes: &[u8]) -> usize
 }
 
 /// Whether a byte of the class is a space or a tab.
-fn is_blank(class: ByteClass) -> bool
+pub(crate) fn is_blank(class: ByteClass) -> bool
     ensures { result ≡ blank class }
 {
     matches!(class, ByteClass::Blank)

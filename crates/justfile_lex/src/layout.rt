@@ -1,30 +1,26 @@
 ghost use Rattle.std.specs.Prelude.{◌≡◌, ◌<◌, ◌&&◌, nat_eq, length, None};
 ghost use Rattle.std.specs.List.{starts_with};
+ghost use Rattle.std.specs.Result.{result_ok};
 ghost use Rattle.justfile_model.specs.Bytes.{blank_len};
 ghost use Rattle.justfile_model.specs.Next.{end_token, blanks_or, tested_blanks, begins_blank_line, layout, at_line_start, next};
 ghost use Rattle.justfile_lex.specs.Layouts.{indent};
 ghost use Rattle.justfile_lex.specs.Modes.{mode_of};
-ghost use Rattle.justfile_lex.specs.Scanned.{next_token_of};
+ghost use Rattle.justfile_lex.specs.Scanned.{found_of};
 ghost use Rattle.justfile_lex.specs.WhiteRun.{IsRunOf};
 
 use crate::bytes::{begins_with, blank_len, is_line_end, is_mixed, skip, take_blanks};
-use crate::lexical_fault::LexicalFault;
 use crate::mode::Mode;
 use crate::scan::scan_within_line;
-use crate::scan_error::{Scanned, refuse};
+use crate::scan_error::Scanned;
 use crate::white_run::WhiteRun;
 use justfile_vocabulary::TokenKind;
 
-/// Returns the kind and the length of the next token.
+/// Scans the next token.
 #[tactic(auto, unfolding(justfile_model::specs::Next::next))]
-pub(crate) fn scan_token<'src>(
-    mode: &Mode<'src>,
-    run: &mut WhiteRun,
-    rest: &'src str,
-) -> Scanned<'src>
+pub(crate) fn scan_token(mode: &Mode, run: &mut WhiteRun, rest: &str) -> Scanned
     requires closed { length rest.now ≡ 0 → (mode_of mode.now).interpolation ≡ None }
     requires run { IsRunOf rest.now run.old }
-    ensures found { next_token_of result ≡ next (mode_of mode.now) rest.now }
+    ensures found { found_of result ≡ result_ok (next (mode_of mode.now) rest.now) }
     ensures run { IsRunOf rest.now run.new }
 {
     if rest.is_empty() {
@@ -36,24 +32,24 @@ pub(crate) fn scan_token<'src>(
     }
 }
 
-/// Returns the token at the end of the text, if no interpolation is open: a dedent or `Eof`.
-fn scan_end<'src>(mode: &Mode<'src>) -> Scanned<'src>
+/// Scans the token at the end of the text, if no interpolation is open: a dedent or `Eof`.
+fn scan_end(mode: &Mode) -> Scanned
     requires { (mode_of mode.now).interpolation ≡ None }
-    ensures { next_token_of result ≡ end_token (mode_of mode.now) }
+    ensures { found_of result ≡ result_ok (end_token (mode_of mode.now)) }
 {
     if mode.no_level() {
-        Ok((TokenKind::Eof, 0))
+        Scanned::token(TokenKind::Eof, 0)
     } else {
-        Ok((TokenKind::Dedent, 0))
+        Scanned::token(TokenKind::Dedent, 0)
     }
 }
 
-/// Returns the token at the start of a line.
+/// Scans the token at the start of a line.
 #[tactic(auto, unfolding(justfile_model::specs::Next::layout))]
-fn scan_line_start<'src>(mode: &Mode<'src>, run: &mut WhiteRun, rest: &'src str) -> Scanned<'src>
+fn scan_line_start(mode: &Mode, run: &mut WhiteRun, rest: &str) -> Scanned
     requires some { 0 < length rest.now }
     requires run { IsRunOf rest.now run.old }
-    ensures found { next_token_of result ≡ at_line_start (mode_of mode.now) rest.now }
+    ensures found { found_of result ≡ result_ok (at_line_start (mode_of mode.now) rest.now) }
     ensures run { IsRunOf rest.now run.new }
 {
     let bytes = rest.as_bytes();
@@ -66,7 +62,7 @@ fn scan_line_start<'src>(mode: &Mode<'src>, run: &mut WhiteRun, rest: &'src str)
     }
     if is_blank_line(after_blanks) {
         if !mode.no_level() && run.closes_levels(bytes) {
-            return Ok((TokenKind::Dedent, 0));
+            return Scanned::token(TokenKind::Dedent, 0);
         }
         return scan_blanks(found.len(), mode, rest);
     }
@@ -74,7 +70,7 @@ fn scan_line_start<'src>(mode: &Mode<'src>, run: &mut WhiteRun, rest: &'src str)
         return scan_blanks(found.len(), mode, rest);
     }
     if mode.is_level(found) {
-        return Ok((TokenKind::Dedent, 0));
+        return Scanned::token(TokenKind::Dedent, 0);
     }
     if continues_body(mode, found, level) {
         return scan_blanks(level.len(), mode, rest);
@@ -82,16 +78,16 @@ fn scan_line_start<'src>(mode: &Mode<'src>, run: &mut WhiteRun, rest: &'src str)
     scan_indent(mode, found)
 }
 
-/// Returns a run of `count` blanks, or the next token if `count` is 0.
+/// Scans a run of `count` blanks, or the next token if `count` is 0.
 #[inline(always)]
-fn scan_blanks<'src>(count: usize, mode: &Mode<'src>, rest: &'src str) -> Scanned<'src>
+fn scan_blanks(count: usize, mode: &Mode, rest: &str) -> Scanned
     requires { 0 < length rest.now }
-    ensures { next_token_of result ≡ blanks_or count (mode_of mode.now) rest.now }
+    ensures { found_of result ≡ result_ok (blanks_or count (mode_of mode.now) rest.now) }
 {
     if count == 0 {
         scan_within_line(mode, rest)
     } else {
-        Ok((TokenKind::Whitespace, count))
+        Scanned::token(TokenKind::Whitespace, count)
     }
 }
 
@@ -109,39 +105,26 @@ fn continues_body(mode: &Mode, found: &str, level: &str) -> bool
     mode.in_body && begins_with(found.as_bytes(), level.as_bytes())
 }
 
-/// Returns an indent for blanks that aren't a level, or an error if they aren't deeper than the
-/// level.
-fn scan_indent<'src>(mode: &Mode<'src>, found: &'src str) -> Scanned<'src>
+/// Scans an indent, for blanks that aren't a level. There is no token if they aren't deeper than
+/// the level.
+fn scan_indent(mode: &Mode, found: &str) -> Scanned
     requires { blank_len found.now ≡ length found.now }
-    ensures { next_token_of result ≡ indent (mode_of mode.now) found.now }
+    ensures { found_of result ≡ result_ok (indent (mode_of mode.now) found.now) }
 {
     let level = mode.level();
     let tested_blanks = take_tested_blanks(mode, found);
     if is_mixed(tested_blanks.as_bytes()) {
-        return refuse(
-            LexicalFault::MixedLeadingWhitespace {
-                whitespace: tested_blanks,
-            },
-            0,
-            tested_blanks.len(),
-        );
+        return Scanned::nothing();
     }
     if !begins_with(found.as_bytes(), level.as_bytes()) {
-        return refuse(
-            LexicalFault::InconsistentLeadingWhitespace {
-                expected: level,
-                found,
-            },
-            0,
-            found.len(),
-        );
+        return Scanned::nothing();
     }
-    Ok((TokenKind::Indent, found.len()))
+    Scanned::token(TokenKind::Indent, found.len())
 }
 
 /// Returns the leading blanks that can't mix spaces and tabs: in a body, only as many as the level
 /// has.
-fn take_tested_blanks<'src>(mode: &Mode<'src>, found: &'src str) -> &'src str
+pub(crate) fn take_tested_blanks<'src>(mode: &Mode, found: &'src str) -> &'src str
     requires { blank_len found.now ≡ length found.now }
     ensures { result.now ≡ tested_blanks (mode_of mode.now) found.now }
 {

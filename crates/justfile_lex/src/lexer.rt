@@ -1,4 +1,5 @@
 ghost use Rattle.std.specs.Prelude.{◌≡◌, ◌+◌, ◌≤◌, ◌||◌, ◌==◌, length, drop, map, Ok, Err, IfOk, OnOk, IfErr, All, MatchOption, None, Some};
+ghost use Rattle.std.specs.Result.{result_ok};
 ghost use Rattle.std.specs.Str.{IsCharBoundary, IsUtf8};
 ghost use Rattle.std.specs.Char.{is_ascii_alphabetic, is_ascii_digit};
 ghost use Rattle.justfile_token.specs.Slice.{IsWithin};
@@ -9,16 +10,18 @@ ghost use Rattle.justfile_model.specs.Tok.{tok_of};
 ghost use Rattle.justfile_model.specs.Lexed.{Lexed, StandsAt, end_of};
 ghost use Rattle.justfile_model.specs.LexResult.{IsFrom, IsLexicalError, IsLexerFault};
 ghost use Rattle.justfile_model.specs.Places.{IsPlace};
-ghost use Rattle.justfile_lex.specs.Lexing.{is_searched};
+ghost use Rattle.justfile_lex.specs.Lexing.{is_on_line, is_searched};
 ghost use Rattle.justfile_lex.specs.Modes.{mode_of};
-ghost use Rattle.justfile_lex.specs.Scanned.{lexical_error_of};
 
+use crate::bytes::is_blank;
+use crate::explain::explain;
 use crate::layout;
 use crate::mode::Mode;
-use crate::place::{Place, place_after};
-use crate::scan_error::ScanError;
+use crate::place::{Place, after_byte, place_after};
 use crate::white_run::WhiteRun;
 use justfile_token::{CompileError, CompileErrorKind, CompileResult, Fault, Token};
+use justfile_vocabulary::byte_class::byte_class;
+use justfile_vocabulary::bytes::byte_at;
 use justfile_vocabulary::{TokenKind, interpolation};
 use std::alloc::{AllocError, Global};
 
@@ -68,14 +71,13 @@ impl<'src> Lexer<'src> {
             if let Some(start) = lexer.unclosed_interpolation() {
                 return Err(lexer.unterminated(start));
             }
-            match layout::scan_token(&lexer.mode, &mut run, lexer.rest()) {
-                Ok((kind, length)) => {
-                    lexer.push(kind, length)?;
-                    if kind == TokenKind::Eof {
-                        return Ok(lexer.tokens);
-                    }
-                }
-                Err(refusal) => return Err(lexer.make_fault(alloc, refusal)),
+            let scanned = layout::scan_token(&lexer.mode, &mut run, lexer.rest());
+            let Some((kind, length)) = scanned.found() else {
+                return Err(lexer.make_fault(alloc));
+            };
+            lexer.push(kind, length)?;
+            if kind == TokenKind::Eof {
+                return Ok(lexer.tokens);
             }
         }
     }
@@ -145,32 +147,33 @@ impl<'src> Lexer<'src> {
         Fault::Compile(CompileError::new(start, CompileErrorKind::UnterminatedInterpolation))
     }
 
-    /// Returns the fault for a scan error at the current position.
-    fn make_fault(&self, alloc: Global, refusal: ScanError<'src>) -> Fault<'src>
+    /// Returns the fault at the current position, where there is no token.
+    fn make_fault(&self, alloc: Global) -> Fault<'src>
         requires lexing { IsLexing self.now }
         requires utf8 { IsUtf8 self.now.src.now }
-        requires refused { next (mode_of self.now.mode) (drop self.now.offset self.now.src.now)
-            ≡ Err (lexical_error_of refusal) }
+        requires closed { length (drop self.now.offset self.now.src.now) ≡ 0
+            → self.now.mode.interpolation ≡ None }
+        requires none { result_ok (next (mode_of self.now.mode)
+            (drop self.now.offset self.now.src.now)) ≡ None }
         ensures { IsLexerFault self.now.path.now self.now.src.now result }
     {
-        match self.make_error(alloc, refusal) {
+        match self.make_error(alloc) {
             Ok(error) => Fault::Compile(error),
             Err(_) => Fault::Memory,
         }
     }
 
-    /// Returns the error for a scan error at the current position.
-    fn make_error(
-        &self,
-        alloc: Global,
-        refusal: ScanError<'src>,
-    ) -> Result<CompileError<'src>, AllocError>
+    /// Returns the error at the current position, where there is no token.
+    fn make_error(&self, alloc: Global) -> Result<CompileError<'src>, AllocError>
         requires lexing { IsLexing self.now }
         requires utf8 { IsUtf8 self.now.src.now }
-        requires refused { next (mode_of self.now.mode) (drop self.now.offset self.now.src.now)
-            ≡ Err (lexical_error_of refusal) }
+        requires closed { length (drop self.now.offset self.now.src.now) ≡ 0
+            → self.now.mode.interpolation ≡ None }
+        requires none { result_ok (next (mode_of self.now.mode)
+            (drop self.now.offset self.now.src.now)) ≡ None }
         ensures { IfOk result (IsLexicalError self.now.path.now self.now.src.now) }
     {
+        let refusal = explain(&self.mode, self.rest());
         let token = self.make_error_token(refusal.skip, refusal.length);
         let kind = refusal.fault.into_kind(alloc)?;
         Ok(CompileError::new(token, kind))
@@ -241,15 +244,29 @@ impl<'src> Lexer<'src> {
             ≡ Ok (kind, length) }
         ensures { IsPlace self.now.src.now (self.now.offset + length) result.line result.column }
     {
-        if is_searched(kind) {
-            let end = self.offset + length;
-            place_after(self.src.as_bytes(), self.place, self.offset, end)
-        } else {
-            Place {
+        let bytes = self.src.as_bytes();
+        if is_on_line(kind, byte_at(bytes, self.offset)) {
+            return Place {
                 line: self.place.line,
                 column: self.place.column + length,
-            }
+            };
         }
+        if length == 1 {
+            return after_byte(bytes, self.place, self.offset);
+        }
+        place_after(bytes, self.place, self.offset, self.offset + length)
+    }
+}
+
+/// Whether a token of the kind that begins with this byte is known to have no line feed. The other
+/// ones are searched.
+#[inline(always)]
+fn is_on_line(kind: TokenKind, first: u8) -> bool
+    ensures { result ≡ is_on_line kind first }
+{
+    match kind {
+        TokenKind::Whitespace => is_blank(byte_class(first)),
+        _ => !is_searched(kind),
     }
 }
 

@@ -2,6 +2,7 @@
 #![tactic(auto)]
 
 mod bytes;
+mod explain;
 mod layout;
 mod lexer;
 mod lexical_fault;

@@ -1,23 +1,24 @@
-ghost use Rattle.std.specs.Prelude.{◌≡◌, ◌≤◌, ◌<◌, length};
+ghost use Rattle.std.specs.Prelude.{◌≡◌, ◌≤◌, ◌<◌, ◌&&◌, length, true};
+ghost use Rattle.std.specs.Result.{result_ok};
 ghost use Rattle.justfile_token.specs.StringKind.{delimiter_len, kind_of};
 ghost use Rattle.justfile_model.specs.Next.{unterminated, is_backtick, literal_part, literal_token, is_same, closing_delimiter, format_string_kind, format_kind, brace_by, closing};
 ghost use Rattle.justfile_lex.specs.Modes.{mode_of};
-ghost use Rattle.justfile_lex.specs.Scanned.{scan_fault, next_token_of};
+ghost use Rattle.justfile_lex.specs.Scanned.{found_of, names_token, scan_fault};
 
 use crate::bytes::{is_interpolation_end, is_interpolation_start, skip};
 use crate::lexical_fault::LexicalFault;
 use crate::mode::Mode;
 use crate::raw_text::raw_len;
-use crate::scan_error::{Scanned, refuse, refuse_character};
+use crate::scan_error::Scanned;
 use justfile_model::{OpenDelimiter, RawText};
 use justfile_token::{Delimiter, StringDelimiter, StringKind};
 use justfile_vocabulary::TokenKind;
 use justfile_vocabulary::interpolation::{INTERPOLATION_END, INTERPOLATION_START};
 
-/// Returns a string, a backtick, or the start of a format string.
-pub(crate) fn scan_literal<'src>(mode: &Mode<'src>, rest: &[u8]) -> Scanned<'src>
+/// Scans a string, a backtick, or the start of a format string.
+pub(crate) fn scan_literal(mode: &Mode, rest: &[u8]) -> Scanned
     requires { delimiter_len (kind_of rest.now) ≤ length rest.now }
-    ensures { next_token_of result ≡ literal_token (mode_of mode.now) rest.now }
+    ensures { found_of result ≡ result_ok (literal_token (mode_of mode.now) rest.now) }
 {
     let kind = StringKind::of_opening(rest);
     let format = mode.after_f && !is_backtick(kind.delimiter);
@@ -38,24 +39,24 @@ fn is_backtick(delimiter: StringDelimiter) -> bool
     matches!(delimiter, StringDelimiter::Backtick)
 }
 
-/// Returns the token that begins with a closing delimiter, by the innermost open one.
+/// Scans the token that begins with a closing delimiter, by the innermost open one.
 #[inline(always)]
-pub(crate) fn scan_closer<'src>(last: Option<OpenDelimiter>, byte: u8, rest: &str) -> Scanned<'src>
+pub(crate) fn scan_closer(last: Option<OpenDelimiter>, byte: u8, rest: &[u8]) -> Scanned
     requires { 0 < length rest.now }
-    ensures { next_token_of result ≡ closing last byte rest.now }
+    ensures { found_of result ≡ result_ok (closing last byte rest.now) }
 {
     match byte {
         b')' => close_delimiter(last, Delimiter::Paren, TokenKind::ParenR),
         b']' => close_delimiter(last, Delimiter::Bracket, TokenKind::BracketR),
-        b'}' => scan_closing_brace(last, rest.as_bytes()),
-        _ => refuse_character(rest),
+        b'}' => scan_closing_brace(last, rest),
+        _ => Scanned::nothing(),
     }
 }
 
-/// Returns a closing brace, or the next part of a format string, which begins with two of them.
-fn scan_closing_brace<'src>(last: Option<OpenDelimiter>, rest: &[u8]) -> Scanned<'src>
+/// Scans a closing brace, or the next part of a format string, which begins with two of them.
+fn scan_closing_brace(last: Option<OpenDelimiter>, rest: &[u8]) -> Scanned
     requires { 0 < length rest.now }
-    ensures { next_token_of result ≡ brace_by (format_kind last) last rest.now }
+    ensures { found_of result ≡ result_ok (brace_by (format_kind last) last rest.now) }
 {
     match format_kind(last) {
         Some(kind) if is_interpolation_end(rest) => scan_literal_part(
@@ -71,7 +72,7 @@ fn scan_closing_brace<'src>(last: Option<OpenDelimiter>, rest: &[u8]) -> Scanned
 }
 
 /// Returns the kind of the innermost open delimiter's literal, if that is a format string.
-fn format_kind(last: Option<OpenDelimiter>) -> Option<StringKind>
+pub(crate) fn format_kind(last: Option<OpenDelimiter>) -> Option<StringKind>
     ensures { result ≡ format_kind last }
 {
     match last {
@@ -90,19 +91,21 @@ fn format_of(delimiter: Delimiter) -> Option<StringKind>
     }
 }
 
-/// Returns a literal or a part of a format string with an opener of `opener_len` bytes. Its kind is
+/// Scans a literal or a part of a format string with an opener of `opener_len` bytes. Its kind is
 /// `continued` if an interpolation follows, and otherwise `ended`.
 #[tactic(auto, unfolding(justfile_model::specs::Next::literal_part))]
-fn scan_literal_part<'src>(
+fn scan_literal_part(
     kind: StringKind,
     format: bool,
     opener_len: usize,
     continued: TokenKind,
     ended: TokenKind,
     rest: &[u8],
-) -> Scanned<'src>
-    requires { opener_len ≤ length rest.now }
-    ensures { next_token_of result ≡ literal_part kind format opener_len continued ended rest.now }
+) -> Scanned
+    requires fits { opener_len ≤ length rest.now }
+    requires named { (names_token continued && names_token ended) ≡ true }
+    ensures { found_of result
+        ≡ result_ok (literal_part kind format opener_len continued ended rest.now) }
 {
     let body = skip(rest, opener_len);
     let inside_len = raw_len(
@@ -113,19 +116,19 @@ fn scan_literal_part<'src>(
         body,
     );
     if inside_len == body.len() {
-        refuse(unterminated_fault(kind.delimiter), 0, opener_len)
+        Scanned::nothing()
     } else if format && is_interpolation_start(skip(body, inside_len)) {
-        Ok((
+        Scanned::token(
             continued,
             opener_len + inside_len + INTERPOLATION_START.len(),
-        ))
+        )
     } else {
-        Ok((ended, opener_len + inside_len + kind.delimiter_len()))
+        Scanned::token(ended, opener_len + inside_len + kind.delimiter_len())
     }
 }
 
 /// Returns the fault of a literal without an end.
-fn unterminated_fault<'src>(delimiter: StringDelimiter) -> LexicalFault<'src>
+pub(crate) fn unterminated_fault<'src>(delimiter: StringDelimiter) -> LexicalFault<'src>
     ensures { scan_fault result ≡ unterminated delimiter }
 {
     match delimiter {
@@ -134,34 +137,19 @@ fn unterminated_fault<'src>(delimiter: StringDelimiter) -> LexicalFault<'src>
     }
 }
 
-/// Returns a closing delimiter, which has to match the innermost open one.
+/// Scans a closing delimiter, which has to match the innermost open one.
 #[inline(always)]
-fn close_delimiter<'src>(
-    last: Option<OpenDelimiter>,
-    delimiter: Delimiter,
-    kind: TokenKind,
-) -> Scanned<'src>
-    ensures { next_token_of result ≡ closing_delimiter last delimiter kind }
+fn close_delimiter(last: Option<OpenDelimiter>, delimiter: Delimiter, kind: TokenKind) -> Scanned
+    requires { names_token kind ≡ true }
+    ensures { found_of result ≡ result_ok (closing_delimiter last delimiter kind) }
 {
     match last {
-        None => refuse(
-            LexicalFault::UnexpectedClosingDelimiter { close: delimiter },
-            0,
-            0,
-        ),
+        None => Scanned::nothing(),
         Some(opener) => {
             if is_same(opener.delimiter, delimiter) {
-                Ok((kind, 1))
+                Scanned::token(kind, 1)
             } else {
-                refuse(
-                    LexicalFault::MismatchedClosingDelimiter {
-                        close: delimiter,
-                        open_line: opener.line,
-                        opener: opener.delimiter,
-                    },
-                    0,
-                    0,
-                )
+                Scanned::nothing()
             }
         }
     }

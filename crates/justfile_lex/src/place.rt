@@ -35,7 +35,7 @@ fn line_len(bytes: &[u8]) -> usize
 }
 
 /// Returns the position after the byte at `at`, which is at `place`.
-fn after_byte(bytes: &[u8], place: Place, at: usize) -> Place
+pub(crate) fn after_byte(bytes: &[u8], place: Place, at: usize) -> Place
     requires within { at < length bytes.now }
     requires start { IsPlace bytes.now at place.line place.column }
     ensures { IsPlace bytes.now (at + 1) result.line result.column }

@@ -1,11 +1,54 @@
-ghost use Rattle.std.specs.Prelude.{◌≡◌, ◌<◌, Err, length};
+//! What a scan returns, and what its error says.
+ghost use Rattle.std.specs.Prelude.{◌≡◌, Option, None, Some, true};
 ghost use Rattle.justfile_model.specs.LexicalFault.{Here};
-ghost use Rattle.justfile_model.specs.Next.{unknown};
-ghost use Rattle.justfile_lex.specs.Scanned.{scan_fault, next_token_of};
+ghost use Rattle.justfile_lex.specs.Scanned.{found_of, lexical_error_of, names_token, scan_fault};
 
-use crate::bytes::first_char;
 use crate::lexical_fault::LexicalFault;
 use justfile_vocabulary::TokenKind;
+
+/// What a scan returns, in two registers: the next token, or that there is none. Why there is none
+/// is read again from the text, where the error is reported (`explain`).
+#[derive(Clone, Copy, Debug)]
+pub(crate) struct Scanned {
+    /// The kind of the token, or `Unspecified` if there is none.
+    kind: TokenKind,
+    /// The length of the token, in bytes.
+    length: usize,
+}
+
+impl Scanned {
+    /// Returns a token of this kind and length.
+    #[inline(always)]
+    pub(crate) fn token(kind: TokenKind, length: usize) -> Self
+        requires { names_token kind ≡ true }
+        ensures { found_of result ≡ Some (kind, length) }
+    {
+        Scanned { kind, length }
+    }
+
+    /// Returns that there is no token.
+    #[inline(always)]
+    pub(crate) fn nothing() -> Self
+        ensures { found_of result ≡ None }
+    {
+        Scanned {
+            kind: TokenKind::Unspecified,
+            length: 0,
+        }
+    }
+
+    /// Returns the kind and the length of the token, if there is one.
+    #[inline(always)]
+    pub(crate) fn found(self) -> Option<(TokenKind, usize)>
+        ensures { result ≡ found_of self }
+    {
+        if matches!(self.kind, TokenKind::Unspecified) {
+            None
+        } else {
+            Some((self.kind, self.length))
+        }
+    }
+}
 
 /// An error in scanning: why there is no next token.
 #[derive(Clone, Copy, Debug)]
@@ -17,31 +60,17 @@ pub(crate) struct ScanError<'src> {
     pub(crate) length: usize,
 }
 
-/// The result of scanning: the kind and the length of the next token, in bytes.
-pub(crate) type Scanned<'src> = Result<(TokenKind, usize), ScanError<'src>>;
-
-/// Returns the error for a character that doesn't begin a token.
-pub(crate) fn refuse_character<'src>(rest: &str) -> Scanned<'src>
-    requires { 0 < length rest.now }
-    ensures { next_token_of result ≡ unknown rest.now }
+/// Returns the error for the `length` bytes of the rest after the first `skip` ones.
+pub(crate) fn scan_error<'src>(
+    fault: LexicalFault<'src>,
+    skip: usize,
+    length: usize,
+) -> ScanError<'src>
+    ensures { lexical_error_of result ≡ Here (scan_fault fault.entry) skip length }
 {
-    match first_char(rest) {
-        Some(start) => refuse(
-            LexicalFault::UnknownStartOfToken { start },
-            0,
-            start.len_utf8(),
-        ),
-        None => unreachable!(),
-    }
-}
-
-/// Returns an error for the `length` bytes of the rest after the first `skip` ones.
-pub(crate) fn refuse<'src>(fault: LexicalFault<'src>, skip: usize, length: usize) -> Scanned<'src>
-    ensures { next_token_of result ≡ Err (Here (scan_fault fault.entry) skip length) }
-{
-    Err(ScanError {
+    ScanError {
         fault,
         skip,
         length,
-    })
+    }
 }

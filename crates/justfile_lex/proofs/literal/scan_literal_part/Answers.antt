@@ -7,10 +7,10 @@ delimiter_small : (b : Bool) → cond b 3 1 ≤ 3
 delimiter_small true = omega arith
 delimiter_small false = omega arith
 
-pub overflow_add-result-else-format : goal.overflow_add-result-else-format
-overflow_add-result-else-format c =
-    omega (arith, c.requires, c.raw_len-inside_len.ensures, raw_within (Literal c.args.kind c.args.format) c.skip-body.result.now, ap length c.skip-body.ensures, length-drop c.args.opener_len c.args.rest.now)
+pub overflow_add-opener_len-else-format : goal.overflow_add-opener_len-else-format
+overflow_add-opener_len-else-format c =
+    omega (arith, c.requires.fits, c.raw_len-inside_len.ensures, raw_within (Literal c.args.kind c.args.format) c.skip-body.result.now, ap length c.skip-body.ensures, length-drop c.args.opener_len c.args.rest.now)
 
-pub overflow_add-result-else-format-2 : goal.overflow_add-result-else-format-2
-overflow_add-result-else-format-2 c =
-    omega (arith, c.requires, c.delimiter_len.ensures, delimiter_small c.args.kind.indented, c.raw_len-inside_len.ensures, raw_within (Literal c.args.kind c.args.format) c.skip-body.result.now, ap length c.skip-body.ensures, length-drop c.args.opener_len c.args.rest.now)
+pub overflow_add-opener_len-else-format-2 : goal.overflow_add-opener_len-else-format-2
+overflow_add-opener_len-else-format-2 c =
+    omega (arith, c.requires.fits, c.delimiter_len.ensures, delimiter_small c.args.kind.indented, c.raw_len-inside_len.ensures, raw_within (Literal c.args.kind c.args.format) c.skip-body.result.now, ap length c.skip-body.ensures, length-drop c.args.opener_len c.args.rest.now)

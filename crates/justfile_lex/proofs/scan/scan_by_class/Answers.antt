@@ -1,10 +1,7 @@
 use Rattle.std.proofs.Common.{◌≤◌, length, arith, sym, subst, ◌∙◌}
 use Rattle.justfile_token.specs.StringKind.{delimiter_len, kind_of}
-use Rattle.justfile_model.proofs.CutLemmas.{after_byte, class_fact, opener_fits}
+use Rattle.justfile_model.proofs.CutLemmas.{opener_fits}
 use Rattle.justfile_lex.proofs.scan.scan_by_class.Goals as goal
 
 pub scan_literal-requires : goal.scan_literal-requires
 scan_literal-requires c = subst (λ bs. delimiter_len (kind_of bs) ≤ length bs) (sym c.as_bytes-bytes.ensures.value) (opener_fits c.args.rest.now c.requires.some (sym c.requires.class ∙ c.in-Quote.is))
-
-pub scan_fixed-requires : goal.scan_fixed-requires
-scan_fixed-requires c = after_byte c.args.rest.now 0 1 c.utf8.rest c.requires.some (class_fact _ _ (sym c.requires.class ∙ c.in-Fixed.is)).1 (omega arith)
