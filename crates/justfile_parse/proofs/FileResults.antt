@@ -57,7 +57,7 @@ use Rattle.justfile_parse_item.specs.Tree.{item_tree, numbered_leaf}
 use Rattle.justfile_expression.specs.LeafTree.{Leaf}
 use Rattle.justfile_parse.specs.WantsNumber as wants
 use Rattle.justfile_parse.specs.WantsNumber.{AreLines, BeginsAssignment, BeginsHeader, LacksNumber, WantsNumber, a_line, at_name, at_once, binding, name_number, no_line, parameter_number, quiet, recipe_number}
-use Rattle.justfile_parse_expression.specs.declared.significant.TableEntry.{TableEntry}
+use Rattle.justfile_parse_expression.specs.Significant.{TableEntry}
 use Rattle.justfile_parse_expression.specs.declared.expression_error.LiteralError.{LiteralError}
 use Rattle.justfile_parse_expression.specs.declared.expression_error.SyntaxError.{SyntaxError}
 use Rattle.justfile_parse_expression.specs.declared.expression_error.SyntaxError.TheVariants.{Unexpected, TooDeep}
@@ -124,10 +124,10 @@ module _ (conditions : Conditions) (bound : ℕ) (within : conditions.limit ≤ 
   abbrev begin : State
   begin = first conditions table file_depth import_offsets
 
-  each_entry : (es : List TableEntry) → All (λ (e : TableEntry). IsInTable table e.token.now) es → Each (IsEntry conditions bound (IsInTable table) file_depth import_offsets) es (map significant_of es)
+  each_entry : (es : List TableEntry) → All (λ (e : TableEntry). IsInTable table e.0) es → Each (IsEntry conditions bound (IsInTable table) file_depth import_offsets) es (map significant_of es)
   each_entry [] h = a.nil
   each_entry (e ∷ es) h =
-      let P : TableEntry → Type 0 = λ (e : TableEntry). IsInTable table e.token.now in
+      let P : TableEntry → Type 0 = λ (e : TableEntry). IsInTable table e.0 in
       a.cons (record { among = All-head P e es h; is = refl }) (each_entry es (All-tail P e es h))
 
   begin_alike : States rel begin (start_state others tokens)

@@ -16,7 +16,7 @@ use Rattle.justfile_model.specs.Tree.{Parts, itself}
 use Rattle.justfile_parse_expression.specs.FormatStrings.{AreEnded, IsEnded, IsEndedPastExpression, last_of}
 use Rattle.justfile_parse.specs.Parsing.{IsOneLex}
 use Rattle.justfile_parse_expression.specs.Significant.{significant_of}
-use Rattle.justfile_parse_expression.specs.declared.significant.TableEntry.{TableEntry}
+use Rattle.justfile_parse_expression.specs.Significant.{TableEntry}
 use Rattle.justfile_parse.proofs.Parsed.{framed_test}
 
 parts_ended : {k : StringKind} {d : ℕ} {ps : Parts Tok Tok} {fs : List (Noted Tok)} {ts rest : Tokens} → grammar.FormatParts itself itself AnyDepth d ps fs ts rest → InFormat k ts → IsTrue (is_part k string_parts.End (last_of ps).lexeme)

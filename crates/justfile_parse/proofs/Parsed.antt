@@ -70,7 +70,7 @@ use Rattle.justfile_parse_expression.specs.Literal.{is_delimited, is_sound}
 use Rattle.justfile_parse.specs.Parsing.{HasNoTree, IsOneLex, IsParsed, IsParsedText, IsUnparsed}
 use Rattle.justfile_parse.specs.MethodResults.{IsRead, IsUnread}
 use Rattle.justfile_parse_expression.specs.Significant.{significant_of}
-use Rattle.justfile_parse_expression.specs.declared.significant.TableEntry.{TableEntry}
+use Rattle.justfile_parse_expression.specs.Significant.{TableEntry}
 use Rattle.justfile_model.specs.UnstableFeatures.{unstable_features}
 use Rattle.justfile_parse.specs.WantsNumber.{WantsNumber}
 use Rattle.justfile_parse.proofs.Comments.{AreComments, lexed_comments}
@@ -133,7 +133,7 @@ sound_table : (table : List TableEntry) → AreQuoted (map significant_of table)
     → list_all is_sound table ≡ true
 sound_table [] h k c = refl
 sound_table (entry ∷ table) h k c =
-    both (is_sound entry) (list_all is_sound table) (delimited entry.token.now.kind (lexeme_of entry.token.now) h.0 h.1 k.0 k.1 c.0) (sound_table table h.2 k.3 c.1)
+    both (is_sound entry) (list_all is_sound table) (delimited entry.0.kind (lexeme_of entry.0) h.0 h.1 k.0 k.1 c.0) (sound_table table h.2 k.3 c.1)
 
 pub sound_lex : (tokens : List Token) (table : List TableEntry) → IsOneLex tokens → map significant_of table ≡ significant_tokens (map tok_of tokens) → IsTrue (list_all is_sound table)
 sound_lex tokens table l is =
@@ -145,8 +145,8 @@ sound_lex tokens table l is =
 
 -- ---- what was given
 
-in_tokens : (tokens : List Token) (table : List TableEntry) → All (λ entry. Contains tokens entry.token.now) table → (t : Token) → IsInTable table t → Contains tokens t
-in_tokens tokens table all t h = All-contains (λ (entry : TableEntry). Contains tokens entry.token.now) table (record { token = record { ref_ptr = h.ref_ptr; now = t }; glued = h.glued }) all h.among
+in_tokens : (tokens : List Token) (table : List TableEntry) → All (λ entry. Contains tokens entry.0) table → (t : Token) → IsInTable table t → Contains tokens t
+in_tokens tokens table all t h = All-contains (λ (entry : TableEntry). Contains tokens entry.0) table (t, h.glued) all h.among
 
 module _ (expander : Expansions) (P Q : Token → Type 0) (weaker : (t : Token) → P t → Q t) where
   mutual
@@ -419,7 +419,7 @@ cooks_of expander P file_depth import_offsets (i ∷ items) all =
 
 -- ---- what is read derives
 
-pub given_tokens : (expander : Expansions) (tokens : List Token) (table : List TableEntry) (file_depth : ℕ) (import_offsets : List ℕ) (items : List Item) → All (λ entry. Contains tokens entry.token.now) table → All (IsFilledItem expander (IsInTable table) file_depth import_offsets) items
+pub given_tokens : (expander : Expansions) (tokens : List Token) (table : List TableEntry) (file_depth : ℕ) (import_offsets : List ℕ) (items : List Item) → All (λ entry. Contains tokens entry.0) table → All (IsFilledItem expander (IsInTable table) file_depth import_offsets) items
     → All (IsFilledItem expander (Contains tokens) file_depth import_offsets) items
 given_tokens expander tokens table file_depth import_offsets items all =
     All-weaker (IsFilledItem expander (IsInTable table) file_depth import_offsets) (IsFilledItem expander (Contains tokens) file_depth import_offsets)
@@ -449,7 +449,7 @@ module _ (conditions : Conditions) (tokens : List Token) (table : List TableEntr
       let same : x.0 ≡ tree = cc in
       subst (λ (t : Tree). Derives t features) same x.2
 
-  pub unparsed_of : All (λ entry. Contains tokens entry.token.now) table → (fault : Fault)
+  pub unparsed_of : All (λ entry. Contains tokens entry.0) table → (fault : Fault)
       → IsUnread conditions (map significant_of table) (IsInTable table) old new fault
       → IsUnparsed conditions (map tok_of tokens) (Contains tokens) old new fault
   unparsed_of all (faults.Compile e) h =
@@ -501,7 +501,7 @@ module _ (conditions : Conditions) (tokens : List Token) (table : List TableEntr
           under conditions.limit (omega arith) tree features
           (raised (with_limit limit conditions) (significant_tokens (map tok_of tokens)) conditions.limit (omega (arith, more)) tree features d) enough
 
-  pub parsed_of : All (λ entry. Contains tokens entry.token.now) table → (file_depth : ℕ) (import_offsets : List ℕ) (ast : Ast)
+  pub parsed_of : All (λ entry. Contains tokens entry.0) table → (file_depth : ℕ) (import_offsets : List ℕ) (ast : Ast)
       → IsRead conditions table file_depth import_offsets (map significant_of table) old new (ast.items.items, ast.list_features.items) → ast.unstable_features.keys ≡ unstable_features (tree_of ast)
       → IsParsed conditions (map tok_of tokens) (Contains tokens) file_depth import_offsets old new ast
   parsed_of all file_depth import_offsets ast h unstable =

@@ -3,17 +3,17 @@ use Rattle.std.proofs.Common.{◌≡◌, ℕ, ◌+◌, ◌<◌, ◌∙◌, ◌-�
 use Rattle.std.proofs.Math.Seq.{drop-cons}
 use Rattle.std.proofs.lemmas.List.{drop_all, map-append, take-append-drop}
 use Rattle.std.proofs.lemmas.List.Elements.{Contains-get_or}
-use Rattle.justfile_parse_expression.specs.declared.significant.TableEntry.{TableEntry}
+use Rattle.justfile_parse_expression.specs.Significant.{TableEntry}
 use Rattle.justfile_model.specs.SignificantTokens.{SignificantToken}
 use Rattle.justfile_model.specs.Tok.{tok_of}
 use Rattle.justfile_parse_item.specs.Filled.{IsInTable}
 use Rattle.justfile_parse_expression.specs.Significant.{significant_of}
 
-pub in_table : (table : List TableEntry) (n : ℕ) (d : TableEntry) → n < length table → IsInTable table (get_or table n d).token.now
-in_table table n d h = record { ref_ptr = (get_or table n d).token.ref_ptr; glued = (get_or table n d).glued; among = Contains-get_or table n d h }
+pub in_table : (table : List TableEntry) (n : ℕ) (d : TableEntry) → n < length table → IsInTable table (get_or table n d).0
+in_table table n d h = record { glued = (get_or table n d).1; among = Contains-get_or table n d h }
 
 -- the last entry is at the end
-pub last_at : (table : List TableEntry) (d : TableEntry) → 0 < length table → (before : List SignificantToken) × (last : SignificantToken) × (map significant_of table ≡ before ++ last ∷ []) × (tok_of (get_or table (length table - 1) d).token.now ≡ last.tok)
+pub last_at : (table : List TableEntry) (d : TableEntry) → 0 < length table → (before : List SignificantToken) × (last : SignificantToken) × (map significant_of table ≡ before ++ last ∷ []) × (tok_of (get_or table (length table - 1) d).0 ≡ last.tok)
 last_at table d h =
     let n = length table - 1 in
     let entry = get_or table n d in

@@ -25,7 +25,7 @@ use Rattle.justfile_parse.specs.Errors.{IsAt, IsErrorOf, IsUnexpected}
 use Rattle.justfile_parse_item.specs.Filled.{AreNotedIn, IsFilledItems, IsInTable}
 use Rattle.justfile_parse_expression.specs.Significant.{significant_of}
 use Rattle.justfile_parse.specs.WantsNumber.{WantsNumber}
-use Rattle.justfile_parse_expression.specs.declared.significant.TableEntry.{TableEntry}
+use Rattle.justfile_parse_expression.specs.Significant.{TableEntry}
 use Rattle.justfile_parse_expression.specs.declared.expression_error.SyntaxError.{SyntaxError}
 use Rattle.justfile_parse_expression.specs.declared.expression_error.SyntaxError.TheVariants.{Unexpected, TooDeep}
 use Rattle.justfile_parse_expression.specs.declared.expression_error.ExpressionError.{ExpressionError}
@@ -42,7 +42,7 @@ IsErrorAt refusal token error = IsKindAt refusal error.kind error.token × (erro
 
 -- The token is the next one, or the last of the table if none is left.
 abbrev pub IsNextPlace : List TableEntry → (next : Option TableEntry) → Token → Type 0
-IsNextPlace table (Some entry) token = token ≡ entry.token.now
+IsNextPlace table (Some entry) token = token ≡ entry.0
 IsNextPlace table None token = IsInTable table token × IsAt (map significant_of table) None token
 
 -- The fault is that of the expression error: at the next token, or for a literal. Memory can run out for the list of expected tokens.

@@ -28,7 +28,7 @@ use justfile_expression::ListFeature;
 use justfile_item::Item;
 use justfile_lex::Lexer;
 use justfile_parse_attribute::ParseError;
-use justfile_parse_expression::significant::{TableEntry, significant};
+use justfile_parse_expression::significant::{SignificantToken, significant};
 use justfile_parse_expression::{ExpectedTokens, ExpressionError, ExpressionParser, SyntaxError};
 use justfile_parse_item::parse_items;
 use justfile_token::{
@@ -152,7 +152,7 @@ fn parse_table<'run, 'src, X: Expander>(
     file_depth: u32,
     import_offsets: &'run [usize],
     numerator: &mut Numerator,
-    tokens: &'run [TableEntry<'run, 'src>],
+    tokens: &'run [SignificantToken<'src>],
     expander: &'run X,
     current: Version,
     limit: usize,
@@ -216,8 +216,8 @@ fn accept_byte_order_mark<X: Expander>(parser: &mut ExpressionParser<'_, '_, X>)
 /// kinds that were looked for there.
 fn make_fault<'src>(
     alloc: Global,
-    tokens: &[TableEntry<'_, 'src>],
-    next: Option<TableEntry<'_, 'src>>,
+    tokens: &[SignificantToken<'src>],
+    next: Option<SignificantToken<'src>>,
     expected_tokens: &ExpectedTokens,
     error: ParseError<'src>,
 ) -> Fault<'src>
@@ -240,8 +240,8 @@ fn make_fault<'src>(
 /// are the kinds that were looked for there.
 fn expression_fault<'src>(
     alloc: Global,
-    tokens: &[TableEntry<'_, 'src>],
-    next: Option<TableEntry<'_, 'src>>,
+    tokens: &[SignificantToken<'src>],
+    next: Option<SignificantToken<'src>>,
     expected_tokens: &ExpectedTokens,
     cause: ExpressionError<'src>,
 ) -> Fault<'src>
@@ -290,14 +290,14 @@ fn make_error<'src>(
 /// Returns the token where a syntax error is reported: the next one, or the last if none is left.
 #[tactic(auto, using(crate::proofs::Tables::in_table, crate::proofs::Tables::last_at))]
 fn token_for_error<'src>(
-    tokens: &[TableEntry<'_, 'src>],
-    next: Option<TableEntry<'_, 'src>>,
+    tokens: &[SignificantToken<'src>],
+    next: Option<SignificantToken<'src>>,
 ) -> Token<'src>
     requires { 0 < length tokens.now }
     ensures { IsNextPlace tokens.now next.entry result }
 {
     match next {
-        Some(entry) => *entry.token,
-        None => *tokens[tokens.len() - 1].token,
+        Some(entry) => entry.0,
+        None => tokens[tokens.len() - 1].0,
     }
 }

@@ -34,7 +34,7 @@ use Rattle.justfile_parse_expression.specs.View.{tokens_left, state_of}
 use Rattle.justfile_parse_attribute.specs.declared.parse_error.ParseError.{ParseError}
 use Rattle.justfile_parse_attribute.specs.declared.parse_error.ParseError.TheVariants.{Expression, Compile}
 use Rattle.justfile_parse_expression.specs.declared.parser.ExpressionParser.{ExpressionParser}
-use Rattle.justfile_parse_expression.specs.declared.significant.TableEntry.{TableEntry}
+use Rattle.justfile_parse_expression.specs.Significant.{TableEntry}
 use Rattle.justfile_parse_expression.specs.declared.expression_error.SyntaxError.TheVariants as refusals
 use Rattle.justfile_parse_expression.specs.declared.expression_error.ExpressionError.TheVariants as causes
 use Rattle.justfile_parse_expression.proofs.Rest.{left_is}
@@ -122,11 +122,11 @@ map_same [] = refl
 map_same (e ∷ es) = ap (λ (l : Entries). e ∷ l) (map_same es)
 
 made_after : (before : Entries) (name : TableEntry) (kind : AttributeKind) (all : Arguments) (s : State)
-    → (r.made before name kind all s >>= then_last before) ≡ r.one_made before name.token.now kind all s
+    → (r.made before name kind all s >>= then_last before) ≡ r.one_made before name.0 kind all s
 unfolding attributes.made r.one_made leaves
 made_after before name kind all s =
-    step (new_entry views_leaves (map meaning_in before) name.token.now kind (by_position all) (by_key all)) (new_entry views_leaves before name.token.now kind (by_position all) (by_key all))
-    (ap (λ (l : Entries). new_entry views_leaves l name.token.now kind (by_position all) (by_key all)) (map_same before))
+    step (new_entry views_leaves (map meaning_in before) name.0 kind (by_position all) (by_key all)) (new_entry views_leaves before name.0 kind (by_position all) (by_key all))
+    (ap (λ (l : Entries). new_entry views_leaves l name.0 kind (by_position all) (by_key all)) (map_same before))
   where
     step : (m k : Made Token (Entry Leaf Token)) → m ≡ k
         → ((attributes.read_made m s >>= λ e. Ok (e.0, e.1)) >>= then_last before) ≡ (attributes.read_made k s >>= λ e. Ok (before ++ e.0 ∷ [], e.1))
@@ -136,24 +136,24 @@ made_after before name kind all s =
 pub one_attribute_is : (before : Entries) (s : State)
     → r.one_attribute before s
     ≡ (expect kinds.Identifier s >>= λ name. r.kind_at name.0 name.1 >>= λ kind. r.arguments name.0 (takes_keys kind.0) kind.1 >>= λ all.
-    r.one_made before name.0.token.now kind.0 all.0 all.1)
+    r.one_made before name.0.0 kind.0 all.0 all.1)
 unfolding r.one_attribute attributes.attribute
 one_attribute_is before s = by_name (expect kinds.Identifier s)
   where
     by_all : (name : TableEntry) (kind : AttributeKind) (found : Read Arguments)
-        → ((found >>= λ all. r.made before name kind all.0 all.1) >>= then_last before) ≡ (found >>= λ all. r.one_made before name.token.now kind all.0 all.1)
+        → ((found >>= λ all. r.made before name kind all.0 all.1) >>= then_last before) ≡ (found >>= λ all. r.one_made before name.0 kind all.0 all.1)
     by_all name kind (Ok all) = made_after before name kind all.0 all.1
     by_all name kind (Err f) = refl
 
     by_kind : (name : TableEntry) (found : Read AttributeKind)
         → ((found >>= λ kind. r.arguments name (takes_keys kind.0) kind.1 >>= λ all. r.made before name kind.0 all.0 all.1) >>= then_last before)
-        ≡ (found >>= λ kind. r.arguments name (takes_keys kind.0) kind.1 >>= λ all. r.one_made before name.token.now kind.0 all.0 all.1)
+        ≡ (found >>= λ kind. r.arguments name (takes_keys kind.0) kind.1 >>= λ all. r.one_made before name.0 kind.0 all.0 all.1)
     by_kind name (Ok kind) = by_all name kind.0 (r.arguments name (takes_keys kind.0) kind.1)
     by_kind name (Err f) = refl
 
     by_name : (found : Read TableEntry)
         → ((found >>= λ name. r.kind_at name.0 name.1 >>= λ kind. r.arguments name.0 (takes_keys kind.0) kind.1 >>= λ all. r.made before name.0 kind.0 all.0 all.1) >>= then_last before)
-        ≡ (found >>= λ name. r.kind_at name.0 name.1 >>= λ kind. r.arguments name.0 (takes_keys kind.0) kind.1 >>= λ all. r.one_made before name.0.token.now kind.0 all.0 all.1)
+        ≡ (found >>= λ name. r.kind_at name.0 name.1 >>= λ kind. r.arguments name.0 (takes_keys kind.0) kind.1 >>= λ all. r.one_made before name.0.0 kind.0 all.0 all.1)
     by_name (Ok name) = by_kind name.0 (r.kind_at name.0 name.1)
     by_name (Err f) = refl
 

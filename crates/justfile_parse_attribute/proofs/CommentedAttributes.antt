@@ -7,7 +7,7 @@ use Rattle.justfile_model.specs.Tree.{at_last, commented, commented_entry}
 use Rattle.justfile_parse_attribute.specs.AttributeTable as reader
 use Rattle.justfile_parse_attribute.specs.Attributes.{entry_of_pair}
 use Rattle.justfile_parse_attribute.specs.DerivedAttributeFields.{HaveDerivedAttributeFields, KeepsDerivedPairFields}
-use Rattle.justfile_parse_expression.specs.declared.significant.TableEntry.{TableEntry}
+use Rattle.justfile_parse_expression.specs.Significant.{TableEntry}
 use Rattle.justfile_written.specs.Written.{Comment, last_with_comment, line_commented}
 use Rattle.justfile_written.specs.declared.written.Written.{Written}
 

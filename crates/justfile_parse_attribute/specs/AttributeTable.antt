@@ -14,7 +14,7 @@ use Rattle.justfile_model.specs.Tree.{Argument, Entry, Expr, WrittenAttribute, c
 use Rattle.justfile_parse_expression.specs.TableReader.{Read, Run, State, accept, expect, leaves}
 use Rattle.justfile_expression.specs.LeafViews.{views_leaves}
 use Rattle.justfile_expression.specs.LeafTree.{Leaf}
-use Rattle.justfile_parse_expression.specs.declared.significant.TableEntry.{TableEntry}
+use Rattle.justfile_parse_expression.specs.Significant.{TableEntry}
 
 -- the view of leaves, which is the same for each file
 abbrev pub view_of : Run → LeafView Leaf Token

@@ -19,7 +19,7 @@ use crate::parse_error::{ParseError, rule_error};
 use crate::read_attributes::ReadAttributes;
 use justfile_attribute::Attribute;
 use justfile_expression::Expression;
-use justfile_parse_expression::significant::TableEntry;
+use justfile_parse_expression::significant::SignificantToken;
 use justfile_parse_expression::{ExpressionError, ExpressionParser, SyntaxError};
 use justfile_token::{CompileErrorKind, Expander, Fault, Name, Token};
 use justfile_vocabulary::{AttributeKind, Keyword, TokenKind};
@@ -94,7 +94,7 @@ fn parse_attribute_line<'src, X: Expander>(
 /// line.
 fn attach_comment<'src>(
     attributes: &mut ReadAttributes<'src>,
-    comment: Option<TableEntry<'_, 'src>>,
+    comment: Option<SignificantToken<'src>>,
 )
     ensures entries { map entry_of_pair attributes.new.pairs.items
         ≡ reader.commented_by comment.entry (map entry_of_pair attributes.old.pairs.items) }
@@ -143,15 +143,15 @@ fn parse_next_attribute<'src, X: Expander>(
 
 /// Parses the end of a line of attributes, and returns the comment before it, if there is one.
 #[tactic(auto, unfolding(justfile_model::specs::AttributeReader::attributes_end))]
-fn parse_attributes_end<'run, 'src, X: Expander>(
-    parser: &mut ExpressionParser<'run, 'src, X>,
-) -> Result<Option<TableEntry<'run, 'src>>, ExpressionError<'src>>
+fn parse_attributes_end<'src, X: Expander>(
+    parser: &mut ExpressionParser<'_, 'src, X>,
+) -> Result<Option<SignificantToken<'src>>, ExpressionError<'src>>
     ensures reads { Parses X.answer (λ comment. comment) result parser.old parser.new
         reader.attributes_end }
     ensures progress { OnOk result (tokens_left parser.new < tokens_left parser.old) }
 {
     match parser.accept(TokenKind::Comment) {
-        Some(comment) => parse_line_end_after(parser, Some(comment)),
+        Some(comment) => parse_line_end_after(parser, Some(*comment)),
         None => parse_line_end_after(parser, None),
     }
 }
@@ -159,10 +159,10 @@ fn parse_attributes_end<'run, 'src, X: Expander>(
 /// Parses the end of a line of attributes after its comment, if it has one, and returns the
 /// comment. The end of the file isn't allowed here.
 #[tactic(auto, unfolding(justfile_model::specs::AttributeReader::line_end_after))]
-fn parse_line_end_after<'run, 'src, X: Expander>(
-    parser: &mut ExpressionParser<'run, 'src, X>,
-    comment: Option<TableEntry<'run, 'src>>,
-) -> Result<Option<TableEntry<'run, 'src>>, ExpressionError<'src>>
+fn parse_line_end_after<'src, X: Expander>(
+    parser: &mut ExpressionParser<'_, 'src, X>,
+    comment: Option<SignificantToken<'src>>,
+) -> Result<Option<SignificantToken<'src>>, ExpressionError<'src>>
     ensures reads { Parses X.answer (λ comment. comment) result parser.old parser.new
         (reader.line_end_after comment.entry) }
     ensures progress { OnOk result (tokens_left parser.new < tokens_left parser.old) }
@@ -205,7 +205,7 @@ fn parse_attribute<'src, X: Expander>(
     push_attribute(
         parser,
         attributes,
-        Name::from_identifier(*name.token),
+        Name::from_identifier(name.0),
         kind,
         arguments,
     )
@@ -217,16 +217,16 @@ fn parse_attribute<'src, X: Expander>(
 ///
 /// No attribute has this name, or memory runs out.
 #[tactic(auto, using(crate::proofs::AttributeSteps::fails_for, crate::proofs::AttributeSteps::kind_at_is), unfolding(justfile_parse_expression::specs::TableReader::leaves))]
-fn find_attribute_kind<'run, 'src, X: Expander>(
-    parser: &ExpressionParser<'run, 'src, X>,
-    name: TableEntry<'run, 'src>,
+fn find_attribute_kind<'src, X: Expander>(
+    parser: &ExpressionParser<'_, 'src, X>,
+    name: &SignificantToken<'src>,
 ) -> Result<AttributeKind, ParseError<'src>>
     ensures reads { ReadsRuled (λ kind. kind) result (state_of X.answer parser.now)
-        (reader.kind_at name.entry (state_of X.answer parser.now)) }
+        (reader.kind_at name.now (state_of X.answer parser.now)) }
 {
-    match AttributeKind::from_name(name.token.lexeme()) {
+    match AttributeKind::from_name(name.0.lexeme()) {
         Some(kind) => Ok(kind),
-        None => Err(rule_error(parser.alloc, unknown_attribute_error(*name.token))),
+        None => Err(rule_error(parser.alloc, unknown_attribute_error(name.0))),
     }
 }
 
@@ -256,13 +256,13 @@ fn push_attribute<'src, X: Expander>(
 /// Parses the arguments of an attribute, after its name. `keys` tells whether keyword arguments are
 /// allowed.
 #[tactic(auto, using(crate::proofs::AttributeSteps::arguments_is))]
-fn parse_arguments<'run, 'src, X: Expander>(
-    parser: &mut ExpressionParser<'run, 'src, X>,
-    name: TableEntry<'run, 'src>,
+fn parse_arguments<'src, X: Expander>(
+    parser: &mut ExpressionParser<'_, 'src, X>,
+    name: &SignificantToken<'src>,
     keys: bool,
 ) -> Result<Arguments<'src>, ParseError<'src>>
     ensures reads { ParsesRuled X.answer arguments_of result parser.old parser.new
-        (reader.arguments name.entry keys) }
+        (reader.arguments name.now keys) }
     ensures progress { OnOk result (tokens_left parser.new ≤ tokens_left parser.old) }
 {
     if let Some(_colon) = parser.accept(TokenKind::Colon) {
@@ -291,13 +291,13 @@ fn parse_one_argument<'src, X: Expander>(
 
 /// Parses arguments separated by commas, and the closing parenthesis.
 #[tactic(auto, using(crate::proofs::AttributeLoops::list_ends, crate::proofs::AttributeLoops::list_goes_on))]
-fn parse_argument_list<'run, 'src, X: Expander>(
-    parser: &mut ExpressionParser<'run, 'src, X>,
-    name: TableEntry<'run, 'src>,
+fn parse_argument_list<'src, X: Expander>(
+    parser: &mut ExpressionParser<'_, 'src, X>,
+    name: &SignificantToken<'src>,
     keys: bool,
 ) -> Result<Arguments<'src>, ParseError<'src>>
     ensures reads { ParsesRuled X.answer arguments_of result parser.old parser.new
-        (λ s. reader.arguments_from name.entry keys ([], s)) }
+        (λ s. reader.arguments_from name.now keys ([], s)) }
     ensures progress { OnOk result (tokens_left parser.new < tokens_left parser.old) }
 {
     let mut arguments = Arguments::new(parser.alloc);
@@ -311,14 +311,14 @@ fn parse_argument_list<'run, 'src, X: Expander>(
 /// Parses the closing parenthesis, or an argument and what follows it. Returns whether the
 /// arguments are at their end.
 #[tactic(auto, using(crate::proofs::AttributeSteps::broken_first), unfolding(crate::specs::AttributeTable::list_step))]
-fn parse_next_argument<'run, 'src, X: Expander>(
-    parser: &mut ExpressionParser<'run, 'src, X>,
-    name: TableEntry<'run, 'src>,
+fn parse_next_argument<'src, X: Expander>(
+    parser: &mut ExpressionParser<'_, 'src, X>,
+    name: &SignificantToken<'src>,
     keys: bool,
     arguments: &mut Arguments<'src>,
 ) -> Result<bool, ParseError<'src>>
     ensures reads { ParsesRuled X.answer (λ is_last. (arguments_of arguments.new, is_last)) result
-        parser.old parser.new (reader.list_step name.entry keys (arguments_of arguments.old)) }
+        parser.old parser.new (reader.list_step name.now keys (arguments_of arguments.old)) }
     ensures progress { OnOk result (tokens_left parser.new < tokens_left parser.old) }
 {
     if let Some(_closer) = parser.accept(TokenKind::ParenR) {
@@ -352,14 +352,14 @@ pub fn parse_separator<'src, X: Expander>(
 
 /// Parses an argument of the attribute with this name, and appends it to `arguments`.
 #[tactic(auto, using(crate::proofs::AttributeSteps::one_argument_is))]
-fn parse_argument<'run, 'src, X: Expander>(
-    parser: &mut ExpressionParser<'run, 'src, X>,
-    name: TableEntry<'run, 'src>,
+fn parse_argument<'src, X: Expander>(
+    parser: &mut ExpressionParser<'_, 'src, X>,
+    name: &SignificantToken<'src>,
     keys: bool,
     arguments: &mut Arguments<'src>,
 ) -> Result<(), ParseError<'src>>
     ensures reads { ParsesRuled X.answer (λ _. arguments_of arguments.new) result
-        parser.old parser.new (reader.one_argument name.entry keys (arguments_of arguments.old)) }
+        parser.old parser.new (reader.one_argument name.now keys (arguments_of arguments.old)) }
     ensures progress { OnOk result (tokens_left parser.new < tokens_left parser.old) }
 {
     if keys && peek_key(parser) {
@@ -370,21 +370,21 @@ fn parse_argument<'run, 'src, X: Expander>(
 
 /// Parses a keyword argument, and appends it to `arguments`.
 #[tactic(auto, using(crate::proofs::AttributeSteps::fails_for), unfolding(justfile_parse_expression::specs::TableReader::leaves, crate::specs::AttributeTable::one_keyed, justfile_model::specs::AttributeReader::keyed))]
-fn parse_keyed<'run, 'src, X: Expander>(
-    parser: &mut ExpressionParser<'run, 'src, X>,
-    name: TableEntry<'run, 'src>,
+fn parse_keyed<'src, X: Expander>(
+    parser: &mut ExpressionParser<'_, 'src, X>,
+    name: &SignificantToken<'src>,
     arguments: &mut Arguments<'src>,
 ) -> Result<(), ParseError<'src>>
     ensures reads { ParsesRuled X.answer (λ _. arguments_of arguments.new) result
-        parser.old parser.new (reader.one_keyed name.entry (arguments_of arguments.old)) }
+        parser.old parser.new (reader.one_keyed name.now (arguments_of arguments.old)) }
     ensures progress { OnOk result (tokens_left parser.new < tokens_left parser.old) }
 {
     let key = parser.expect(TokenKind::Identifier)?;
     let value = parse_key_value(parser)?;
-    if arguments.has_text(key.token.lexeme()) {
-        return Err(rule_error(parser.alloc, repeated_key_error(*name.token, *key.token)));
+    if arguments.has_text(key.0.lexeme()) {
+        return Err(rule_error(parser.alloc, repeated_key_error(name.0, key.0)));
     }
-    arguments.push_keyed(Name::from_identifier(*key.token), value)?;
+    arguments.push_keyed(Name::from_identifier(key.0), value)?;
     Ok(())
 }
 
@@ -433,7 +433,7 @@ fn parse_placed<'src, X: Expander>(
     let first = parser.peek_front();
     let value = parser.parse_expression()?;
     match first {
-        Some(entry) => Ok((*entry.token, value)),
+        Some(entry) => Ok((entry.0, value)),
         None => Err(ExpressionError::Refused(SyntaxError::Unexpected)),
     }
 }

@@ -20,7 +20,7 @@ use Rattle.justfile_model.proofs.Related.{Each, Never, Related, States}
 use Rattle.justfile_parse_expression.specs.TableReader.{At, ReadExpr, ReadError, Run, State, leaves, read}
 use Rattle.justfile_parse_expression.specs.Significant.{significant_of}
 use Rattle.justfile_expression.specs.LeafTree.{Leaf}
-use Rattle.justfile_parse_expression.specs.declared.significant.TableEntry.{TableEntry}
+use Rattle.justfile_parse_expression.specs.Significant.{TableEntry}
 use Rattle.justfile_parse_expression.proofs.Seen.{IsEntry, Meanings, Relates, respects, seen}
 
 -- any token

@@ -14,7 +14,7 @@ use Rattle.justfile_parse_expression.specs.TableReader as r
 use Rattle.justfile_parse_expression.specs.TableReader.{At, Read, ReadExpr, ReadError, State, accept, accept_operator, accept_keyword, enter, is_within, leaves, operation, read, value}
 use Rattle.justfile_parse_expression.specs.MethodResults.{IsExpressionError, literal_read_error, read_error_at}
 use Rattle.justfile_parse_expression.specs.declared.expression.Link.{Link}
-use Rattle.justfile_parse_expression.specs.declared.significant.TableEntry.{TableEntry}
+use Rattle.justfile_parse_expression.specs.Significant.{TableEntry}
 use Rattle.justfile_parse_expression.specs.declared.expression_error.ExpressionError.{ExpressionError}
 use Rattle.justfile_parse_expression.specs.declared.expression_error.ExpressionError.TheVariants.{Refused, Literal, Memory, Numbers}
 use Rattle.justfile_model.proofs.ExpressionReading as laws
@@ -64,8 +64,8 @@ last_after k (Ok e) h = ap (λ (s : State). Ok (e.0, s)) (sym (h e.1))
 last_after k (Err f) h = refl
 
 slash_after : (o : Option (TableEntry × State)) (x : ReadExpr) (y : Read StepTree) → x ≡ (y >>= after Conjunct)
-    → choose {X = ReadExpr} o x (λ op. row Conjunct (t.Root op.0.token.now) op.1)
-    ≡ (choose {X = Read StepTree} o y (λ op. Ok (Next (t.Root op.0.token.now), op.1)) >>= after Conjunct)
+    → choose {X = ReadExpr} o x (λ op. row Conjunct (t.Root op.0.0) op.1)
+    ≡ (choose {X = Read StepTree} o y (λ op. Ok (Next (t.Root op.0.0), op.1)) >>= after Conjunct)
 slash_after None x y h = h
 slash_after (Some op) x y h = refl
 

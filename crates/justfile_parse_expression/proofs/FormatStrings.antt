@@ -24,7 +24,7 @@ use Rattle.justfile_parse_expression.specs.Significant.{significant_of}
 use Rattle.justfile_expression.specs.LeafTree.{Leaf}
 use Rattle.justfile_parse_expression.specs.View.{state_at, state_of}
 use Rattle.justfile_model.specs.declared.level.Level.TheVariants as levels
-use Rattle.justfile_parse_expression.specs.declared.significant.TableEntry.{TableEntry}
+use Rattle.justfile_parse_expression.specs.Significant.{TableEntry}
 use Rattle.justfile_model.proofs.ExpressionReading.{advances}
 use Rattle.justfile_model.proofs.ReadingSteps.{known}
 use Rattle.justfile_parse_expression.proofs.Anywhere.{derives}
@@ -36,30 +36,30 @@ use Rattle.justfile_parse_expression.specs.declared.parser.ExpressionParser.{Exp
 abbrev pub Taken : Type 0
 Taken = Option (TableEntry × State)
 
-kind_is : (kind : TokenKind) (t : TableEntry) → same_kind t.token.now.kind kind ≡ true → t.token.now.kind ≡ kind
+kind_is : (kind : TokenKind) (t : TableEntry) → same_kind t.0.kind kind ≡ true → t.0.kind ≡ kind
 unfolding same_kind
 kind_is kind t h = same_true the_type tt _ _ h
 
 -- the next entry, of this kind
 abbrev pub IsNext : TokenKind → State → List TableEntry → Taken → Type 0
 IsNext kind s entries None = Unit {0}
-IsNext kind s entries (Some x) = (entries ≡ x.0 ∷ x.1.left) × (x.0.token.now.kind ≡ kind) × (x.1.depth ≡ s.depth)
+IsNext kind s entries (Some x) = (entries ≡ x.0 ∷ x.1.left) × (x.0.0.kind ≡ kind) × (x.1.depth ≡ s.depth)
 
 pub accepted : (kind : TokenKind) (s : State) → IsNext kind s s.left (accept kind s)
 unfolding reading.accept leaves
 accepted kind s = go s.left
   where
-    by_test : (t : TableEntry) (ts : List TableEntry) (b : Bool) → (b ≡ true → t.token.now.kind ≡ kind) → IsNext kind s (t ∷ ts) (cond b (Some (t, at s ts)) None)
+    by_test : (t : TableEntry) (ts : List TableEntry) (b : Bool) → (b ≡ true → t.0.kind ≡ kind) → IsNext kind s (t ∷ ts) (cond b (Some (t, at s ts)) None)
     by_test t ts true h = (refl, h refl, refl)
     by_test t ts false h = tt
 
     go : (entries : List TableEntry) → IsNext kind s entries (accept_by leaves (λ t. same_kind t.tok.kind kind) s entries)
     go [] = tt
-    go (t ∷ ts) = by_test t ts (same_kind t.token.now.kind kind) (kind_is kind t)
+    go (t ∷ ts) = by_test t ts (same_kind t.0.kind kind) (kind_is kind t)
 
 abbrev pub IsExpected : TokenKind → List TableEntry → Read TableEntry → Type 0
 IsExpected kind entries (Err f) = Unit {0}
-IsExpected kind entries (Ok x) = (entries ≡ x.0 ∷ x.1.left) × (x.0.token.now.kind ≡ kind)
+IsExpected kind entries (Ok x) = (entries ≡ x.0 ∷ x.1.left) × (x.0.0.kind ≡ kind)
 
 pub expected : (kind : TokenKind) (s : State) → IsExpected kind s.left (expect kind s)
 unfolding reading.expect
@@ -90,8 +90,8 @@ marked word kind s = go s.left
 -- ---- from a start on
 
 -- after the start of a format string
-pub after_start : {X : Type 0} (answer : X → List ℕ → Result (List ℕ) (List ℕ)) (p : ExpressionParser X) (word : List ℕ) (start : TableEntry) (rest : State) → accept_marked word kinds.FormatStringStart (state_of answer p) ≡ Some (start, rest) → start.token.now.kind ≡ kinds.FormatStringStart
-    → IsEndedFrom (kind_of (lexeme_of start.token.now)) rest
+pub after_start : {X : Type 0} (answer : X → List ℕ → Result (List ℕ) (List ℕ)) (p : ExpressionParser X) (word : List ℕ) (start : TableEntry) (rest : State) → accept_marked word kinds.FormatStringStart (state_of answer p) ≡ Some (start, rest) → start.0.kind ≡ kinds.FormatStringStart
+    → IsEndedFrom (kind_of (lexeme_of start.0)) rest
 unfolding state_of state_at IsEndedFrom AreEnded
 after_start answer p word start rest found kind =
     let table = p.tokens.now in
@@ -104,12 +104,12 @@ after_start answer p word start rest found kind =
     p.ended (front ++ significant_of m.0 ∷ []) (significant_of start) following whole kind rest.depth
 
 -- the part that ends it
-pub last_ended : (k : StringKind) (s : State) (t : TableEntry) (rest : State) → expect kinds.FormatStringEnd s ≡ Ok (t, rest) → IsEndedAt k s → IsTrue (is_part k string_parts.End (lexeme_of t.token.now))
+pub last_ended : (k : StringKind) (s : State) (t : TableEntry) (rest : State) → expect kinds.FormatStringEnd s ≡ Ok (t, rest) → IsEndedAt k s → IsTrue (is_part k string_parts.End (lexeme_of t.0))
 unfolding IsEndedAt IsEnded
 last_ended k s t rest found h =
     let x = subst (IsExpected kinds.FormatStringEnd s.left) found (expected kinds.FormatStringEnd s) in
     let ended = subst (λ (ts : List TableEntry). IsEnded k s.depth (map significant_of ts)) x.0 h in
-    ended (Last (tok_of t.token.now)) [] (map significant_of rest.left) (grammar.end x.1)
+    ended (Last (tok_of t.0)) [] (map significant_of rest.left) (grammar.end x.1)
 
 -- in the same run, at the same depth
 past : (s : State) (e : Expr Leaf Token) (rest : State) → read (At levels.Expression false s) ≡ Ok (e, rest) → rest.depth ≡ s.depth
@@ -125,11 +125,11 @@ module _ (k : StringKind) where
       subst P (sym (past s e rest found)) (h x.0 x.1 (map significant_of rest.left) x.2)
 
   -- after a part that is not the last
-  after_continue : (s : State) (t : TableEntry) (rest : State) → s.left ≡ t ∷ rest.left → t.token.now.kind ≡ kinds.FormatStringContinue → IsEndedAt k s → IsEndedPastExpression k s.depth (map significant_of rest.left)
+  after_continue : (s : State) (t : TableEntry) (rest : State) → s.left ≡ t ∷ rest.left → t.0.kind ≡ kinds.FormatStringContinue → IsEndedAt k s → IsEndedPastExpression k s.depth (map significant_of rest.left)
   unfolding IsEndedAt IsEndedPastExpression IsEnded
   after_continue s t rest split kind h e fs following x ps gs end parts =
       let ended = subst (λ (ts : List TableEntry). IsEnded k s.depth (map significant_of ts)) split h in
-      ended (Continue (tok_of t.token.now) e ps) (fs ++ gs) end (grammar.next kind x parts)
+      ended (Continue (tok_of t.0) e ps) (fs ++ gs) end (grammar.next kind x parts)
 
   abbrev GoesOn : State → Read (Leaf × Bool) → Type 0
   GoesOn s found = (x : (Leaf × Bool) × State) → found ≡ Ok x → x.0.1 ≡ false → IsEndedPastExpression k s.depth (map significant_of x.1.left) × (x.1.depth ≡ s.depth)
@@ -163,7 +163,7 @@ module _ (k : StringKind) where
 
   continue_goes : (start : List ℕ) (s : State) (x : TableEntry × State) → IsEndedPastExpression k s.depth (map significant_of x.1.left) × (x.1.depth ≡ s.depth) → GoesOn s (part_by (kind_of start) string_parts.Continue x >>= flagged false)
   unfolding part_by
-  continue_goes start s x = text_goes _ s x (format_text (kind_of start) string_parts.Continue (lexeme_of x.0.token.now))
+  continue_goes start s x = text_goes _ s x (format_text (kind_of start) string_parts.Continue (lexeme_of x.0.0))
 
   after_part : (start : List ℕ) (s : State) → IsEndedAt k s → GoesOn s (part start s)
   after_part start s h = subst (GoesOn s) (sym (part_is start s)) (by_continue (accept kinds.FormatStringContinue s) (accepted kinds.FormatStringContinue s))

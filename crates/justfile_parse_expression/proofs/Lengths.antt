@@ -9,7 +9,7 @@ use Rattle.justfile_model.specs.ReaderState.{is_word, same_kind}
 use Rattle.justfile_parse_expression.specs.Significant.{significant_of}
 use Rattle.justfile_parse_expression.specs.TableReader.{Run, accept_marked}
 use Rattle.justfile_parse_expression.specs.View.{state_at}
-use Rattle.justfile_parse_expression.specs.declared.significant.TableEntry.{TableEntry}
+use Rattle.justfile_parse_expression.specs.Significant.{TableEntry}
 use Rattle.justfile_parse_expression.proofs.Rest.{marked_left}
 
 decided : (a b : List ℕ) (answer : Bool) → length a ≢ length b → bytes_eq a b ≡ answer → bytes_eq a b ≡ false
@@ -26,9 +26,9 @@ neither false b c e = refl
 
 -- nothing marks the token after the next one if that is of another kind
 pub unmarked : (run : Run) (depth n : ℕ) (fs : List (ListFeature × Token)) (word : List ℕ) (kind : TokenKind) (d : TableEntry) → n + 1 < length run.table
-    → same_kind (get_or run.table (n + 1) d).token.now.kind kind ≡ false → accept_marked word kind (state_at run depth n fs) ≡ None
+    → same_kind (get_or run.table (n + 1) d).0.kind kind ≡ false → accept_marked word kind (state_at run depth n fs) ≡ None
 unmarked run depth n fs word kind d h other =
     let mark = get_or run.table n d in
     let token = get_or run.table (n + 1) d in
     marked_left run depth n fs word kind d d h
-    (neither (is_word word (significant_of mark)) (same_kind token.token.now.kind kind) token.glued other)
+    (neither (is_word word (significant_of mark)) (same_kind token.0.kind kind) token.1 other)

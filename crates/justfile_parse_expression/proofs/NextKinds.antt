@@ -10,7 +10,7 @@ use Rattle.justfile_model.specs.ReaderState as reading
 use Rattle.justfile_model.specs.ReaderState.{at, same_kind}
 use Rattle.justfile_parse_expression.specs.TableReader.{Run, leaves}
 use Rattle.justfile_vocabulary.specs.declared.list_feature.ListFeature.{ListFeature}
-use Rattle.justfile_parse_expression.specs.declared.significant.TableEntry.{TableEntry}
+use Rattle.justfile_parse_expression.specs.Significant.{TableEntry}
 use Rattle.justfile_parse_expression.specs.View.{state_at}
 
 -- the kinds before an index are those of the next tokens, and the others are left
@@ -45,16 +45,16 @@ module _ (table : List TableEntry) (kinds : List TokenKind) where
         next_here : drop next table ≡ get_or table next d ∷ drop (next + 1) table
         next_here = rw add-one (drop-cons table next d inside)
 
-        here : reading.begin_with leaves kinds (drop start table) ≡ (same_kind entry.token.now.kind (get_or kinds index k) && reading.begin_with leaves (drop (index + 1) kinds) (drop (next + 1) table))
+        here : reading.begin_with leaves kinds (drop start table) ≡ (same_kind entry.0.kind (get_or kinds index k) && reading.begin_with leaves (drop (index + 1) kinds) (drop (next + 1) table))
         unfolding reading.begin_with leaves
         here =
             so_far.same ∙ ap (λ (ks : List TokenKind). reading.begin_with leaves ks (drop next table)) split
             ∙ ap (reading.begin_with leaves (get_or kinds index k ∷ drop (index + 1) kinds)) (next_here ∙ ap (λ (e : TableEntry). e ∷ drop (next + 1) table) (sym is))
 
-        pub are_other : same_kind entry.token.now.kind (get_or kinds index k) ≡ false → reading.begin_with leaves kinds (drop start table) ≡ false
+        pub are_other : same_kind entry.0.kind (get_or kinds index k) ≡ false → reading.begin_with leaves kinds (drop start table) ≡ false
         are_other other = here ∙ ap (λ (b : Bool). b && reading.begin_with leaves (drop (index + 1) kinds) (drop (next + 1) table)) other
 
-        pub are_go_on : same_kind entry.token.now.kind (get_or kinds index k) ≡ true → AreTo table kinds start (index + 1) (next + 1)
+        pub are_go_on : same_kind entry.0.kind (get_or kinds index k) ≡ true → AreTo table kinds start (index + 1) (next + 1)
         are_go_on same_here =
             record {
               at = omega (arith, so_far.at);

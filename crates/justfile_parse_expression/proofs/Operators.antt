@@ -17,7 +17,7 @@ use Rattle.justfile_parse_expression.specs.Chains.{row}
 use Rattle.justfile_parse_expression.specs.TableReader as r
 use Rattle.justfile_parse_expression.specs.TableReader.{At, Read, ReadExpr, ReadError, State, accept, accept_keyword, enter, front_operator, is_within, leaves, literal, operation, operations, read, value}
 use Rattle.justfile_expression.specs.LeafTree.{Leaf}
-use Rattle.justfile_parse_expression.specs.declared.significant.TableEntry.{TableEntry}
+use Rattle.justfile_parse_expression.specs.Significant.{TableEntry}
 use Rattle.justfile_model.proofs.ExpressionReading as laws
 use Rattle.justfile_parse_expression.proofs.Rules.{bind_alike, choose_alike, then_made}
 
@@ -77,7 +77,7 @@ pub conjunct_is : (c : Bool) (s : State) → read (At Conjunct c s)
     ≡ choose {X = ReadExpr} (accept_keyword (codes "if") s)
     (choose {X = ReadExpr} (accept kinds.Slash s)
     (value s >>= operation Conjunct c)
-    (λ op. row Conjunct (t.Root op.0.token.now) op.1))
+    (λ op. row Conjunct (t.Root op.0.0) op.1))
     (λ w. read (r.Conditional w.0 w.1))
 unfolding expressions.conjunct_rule expressions.binary_rule operation leaves row
 conjunct_is c s =
@@ -89,10 +89,10 @@ conjunct_is c s =
 pub value_is : (s : State) → value s
     ≡ choose {X = ReadExpr} (accept kinds.Bang s)
     (literal s >>= λ l. expressions.literal_or leaves read l.0 l.1)
-    (λ b. value (with (noted features.NegationOperator b.0.token.now) b.1) >>= then_made t.Not)
+    (λ b. value (with (noted features.NegationOperator b.0.0) b.1) >>= then_made t.Not)
 unfolding expressions.value_rule leaves
 value_is s =
-    choose_alike (accept kinds.Bang s) _ _ _ _ refl (λ b. ap (λ (f : ReadExpr). f >>= then_made t.Not) (laws.level_is leaves Value false (with (noted features.NegationOperator b.0.token.now) b.1)))
+    choose_alike (accept kinds.Bang s) _ _ _ _ refl (λ b. ap (λ (f : ReadExpr). f >>= then_made t.Not) (laws.level_is leaves Value false (with (noted features.NegationOperator b.0.0) b.1)))
 
 -- ---- the operators after a conjunct
 

@@ -17,7 +17,7 @@ use Rattle.justfile_parse_expression.specs.TableReader as r
 use Rattle.justfile_parse_expression.specs.TableReader.{At, Read, ReadExpr, State, accept, accept_keyword, assert, braced, condition, enclosed, expect, format_parts, format_string, group, leaves, list, literal_string, name, note_first, part, part_by, read, string_leaf, whole_format_string}
 use Rattle.justfile_expression.specs.LeafTree.{Leaf}
 use Rattle.justfile_model.specs.declared.level.Level.TheVariants.{Expression}
-use Rattle.justfile_parse_expression.specs.declared.significant.TableEntry.{TableEntry}
+use Rattle.justfile_parse_expression.specs.Significant.{TableEntry}
 use Rattle.justfile_model.proofs.ExpressionReading as laws
 
 pub conditional_is : (w : TableEntry) (s : State) → read (r.Conditional w s) ≡ expressions.conditional_rule leaves read w s
@@ -73,13 +73,13 @@ pub assert_is : (s : State) → assert s
     expect kinds.ParenL w.1 >>= λ o.
     condition o.1 >>= λ c.
     choose {X = ReadExpr} (accept kinds.Comma c.1)
-    (expect kinds.ParenR c.1 >>= then_made (λ _. t.Assert w.0.token.now c.0))
-    (λ comma. enclosed kinds.ParenR comma.1 >>= then_made (t.AssertMessage w.0.token.now c.0)))
+    (expect kinds.ParenR c.1 >>= then_made (λ _. t.Assert w.0.0 c.0))
+    (λ comma. enclosed kinds.ParenR comma.1 >>= then_made (t.AssertMessage w.0.0 c.0)))
 unfolding expressions.assert_rule enclosed leaves
 assert_is s =
     choose_alike (accept_keyword (codes "assert") s) _ _ _ _ refl (λ w.
     bind_alike (expect kinds.ParenL w.1) _ _ (λ o. bind_alike (condition o.1) _ _ (λ c.
-    choose_alike (accept kinds.Comma c.1) _ _ _ _ refl (λ comma. closed_by kinds.ParenR (t.AssertMessage w.0.token.now c.0) (read (At Expression false comma.1))))))
+    choose_alike (accept kinds.Comma c.1) _ _ _ _ refl (λ comma. closed_by kinds.ParenR (t.AssertMessage w.0.0 c.0) (read (At Expression false comma.1))))))
 
 -- ---- parts of format strings
 
@@ -91,9 +91,9 @@ pub string_is : (expand : Bool) (x : TableEntry × State) → literal_string exp
 unfolding expressions.literal_string expressions.cooked string_leaf
 string_is expand x = made_of_text _ (t.StringLiteral expand) x (cooked_text (leaves.conditions x.1.run).expander (string_of expand (leaves.see x.0).tok.lexeme))
 
-pub single_is : (x : TableEntry × State) → whole_format_string x ≡ (part_by (kind_of (lexeme_of x.0.token.now)) string_parts.Single x >>= then_made t.FormatLiteral)
+pub single_is : (x : TableEntry × State) → whole_format_string x ≡ (part_by (kind_of (lexeme_of x.0.0)) string_parts.Single x >>= then_made t.FormatLiteral)
 unfolding expressions.whole_format_string expressions.cooked part_by leaves
-single_is x = made_of_text _ t.FormatLiteral x (format_text (kind_of (lexeme_of x.0.token.now)) string_parts.Single (lexeme_of x.0.token.now))
+single_is x = made_of_text _ t.FormatLiteral x (format_text (kind_of (lexeme_of x.0.0)) string_parts.Single (lexeme_of x.0.0))
 
 pub part_is : (start : List ℕ) (s : State) → part start s
     ≡ choose {X = Read (Leaf × Bool)} (accept kinds.FormatStringContinue s)
@@ -102,8 +102,8 @@ pub part_is : (start : List ℕ) (s : State) → part start s
 unfolding expressions.part expressions.cooked part_by leaves
 part_is start s =
     choose_alike (accept kinds.FormatStringContinue s) _ _ _ _
-    (bind_alike (expect kinds.FormatStringEnd s) _ _ (λ x. made_of_text _ (λ (l : Leaf). (l, true)) x (format_text (kind_of start) string_parts.End (lexeme_of x.0.token.now))))
-    (λ x. made_of_text _ (λ (l : Leaf). (l, false)) x (format_text (kind_of start) string_parts.Continue (lexeme_of x.0.token.now)))
+    (bind_alike (expect kinds.FormatStringEnd s) _ _ (λ x. made_of_text _ (λ (l : Leaf). (l, true)) x (format_text (kind_of start) string_parts.End (lexeme_of x.0.0))))
+    (λ x. made_of_text _ (λ (l : Leaf). (l, false)) x (format_text (kind_of start) string_parts.Continue (lexeme_of x.0.0)))
 
 abbrev begun : Expr Leaf Token → Parts Leaf Token → Leaf → Expr Leaf Token
 begun e ps leaf = t.FormatString leaf e ps
@@ -121,7 +121,7 @@ rest_alike : (leaf : Leaf) (start : List ℕ) (found : ReadExpr)
 rest_alike leaf start (Ok e) = parts_alike leaf e.0 (read (expressions.FormatParts start e.1))
 rest_alike leaf start (Err f) = refl
 
-pub format_string_is : (x : TableEntry × State) → format_string x ≡ (part_by (kind_of (lexeme_of x.0.token.now)) string_parts.Start x >>= λ l. format_parts (lexeme_of x.0.token.now) l.1 >>= then_made (with_start l.0))
+pub format_string_is : (x : TableEntry × State) → format_string x ≡ (part_by (kind_of (lexeme_of x.0.0)) string_parts.Start x >>= λ l. format_parts (lexeme_of x.0.0) l.1 >>= then_made (with_start l.0))
 unfolding expressions.format_string_rule expressions.format_rest_rule expressions.cooked part_by format_parts leaves
 format_string_is x =
-    bind_alike (part_by (kind_of (lexeme_of x.0.token.now)) string_parts.Start x) _ _ (λ l. rest_alike l.0 (lexeme_of x.0.token.now) (read (At Expression false l.1)))
+    bind_alike (part_by (kind_of (lexeme_of x.0.0)) string_parts.Start x) _ _ (λ l. rest_alike l.0 (lexeme_of x.0.0) (read (At Expression false l.1)))

@@ -15,7 +15,7 @@ use Rattle.justfile_model.proofs.Related.{AlikeConditions, Relations, Respects}
 use Rattle.justfile_parse_expression.specs.TableReader.{Run, assigned_leaf, headed_leaf, leaves, literal_leaf}
 use Rattle.justfile_parse_expression.specs.Significant.{significant_of}
 use Rattle.justfile_expression.specs.LeafTree.{Leaf, Named, Text}
-use Rattle.justfile_parse_expression.specs.declared.significant.TableEntry.{TableEntry}
+use Rattle.justfile_parse_expression.specs.Significant.{TableEntry}
 
 -- what attributes are beside those that are written
 abbrev pub Meanings : Type 1
@@ -41,7 +41,7 @@ module _ (conditions : Conditions) (bound : ℕ) (IsToken : Token → Type 0) (f
     pub is : tok_of token ≡ tok
 
   pub record IsEntry (entry : TableEntry) (t : SignificantToken) : Type 0 where
-    pub among : IsToken entry.token.now
+    pub among : IsToken entry.0
     pub is : significant_of entry ≡ t
 
   -- a leaf that is made of such a token
@@ -83,8 +83,8 @@ module _ (conditions : Conditions) (bound : ℕ) (IsToken : Token → Type 0) (f
 
   -- ---- what the two make of tokens
 
-  named : (make : Token → Leaf) (entry : TableEntry) (t : SignificantToken) → IsEntry entry t → IsLeaf make (make entry.token.now) t.tok
-  named make entry t h = record { token = entry.token.now; among = h.among; is = refl; tok_is = ap (λ (s : SignificantToken). s.tok) (sym h.is) }
+  named : (make : Token → Leaf) (entry : TableEntry) (t : SignificantToken) → IsEntry entry t → IsLeaf make (make entry.0) t.tok
+  named make entry t h = record { token = entry.0; among = h.among; is = refl; tok_is = ap (λ (s : SignificantToken). s.tok) (sym h.is) }
 
   assigned_is : (run : Run) (C : Conditions) → IsRun run C → (token : Token) (number : ℕ) → assigned_leaf run token number ≡ assigned_leaf in_run token number
   assigned_is run C h token number = rw h.file_depth_is refl
@@ -115,7 +115,7 @@ module _ (conditions : Conditions) (bound : ℕ) (IsToken : Token → Type 0) (f
     position = λ entry t h. record { among = h.among; is = ap (λ (s : SignificantToken). s.tok) h.is };
     name = λ entry t h. named (λ token. Named token None) entry t h;
     literal = λ run C entry t r h l text lexeme cooked. record {
-      token = entry.token.now;
+      token = entry.0;
       among = h.among;
       lexeme = lexeme;
       text = text;
@@ -126,9 +126,9 @@ module _ (conditions : Conditions) (bound : ℕ) (IsToken : Token → Type 0) (f
     text = λ entry t h. named Text entry t h;
     star = λ entry t h. tt;
     assignment = λ run C entry t r h number.
-        subst (λ (leaf : Leaf). IsLeaf (λ token. assigned_leaf in_run token number) leaf t.tok) (sym (assigned_is run C r entry.token.now number)) (named (λ token. assigned_leaf in_run token number) entry t h);
+        subst (λ (leaf : Leaf). IsLeaf (λ token. assigned_leaf in_run token number) leaf t.tok) (sym (assigned_is run C r entry.0 number)) (named (λ token. assigned_leaf in_run token number) entry t h);
     recipe = λ run C entry t r h number body lines same.
-        subst (λ (leaf : Leaf). IsLeaf (λ token. headed_leaf in_run token number) leaf t.tok) (sym (headed_is run C r entry.token.now number)) (named (λ token. headed_leaf in_run token number) entry t h);
+        subst (λ (leaf : Leaf). IsLeaf (λ token. headed_leaf in_run token number) leaf t.tok) (sym (headed_is run C r entry.0 number)) (named (λ token. headed_leaf in_run token number) entry t h);
     parameter = λ run C entry t r h same number. named (λ token. Named token (Some (number_of number))) entry t h;
     function_parameter = λ run C entry t r h number. named (λ token. Named token (Some (number_of number))) entry t h;
     has_number = λ n h. refl;

@@ -22,7 +22,7 @@ use Rattle.justfile_parse_expression.specs.declared.expression.Link as links
 use Rattle.justfile_parse_expression.specs.declared.expression.Link.TheVariants as link_variants
 use Rattle.justfile_parse_expression.specs.declared.expression.Step as steps
 use Rattle.justfile_parse_expression.specs.declared.expression.Step.TheVariants as step_variants
-use Rattle.justfile_parse_expression.specs.declared.significant.TableEntry.{TableEntry}
+use Rattle.justfile_parse_expression.specs.Significant.{TableEntry}
 use Rattle.justfile_expression.specs.LeafTree.{Leaf, leaf_tree_of}
 
 abbrev pub Tree : Type 0
@@ -54,7 +54,7 @@ row_closed k (l ∷ ls) s = closed k (row_closed k ls s)
 -- what follows a left side: the operator, if there is one
 abbrev pub link_by : (condition : Bool) → Tree × State → Option (Operator × TableEntry × State) → Read StepTree
 link_by c l None = Ok (Last l.0, l.1)
-link_by c l (Some op) = Ok (Next (binary op.0 l.0 op.1.token.now), with (noted_if (feature_of op.0 c) op.1.token.now) op.2)
+link_by c l (Some op) = Ok (Next (binary op.0 l.0 op.1.0), with (noted_if (feature_of op.0 c) op.1.0) op.2)
 
 unfoldable pub link : Level → Tree × State → Read StepTree
 link k l = link_by false l (accept_operator k l.1)
@@ -65,7 +65,7 @@ operand_step s =
     choose {X = Read StepTree} (accept_keyword (codes "if") s)
     (choose {X = Read StepTree} (accept kinds.Slash s)
     (value s >>= link Conjunct)
-    (λ op. Ok (Next (tree.Root op.0.token.now), op.1)))
+    (λ op. Ok (Next (tree.Root op.0.0), op.1)))
     (λ w. read (r.Conditional w.0 w.1) >>= λ e. Ok (Last e.0, e.1))
 
 -- what comes next in a row, after an operator of the level; comparisons form no rows
@@ -88,7 +88,7 @@ pub data BranchTree : Type 0 where
 
 abbrev pub branch_of : arms.Branch → BranchTree
 branch_of (branch_variants.Last e) = End (leaf_tree_of e.value)
-branch_of (branch_variants.Next l word) = ElseIf (link_of l) word
+branch_of (branch_variants.Next l word) = ElseIf (link_of l) word.now
 
 -- the `else` branch in braces; if it ends in a conditional without `else`, no `else` may follow
 unfoldable pub last_branch : State → ReadExpr
@@ -99,7 +99,7 @@ branch word s =
     condition s >>= λ c.
     braced c.1 >>= λ b.
     choose {X = Read BranchTree} (accept_keyword (codes "else") b.1)
-    (Ok (End (tree.If c.0 b.0), with (noted features.IfWithoutElse word.token.now) b.1))
+    (Ok (End (tree.If c.0 b.0), with (noted features.IfWithoutElse word.0) b.1))
     (λ e.
     choose {X = Read BranchTree} (accept_keyword (codes "if") e.1)
     (last_branch e.1 >>= λ o. Ok (End (tree.IfElse c.0 b.0 o.0), o.1))

@@ -15,7 +15,7 @@ use Rattle.justfile_model.specs.Tok.{Tok}
 use Rattle.justfile_model.specs.Tree.{Expr, Parts, Last, Continue, itself}
 use Rattle.justfile_parse_expression.specs.Literal.{is_sound}
 use Rattle.justfile_parse_expression.specs.Significant.{significant_of}
-use Rattle.justfile_parse_expression.specs.declared.significant.TableEntry.{TableEntry}
+use Rattle.justfile_parse_expression.specs.Significant.{TableEntry}
 use Rattle.justfile_parse_expression.specs.TableReader.{State}
 
 abbrev pub last_of : Parts Tok Tok → Tok

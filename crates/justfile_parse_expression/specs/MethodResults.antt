@@ -1,4 +1,5 @@
 -- A method of the parser returns what the definitions read.
+use Rattle.std.specs.Borrow.{Bor}
 use Rattle.std.specs.Prelude.{◌≡◌, [], Option, Some, None, Result, Ok, Err}
 use Rattle.justfile_token.specs.declared.compile_error.CompileError.{CompileError}
 use Rattle.justfile_token.specs.declared.fault.Fault.{Fault}
@@ -8,7 +9,7 @@ use Rattle.justfile_model.specs.ReaderState as state
 use Rattle.justfile_model.specs.ReaderState.{refused}
 use Rattle.justfile_parse_expression.specs.TableReader as table
 use Rattle.justfile_parse_expression.specs.TableReader.{Read, State}
-use Rattle.justfile_parse_expression.specs.declared.significant.TableEntry.{TableEntry}
+use Rattle.justfile_parse_expression.specs.Significant.{TableEntry}
 use Rattle.justfile_parse_expression.specs.declared.expression_error.SyntaxError.{SyntaxError}
 use Rattle.justfile_parse_expression.specs.declared.expression_error.SyntaxError.TheVariants.{Unexpected, TooDeep}
 use Rattle.justfile_parse_expression.specs.declared.expression_error.ExpressionError.{ExpressionError}
@@ -37,14 +38,19 @@ Reads view (Ok x) s found = found ≡ Ok (view x, s)
 Reads view (Err cause) s found = IsExpressionError cause s ⊥ found
 
 -- The next entry, if one is left, and the state after it.
-abbrev pub Peeks : Option TableEntry → (here next : State) → Type 0
-Peeks (Some entry) here next = here ≡ state.with_next entry next
+abbrev pub Peeks : Option (Bor TableEntry) → (here next : State) → Type 0
+Peeks (Some entry) here next = here ≡ state.with_next entry.now next
 Peeks None here next = here.left ≡ []
 
 -- What was taken, and the state after it, are what the definitions take; nothing was taken if they take nothing.
 abbrev pub Takes : {X : Type 0} → Option X → State → Option (X × State) → Type 0
 Takes (Some x) s found = found ≡ Some (x, s)
 Takes None s found = found ≡ None
+
+-- `Takes` of an entry of the table
+abbrev pub TakesEntry : Option (Bor TableEntry) → State → Option (TableEntry × State) → Type 0
+TakesEntry (Some entry) s found = found ≡ Some (entry.now, s)
+TakesEntry None s found = found ≡ None
 
 -- `Holds` applies to what was returned, or memory ran out.
 abbrev pub UnlessMemory : {X : Type 0} → Result X ExpressionError → (X → Type 0) → Type 0

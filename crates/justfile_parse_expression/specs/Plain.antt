@@ -4,7 +4,7 @@ use Rattle.justfile_vocabulary.specs.declared.token_kind.TokenKind.{TokenKind}
 use Rattle.justfile_vocabulary.specs.declared.token_kind.TokenKind.TheVariants as kinds
 use Rattle.justfile_model.specs.ReaderState.{is_word, same_kind}
 use Rattle.justfile_parse_expression.specs.Significant.{significant_of}
-use Rattle.justfile_parse_expression.specs.declared.significant.TableEntry.{TableEntry}
+use Rattle.justfile_parse_expression.specs.Significant.{TableEntry}
 
 -- a string may have a mark before it
 abbrev pub is_markable : TokenKind → Bool
@@ -19,4 +19,4 @@ is_unmarking entry second = not (is_markable second) && not (is_word (codes "ass
 
 -- an entry with a token of this kind after it begins such a value
 unfoldable pub is_plain : TableEntry → (second : TokenKind) → Bool
-is_plain entry second = if same_kind entry.token.now.kind kinds.Identifier then is_unmarking entry second else is_opening entry.token.now.kind
+is_plain entry second = if same_kind entry.0.kind kinds.Identifier then is_unmarking entry second else is_opening entry.0.kind

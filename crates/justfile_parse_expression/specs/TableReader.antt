@@ -25,7 +25,7 @@ use Rattle.justfile_model.specs.declared.level.Level.{Level}
 use Rattle.justfile_model.specs.declared.level.Level.TheVariants.{Expression, Disjunct, Compared}
 use Rattle.justfile_model.specs.Operators.{operator_of}
 use Rattle.justfile_model.specs.declared.operator.Operator.{Operator}
-use Rattle.justfile_parse_expression.specs.declared.significant.TableEntry.{TableEntry}
+use Rattle.justfile_parse_expression.specs.Significant.{TableEntry}
 
 -- what stays the same while a file is read
 pub record Run : Type 0 where
@@ -56,15 +56,15 @@ unfoldable pub leaves : Leaves Run TableEntry Leaf Token (Unit {0})
 leaves = record {
   conditions = λ run. run.conditions;
   see = significant_of;
-  position = λ t. t.token.now;
-  name = λ t. Named t.token.now None;
-  literal = λ t literal text. literal_leaf t.token.now literal text;
-  text = λ t. Text t.token.now;
+  position = λ t. t.0;
+  name = λ t. Named t.0 None;
+  literal = λ t literal text. literal_leaf t.0 literal text;
+  text = λ t. Text t.0;
   star = λ t. tt;
-  parameter = λ run t rules number. Named t.token.now (Some (number_of number));
-  function_parameter = λ run t number. Named t.token.now (Some (number_of number));
-  assignment = λ run t number. assigned_leaf run t.token.now number;
-  recipe = λ run t number body. headed_leaf run t.token.now number;
+  parameter = λ run t rules number. Named t.0 (Some (number_of number));
+  function_parameter = λ run t number. Named t.0 (Some (number_of number));
+  assignment = λ run t number. assigned_leaf run t.0 number;
+  recipe = λ run t number body. headed_leaf run t.0 number;
   has_number = λ n. not (n == 2 ^ 32 - 1);
 }
 
@@ -142,7 +142,7 @@ literal = expressions.literal leaves
 -- a part of a format string with delimiters of a kind
 unfoldable pub part_by : StringKind → FormatStringPart → TableEntry × State → Read Leaf
 part_by kind part x =
-    expressions.by_text leaves (λ text. Literal (record { token = x.0.token.now; cooked = text; expand = false; kind = kind; part = Some part })) x (format_text kind part (lexeme_of x.0.token.now))
+    expressions.by_text leaves (λ text. Literal (record { token = x.0.0; cooked = text; expand = false; kind = kind; part = Some part })) x (format_text kind part (lexeme_of x.0.0))
 
 abbrev pub part : (start : List ℕ) → State → Read (Leaf × Bool)
 part = expressions.part leaves
@@ -165,7 +165,7 @@ operations _ condition lhs = Ok lhs
 -- the operator that comes next, if one does
 abbrev pub front_operator : List TableEntry → Option Operator
 front_operator [] = None
-front_operator (t ∷ ts) = operator_of t.token.now.kind
+front_operator (t ∷ ts) = operator_of t.0.kind
 
 -- an expression and the delimiter after it
 unfoldable pub enclosed : TokenKind → State → ReadExpr
@@ -180,7 +180,7 @@ condition = expressions.condition leaves
 -- notes a condition that isn't a comparison, at its first entry
 abbrev pub note_first : Expr Leaf Token → (first : Option TableEntry) → State → State
 note_first e None s = s
-note_first e (Some first) s = with (uncompared e first.token.now) s
+note_first e (Some first) s = with (uncompared e first.0) s
 
 abbrev pub braced : State → ReadExpr
 braced = expressions.braced leaves
@@ -224,7 +224,7 @@ name = expressions.name leaves
 unfoldable pub call : TableEntry → State → ReadExpr
 call word s = do
   es ← read (expressions.Sequence kinds.ParenR s)
-  Ok (tree.Call (Named word.token.now None) es.0, with (called (lexeme_of word.token.now) word.token.now) es.1)
+  Ok (tree.Call (Named word.0 None) es.0, with (called (lexeme_of word.0) word.0) es.1)
 
 abbrev pub group : State → ReadExpr
 group = expressions.group leaves

@@ -12,7 +12,7 @@ ghost use Rattle.justfile_expression.specs.LeafTree.{leaf_tree_of};
 use crate::expression::Link;
 use crate::expression_error::{ExpressionError, SyntaxError};
 use crate::parser::{ExpressionParser, is_word};
-use crate::significant::TableEntry;
+use crate::significant::SignificantToken;
 use justfile_expression::{Expression, ListFeature};
 use justfile_model::Level;
 use justfile_token::Expander;
@@ -22,7 +22,7 @@ use justfile_vocabulary::{Keyword, TokenKind};
 #[derive(Drop)]
 pub(crate) enum Branch<'run, 'src> {
     Last(Box<Expression<'src>>),
-    Next(Link<'run, 'src>, TableEntry<'run, 'src>),
+    Next(Link<'run, 'src>, &'run SignificantToken<'src>),
 }
 
 impl<'run, 'src, X: Expander> ExpressionParser<'run, 'src, X> {
@@ -34,10 +34,10 @@ impl<'run, 'src, X: Expander> ExpressionParser<'run, 'src, X> {
     #[inline(never)]
     pub(crate) fn parse_conditional(
         &mut self,
-        word: TableEntry<'run, 'src>,
+        word: &'run SignificantToken<'src>,
     ) -> Result<Box<Expression<'src>>, ExpressionError<'src>>
         ensures reads { Parses X.answer (λ e. leaf_tree_of e.value) result self.old self.new
-            (λ s. reader.read (reader.Conditional word.entry s)) }
+            (λ s. reader.read (reader.Conditional word.now s)) }
         ensures progress { OnOk result (tokens_left self.new < tokens_left self.old) }
     {
         match self.parse_branch(word)? {
@@ -54,22 +54,22 @@ impl<'run, 'src, X: Expander> ExpressionParser<'run, 'src, X> {
     fn parse_branches(
         &mut self,
         first: Link<'run, 'src>,
-        word: TableEntry<'run, 'src>,
+        word: &'run SignificantToken<'src>,
     ) -> Result<Box<Expression<'src>>, ExpressionError<'src>>
         ensures reads { Parses X.answer (λ e. leaf_tree_of e.value) result self.old self.new
-            (chains.branches (link_of first.entry) word.entry) }
+            (chains.branches (link_of first.entry) word.now) }
         ensures progress { OnOk result (tokens_left self.new < tokens_left self.old) }
     {
         let mut row = Vec::new(self.alloc);
         let mut link = first;
-        let mut word = word;
+        let mut word = *word;
         'branches: loop {
-            match self.parse_branch(word)? {
+            match self.parse_branch(&word)? {
                 Branch::Last(last) => return self.join_row(row, link, last, Level::Conjunct),
                 Branch::Next(next, after) => {
                     row.push(link)?;
                     link = next;
-                    word = after;
+                    word = *after;
                 }
             }
         }
@@ -80,16 +80,16 @@ impl<'run, 'src, X: Expander> ExpressionParser<'run, 'src, X> {
     #[tactic(auto, unfolding(crate::specs::Chains::branch))]
     fn parse_branch(
         &mut self,
-        word: TableEntry<'run, 'src>,
+        word: &SignificantToken<'src>,
     ) -> Result<Branch<'run, 'src>, ExpressionError<'src>>
         ensures reads { Parses X.answer branch_of result self.old self.new
-            (chains.branch word.entry) }
+            (chains.branch word.now) }
         ensures progress { OnOk result (tokens_left self.new < tokens_left self.old) }
     {
         let condition = self.parse_condition()?;
         let then = self.parse_braced()?;
         let Some(_else) = self.accept_keyword(Keyword::Else) else {
-            self.note(ListFeature::IfWithoutElse, *word.token)?;
+            self.note(ListFeature::IfWithoutElse, word.0)?;
             return self.end_if(condition, then);
         };
         let Some(word) = self.accept_keyword(Keyword::If) else {

@@ -16,7 +16,7 @@ ghost use Rattle.justfile_model.specs.declared.level.Level.TheVariants as levels
 use crate::expression_error::{ExpressionError, SyntaxError};
 use crate::operator::{find_feature, find_left_level, find_operator, is_at, make_operation};
 use crate::parser::ExpressionParser;
-use crate::significant::TableEntry;
+use crate::significant::SignificantToken;
 use justfile_expression::Expression;
 use justfile_model::{Level, Operator};
 use justfile_token::{Expander, Token};
@@ -105,7 +105,7 @@ impl<'run, 'src, X: Expander> ExpressionParser<'run, 'src, X> {
             let lhs = self.parse_value()?;
             return self.parse_operation(lhs, Level::Conjunct, condition);
         };
-        let token = slash.token;
+        let token = &slash.0;
         self.parse_row(Link::Root { token }, Level::Conjunct)
     }
 
@@ -167,7 +167,7 @@ impl<'run, 'src, X: Expander> ExpressionParser<'run, 'src, X> {
             return Ok(Step::Last(self.parse_conditional(word)?));
         }
         if let Some(slash) = self.accept(TokenKind::Slash) {
-            let token = slash.token;
+            let token = &slash.0;
             return Ok(Step::Next(Link::Root { token }));
         }
         let lhs = self.parse_value()?;
@@ -190,7 +190,7 @@ impl<'run, 'src, X: Expander> ExpressionParser<'run, 'src, X> {
             self.expected_tokens.add_operators(level);
             return Ok(Step::Last(lhs));
         };
-        let token = entry.token;
+        let token = &entry.0;
         self.note_if(find_feature(operator, false), *token)?;
         Ok(Step::Next(Link::Operation {
             lhs,
@@ -248,7 +248,7 @@ impl<'run, 'src, X: Expander> ExpressionParser<'run, 'src, X> {
             self.leave(level);
             return Ok(lhs);
         };
-        let token = entry.token;
+        let token = &entry.0;
         self.note_if(find_feature(operator, condition), *token)?;
         self.parse_row(
             Link::Operation {
@@ -368,15 +368,15 @@ impl<'run, 'src, X: Expander> ExpressionParser<'run, 'src, X> {
     /// Takes the next token if it is an operator of the level.
     #[tactic(auto, unfolding(justfile_model::specs::ExpressionReader::accept_operator, crate::specs::TableReader::leaves, crate::specs::View::state_of, crate::specs::View::tokens_left))]
     #[inline(always)]
-    fn accept_operator(&mut self, level: Level) -> Option<(Operator, TableEntry<'run, 'src>)>
+    fn accept_operator(&mut self, level: Level) -> Option<(Operator, &'run SignificantToken<'src>)>
         ensures some { IfSome result (λ found. reader.accept_operator level
-            (state_of X.answer self.old) ≡ Some (found.0, found.1, state_of X.answer self.new)) }
+            (state_of X.answer self.old) ≡ Some (found.0, found.1.now, state_of X.answer self.new)) }
         ensures none { IfNone result
             (reader.accept_operator level (state_of X.answer self.old) ≡ None) }
         ensures moves { Moves result self.old self.new }
     {
         let entry = self.peek()?;
-        let operator = find_operator(entry.token.kind)?;
+        let operator = find_operator(entry.0.kind)?;
         if is_at(level, operator) {
             self.next += 1;
             self.expected_tokens.clear();
@@ -390,7 +390,7 @@ impl<'run, 'src, X: Expander> ExpressionParser<'run, 'src, X> {
     fn peek_operator(&self) -> Option<Operator>
         ensures { result ≡ reader.front_operator (state_of X.answer self.now).left }
     {
-        find_operator(self.peek()?.token.kind)
+        find_operator(self.peek()?.0.kind)
     }
 }
 

@@ -7,7 +7,7 @@ ghost use Rattle.justfile_parse_expression.specs.MethodResults.{UnlessMemory};
 
 use crate::expression_error::ExpressionError;
 use crate::parser::ExpressionParser;
-use crate::significant::TableEntry;
+use crate::significant::SignificantToken;
 use justfile_expression::{Expression, ListFeature};
 use justfile_token::{Expander, Token};
 
@@ -18,14 +18,14 @@ impl<'src, X: Expander> ExpressionParser<'_, 'src, X> {
     pub(crate) fn note_condition(
         &mut self,
         condition: &Expression<'src>,
-        first: Option<TableEntry<'_, 'src>>,
+        first: Option<SignificantToken<'src>>,
     ) -> Result<(), ExpressionError<'src>>
         ensures notes { UnlessMemory result (λ done. state_of X.answer self.new
             ≡ note_first (leaf_tree_of condition.now) first.entry (state_of X.answer self.old)) }
         ensures stays { tokens_left self.new ≡ tokens_left self.old }
     {
         match first {
-            Some(first) => self.note_if(find_condition_feature(condition), *first.token),
+            Some(first) => self.note_if(find_condition_feature(condition), first.0),
             None => Ok(()),
         }
     }

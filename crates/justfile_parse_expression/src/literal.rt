@@ -13,7 +13,7 @@ ghost use Rattle.justfile_expression.specs.LeafTree.{Literal, literal_of, leaf_t
 
 use crate::expression_error::{ExpressionError, LiteralError};
 use crate::parser::ExpressionParser;
-use crate::significant::TableEntry;
+use crate::significant::SignificantToken;
 use crate::value::make_format_string;
 use justfile_expression::Expression;
 use justfile_literal::{command, format_part, string_literal, verbatim_text};
@@ -52,15 +52,15 @@ impl<'run, 'src, X: Expander> ExpressionParser<'run, 'src, X> {
     #[tactic(auto, using(crate::proofs::Cooked::quoted_string, crate::proofs::Rules::string_is))]
     fn cook_string(
         &self,
-        entry: TableEntry<'run, 'src>,
+        entry: &'run SignificantToken<'src>,
         expand: bool,
     ) -> Result<Box<Expression<'src>>, ExpressionError<'src>>
-        requires { IsOf kinds.StringToken entry }
+        requires { IsOf kinds.StringToken entry.now }
         ensures reads { Reads (λ e. leaf_tree_of e.value) result (state_of X.answer self.now)
-            (reader.literal_string expand (entry.entry, state_of X.answer self.now)) }
+            (reader.literal_string expand (entry.now, state_of X.answer self.now)) }
     {
         if !expand {
-            if let Some(text) = verbatim_text(entry.token.lexeme()) {
+            if let Some(text) = verbatim_text(entry.0.lexeme()) {
                 return self.box_verbatim(entry, text);
             }
         }
@@ -73,12 +73,12 @@ impl<'run, 'src, X: Expander> ExpressionParser<'run, 'src, X> {
     #[tactic(auto, using(crate::proofs::Rules::string_is))]
     fn box_verbatim(
         &self,
-        entry: TableEntry<'run, 'src>,
+        entry: &'run SignificantToken<'src>,
         text: &str,
     ) -> Result<Box<Expression<'src>>, ExpressionError<'src>>
-        requires { string_text (lexeme_of entry.token.now) ≡ Ok text.now }
+        requires { string_text (lexeme_of entry.now.0) ≡ Ok text.now }
         ensures reads { Reads (λ e. leaf_tree_of e.value) result (state_of X.answer self.now)
-            (reader.literal_string false (entry.entry, state_of X.answer self.now)) }
+            (reader.literal_string false (entry.now, state_of X.answer self.now)) }
     {
         let string_literal = self.copy_literal(entry, text)?;
         self.box_expression(Expression::StringLiteral { string_literal })
@@ -89,12 +89,12 @@ impl<'run, 'src, X: Expander> ExpressionParser<'run, 'src, X> {
     #[tactic(auto, using(crate::proofs::Cooked::verbatim_given))]
     fn copy_literal(
         &self,
-        entry: TableEntry<'run, 'src>,
+        entry: &'run SignificantToken<'src>,
         text: &str,
     ) -> Result<StringLiteral<'src>, ExpressionError<'src>>
-        requires { string_text (lexeme_of entry.token.now) ≡ Ok text.now }
+        requires { string_text (lexeme_of entry.now.0) ≡ Ok text.now }
         ensures reads { Reads (λ l. Literal (literal_of l)) result (state_of X.answer self.now)
-            (reader.string_leaf false (entry.entry, state_of X.answer self.now)) }
+            (reader.string_leaf false (entry.now, state_of X.answer self.now)) }
         ensures expand { IfOk result (λ l. l.expand ≡ false) }
     {
         let cooked = text.to_string(self.alloc)?;
@@ -103,7 +103,7 @@ impl<'run, 'src, X: Expander> ExpressionParser<'run, 'src, X> {
             expand: false,
             kind: find_kind(entry),
             part: None,
-            token: *entry.token,
+            token: entry.0,
         })
     }
 
@@ -115,15 +115,15 @@ impl<'run, 'src, X: Expander> ExpressionParser<'run, 'src, X> {
     #[tactic(auto, using(crate::proofs::Cooked::quoted_string, crate::proofs::Cooked::string_given, crate::proofs::Cooked::string_refused, crate::proofs::Cooked::is_literal))]
     pub fn cook_literal(
         &self,
-        entry: TableEntry<'run, 'src>,
+        entry: &'run SignificantToken<'src>,
         expand: bool,
     ) -> Result<StringLiteral<'src>, ExpressionError<'src>>
-        requires { IsOf kinds.StringToken entry }
+        requires { IsOf kinds.StringToken entry.now }
         ensures reads { Reads (λ l. Literal (literal_of l)) result (state_of X.answer self.now)
-            (reader.string_leaf expand (entry.entry, state_of X.answer self.now)) }
+            (reader.string_leaf expand (entry.now, state_of X.answer self.now)) }
         ensures expand { IfOk result (λ l. l.expand ≡ expand) }
     {
-        match string_literal(self.alloc, *entry.token, expand, self.expander) {
+        match string_literal(self.alloc, entry.0, expand, self.expander) {
             Ok(literal) => Ok(literal),
             Err(fault) => Err(literal_error(self.alloc, fault)),
         }
@@ -133,16 +133,16 @@ impl<'run, 'src, X: Expander> ExpressionParser<'run, 'src, X> {
     #[tactic(auto, using(crate::proofs::Cooked::quoted_command, crate::proofs::Cooked::command_given, crate::proofs::Cooked::command_refused, crate::proofs::Cooked::command_is_literal))]
     fn cook_backtick(
         &self,
-        entry: TableEntry<'run, 'src>,
+        entry: &'run SignificantToken<'src>,
     ) -> Result<Box<Expression<'src>>, ExpressionError<'src>>
-        requires { IsOf kinds.Backtick entry }
+        requires { IsOf kinds.Backtick entry.now }
         ensures reads { Reads (λ e. leaf_tree_of e.value) result (state_of X.answer self.now)
-            (reader.backtick (entry.entry, state_of X.answer self.now)) }
+            (reader.backtick (entry.now, state_of X.answer self.now)) }
     {
-        match command(self.alloc, *entry.token) {
+        match command(self.alloc, entry.0) {
             Ok(contents) => Ok(self.box_expression(Expression::Backtick {
                 contents,
-                token: *entry.token,
+                token: entry.0,
             })?),
             Err(fault) => Err(literal_error(self.alloc, fault)),
         }
@@ -152,11 +152,11 @@ impl<'run, 'src, X: Expander> ExpressionParser<'run, 'src, X> {
     #[tactic(auto, using(crate::proofs::Cooked::framed_single, crate::proofs::Rules::single_is))]
     fn cook_single(
         &self,
-        entry: TableEntry<'run, 'src>,
+        entry: &'run SignificantToken<'src>,
     ) -> Result<Box<Expression<'src>>, ExpressionError<'src>>
-        requires { IsOf kinds.StringToken entry }
+        requires { IsOf kinds.StringToken entry.now }
         ensures reads { Reads (λ e. leaf_tree_of e.value) result (state_of X.answer self.now)
-            (reader.whole_format_string (entry.entry, state_of X.answer self.now)) }
+            (reader.whole_format_string (entry.now, state_of X.answer self.now)) }
     {
         let literal = self.cook_part(entry, find_kind(entry), FormatStringPart::Single)?;
         self.box_expression(make_format_string(literal, Vec::new(self.alloc)))
@@ -166,15 +166,15 @@ impl<'run, 'src, X: Expander> ExpressionParser<'run, 'src, X> {
     #[tactic(auto, using(crate::proofs::Cooked::part_given, crate::proofs::Cooked::part_refused, crate::proofs::Cooked::is_literal))]
     pub(crate) fn cook_part(
         &self,
-        entry: TableEntry<'run, 'src>,
+        entry: &'run SignificantToken<'src>,
         kind: StringKind,
         part: FormatStringPart,
     ) -> Result<StringLiteral<'src>, ExpressionError<'src>>
-        requires framed { IsTrue (is_part kind part (lexeme_of entry.token.now)) }
+        requires framed { IsTrue (is_part kind part (lexeme_of entry.now.0)) }
         ensures reads { Reads (λ l. Literal (literal_of l)) result (state_of X.answer self.now)
-            (reader.part_by kind part (entry.entry, state_of X.answer self.now)) }
+            (reader.part_by kind part (entry.now, state_of X.answer self.now)) }
     {
-        match format_part(self.alloc, *entry.token, kind, part) {
+        match format_part(self.alloc, entry.0, kind, part) {
             Ok(literal) => Ok(literal),
             Err(fault) => Err(literal_error(self.alloc, fault)),
         }
@@ -182,10 +182,10 @@ impl<'run, 'src, X: Expander> ExpressionParser<'run, 'src, X> {
 }
 
 /// Returns how the literal is delimited.
-pub(crate) fn find_kind(entry: TableEntry<'_, '_>) -> StringKind
-    ensures { result ≡ kind_of (lexeme_of entry.entry.token.now) }
+pub(crate) fn find_kind(entry: &SignificantToken<'_>) -> StringKind
+    ensures { result ≡ kind_of (lexeme_of entry.now.0) }
 {
-    StringKind::of_opening(entry.token.lexeme().as_bytes())
+    StringKind::of_opening(entry.0.lexeme().as_bytes())
 }
 
 /// Makes the error for a literal that has no text.

@@ -12,12 +12,12 @@ ghost use Rattle.justfile_parse_expression.specs.Plain.{is_markable, is_plain};
 ghost use Rattle.justfile_model.specs.ReaderState.{at, is_word, marks};
 ghost use Rattle.justfile_model.specs.Versions.{version_numbers};
 ghost use Rattle.justfile_parse_expression.specs.TableReader as reader;
-ghost use Rattle.justfile_parse_expression.specs.MethodResults.{Peeks, Reads, Takes};
+ghost use Rattle.justfile_parse_expression.specs.MethodResults.{Peeks, Reads, TakesEntry};
 ghost use Rattle.justfile_parse_expression.specs.Significant.{significant_of};
 
 use crate::expected_tokens::ExpectedTokens;
 use crate::expression_error::{ExpressionError, SyntaxError};
-use crate::significant::TableEntry;
+use crate::significant::SignificantToken;
 use justfile_expression::ListFeature;
 use justfile_token::{Expander, Token};
 use justfile_vocabulary::{Keyword, TokenKind, Version};
@@ -50,7 +50,7 @@ pub struct ExpressionParser<'run, 'src, X> {
     pub list_features: Vec<(ListFeature, Token<'src>)>,
     /// The index of the next token.
     pub(crate) next: usize,
-    pub tokens: &'run [TableEntry<'run, 'src>],
+    pub tokens: &'run [SignificantToken<'src>],
     /// The kinds that were looked for at the next token and not found.
     pub expected_tokens: ExpectedTokens,
     ghost within: { next ≤ length tokens.now },
@@ -72,7 +72,7 @@ impl<'run, 'src, X: Expander> ExpressionParser<'run, 'src, X> {
         expander: &'run X,
         file_depth: u32,
         import_offsets: &'run [usize],
-        tokens: &'run [TableEntry<'run, 'src>],
+        tokens: &'run [SignificantToken<'src>],
         limit: usize,
     ) -> Self
         requires { IsTable tokens.now }
@@ -108,18 +108,21 @@ impl<'run, 'src, X: Expander> ExpressionParser<'run, 'src, X> {
 
     /// Returns the next token without taking it: `peek`, with a shorter contract for callers that
     /// need only the token.
-    pub fn peek_front(&self) -> Option<TableEntry<'run, 'src>>
+    pub fn peek_front(&self) -> Option<SignificantToken<'src>>
         ensures { result ≡ front (state_of X.answer self.now).left }
     {
-        self.peek()
+        match self.peek() {
+            Some(entry) => Some(*entry),
+            None => None,
+        }
     }
 
     /// Returns the next token if it is of this kind, without taking it.
-    pub fn peek_if(&self, kind: TokenKind) -> Option<TableEntry<'run, 'src>>
+    pub fn peek_if(&self, kind: TokenKind) -> Option<&'run SignificantToken<'src>>
         ensures within { OnSome result (self.now.next < length self.now.tokens.now) }
-        ensures takes { Takes result (state_from X.answer self.now (self.now.next + 1))
+        ensures takes { TakesEntry result (state_from X.answer self.now (self.now.next + 1))
             (reader.accept kind (state_of X.answer self.now)) }
-        ensures entry { IfSome result (λ entry. IsOf kind entry) }
+        ensures entry { IfSome result (λ entry. IsOf kind entry.now) }
     {
         let Some(entry) = self.probe_if(kind) else {
             self.expected_tokens.add(kind);
@@ -131,11 +134,11 @@ impl<'run, 'src, X: Expander> ExpressionParser<'run, 'src, X> {
     /// Takes the next token if it is this keyword.
     #[tactic(auto, unfolding(crate::specs::TableReader::leaves, justfile_model::specs::ReaderState::accept_keyword, crate::specs::View::state_of, crate::specs::View::tokens_left))]
     #[inline(always)]
-    pub fn accept_keyword(&mut self, keyword: Keyword) -> Option<TableEntry<'run, 'src>>
-        ensures takes { Takes result (state_of X.answer self.new)
+    pub fn accept_keyword(&mut self, keyword: Keyword) -> Option<&'run SignificantToken<'src>>
+        ensures takes { TakesEntry result (state_of X.answer self.new)
             (reader.accept_keyword (keyword_text keyword) (state_of X.answer self.old)) }
         ensures moves { Moves result self.old self.new }
-        ensures kind { IfSome result (λ entry. entry.token.now.kind ≡ kinds.Identifier) }
+        ensures kind { IfSome result (λ entry. entry.now.0.kind ≡ kinds.Identifier) }
     {
         let entry = self.peek()?;
         if is_word(entry, keyword.lexeme()) {
@@ -171,9 +174,9 @@ impl<'run, 'src, X: Expander> ExpressionParser<'run, 'src, X> {
         if self.tokens.len() - self.next < 2 {
             return false;
         }
-        let first = self.tokens[self.next];
-        let second = self.tokens[self.next + 1];
-        begins_plain(first, second.token.kind)
+        let first = &self.tokens[self.next];
+        let second = &self.tokens[self.next + 1];
+        begins_plain(first, second.0.kind)
     }
 
     /// Takes the next token if it is this mark, together with the string of this kind that is glued
@@ -185,11 +188,11 @@ impl<'run, 'src, X: Expander> ExpressionParser<'run, 'src, X> {
         &mut self,
         mark: Keyword,
         kind: TokenKind,
-    ) -> Option<TableEntry<'run, 'src>>
-        ensures takes { Takes result (state_of X.answer self.new)
+    ) -> Option<&'run SignificantToken<'src>>
+        ensures takes { TakesEntry result (state_of X.answer self.new)
             (reader.accept_marked (keyword_text mark) kind (state_of X.answer self.old)) }
         ensures moves { Moves result self.old self.new }
-        ensures entry { IfSome result (λ entry. IsOf kind entry) }
+        ensures entry { IfSome result (λ entry. IsOf kind entry.now) }
     {
         if self.is_second(kind) {
             return self.take_marked(mark, kind);
@@ -208,25 +211,29 @@ impl<'run, 'src, X: Expander> ExpressionParser<'run, 'src, X> {
         if self.tokens.len() - self.next < 2 {
             return false;
         }
-        let entry = self.tokens[self.next + 1];
-        entry.token.kind == kind
+        let entry = &self.tokens[self.next + 1];
+        entry.0.kind == kind
     }
 
     /// Takes the next token if it is this mark, together with the string of this kind that is glued
     /// to it, and returns the string.
     #[tactic(auto, using(crate::proofs::Rest::marked_here, crate::proofs::Rest::marked_end, crate::proofs::Rest::sound_at), unfolding(crate::specs::View::state_of, crate::specs::View::tokens_left))]
     #[inline(never)]
-    fn take_marked(&mut self, mark: Keyword, kind: TokenKind) -> Option<TableEntry<'run, 'src>>
-        ensures takes { Takes result (state_of X.answer self.new)
+    fn take_marked(
+        &mut self,
+        mark: Keyword,
+        kind: TokenKind,
+    ) -> Option<&'run SignificantToken<'src>>
+        ensures takes { TakesEntry result (state_of X.answer self.new)
             (reader.accept_marked (keyword_text mark) kind (state_of X.answer self.old)) }
         ensures moves { Moves result self.old self.new }
-        ensures entry { IfSome result (λ entry. IsOf kind entry) }
+        ensures entry { IfSome result (λ entry. IsOf kind entry.now) }
     {
         if self.tokens.len() - self.next < 2 {
             return None;
         }
-        let first = self.tokens[self.next];
-        let entry = self.tokens[self.next + 1];
+        let first = &self.tokens[self.next];
+        let entry = &self.tokens[self.next + 1];
         if is_marked(first, mark.lexeme(), entry, kind) {
             self.next += 2;
             self.expected_tokens.clear();
@@ -245,8 +252,8 @@ impl<'run, 'src, X: Expander> ExpressionParser<'run, 'src, X> {
         if self.tokens.len() - self.next < 2 {
             return false;
         }
-        let first = self.tokens[self.next];
-        let entry = self.tokens[self.next + 1];
+        let first = &self.tokens[self.next];
+        let entry = &self.tokens[self.next + 1];
         is_marked(first, mark.lexeme(), entry, kind)
     }
 
@@ -259,11 +266,11 @@ impl<'run, 'src, X: Expander> ExpressionParser<'run, 'src, X> {
     pub fn expect(
         &mut self,
         kind: TokenKind,
-    ) -> Result<TableEntry<'run, 'src>, ExpressionError<'src>>
-        ensures reads { Reads (λ entry. entry) result (state_of X.answer self.new)
+    ) -> Result<&'run SignificantToken<'src>, ExpressionError<'src>>
+        ensures reads { Reads (λ entry. entry.now) result (state_of X.answer self.new)
             (reader.expect kind (state_of X.answer self.old)) }
         ensures progress { OnOk result (tokens_left self.new < tokens_left self.old) }
-        ensures kind { IfOk result (λ entry. entry.token.now.kind ≡ kind) }
+        ensures kind { IfOk result (λ entry. entry.now.0.kind ≡ kind) }
     {
         match self.accept(kind) {
             Some(entry) => Ok(entry),
@@ -272,11 +279,11 @@ impl<'run, 'src, X: Expander> ExpressionParser<'run, 'src, X> {
     }
 
     /// Takes the next token if it is of this kind.
-    pub fn accept(&mut self, kind: TokenKind) -> Option<TableEntry<'run, 'src>>
-        ensures takes { Takes result (state_of X.answer self.new)
+    pub fn accept(&mut self, kind: TokenKind) -> Option<&'run SignificantToken<'src>>
+        ensures takes { TakesEntry result (state_of X.answer self.new)
             (reader.accept kind (state_of X.answer self.old)) }
         ensures moves { Moves result self.old self.new }
-        ensures entry { IfSome result (λ entry. IsOf kind entry) }
+        ensures entry { IfSome result (λ entry. IsOf kind entry.now) }
     {
         let Some(entry) = self.accept_unrecorded(kind) else {
             self.expected_tokens.add(kind);
@@ -288,11 +295,14 @@ impl<'run, 'src, X: Expander> ExpressionParser<'run, 'src, X> {
     /// Takes the next token if it is of this kind. Doesn't add the kind to the expected tokens: the
     /// caller looks for one of the kinds that a value begins with, and those are added all at once.
     #[tactic(auto, unfolding(crate::specs::View::state_of, crate::specs::View::tokens_left))]
-    pub(crate) fn accept_unrecorded(&mut self, kind: TokenKind) -> Option<TableEntry<'run, 'src>>
-        ensures takes { Takes result (state_of X.answer self.new)
+    pub(crate) fn accept_unrecorded(
+        &mut self,
+        kind: TokenKind,
+    ) -> Option<&'run SignificantToken<'src>>
+        ensures takes { TakesEntry result (state_of X.answer self.new)
             (reader.accept kind (state_of X.answer self.old)) }
         ensures moves { Moves result self.old self.new }
-        ensures entry { IfSome result (λ entry. IsOf kind entry) }
+        ensures entry { IfSome result (λ entry. IsOf kind entry.now) }
     {
         let entry = self.probe_if(kind)?;
         self.next += 1;
@@ -303,28 +313,28 @@ impl<'run, 'src, X: Expander> ExpressionParser<'run, 'src, X> {
     /// Returns the next token if it is of this kind, without taking it. Doesn't add the kind to the
     /// expected tokens.
     #[tactic(auto, unfolding(crate::specs::TableReader::leaves, justfile_model::specs::ReaderState::accept, justfile_model::specs::ReaderState::same_kind))]
-    pub fn probe_if(&self, kind: TokenKind) -> Option<TableEntry<'run, 'src>>
+    pub fn probe_if(&self, kind: TokenKind) -> Option<&'run SignificantToken<'src>>
         ensures within { OnSome result (self.now.next < length self.now.tokens.now) }
-        ensures takes { Takes result (state_from X.answer self.now (self.now.next + 1))
+        ensures takes { TakesEntry result (state_from X.answer self.now (self.now.next + 1))
             (reader.accept kind (state_of X.answer self.now)) }
-        ensures entry { IfSome result (λ entry. IsOf kind entry) }
+        ensures entry { IfSome result (λ entry. IsOf kind entry.now) }
     {
         match self.peek() {
-            Some(entry) if entry.token.kind == kind => Some(entry),
+            Some(entry) if entry.0.kind == kind => Some(entry),
             _ => None,
         }
     }
 
     /// Returns the next token without taking it, or `None` if no token is left.
     #[tactic(auto, using(crate::proofs::Rest::peeked, crate::proofs::Rest::ended, crate::proofs::Rest::sound_at))]
-    pub(crate) fn peek(&self) -> Option<TableEntry<'run, 'src>>
+    pub(crate) fn peek(&self) -> Option<&'run SignificantToken<'src>>
         ensures within { OnSome result (self.now.next < length self.now.tokens.now) }
         ensures peeks { Peeks result (state_of X.answer self.now)
             (state_from X.answer self.now (self.now.next + 1)) }
-        ensures sound { IfSome result (λ entry. IsTrue (is_sound entry)) }
+        ensures sound { IfSome result (λ entry. IsTrue (is_sound entry.now)) }
     {
         if self.next < self.tokens.len() {
-            Some(self.tokens[self.next])
+            Some(&self.tokens[self.next])
         } else {
             None
         }
@@ -359,7 +369,7 @@ impl<'run, 'src, X: Expander> ExpressionParser<'run, 'src, X> {
         let mut next = self.next;
         for kind in kinds {
             match self.tokens.get(next) {
-                Some(entry) if entry.token.kind == *kind => next += 1,
+                Some(entry) if entry.0.kind == *kind => next += 1,
                 _ => return false,
             }
         }
@@ -390,26 +400,26 @@ impl<'run, 'src, X: Expander> ExpressionParser<'run, 'src, X> {
 /// Whether the token is a string of this kind that is glued to a mark with this word.
 #[tactic(auto, unfolding(justfile_model::specs::ReaderState::same_kind))]
 pub(crate) fn is_marked(
-    mark: TableEntry<'_, '_>,
+    mark: &SignificantToken<'_>,
     word: &str,
-    entry: TableEntry<'_, '_>,
+    entry: &SignificantToken<'_>,
     kind: TokenKind,
 ) -> bool
     ensures is { result
-        ≡ marks word.now kind (significant_of mark.entry) (significant_of entry.entry) }
-    ensures kind { IsTrue result → entry.entry.token.now.kind ≡ kind }
+        ≡ marks word.now kind (significant_of mark.now) (significant_of entry.now) }
+    ensures kind { IsTrue result → entry.now.0.kind ≡ kind }
 {
-    entry.token.kind == kind && entry.glued && is_word(mark, word)
+    entry.0.kind == kind && entry.1 && is_word(mark, word)
 }
 
 /// Whether a token with one of this kind after it begins a value that is neither a literal nor an
 /// assertion, and has no `!` before it.
 #[tactic(auto, unfolding(crate::specs::Plain::is_plain, justfile_model::specs::ReaderState::same_kind))]
 #[inline(always)]
-fn begins_plain(entry: TableEntry<'_, '_>, second: TokenKind) -> bool
-    ensures { result ≡ is_plain entry.entry second }
+fn begins_plain(entry: &SignificantToken<'_>, second: TokenKind) -> bool
+    ensures { result ≡ is_plain entry.now second }
 {
-    let kind = entry.token.kind;
+    let kind = entry.0.kind;
     if kind == TokenKind::Identifier {
         return !is_markable(second) && !is_word(entry, Keyword::Assert.lexeme());
     }
@@ -420,14 +430,14 @@ fn begins_plain(entry: TableEntry<'_, '_>, second: TokenKind) -> bool
 /// from the word.
 #[tactic(auto, using(crate::proofs::Lengths::unequal), unfolding(justfile_model::specs::ReaderState::is_word, justfile_model::specs::ReaderState::same_kind))]
 #[inline(always)]
-pub fn is_word(entry: TableEntry<'_, '_>, word: &str) -> bool
-    ensures is { result ≡ is_word word.now (significant_of entry.entry) }
-    ensures kind { IsTrue result → entry.entry.token.now.kind ≡ kinds.Identifier }
+pub fn is_word(entry: &SignificantToken<'_>, word: &str) -> bool
+    ensures is { result ≡ is_word word.now (significant_of entry.now) }
+    ensures kind { IsTrue result → entry.now.0.kind ≡ kinds.Identifier }
 {
-    if entry.token.kind != TokenKind::Identifier {
+    if entry.0.kind != TokenKind::Identifier {
         return false;
     }
-    let lexeme = entry.token.lexeme();
+    let lexeme = entry.0.lexeme();
     lexeme.len() == word.len() && lexeme == word
 }
 

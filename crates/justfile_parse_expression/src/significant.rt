@@ -7,27 +7,22 @@ use justfile_token::Token;
 use justfile_vocabulary::TokenKind;
 use std::alloc::{AllocError, Global};
 
-/// An entry of the table that the parser reads.
-#[derive(Clone, Copy)]
-pub struct TableEntry<'run, 'src> {
-    /// A token that isn't whitespace.
-    pub token: &'run Token<'src>,
-    /// Whether it directly follows the token before, with no whitespace between them.
-    pub glued: bool,
-}
+/// A token that isn't whitespace, and whether it directly follows the token before, with no
+/// whitespace between them.
+pub type SignificantToken<'src> = (Token<'src>, bool);
 
 /// Returns the tokens that the parser reads: all but whitespace.
 ///
 /// # Errors
 ///
 /// Memory runs out.
-pub fn significant<'run, 'src>(
+pub fn significant<'src>(
     alloc: Global,
-    tokens: &'run [Token<'src>],
-) -> Result<Vec<TableEntry<'run, 'src>>, AllocError>
+    tokens: &[Token<'src>],
+) -> Result<Vec<SignificantToken<'src>>, AllocError>
     ensures table { IfOk result (λ table. map significant_of table.items
         ≡ significant_tokens (map tok_of tokens.now)) }
-    ensures tokens { IfOk result (λ table. map (λ entry. entry.token.now) table.items
+    ensures tokens { IfOk result (λ table. map (λ entry. entry.0) table.items
         ≡ without_whitespace tokens.now) }
 {
     let mut table = Vec::with_capacity(alloc, tokens.len())?;
@@ -36,7 +31,7 @@ pub fn significant<'run, 'src>(
         if is_whitespace(token.kind) {
             glued = false;
         } else {
-            push_entry(&mut table, token, glued)?;
+            push_entry(&mut table, *token, glued)?;
             glued = true;
         }
     }
@@ -50,14 +45,13 @@ fn is_whitespace(kind: TokenKind) -> bool
 }
 
 /// Appends an entry to the table.
-fn push_entry<'run, 'src>(
-    table: &mut Vec<TableEntry<'run, 'src>>,
-    token: &'run Token<'src>,
+fn push_entry<'src>(
+    table: &mut Vec<SignificantToken<'src>>,
+    token: Token<'src>,
     glued: bool,
 ) -> Result<(), AllocError>
-    ensures { OnOk result (table.new.items
-        ≡ table.old.items ++ record { token = token.entry; glued = glued } ∷ []) }
+    ensures { OnOk result (table.new.items ≡ table.old.items ++ (token.entry, glued) ∷ []) }
 {
-    table.push(TableEntry { token, glued })?;
+    table.push((token, glued))?;
     Ok(())
 }

@@ -18,7 +18,7 @@ use crate::expression_error::{ExpressionError, SyntaxError};
 use crate::feature::find_function_feature;
 use crate::literal::find_kind;
 use crate::parser::ExpressionParser;
-use crate::significant::TableEntry;
+use crate::significant::SignificantToken;
 use justfile_expression::{Expression, ListFeature};
 use justfile_model::Level;
 use justfile_token::{Expander, Name, StringLiteral, Token};
@@ -87,7 +87,7 @@ impl<'run, 'src, X: Expander> ExpressionParser<'run, 'src, X> {
         let most = self.count_left();
         let mut count = 0;
         while let Some(bang) = self.accept_unrecorded(TokenKind::Bang) {
-            self.note(ListFeature::NegationOperator, *bang.token)?;
+            self.note(ListFeature::NegationOperator, bang.0)?;
             prove!(count < most);
             count += 1;
         }
@@ -146,13 +146,13 @@ impl<'run, 'src, X: Expander> ExpressionParser<'run, 'src, X> {
     #[inline(never)]
     fn parse_format_string(
         &mut self,
-        start: TableEntry<'run, 'src>,
+        start: &'run SignificantToken<'src>,
     ) -> Result<Box<Expression<'src>>, ExpressionError<'src>>
-        requires start { IsOf kinds.FormatStringStart start }
-        requires ended { IsEndedFrom (kind_of (lexeme_of start.token.now))
+        requires start { IsOf kinds.FormatStringStart start.now }
+        requires ended { IsEndedFrom (kind_of (lexeme_of start.now.0))
             (state_of X.answer self.old) }
         ensures reads { Parses X.answer (λ e. leaf_tree_of e.value) result self.old self.new
-            (λ s. reader.format_string (start.entry, s)) }
+            (λ s. reader.format_string (start.now, s)) }
         ensures progress { OnOk result (tokens_left self.new < tokens_left self.old) }
     {
         let literal = self.cook_part(start, find_kind(start), FormatStringPart::Start)?;
@@ -165,12 +165,12 @@ impl<'run, 'src, X: Expander> ExpressionParser<'run, 'src, X> {
     #[tactic(auto, using(crate::proofs::Parts::begins, crate::proofs::Parts::goes_on, crate::proofs::Parts::ends, crate::proofs::Parts::stops_at))]
     fn parse_parts(
         &mut self,
-        start: TableEntry<'run, 'src>,
+        start: &'run SignificantToken<'src>,
     ) -> Result<Vec<(Expression<'src>, StringLiteral<'src>)>, ExpressionError<'src>>
-        requires ended { IsEndedFrom (kind_of (lexeme_of start.token.now))
+        requires ended { IsEndedFrom (kind_of (lexeme_of start.now.0))
             (state_of X.answer self.old) }
         ensures reads { Parses X.answer (λ parts. format_string_tree parts.items) result
-            self.old self.new (reader.format_parts (lexeme_of start.entry.token.now)) }
+            self.old self.new (reader.format_parts (lexeme_of start.now.0)) }
         ensures progress { OnOk result (tokens_left self.new < tokens_left self.old) }
     {
         let mut parts = Vec::new(self.alloc);
@@ -189,12 +189,12 @@ impl<'run, 'src, X: Expander> ExpressionParser<'run, 'src, X> {
     #[tactic(auto, unfolding(crate::specs::TableReader::pair))]
     fn parse_pair(
         &mut self,
-        start: TableEntry<'run, 'src>,
+        start: &'run SignificantToken<'src>,
     ) -> Result<(Expression<'src>, StringLiteral<'src>, bool), ExpressionError<'src>>
-        requires ended { IsEndedFrom (kind_of (lexeme_of start.token.now))
+        requires ended { IsEndedFrom (kind_of (lexeme_of start.now.0))
             (state_of X.answer self.old) }
         ensures reads { Parses X.answer (λ x. (leaf_tree_of x.0, Literal (literal_of x.1), x.2))
-            result self.old self.new (reader.pair (lexeme_of start.entry.token.now)) }
+            result self.old self.new (reader.pair (lexeme_of start.now.0)) }
         ensures progress { OnOk result (tokens_left self.new < tokens_left self.old) }
     {
         let expression = self.parse_level(Level::Expression, false)?;
@@ -206,12 +206,12 @@ impl<'run, 'src, X: Expander> ExpressionParser<'run, 'src, X> {
     #[tactic(auto, using(crate::proofs::Cooked::framed_continue, crate::proofs::FormatStrings::last_ended, crate::proofs::Rules::part_is))]
     fn parse_part(
         &mut self,
-        start: TableEntry<'run, 'src>,
+        start: &'run SignificantToken<'src>,
     ) -> Result<(StringLiteral<'src>, bool), ExpressionError<'src>>
-        requires ended { IsEndedAt (kind_of (lexeme_of start.token.now))
+        requires ended { IsEndedAt (kind_of (lexeme_of start.now.0))
             (state_of X.answer self.old) }
         ensures reads { Parses X.answer (λ x. (Literal (literal_of x.0), x.1)) result
-            self.old self.new (reader.part (lexeme_of start.entry.token.now)) }
+            self.old self.new (reader.part (lexeme_of start.now.0)) }
         ensures progress { OnOk result (tokens_left self.new < tokens_left self.old) }
     {
         if let Some(entry) = self.accept(TokenKind::FormatStringContinue) {
@@ -234,7 +234,7 @@ impl<'run, 'src, X: Expander> ExpressionParser<'run, 'src, X> {
         let Some(word) = self.accept_keyword(Keyword::Assert) else {
             return self.parse_name();
         };
-        let name = Name::from_identifier(*word.token);
+        let name = Name::from_identifier(word.0);
         self.expect(TokenKind::ParenL)?;
         let condition = self.parse_condition()?;
         let Some(_comma) = self.accept(TokenKind::Comma) else {
@@ -275,14 +275,14 @@ impl<'run, 'src, X: Expander> ExpressionParser<'run, 'src, X> {
     #[inline(never)]
     fn box_variable(
         &self,
-        entry: TableEntry<'run, 'src>,
+        entry: &'run SignificantToken<'src>,
     ) -> Result<Box<Expression<'src>>, ExpressionError<'src>>
-        requires { entry.token.now.kind ≡ kinds.Identifier }
+        requires { entry.now.0.kind ≡ kinds.Identifier }
         ensures { UnlessMemory result (λ e. leaf_tree_of e.value
-            ≡ tree.Variable (Named entry.entry.token.now None)) }
+            ≡ tree.Variable (Named entry.now.0 None)) }
     {
         self.box_expression(Expression::Variable {
-            name: Name::from_identifier(*entry.token),
+            name: Name::from_identifier(entry.0),
             number: None,
         })
     }
@@ -293,16 +293,16 @@ impl<'run, 'src, X: Expander> ExpressionParser<'run, 'src, X> {
     #[inline(never)]
     fn parse_call(
         &mut self,
-        entry: TableEntry<'run, 'src>,
+        entry: &'run SignificantToken<'src>,
     ) -> Result<Box<Expression<'src>>, ExpressionError<'src>>
-        requires { entry.token.now.kind ≡ kinds.Identifier }
+        requires { entry.now.0.kind ≡ kinds.Identifier }
         ensures reads { Reads (λ e. leaf_tree_of e.value) result (state_of X.answer self.new)
-            (reader.call entry.entry (state_of X.answer self.old)) }
+            (reader.call entry.now (state_of X.answer self.old)) }
         ensures progress { OnOk result (tokens_left self.new < tokens_left self.old) }
     {
         let arguments = self.parse_sequence(TokenKind::ParenR)?;
-        self.note_if(find_function_feature(entry.token.lexeme()), *entry.token)?;
-        let name = Name::from_identifier(*entry.token);
+        self.note_if(find_function_feature(entry.0.lexeme()), entry.0)?;
+        let name = Name::from_identifier(entry.0);
         self.box_expression(make_call(name, arguments))
     }
 
@@ -334,9 +334,9 @@ impl<'run, 'src, X: Expander> ExpressionParser<'run, 'src, X> {
             self.expected_tokens.add_value();
             return Err(ExpressionError::Refused(SyntaxError::Unexpected));
         };
-        self.note(ListFeature::ListLiteral, *opener.token)?;
+        self.note(ListFeature::ListLiteral, opener.0)?;
         let elements = self.parse_sequence(TokenKind::BracketR)?;
-        self.box_expression(make_list(*opener.token, elements))
+        self.box_expression(make_list(opener.0, elements))
     }
 
     /// Parses expressions separated by commas, and the closing delimiter.

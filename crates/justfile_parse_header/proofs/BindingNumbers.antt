@@ -6,7 +6,7 @@ use Rattle.justfile_model.specs.HeaderReader as headers
 use Rattle.justfile_model.specs.HeaderReader.{with_bindings}
 use Rattle.justfile_model.specs.ReaderState.{Counters, NoNumber}
 use Rattle.justfile_parse_expression.specs.TableReader.{Read, State, accept, expect, leaves}
-use Rattle.justfile_parse_expression.specs.declared.significant.TableEntry.{TableEntry}
+use Rattle.justfile_parse_expression.specs.Significant.{TableEntry}
 use Rattle.justfile_parse_header.specs.Counting.{TookBindingNumbers, counters_of, identifiers_left}
 use Rattle.justfile_parse_header.specs.HeaderTable.{next_binding_number}
 use Rattle.justfile_parse_header.proofs.Fewer.{accept_fewer, expect_fewer, fewer_at}

@@ -23,7 +23,7 @@ use Rattle.justfile_model.proofs.Related as a
 use Rattle.justfile_model.proofs.Related.{Never, Related}
 use Rattle.justfile_parse_expression.specs.Significant.{significant_of}
 use Rattle.justfile_parse_expression.specs.TableReader.{At, Read, ReadExpr, State, accept, expect, leaves, read, value}
-use Rattle.justfile_parse_expression.specs.declared.significant.TableEntry.{TableEntry}
+use Rattle.justfile_parse_expression.specs.Significant.{TableEntry}
 use Rattle.justfile_parse_expression.proofs.Anywhere.{agree, entries_are, rel, state_alike, state_seen}
 use Rattle.justfile_parse_expression.proofs.FormatStrings.{IsExpected, IsNext, Taken, accepted, expected}
 use Rattle.justfile_parse_expression.proofs.Seen.{Meanings}
@@ -53,7 +53,7 @@ expect_fewer kind s = go (expect kind s) (expected kind s)
 pub name_fewer : (s : State) (x : TableEntry × State) → expect kinds.Identifier s ≡ Ok x → identifiers_left x.1 + 1 ≤ identifiers_left s
 name_fewer s x is =
     let h = subst (IsExpected kinds.Identifier s.left) is (expected kinds.Identifier s) in
-    omega (arith, ap (λ (es : List TableEntry). identifiers (map significant_of es)) h.0, counts_one x.0.token.now.kind h.1)
+    omega (arith, ap (λ (es : List TableEntry). identifiers (map significant_of es)) h.0, counts_one x.0.0.kind h.1)
 
 pub accept_fewer : (kind : TokenKind) (s : State) (x : TableEntry × State) → accept kind s ≡ Some x → identifiers_left x.1 ≤ identifiers_left s
 accept_fewer kind s x is =

@@ -11,7 +11,7 @@ use Rattle.justfile_model.specs.declared.level.Level.TheVariants as levels
 use Rattle.justfile_model.proofs.ReadingSteps.{after_test}
 use Rattle.justfile_model.proofs.Turns.{recursive_keeps}
 use Rattle.justfile_parse_expression.specs.TableReader.{At, Read, State, expect, leaves, next_are, read, value}
-use Rattle.justfile_parse_expression.specs.declared.significant.TableEntry.{TableEntry}
+use Rattle.justfile_parse_expression.specs.Significant.{TableEntry}
 use Rattle.justfile_parse_header.specs.Counting.{identifiers_left}
 use Rattle.justfile_parse_header.specs.HeaderTable as reader
 use Rattle.justfile_parse_header.specs.HeaderTable.{LeafDependency, StarredArgument}

@@ -11,7 +11,7 @@ use Rattle.justfile_model.specs.HeaderReader as headers
 use Rattle.justfile_model.specs.HeaderReader.{obeying}
 use Rattle.justfile_model.specs.ReaderState.{Counters, prepend, with}
 use Rattle.justfile_parse_expression.specs.TableReader.{Read, ReadError, State, expect, leaves}
-use Rattle.justfile_parse_expression.specs.declared.significant.TableEntry.{TableEntry}
+use Rattle.justfile_parse_expression.specs.Significant.{TableEntry}
 use Rattle.justfile_parse_header.specs.HeaderTable as reader
 use Rattle.justfile_parse_header.specs.HeaderTable.{LeafDependency, LeafParameter, LeafHeader, Rules}
 use Rattle.justfile_parse_header.specs.Tree.{dependency_tree}
@@ -79,11 +79,11 @@ module _ (rules : List Rules) (n : Counters) (s : State) where
   name_fails e h = rw h refl
 
   module _ {name : TableEntry} {s1 : State} (named : expect kinds.Identifier s ≡ Ok (name, s1)) where
-    pub options_fail : (e : ReadError) → obeying (reader.same_options name.token.now rules) (ruled rules s1) ≡ Err e → reader.header rules n s ≡ Err e
+    pub options_fail : (e : ReadError) → obeying (reader.same_options name.0 rules) (ruled rules s1) ≡ Err e → reader.header rules n s ≡ Err e
     unfolding headers.header headers.distinct_options leaves
     options_fail e h = rw (named, h) refl
 
-    module _ (distinct : obeying (reader.same_options name.token.now rules) (ruled rules s1) ≡ Ok (tt, ruled rules s1)) where
+    module _ (distinct : obeying (reader.same_options name.0 rules) (ruled rules s1) ≡ Ok (tt, ruled rules s1)) where
       pub parameters_fail : (e : ReadError) → reader.parameters rules n (ruled rules s1) ≡ Err e → reader.header rules n s ≡ Err e
       unfolding headers.header headers.distinct_options leaves
       parameters_fail e h = rw (named, distinct, h) refl

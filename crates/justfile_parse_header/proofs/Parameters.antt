@@ -20,7 +20,7 @@ use Rattle.justfile_parse_attribute.specs.AttributeTable.{view_of}
 use Rattle.justfile_parse_attribute.specs.ParseErrors.{IsParseError}
 use Rattle.justfile_parse_attribute.specs.declared.parse_error.ParseError.{ParseError}
 use Rattle.justfile_parse_expression.specs.TableReader.{Read, ReadError, State, accept, expect, leaves}
-use Rattle.justfile_parse_expression.specs.declared.significant.TableEntry.{TableEntry}
+use Rattle.justfile_parse_expression.specs.Significant.{TableEntry}
 use Rattle.justfile_parse_header.specs.Counting.{TookBindingNumbers, counters_of, identifiers_left}
 use Rattle.justfile_parse_header.specs.HeaderTable as reader
 use Rattle.justfile_parse_header.specs.HeaderTable.{LeafParameter, Rules}
@@ -143,18 +143,18 @@ module _ (rules : List Rules) (kind : ParameterKind) (export : Bool) (before : L
     default_fails e h = rw (named, h) refl
 
     module _ (default : Option (Box Expression)) {s2 : State} (valued : reader.default_value s1 ≡ Ok (value_tree default, s2)) {has : Bool} (has_is : has ≡ is_some default)
-        {its_rules : Option Rules} (is : its_rules ≡ rules_for views_leaves rules (map parameter_tree before) (Named name.token.now None)) where
-      broken_is : arg_attribute_broken name.token.now has kind its_rules ≡ reader.broken_by rules (map parameter_tree before) (record { kind = kind; export = export; name = Named name.token.now None; default = value_tree default })
-      broken_is = ap (λ (b : Bool). arg_attribute_broken name.token.now b kind its_rules) has_is ∙ arg_attribute_is rules (map parameter_tree before) kind export name.token.now default its_rules is
+        {its_rules : Option Rules} (is : its_rules ≡ rules_for views_leaves rules (map parameter_tree before) (Named name.0 None)) where
+      broken_is : arg_attribute_broken name.0 has kind its_rules ≡ reader.broken_by rules (map parameter_tree before) (record { kind = kind; export = export; name = Named name.0 None; default = value_tree default })
+      broken_is = ap (λ (b : Bool). arg_attribute_broken name.0 b kind its_rules) has_is ∙ arg_attribute_is rules (map parameter_tree before) kind export name.0 default its_rules is
 
-      pub arg_attribute_fails : (e : ReadError) → obeying (arg_attribute_broken name.token.now has kind its_rules) s2 ≡ Err e → Found ≡ Err e
+      pub arg_attribute_fails : (e : ReadError) → obeying (arg_attribute_broken name.0 has kind its_rules) s2 ≡ Err e → Found ≡ Err e
       unfolding headers.named_parameter leaves
       arg_attribute_fails e h =
           let k = ap (λ (l : List (Broken Token)). obeying l s2) (sym broken_is) ∙ h in
           rw (named, valued, k) refl
 
-      module _ (obeyed : obeying (arg_attribute_broken name.token.now has kind its_rules) s2 ≡ Ok (tt, s2)) where
-        obeyed_is : obeying (reader.broken_by rules (map parameter_tree before) (record { kind = kind; export = export; name = Named name.token.now None; default = value_tree default })) s2 ≡ Ok (tt, s2)
+      module _ (obeyed : obeying (arg_attribute_broken name.0 has kind its_rules) s2 ≡ Ok (tt, s2)) where
+        obeyed_is : obeying (reader.broken_by rules (map parameter_tree before) (record { kind = kind; export = export; name = Named name.0 None; default = value_tree default })) s2 ≡ Ok (tt, s2)
         obeyed_is = ap (λ (l : List (Broken Token)). obeying l s2) (sym broken_is) ∙ obeyed
 
         pub number_fails : (e : ReadError) → reader.next_binding_number (counters_of first) s2 ≡ Err e → Found ≡ Err e
@@ -162,13 +162,13 @@ module _ (rules : List Rules) (kind : ParameterKind) (export : Bool) (before : L
         number_fails e h = rw (named, valued, obeyed_is, h) refl
 
         pub parameter_read : (number : ℕ) (next : Numerator) → reader.next_binding_number (counters_of first) s2 ≡ Ok ((number, counters_of next), s2) → (new : List Parameter) (p : Parameter)
-            → new ≡ before ++ p ∷ [] → p.name.token ≡ name.token.now
+            → new ≡ before ++ p ∷ [] → p.name.token ≡ name.0
             → parameter_tree p ≡ record { kind = kind; export = export; name = Named p.name.token (Some (number_of number)); default = value_tree default }
             → Found ≡ Ok ((map parameter_tree new, counters_of next), s2)
         unfolding headers.named_parameter leaves
         parameter_read number next h new p e token tree =
             let q : Token → LeafParameter = λ t. record { kind = kind; export = export; name = Named t (Some (number_of number)); default = value_tree default } in
-            let all : map parameter_tree new ≡ map parameter_tree before ++ q name.token.now ∷ [] =
+            let all : map parameter_tree new ≡ map parameter_tree before ++ q name.0 ∷ [] =
             ap (map parameter_tree) e ∙ map-append parameter_tree before (p ∷ []) ∙ ap (λ (r : LeafParameter). map parameter_tree before ++ r ∷ []) (tree ∙ ap q token) in
             rw (named, valued, obeyed_is, h, all) refl
 

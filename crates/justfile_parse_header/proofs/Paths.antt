@@ -9,7 +9,7 @@ use Rattle.justfile_model.specs.ReaderState.{prepend}
 use Rattle.justfile_model.proofs.HeaderReading as laws
 use Rattle.justfile_parse_expression.specs.MethodResults.{IsExpressionError, literal_read_error, read_error_at}
 use Rattle.justfile_parse_expression.specs.TableReader.{State, accept, expect, leaves}
-use Rattle.justfile_parse_expression.specs.declared.significant.TableEntry.{TableEntry}
+use Rattle.justfile_parse_expression.specs.Significant.{TableEntry}
 use Rattle.justfile_parse_expression.specs.declared.expression_error.ExpressionError.{ExpressionError}
 use Rattle.justfile_parse_expression.specs.declared.expression_error.ExpressionError.TheVariants.{Refused, Literal, Memory, Numbers}
 use Rattle.justfile_parse_header.specs.HeaderTable.{path, path_rest}
@@ -17,7 +17,7 @@ use Rattle.justfile_parse_header.specs.Tree.{name_tree}
 use Rattle.justfile_expression.specs.LeafTree.{Leaf, Named}
 
 -- the first name is read
-pub path_begins : (s : State) (first : TableEntry) (rest : State) (name : Name) → expect kinds.Identifier s ≡ Ok (first, rest) → name.token ≡ first.token.now
+pub path_begins : (s : State) (first : TableEntry) (rest : State) (name : Name) → expect kinds.Identifier s ≡ Ok (first, rest) → name.token ≡ first.0
     → prepend (map name_tree (name ∷ [])) (path_rest rest) ≡ path s
 unfolding headers.path leaves
 path_begins s first rest name h is = rw (h, is) refl
@@ -36,7 +36,7 @@ module _ (s q : State) (done : List Name) (so_far : prepend (map name_tree done)
 
   module _ (colons : TableEntry) (next : State) (taken : accept kinds.ColonColon q ≡ Some (colons, next)) where
     pub path_goes_on : (entry : TableEntry) (name : Name) (new : List Name) (rest : State) → expect kinds.Identifier next ≡ Ok (entry, rest)
-        → name.token ≡ entry.token.now → new ≡ done ++ name ∷ [] → prepend (map name_tree new) (path_rest rest) ≡ path s
+        → name.token ≡ entry.0 → new ≡ done ++ name ∷ [] → prepend (map name_tree new) (path_rest rest) ≡ path s
     unfolding leaves
     path_goes_on entry name new rest h token is =
         ap (λ (l : List Name). prepend (map name_tree l) (path_rest rest)) is

@@ -23,7 +23,7 @@ use Rattle.justfile_parse_attribute.specs.ParseErrors.{IsParseError, IsErrorOfFa
 use Rattle.justfile_parse_attribute.specs.declared.parse_error.ParseError.{ParseError}
 use Rattle.justfile_parse_attribute.proofs.AttributeSteps.{fails_for}
 use Rattle.justfile_parse_expression.specs.TableReader.{Read, State, leaves}
-use Rattle.justfile_parse_expression.specs.declared.significant.TableEntry.{TableEntry}
+use Rattle.justfile_parse_expression.specs.Significant.{TableEntry}
 use Rattle.justfile_parse_header.specs.HeaderTable.{second_from}
 use Rattle.justfile_parse_header.specs.Tree.{argument_tree, read_argument}
 use Rattle.justfile_parse_header.specs.declared.dependency.ReadArgument.{ReadArgument}
@@ -72,9 +72,9 @@ module _ (before : List ReadArgument) (star : TableEntry) where
 -- ---- a star that is refused
 
 abbrev RefusesStar : Rule Token → TableEntry → Fault → Type 0
-RefusesStar rule star fault = IsFaultOfRule rule star.token.now fault
+RefusesStar rule star fault = IsFaultOfRule rule star.0 fault
 
-module _ (star : TableEntry) (e : CompileError) (at_star : e.token ≡ star.token.now) where
+module _ (star : TableEntry) (e : CompileError) (at_star : e.token ≡ star.0) where
   pub refuses_second : e.kind ≡ errors.MappedDependencyMultipleStarredArguments → RefusesStar MappedDependencyMultipleStarredArguments star (faults.Compile e)
   refuses_second h = record { token = at_star; says = rw h tt }
 
@@ -99,10 +99,10 @@ module _ (s : State) where
 
   module _ (fault : Fault) (error : ParseError) (for : IsErrorOfFault error fault) where
     refused_at : (rule : Rule Token) (star first : TableEntry) → Some first ≡ Some star → RefusesStar rule star fault
-        → IsParseError {Y = Unit {0} × State} error s ⊥ (Err (BreaksRule (record { rule = rule; token = first.token.now })))
+        → IsParseError {Y = Unit {0} × State} error s ⊥ (Err (BreaksRule (record { rule = rule; token = first.0 })))
     refused_at rule star first is h =
         let same : star ≡ first = cc in
-        fails_for (Unit {0} × State) rule first.token.now fault error s for (subst (λ (t : TableEntry). RefusesStar rule t fault) same h)
+        fails_for (Unit {0} × State) rule first.0 fault error s for (subst (λ (t : TableEntry). RefusesStar rule t fault) same h)
 
     pub second_fails : (xs : List TableEntry) (second : TableEntry) → second_from false xs ≡ Some second → RefusesStar MappedDependencyMultipleStarredArguments second fault
         → IsParseError error s ⊥ (second_checked xs)

@@ -10,7 +10,7 @@ use Rattle.justfile_parse_attribute.specs.ParseErrors.{IsParseError, IsErrorOfFa
 use Rattle.justfile_parse_attribute.specs.declared.parse_error.ParseError.{ParseError}
 use Rattle.justfile_parse_attribute.specs.declared.parse_error.ParseError.TheVariants.{Expression, Compile}
 use Rattle.justfile_parse_expression.specs.TableReader.{State, accept, leaves}
-use Rattle.justfile_parse_expression.specs.declared.significant.TableEntry.{TableEntry}
+use Rattle.justfile_parse_expression.specs.Significant.{TableEntry}
 use Rattle.justfile_parse_expression.specs.declared.expression_error.ExpressionError.TheVariants as causes
 use Rattle.justfile_parse_header.specs.HeaderTable.{expect_no_name}
 
@@ -26,6 +26,6 @@ fails_after name faults.Numbers failure s h k = absurd k
 
 -- a name follows
 pub name_follows : (s : State) (name : TableEntry) (next : State) (error : ParseError) (fault : Fault) → accept kinds.Identifier s ≡ Some (name, next)
-    → IsErrorOfFault error fault → IsAfterVariadicFault name.token.now fault → IsParseError error s ⊥ (expect_no_name s)
+    → IsErrorOfFault error fault → IsAfterVariadicFault name.0 fault → IsParseError error s ⊥ (expect_no_name s)
 unfolding headers.expect_no_name leaves
-name_follows s name next error fault found h k = rw found (fails_after name.token.now fault error s h k)
+name_follows s name next error fault found h k = rw found (fails_after name.0 fault error s h k)

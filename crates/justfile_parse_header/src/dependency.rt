@@ -14,7 +14,7 @@ ghost use Rattle.justfile_parse_header.specs.Tree.{argument_tree, dependency_tre
 use crate::namepath::parse_namepath;
 use justfile_expression::Expression;
 use justfile_parse_attribute::{ParseError, rule_error};
-use justfile_parse_expression::significant::TableEntry;
+use justfile_parse_expression::significant::SignificantToken;
 use justfile_parse_expression::{ExpressionError, ExpressionParser, SyntaxError};
 use justfile_recipe_header::{DependencyArgument, UnresolvedDependency};
 use justfile_token::{CompileErrorKind, Expander, Fault};
@@ -23,9 +23,9 @@ use std::alloc::{AllocError, Global};
 
 /// An argument of a dependency while the arguments are parsed.
 #[derive(Drop)]
-pub(crate) struct ReadArgument<'run, 'src> {
+pub(crate) struct ReadArgument<'src> {
     /// The star before it, if there is one.
-    pub(crate) star: Option<TableEntry<'run, 'src>>,
+    pub(crate) star: Option<SignificantToken<'src>>,
     pub(crate) value: Box<Expression<'src>>,
 }
 
@@ -95,7 +95,7 @@ fn parse_dependency<'src, X: Expander>(
         return Ok(parse_bare(parser)?);
     }
     match parser.accept(TokenKind::Asterisk) {
-        Some(star) => parse_parenthesized(parser, Some(star)),
+        Some(star) => parse_parenthesized(parser, Some(*star)),
         None => parse_parenthesized(parser, None),
     }
 }
@@ -118,9 +118,9 @@ fn parse_bare<'src, X: Expander>(
 
 /// Parses a path and its arguments in parentheses, after the star before them, if there is one.
 #[tactic(auto, using(justfile_parse_attribute::proofs::AttributeSteps::broken_first), unfolding(justfile_model::specs::HeaderReader::parenthesized))]
-fn parse_parenthesized<'run, 'src, X: Expander>(
-    parser: &mut ExpressionParser<'run, 'src, X>,
-    star: Option<TableEntry<'run, 'src>>,
+fn parse_parenthesized<'src, X: Expander>(
+    parser: &mut ExpressionParser<'_, 'src, X>,
+    star: Option<SignificantToken<'src>>,
 ) -> Result<UnresolvedDependency<'src>, ParseError<'src>>
     ensures reads { ParsesRuled X.answer dependency_tree result parser.old parser.new
         (reader.parenthesized star.entry) }
@@ -136,9 +136,9 @@ fn parse_parenthesized<'run, 'src, X: Expander>(
 
 /// Parses arguments, which nothing separates, and the closing parenthesis.
 #[tactic(auto, using(crate::proofs::Dependencies::arguments_end, crate::proofs::Dependencies::arguments_go_on))]
-fn parse_arguments<'run, 'src, X: Expander>(
-    parser: &mut ExpressionParser<'run, 'src, X>,
-) -> Result<Vec<ReadArgument<'run, 'src>>, ParseError<'src>>
+fn parse_arguments<'src, X: Expander>(
+    parser: &mut ExpressionParser<'_, 'src, X>,
+) -> Result<Vec<ReadArgument<'src>>, ParseError<'src>>
     ensures reads { ParsesRuled X.answer (λ arguments. map read_argument arguments.items) result
         parser.old parser.new (λ s. reader.dependency_arguments ([], s)) }
     ensures progress { OnOk result (tokens_left parser.new < tokens_left parser.old) }
@@ -155,25 +155,25 @@ fn parse_arguments<'run, 'src, X: Expander>(
 
 /// Parses an argument with or without a star, after those in `before`.
 #[tactic(auto, unfolding(justfile_model::specs::HeaderReader::dependency_argument))]
-fn parse_argument<'run, 'src, X: Expander>(
-    parser: &mut ExpressionParser<'run, 'src, X>,
-    before: &[ReadArgument<'run, 'src>],
-) -> Result<ReadArgument<'run, 'src>, ParseError<'src>>
+fn parse_argument<'src, X: Expander>(
+    parser: &mut ExpressionParser<'_, 'src, X>,
+    before: &[ReadArgument<'src>],
+) -> Result<ReadArgument<'src>, ParseError<'src>>
     ensures reads { ParsesRuled X.answer read_argument result parser.old parser.new
         (reader.dependency_argument (map read_argument before.now)) }
     ensures progress { OnOk result (tokens_left parser.new < tokens_left parser.old) }
 {
     match parser.accept(TokenKind::Asterisk) {
-        Some(star) => parse_starred(parser, before, star),
+        Some(star) => parse_starred(parser, before, *star),
         None => Ok(parse_plain(parser)?),
     }
 }
 
 /// Parses an argument without a star.
 #[tactic(auto, unfolding(justfile_model::specs::HeaderReader::plain_argument))]
-fn parse_plain<'run, 'src, X: Expander>(
-    parser: &mut ExpressionParser<'run, 'src, X>,
-) -> Result<ReadArgument<'run, 'src>, ExpressionError<'src>>
+fn parse_plain<'src, X: Expander>(
+    parser: &mut ExpressionParser<'_, 'src, X>,
+) -> Result<ReadArgument<'src>, ExpressionError<'src>>
     ensures reads { Parses X.answer read_argument result parser.old parser.new
         reader.plain_argument }
     ensures progress { OnOk result (tokens_left parser.new < tokens_left parser.old) }
@@ -184,11 +184,11 @@ fn parse_plain<'run, 'src, X: Expander>(
 
 /// Parses an argument after its star. Refuses the star if it is the second.
 #[tactic(auto, using(justfile_parse_attribute::proofs::AttributeSteps::broken_first), unfolding(justfile_model::specs::HeaderReader::starred_argument))]
-fn parse_starred<'run, 'src, X: Expander>(
-    parser: &mut ExpressionParser<'run, 'src, X>,
-    before: &[ReadArgument<'run, 'src>],
-    star: TableEntry<'run, 'src>,
-) -> Result<ReadArgument<'run, 'src>, ParseError<'src>>
+fn parse_starred<'src, X: Expander>(
+    parser: &mut ExpressionParser<'_, 'src, X>,
+    before: &[ReadArgument<'src>],
+    star: SignificantToken<'src>,
+) -> Result<ReadArgument<'src>, ParseError<'src>>
     ensures reads { ParsesRuled X.answer read_argument result parser.old parser.new
         (reader.starred_argument (map read_argument before.now) star.entry) }
     ensures progress { OnOk result (tokens_left parser.new < tokens_left parser.old) }
@@ -202,10 +202,10 @@ fn parse_starred<'run, 'src, X: Expander>(
 }
 
 /// Refuses a star that isn't the first.
-fn refuse_second<'run, 'src>(
+fn refuse_second<'src>(
     alloc: Global,
-    before: &[ReadArgument<'run, 'src>],
-    star: TableEntry<'run, 'src>,
+    before: &[ReadArgument<'src>],
+    star: SignificantToken<'src>,
 ) -> Result<(), ParseError<'src>>
     ensures { ChecksRules (reader.second_star (map read_argument before.now) star.entry) result }
 {
@@ -215,7 +215,7 @@ fn refuse_second<'run, 'src>(
             alloc,
             Fault::Compile(
                 second
-                    .token
+                    .0
                     .error(CompileErrorKind::MappedDependencyMultipleStarredArguments),
             ),
         )),
@@ -224,10 +224,10 @@ fn refuse_second<'run, 'src>(
 
 /// Returns the second star, if the arguments and then `star` have one.
 #[tactic(auto, using(crate::proofs::Stars::second_later, crate::proofs::Stars::second_begins, crate::proofs::Stars::second_here, crate::proofs::Stars::second_end))]
-fn find_second<'run, 'src>(
-    before: &[ReadArgument<'run, 'src>],
-    star: TableEntry<'run, 'src>,
-) -> Option<TableEntry<'run, 'src>>
+fn find_second<'src>(
+    before: &[ReadArgument<'src>],
+    star: SignificantToken<'src>,
+) -> Option<SignificantToken<'src>>
     ensures { result
         ≡ reader.second_from false (stars (map read_argument before.now) ++ star.entry ∷ []) }
 {
@@ -245,10 +245,10 @@ fn find_second<'run, 'src>(
 
 /// Refuses a star before the parentheses if no argument has one, and a star of an argument if none
 /// is before the parentheses.
-fn check_stars<'run, 'src>(
+fn check_stars<'src>(
     alloc: Global,
-    star: Option<TableEntry<'run, 'src>>,
-    arguments: &[ReadArgument<'run, 'src>],
+    star: Option<SignificantToken<'src>>,
+    arguments: &[ReadArgument<'src>],
 ) -> Result<(), ParseError<'src>>
     ensures { ChecksRules (reader.misplaced_star star.entry (map read_argument arguments.now))
         result }
@@ -258,14 +258,14 @@ fn check_stars<'run, 'src>(
             alloc,
             Fault::Compile(
                 first
-                    .token
+                    .0
                     .error(CompileErrorKind::StarredArgumentOutsideMappedDependency),
             ),
         )),
         (Some(star), None) => Err(rule_error(
             alloc,
             Fault::Compile(
-                star.token
+                star.0
                     .error(CompileErrorKind::MappedDependencyWithoutStarredArgument),
             ),
         )),
@@ -275,7 +275,9 @@ fn check_stars<'run, 'src>(
 
 /// Returns the star of the first argument that has one.
 #[tactic(auto, using(crate::proofs::Stars::first_later, crate::proofs::Stars::first_here, crate::proofs::Stars::first_end))]
-fn find_star<'run, 'src>(arguments: &[ReadArgument<'run, 'src>]) -> Option<TableEntry<'run, 'src>>
+fn find_star<'src>(
+    arguments: &[ReadArgument<'src>],
+) -> Option<SignificantToken<'src>>
     ensures { result ≡ first_of (stars (map read_argument arguments.now)) }
 {
     for argument in arguments {
@@ -290,7 +292,7 @@ fn find_star<'run, 'src>(arguments: &[ReadArgument<'run, 'src>]) -> Option<Table
 /// present.
 fn tree_arguments<'src>(
     alloc: Global,
-    arguments: Vec<ReadArgument<'_, 'src>>,
+    arguments: Vec<ReadArgument<'src>>,
 ) -> Result<Vec<DependencyArgument<'src>>, AllocError>
     ensures { IfOk result (λ kept. map argument_tree kept.items
         ≡ map (over_dependency_argument (λ x. x) (λ x. x) leaves.star)

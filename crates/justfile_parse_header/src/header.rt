@@ -16,18 +16,18 @@ use crate::parameter::parse_parameters;
 use justfile_attribute_set::AttributeSet;
 use justfile_parse_attribute::ParseError;
 use justfile_parse_expression::ExpressionParser;
-use justfile_parse_expression::significant::TableEntry;
+use justfile_parse_expression::significant::SignificantToken;
 use justfile_recipe_header::{Parameter, UnresolvedDependency};
 use justfile_token::Expander;
 use justfile_vocabulary::{Numerator, TokenKind};
 
 /// The header of a recipe, without its `@`.
 #[derive(Drop)]
-pub struct Header<'run, 'src> {
+pub struct Header<'src> {
     /// The dependencies before `&&`, and then those after it.
     pub dependencies: Vec<UnresolvedDependency<'src>>,
     /// The token of its name.
-    pub name: TableEntry<'run, 'src>,
+    pub name: SignificantToken<'src>,
     pub parameters: Vec<Parameter<'src>>,
     /// How many of the dependencies come before `&&`.
     pub priors: usize,
@@ -39,11 +39,11 @@ pub struct Header<'run, 'src> {
 /// # Errors
 ///
 /// The tokens aren't a header, a rule is broken, or memory or numbers run out.
-pub fn parse_header<'run, 'src, X: Expander>(
+pub fn parse_header<'src, X: Expander>(
     attributes: &AttributeSet<'src>,
-    parser: &mut ExpressionParser<'run, 'src, X>,
+    parser: &mut ExpressionParser<'_, 'src, X>,
     numerator: &mut Numerator,
-) -> Result<Header<'run, 'src>, ParseError<'src>>
+) -> Result<Header<'src>, ParseError<'src>>
     requires { AreKeyed (attributes_of attributes.now) }
     ensures reads { ParsesCounted X.answer header_tree result numerator.new parser.old parser.new
         (reader.header (rules_of attributes.now) (counters_of numerator.old)) }
@@ -53,12 +53,12 @@ pub fn parse_header<'run, 'src, X: Expander>(
         (identifiers_left (state_of X.answer parser.old))
         (identifiers_left_after_header result (state_of X.answer parser.new)) }
     ensures priors { IfOk result (λ header. header.priors ≤ length header.dependencies.items) }
-    ensures named { IfOk result (λ header. header.name.token.now.kind ≡ kinds.Identifier) }
+    ensures named { IfOk result (λ header. header.name.0.kind ≡ kinds.Identifier) }
     ensures progress { OnOk result (tokens_left parser.new < tokens_left parser.old) }
 {
     let name = parser.expect(TokenKind::Identifier)?;
     note_arg_attributes(attributes, parser)?;
-    check_options(attributes, parser.alloc, *name.token)?;
+    check_options(attributes, parser.alloc, name.0)?;
     let parameters = parse_parameters(attributes, parser, numerator)?;
     check_defined(attributes, parser.alloc, parameters.as_slice())?;
     let mut dependencies = Vec::new(parser.alloc);
@@ -67,7 +67,7 @@ pub fn parse_header<'run, 'src, X: Expander>(
     parse_subsequents(parser, &mut dependencies)?;
     Ok(Header {
         dependencies,
-        name,
+        name: *name,
         parameters,
         priors,
     })

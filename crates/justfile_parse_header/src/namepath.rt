@@ -22,12 +22,12 @@ pub fn parse_namepath<'src, X: Expander>(
     ensures progress { OnOk result (tokens_left parser.new < tokens_left parser.old) }
 {
     let first = parser.expect(TokenKind::Identifier)?;
-    let mut path = Namepath::from_name(parser.alloc, Name::from_identifier(*first.token))?;
+    let mut path = Namepath::from_name(parser.alloc, Name::from_identifier(first.0))?;
     'names: loop {
         let Some(_colons) = parser.accept(TokenKind::ColonColon) else {
             return Ok(path);
         };
         let name = parser.expect(TokenKind::Identifier)?;
-        path.push(Name::from_identifier(*name.token))?;
+        path.push(Name::from_identifier(name.0))?;
     }
 }

@@ -178,7 +178,7 @@ fn expect_no_name<'src, X: Expander>(
 {
     match parser.probe_if(TokenKind::Identifier) {
         None => Ok(()),
-        Some(name) => Err(rule_error(parser.alloc, after_variadic_error(*name.token))),
+        Some(name) => Err(rule_error(parser.alloc, after_variadic_error(name.0))),
     }
 }
 
@@ -242,8 +242,8 @@ fn parse_named<'src, X: Expander>(
 {
     let name = parser.expect(TokenKind::Identifier)?;
     let default = parse_default(parser)?;
-    let arg = find_arg(arg_attributes, parameters, *name.token);
-    check_arg_attribute(arg, parser.alloc, *name.token, default.is_some(), kind)?;
+    let arg = find_arg(arg_attributes, parameters, name.0);
+    check_arg_attribute(arg, parser.alloc, name.0, default.is_some(), kind)?;
     let arg_attribute = copy_arg_attribute(parser.alloc, arg)?;
     let number = next_binding_number(numerator)?;
     parameters.push(Parameter {
@@ -256,7 +256,7 @@ fn parse_named<'src, X: Expander>(
         max: arg_attribute.max,
         min: arg_attribute.min,
         multiple: arg_attribute.multiple,
-        name: Name::from_identifier(*name.token),
+        name: Name::from_identifier(name.0),
         number,
         short: arg_attribute.short,
         value: arg_attribute.value,

@@ -16,7 +16,7 @@ use Rattle.justfile_parse_expression.specs.MethodResults.{IsExpressionError, lit
 use Rattle.justfile_parse_item.specs.Tree.{fragment_tree, line_tree}
 use Rattle.justfile_expression.specs.LeafTree.{Leaf, Text}
 use Rattle.justfile_model.specs.declared.level.Level.TheVariants as levels
-use Rattle.justfile_parse_expression.specs.declared.significant.TableEntry.{TableEntry}
+use Rattle.justfile_parse_expression.specs.Significant.{TableEntry}
 use Rattle.justfile_parse_expression.specs.declared.expression_error.ExpressionError.{ExpressionError}
 use Rattle.justfile_parse_expression.specs.declared.expression_error.ExpressionError.TheVariants.{Refused, Literal, Memory, Numbers}
 use Rattle.justfile_model.proofs.ItemReading as laws
@@ -27,7 +27,7 @@ use Rattle.justfile_parse_header.proofs.HeaderErrors.{stopped}
 pub fragment_is : (s : State) → fragment s
     ≡ choose {X = Read (tree.Fragment Leaf Token)} (accept kinds.Text s)
     (expect kinds.InterpolationStart s >>= λ start. enclosed kinds.InterpolationEnd start.1 >>= then_made tree.Interpolation)
-    (λ t. Ok (tree.Text (Text t.0.token.now), t.1))
+    (λ t. Ok (tree.Text (Text t.0.0), t.1))
 unfolding files.fragment enclosed leaves
 fragment_is s =
     choose_alike (accept kinds.Text s) _ _ _ _

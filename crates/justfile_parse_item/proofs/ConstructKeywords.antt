@@ -19,7 +19,7 @@ use Rattle.justfile_parse_item.specs.declared.construct.ConstructKeyword.TheVari
 use Rattle.justfile_parse_attribute.specs.AttributeTable.{Entries}
 use Rattle.justfile_parse_attribute.specs.declared.parse_error.ParseError.{ParseError}
 use Rattle.justfile_parse_expression.specs.TableReader.{State, leaves}
-use Rattle.justfile_parse_expression.specs.declared.significant.TableEntry.{TableEntry}
+use Rattle.justfile_parse_expression.specs.Significant.{TableEntry}
 use Rattle.justfile_parse_header.specs.Counting.{ReadsCounted, counters_of, identifiers_left}
 use Rattle.justfile_parse_header.proofs.Fewer.{fewer}
 use Rattle.justfile_parse_header.proofs.HeaderErrors.{failed}

@@ -45,7 +45,7 @@ use Rattle.justfile_parse_attribute.specs.declared.parse_error.ParseError.TheVar
 use Rattle.justfile_parse_attribute.specs.declared.parse_error.ParseError.{ParseError}
 use Rattle.justfile_parse_expression.specs.TableReader as tokens
 use Rattle.justfile_parse_expression.specs.TableReader.{Read, State, leaves}
-use Rattle.justfile_parse_expression.specs.declared.significant.TableEntry.{TableEntry}
+use Rattle.justfile_parse_expression.specs.Significant.{TableEntry}
 use Rattle.justfile_parse_expression.specs.declared.expression_error.ExpressionError.TheVariants as causes
 use Rattle.justfile_expression.specs.LeafViews.{views_leaves}
 use Rattle.justfile_expression.specs.LeafTree.{Leaf}
@@ -92,7 +92,7 @@ Found = Option (Entry Leaf Token)
 module _ (item : ItemKind) (ws : Entries) (name : TableEntry) (s : State) (entries : Entries) (is : entries ≡ in_content_order ws) where
   -- the refusal of the first that such an item may not have
   abbrev refusing : Found → Read (Unit {0})
-  refusing o = obeying (of_some (λ (e : Entry Leaf Token). record { rule = InvalidAttribute item (kind_of_attribute e.attribute); token = name.token.now } ∷ []) o) s
+  refusing o = obeying (of_some (λ (e : Entry Leaf Token). record { rule = InvalidAttribute item (kind_of_attribute e.attribute); token = name.0 } ∷ []) o) s
 
   allowed_is : reader.check_allowed item ws name s ≡ refusing (first_invalid views_leaves item entries)
   unfolding leaves
@@ -103,18 +103,18 @@ module _ (item : ItemKind) (ws : Entries) (name : TableEntry) (s : State) (entri
   pub is_allowed : first_invalid views_leaves item entries ≡ None → reader.check_allowed item ws name s ≡ Ok (tt, s)
   is_allowed h = allowed_is ∙ ap refusing h
 
-  says : (kind : AttributeKind) (error_kind : CompileErrorKind) → NamesInvalid item name.token.now kind error_kind → IsKindOfRule name.token.now (InvalidAttribute item kind) error_kind
+  says : (kind : AttributeKind) (error_kind : CompileErrorKind) → NamesInvalid item name.0 kind error_kind → IsKindOfRule name.0 (InvalidAttribute item kind) error_kind
   says kind (error_kinds.InvalidAttribute item' text kind') h = h
   says kind _ h = absurd h
 
-  pub is_disallowed : (e : CompileError) (error : ParseError) → IsInvalidBy (first_invalid views_leaves item entries) item name.token.now e
+  pub is_disallowed : (e : CompileError) (error : ParseError) → IsInvalidBy (first_invalid views_leaves item entries) item name.0 e
       → IsErrorOfFault error (faults.Compile e) → IsParseError error s ⊥ (reader.check_allowed item ws name s)
   is_disallowed e error invalid h = subst (λ (f : Read (Unit {0})). IsParseError error s ⊥ f) (sym allowed_is) (go (first_invalid views_leaves item entries) invalid)
     where
-      go : (o : Found) → IsInvalidBy o item name.token.now e → IsParseError error s ⊥ (refusing o)
+      go : (o : Found) → IsInvalidBy o item name.0 e → IsParseError error s ⊥ (refusing o)
       go None k = absurd k
       go (Some first) k =
-          rule_fails (Unit {0}) (Unit {0} × State) (record { rule = InvalidAttribute item (kind_of_attribute first.attribute); token = name.token.now }) (faults.Compile e) error s h
+          rule_fails (Unit {0}) (Unit {0} × State) (record { rule = InvalidAttribute item (kind_of_attribute first.attribute); token = name.0 }) (faults.Compile e) error s h
           (record { token = k.0; says = says (kind_of_attribute first.attribute) e.kind k.1 })
 
 -- ---- a recipe's attributes that exclude each other
@@ -160,15 +160,15 @@ module _ (s : State) (opener : TableEntry) (next : State) (opened : tokens.accep
   before_is = rw opened refl
 
   module _ (ws : Entries) (rest : State) (read : reader.lines_of_attributes s ≡ Ok (ws, rest)) where
-    pub stand_alone : reader.stands_alone rest ≡ true → reader.item_attributes s ≡ Err (reading.Extraneous (length ws) opener.token.now)
+    pub stand_alone : reader.stands_alone rest ≡ true → reader.item_attributes s ≡ Err (reading.Extraneous (length ws) opener.0)
     unfolding leaves
     stand_alone h = before_is ∙ rw (read, h) refl
 
     -- reading stops if a blank line or a comment follows the attributes
     pub fails_alone : (pairs : List (Attribute × Written)) → ws ≡ map entry_of_pair pairs → reader.stands_alone rest ≡ true → (count : ℕ) → count ≡ length pairs
-        → (fault : Fault) (error : ParseError) → IsErrorOfFault error fault → IsExtraneousFault count opener.token.now fault → IsParseError error rest ⊥ (reader.item_attributes s)
+        → (fault : Fault) (error : ParseError) → IsErrorOfFault error fault → IsExtraneousFault count opener.0 fault → IsParseError error rest ⊥ (reader.item_attributes s)
     fails_alone pairs is alone count e fault error h k =
         let counted : length ws ≡ count = ap (λ (l : Entries). length l) is ∙ length-map pairs entry_of_pair ∙ sym e in
-        let refused : reader.item_attributes s ≡ Err (reading.Extraneous count opener.token.now) =
-        stand_alone alone ∙ ap (λ (n : ℕ). Err (reading.Extraneous n opener.token.now)) counted in
-        subst (λ (f : Read Entries). IsParseError error rest ⊥ f) (sym refused) (extraneous_fails (Entries × State) count opener.token.now fault error rest h k)
+        let refused : reader.item_attributes s ≡ Err (reading.Extraneous count opener.0) =
+        stand_alone alone ∙ ap (λ (n : ℕ). Err (reading.Extraneous n opener.0)) counted in
+        subst (λ (f : Read Entries). IsParseError error rest ⊥ f) (sym refused) (extraneous_fails (Entries × State) count opener.0 fault error rest h k)

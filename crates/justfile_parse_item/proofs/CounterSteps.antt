@@ -8,7 +8,7 @@ use Rattle.justfile_model.specs.ReaderState.{Counters, NoNumber}
 use Rattle.justfile_parse_item.specs.ItemTable.{next_recipe_number}
 use Rattle.justfile_parse_item.specs.MethodResults.{CountersMoved}
 use Rattle.justfile_parse_expression.specs.TableReader.{Read, State, expect, leaves}
-use Rattle.justfile_parse_expression.specs.declared.significant.TableEntry.{TableEntry}
+use Rattle.justfile_parse_expression.specs.Significant.{TableEntry}
 use Rattle.justfile_parse_header.specs.Counting.{TookBindingNumbers, counters_of, identifiers_left}
 use Rattle.justfile_parse_header.specs.HeaderTable.{next_binding_number}
 use Rattle.justfile_parse_header.proofs.BindingNumbers.{took_one}

@@ -19,7 +19,7 @@ use Rattle.justfile_parse_item.specs.Tree.{item_tree}
 use Rattle.justfile_parse_item.specs.DerivedFields.{HaveDerivedFields, KeepsDerivedFields}
 use Rattle.justfile_expression.specs.LeafTree.{Leaf}
 use Rattle.justfile_parse_attribute.specs.declared.parse_error.ParseError.{ParseError}
-use Rattle.justfile_parse_expression.specs.declared.significant.TableEntry.{TableEntry}
+use Rattle.justfile_parse_expression.specs.Significant.{TableEntry}
 use Rattle.justfile_parse_expression.specs.declared.expression_error.ExpressionError.{ExpressionError}
 use Rattle.justfile_parse_expression.specs.declared.expression_error.ExpressionError.TheVariants.{Refused, Literal, Memory, Numbers}
 use Rattle.justfile_model.proofs.ItemReading as laws

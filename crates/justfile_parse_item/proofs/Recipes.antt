@@ -20,7 +20,7 @@ use Rattle.justfile_parse_attribute.specs.ParseErrors.{IsParseError}
 use Rattle.justfile_parse_attribute.specs.declared.parse_error.ParseError.{ParseError}
 use Rattle.justfile_parse_expression.specs.MethodResults.{IsExpressionError}
 use Rattle.justfile_parse_expression.specs.TableReader.{Read, ReadError, State, accept, leaves}
-use Rattle.justfile_parse_expression.specs.declared.significant.TableEntry.{TableEntry}
+use Rattle.justfile_parse_expression.specs.Significant.{TableEntry}
 use Rattle.justfile_parse_expression.specs.declared.expression_error.ExpressionError.{ExpressionError}
 use Rattle.justfile_parse_header.specs.HeaderTable.{LeafHeader, header}
 use Rattle.justfile_parse_header.specs.Counting.{identifiers_left}
@@ -44,7 +44,7 @@ module _ (quiet : Bool) (ws : Entries) (n : Counters) (s : State) (entries : Ent
 
   -- what is read after the body
   abbrev checked_by : (all kept : Entries) → LeafHeader × Counters → Body → State → ReadItem
-  checked_by all kept h b t = obeying (exclusions_broken views_leaves h.0.name.token.now all) t >>= λ checked. next_recipe_number h.1 checked.1 >>= numbered_by kept h.0 b
+  checked_by all kept h b t = obeying (exclusions_broken views_leaves h.0.name.0 all) t >>= λ checked. next_recipe_number h.1 checked.1 >>= numbered_by kept h.0 b
 
   -- what is read after the header
   abbrev bodied_by : (all kept : Entries) → (LeafHeader × Counters) × State → ReadItem
@@ -78,13 +78,13 @@ module _ (quiet : Bool) (ws : Entries) (n : Counters) (s : State) (entries : Ent
       after_body = after_header ∙ ap (λ (o : Read Body). o >>= λ x. checked_by entries entries (h, m) x.0 x.1) body
 
       -- attributes exclude each other
-      pub exclusion_fails : (error : ParseError) (left : State) (Wanting : Type 0) → IsParseError error left ⊥ (obeying (exclusions_broken views_leaves h.name.token.now entries) u)
+      pub exclusion_fails : (error : ParseError) (left : State) (Wanting : Type 0) → IsParseError error left ⊥ (obeying (exclusions_broken views_leaves h.name.0 entries) u)
           → IsParseError error left Wanting (reader.recipe quiet ws n s)
       exclusion_fails error left Wanting k =
           subst (λ (o : ReadItem). IsParseError error left Wanting o) (sym after_body)
-          (first_errs (obeying (exclusions_broken views_leaves h.name.token.now entries) u) (λ checked. next_recipe_number m checked.1 >>= numbered_by entries h b) error left Wanting k)
+          (first_errs (obeying (exclusions_broken views_leaves h.name.0 entries) u) (λ checked. next_recipe_number m checked.1 >>= numbered_by entries h b) error left Wanting k)
 
-      module _ (obeyed : obeying (exclusions_broken views_leaves h.name.token.now entries) u ≡ Ok (tt, u)) where
+      module _ (obeyed : obeying (exclusions_broken views_leaves h.name.0 entries) u ≡ Ok (tt, u)) where
         after_check : reader.recipe quiet ws n s ≡ (next_recipe_number m u >>= numbered_by entries h b)
         after_check = after_body ∙ ap (λ (o : Read (Unit {0})). o >>= λ checked. next_recipe_number m checked.1 >>= numbered_by entries h b) obeyed
 
@@ -98,7 +98,7 @@ module _ (quiet : Bool) (ws : Entries) (n : Counters) (s : State) (entries : Ent
 
         -- it is read
         pub recipe_read : (number : ℕ) (k : Counters) → next_recipe_number m u ≡ Ok ((number, k), u) → (name : RecipeName) (comment : Option (List ℕ)) (lines : List (BodyLine Leaf Token ℕ))
-            → name ≡ record { file_depth = u.run.file_depth; import_offsets = u.run.import_offsets; name = h.name.token.now; number = number_of number }
+            → name ≡ record { file_depth = u.run.file_depth; import_offsets = u.run.import_offsets; name = h.name.0; number = number_of number }
             → comment ≡ option_map comment_in b.0 → lines ≡ b.1
             → reader.recipe quiet ws n s ≡ Ok ((recipe_item entries h (Headed name) comment lines, k), u)
         unfolding leaves

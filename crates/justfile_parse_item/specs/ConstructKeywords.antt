@@ -7,7 +7,7 @@ use Rattle.justfile_parse_item.specs.declared.construct.ConstructKeyword.{Constr
 use Rattle.justfile_parse_item.specs.declared.construct.ConstructKeyword.TheVariants.{Alias, Eager, Export, Import, Mod, Set, Unexport}
 use Rattle.justfile_parse_attribute.specs.AttributeTable.{Entries}
 use Rattle.justfile_parse_expression.specs.TableReader.{State}
-use Rattle.justfile_parse_expression.specs.declared.significant.TableEntry.{TableEntry}
+use Rattle.justfile_parse_expression.specs.Significant.{TableEntry}
 use Rattle.justfile_parse_item_parts.specs.PartTable.{accept_keyword_before, peek_assignment, is_imported, is_module, is_set, line_is}
 
 -- the keyword that was taken, and the state after it; or none

@@ -45,17 +45,16 @@ use Rattle.justfile_model.specs.Literals.{Expansions, Command, cooked_text, stri
 use Rattle.justfile_vocabulary.specs.declared.list_feature.ListFeature.{ListFeature}
 use Rattle.justfile_expression.specs.declared.expression.Expression.{Expression, And', Assert', Backtick, Call', Comparison', Concatenation', Conditional', FormatString', Group', Join', List', ListConcatenation', Not', Or', StringLiteral, Variable, Held-Expression-Assert-1 as OptionalExpression, None', Some', Row_of-Expression as ExpressionRow, end_of-Expression as row_end, more_of-Expression as row_more, Row_of-Expression-FormatString-1-2 as FormatRow, end_of-Expression-FormatString-1-2 as format_row_end, more_of-Expression-FormatString-1-2 as format_row_more}
 use Rattle.justfile_parse_item.specs.DerivedFields.{is_private_item}
-use Rattle.justfile_parse_expression.specs.declared.significant.TableEntry.{TableEntry}
+use Rattle.justfile_parse_expression.specs.Significant.{TableEntry}
 use Rattle.justfile_parse_header.specs.ArgAttribute.{HaveDerivedParameterFields}
 use Rattle.justfile_parse_header.specs.Tree.{rules_of}
 use Rattle.justfile_setting.specs.declared.setting.Setting as values
 use Rattle.justfile_setting.specs.declared.setting.Setting.TheVariants as settings
 
--- The table has an entry that refers to the token.
+-- The table has an entry with the token.
 pub record IsInTable (table : List TableEntry) (token : Token) : Type 0 where
-  pub ref_ptr : ℕ × ℕ
   pub glued : Bool
-  pub among : Contains table (record { token = record { ref_ptr = ref_ptr; now = token }; glued = glued })
+  pub among : Contains table (token, glued)
 
 -- Each feature was noted at a token of the table.
 pub record AreNotedIn (table : List TableEntry) (features : List (ListFeature × Token)) : Type 0 where

@@ -44,13 +44,13 @@ pub(crate) fn parse_assignment<'src, X: Expander>(
     let value = parser.parse_expression()?;
     let attributes = check_allowed(parser.alloc, ItemKind::Assignment, attributes, name)?;
     let number = next_binding_number(numerator)?;
-    let private = is_private_item(*name.token, &attributes);
+    let private = is_private_item(name.0, &attributes);
     Ok(Item::Assignment(Binding {
         attributes,
         eager,
         export,
         file_depth: parser.file_depth,
-        name: Name::from_identifier(*name.token),
+        name: Name::from_identifier(name.0),
         number,
         prelude: false,
         private,

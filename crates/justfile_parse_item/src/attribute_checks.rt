@@ -15,7 +15,7 @@ ghost use Rattle.justfile_expression.specs.LeafViews.{views_leaves};
 use justfile_attribute::Attribute;
 use justfile_attribute_set::AttributeSet;
 use justfile_parse_attribute::{ParseError, rule_error};
-use justfile_parse_expression::significant::TableEntry;
+use justfile_parse_expression::significant::SignificantToken;
 use justfile_token::{CompileErrorKind, Fault, Token};
 use justfile_vocabulary::{AttributeKind, ItemKind};
 use justfile_written::Written;
@@ -28,18 +28,18 @@ pub(crate) fn check_allowed<'src>(
     alloc: Global,
     item: ItemKind,
     attributes: Vec<(Attribute<'src>, Written<'src>)>,
-    name: TableEntry<'_, 'src>,
+    name: &SignificantToken<'src>,
 ) -> Result<AttributeSet<'src>, ParseError<'src>>
     requires construct { IsConstruct item }
     requires fields { HaveDerivedPairFields attributes.items }
     ensures reads { (s : State) → ReadsRuled (λ _. tt) result s
-        (reader.check_allowed item (map entry_of_pair attributes.entry.items) name.entry s) }
+        (reader.check_allowed item (map entry_of_pair attributes.entry.items) name.now s) }
     ensures entries { IfOk result (λ set. leaf_entries_of set
         ≡ reader.in_content_order (map entry_of_pair attributes.entry.items)) }
     ensures fields { IfOk result HasDerivedSetAttributes }
 {
     let set = AttributeSet::from_parsed(attributes)?;
-    match set.ensure_valid_attributes(item, *name.token) {
+    match set.ensure_valid_attributes(item, name.0) {
         Ok(()) => Ok(set),
         Err(error) => Err(rule_error(alloc, Fault::Compile(error))),
     }

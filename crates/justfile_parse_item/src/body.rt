@@ -9,20 +9,20 @@ ghost use Rattle.justfile_parse_item.specs.Tree.{fragment_tree, line_tree};
 ghost use Rattle.justfile_parse_expression.specs.View.{tokens_left, state_of};
 
 use justfile_line::{Fragment, Line};
-use justfile_parse_expression::significant::TableEntry;
+use justfile_parse_expression::significant::SignificantToken;
 use justfile_parse_expression::{ExpressionError, ExpressionParser, SyntaxError};
 use justfile_token::Expander;
 use justfile_vocabulary::TokenKind;
 
 /// The comment before a body, if there is one, and the lines of the body.
-pub(crate) type CommentedBody<'run, 'src> = (Option<TableEntry<'run, 'src>>, Vec<Line<'src>>);
+pub(crate) type CommentedBody<'src> = (Option<SignificantToken<'src>>, Vec<Line<'src>>);
 
 /// Parses the body of a recipe, from the end of its header on, and the comment before it. Returns
 /// neither if the recipe has no body.
 #[tactic(auto, using(crate::proofs::Bodies::body_at_once, crate::proofs::Bodies::body_commented, crate::proofs::Bodies::body_missing))]
-pub(crate) fn parse_body_after_header<'run, 'src, X: Expander>(
-    parser: &mut ExpressionParser<'run, 'src, X>,
-) -> Result<CommentedBody<'run, 'src>, ExpressionError<'src>>
+pub(crate) fn parse_body_after_header<'src, X: Expander>(
+    parser: &mut ExpressionParser<'_, 'src, X>,
+) -> Result<CommentedBody<'src>, ExpressionError<'src>>
     ensures reads { Parses X.answer (λ b. (b.0, map line_tree b.1.items)) result
         parser.old parser.new reader.optional_body }
     ensures progress { OnOk result (tokens_left parser.new ≤ tokens_left parser.old) }
@@ -43,10 +43,10 @@ pub(crate) fn parse_body_after_header<'run, 'src, X: Expander>(
 /// Parses a body from its first line on, and returns it with the comment before it, if there is
 /// one.
 #[tactic(auto, unfolding(justfile_model::specs::Reader::body_after))]
-fn parse_body_after<'run, 'src, X: Expander>(
-    parser: &mut ExpressionParser<'run, 'src, X>,
-    comment: Option<TableEntry<'run, 'src>>,
-) -> Result<CommentedBody<'run, 'src>, ExpressionError<'src>>
+fn parse_body_after<'src, X: Expander>(
+    parser: &mut ExpressionParser<'_, 'src, X>,
+    comment: Option<SignificantToken<'src>>,
+) -> Result<CommentedBody<'src>, ExpressionError<'src>>
     ensures reads { Parses X.answer (λ b. (b.0, map line_tree b.1.items)) result
         parser.old parser.new (reader.body_after comment.entry) }
     ensures progress { OnOk result (tokens_left parser.new ≤ tokens_left parser.old) }
@@ -113,7 +113,7 @@ fn peek_line<X: Expander>(parser: &ExpressionParser<'_, '_, X>) -> usize
     ensures { result ≡ reader.line_at (state_of X.answer parser.now).left }
 {
     match parser.peek_front() {
-        Some(entry) => entry.token.line,
+        Some(entry) => entry.0.line,
         None => 0,
     }
 }
@@ -150,7 +150,7 @@ fn parse_fragment<'src, X: Expander>(
     ensures progress { OnOk result (tokens_left parser.new < tokens_left parser.old) }
 {
     if let Some(text) = parser.accept(TokenKind::Text) {
-        return Ok(Fragment::Text { token: *text.token });
+        return Ok(Fragment::Text { token: text.0 });
     }
     parser.expect(TokenKind::InterpolationStart)?;
     let expression = parser.parse_enclosed(TokenKind::InterpolationEnd)?;

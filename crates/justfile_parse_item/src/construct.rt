@@ -73,10 +73,7 @@ fn parse_item_attributes<'src, X: Expander>(
     };
     let attributes = parse_attributes(parser)?;
     if stands_alone(parser) {
-        return Err(rule_error(
-            parser.alloc,
-            extraneous_error(attributes.len(), *opener.token),
-        ));
+        return Err(rule_error(parser.alloc, extraneous_error(attributes.len(), opener.0)));
     }
     Ok(attributes)
 }

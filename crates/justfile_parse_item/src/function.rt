@@ -45,7 +45,7 @@ pub(crate) fn parse_function<'src, X: Expander>(
     Ok(Item::Function(FunctionDefinition {
         attributes,
         body,
-        name: Name::from_identifier(*name.token),
+        name: Name::from_identifier(name.0),
         parameters,
     }))
 }

@@ -111,7 +111,7 @@ fn parse_item<'src, X: Expander>(
         (identifiers (map significant_of (state_of X.answer parser.old).left)) }
 {
     if let Some(comment) = parser.accept(TokenKind::Comment) {
-        return Ok(make_comment(*comment.token));
+        return Ok(make_comment(comment.0));
     }
     parse_construct(parser, numerator)
 }
@@ -150,7 +150,7 @@ fn parse_after_item<'src, X: Expander>(
 {
     match parser.accept(TokenKind::Comment) {
         Some(comment) => {
-            push_item(items, make_comment(*comment.token))?;
+            push_item(items, make_comment(comment.0))?;
             parse_line_end(parser, items)
         }
         None => parse_line_end(parser, items),

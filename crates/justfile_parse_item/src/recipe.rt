@@ -68,10 +68,10 @@ fn parse_recipe<'src, X: Expander>(
     let attributes = AttributeSet::from_parsed(attributes)?;
     let header = parse_header(&attributes, parser, numerator)?;
     let body = parse_body_after_header(parser)?;
-    check_exclusions(&attributes, parser.alloc, *header.name.token)?;
+    check_exclusions(&attributes, parser.alloc, header.name.0)?;
     let import_offsets = parser.import_offsets.to_vec(parser.alloc)?;
     let number = next_recipe_number(numerator)?;
-    let private = is_private_item(*header.name.token, &attributes);
+    let private = is_private_item(header.name.0, &attributes);
     let shebang = is_script(&attributes, body.1.as_slice());
     Ok(UnresolvedRecipe {
         attributes,
@@ -81,7 +81,7 @@ fn parse_recipe<'src, X: Expander>(
         doc: None,
         file_depth: parser.file_depth,
         import_offsets,
-        name: Name::from_identifier(*header.name.token),
+        name: Name::from_identifier(header.name.0),
         number,
         parameters: header.parameters,
         priors: header.priors,

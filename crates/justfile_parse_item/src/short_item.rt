@@ -37,7 +37,7 @@ pub(crate) fn parse_alias<'src, X: Expander>(
     let attributes = check_allowed(parser.alloc, ItemKind::Alias, attributes, name)?;
     Ok(Item::Alias(Alias {
         attributes,
-        name: Name::from_identifier(*name.token),
+        name: Name::from_identifier(name.0),
         target,
     }))
 }
@@ -61,7 +61,7 @@ pub(crate) fn parse_set<'src, X: Expander>(
     let value = parse_setting_value(parser, name, keyword)?;
     Ok(Item::Setting(Set {
         attributes,
-        name: Name::from_identifier(*name.token),
+        name: Name::from_identifier(name.0),
         value: Box::new(parser.alloc, value)?,
     }))
 }
@@ -83,6 +83,6 @@ pub(crate) fn parse_unexport<'src, X: Expander>(
     let attributes = check_allowed(parser.alloc, ItemKind::Unexport, attributes, name)?;
     Ok(Item::Unexport {
         attributes,
-        name: Name::from_identifier(*name.token),
+        name: Name::from_identifier(name.0),
     })
 }

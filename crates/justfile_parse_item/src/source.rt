@@ -50,7 +50,7 @@ fn parse_imported<'src, X: Expander>(
     ensures progress { OnOk result (tokens_left parser.new < tokens_left parser.old) }
 {
     let (literal, relative) = parse_file_path(parser)?;
-    let attributes = check_allowed(parser.alloc, ItemKind::Import, attributes, literal)?;
+    let attributes = check_allowed(parser.alloc, ItemKind::Import, attributes, &literal)?;
     Ok(Item::Import {
         attributes,
         optional,
@@ -96,7 +96,7 @@ fn parse_named_module<'src, X: Expander>(
     Ok(Item::Module {
         attributes,
         doc: None,
-        name: Name::from_identifier(*name.token),
+        name: Name::from_identifier(name.0),
         optional,
         relative,
     })

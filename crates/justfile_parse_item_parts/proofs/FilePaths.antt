@@ -8,7 +8,7 @@ use Rattle.justfile_model.specs.PartReader as parts
 use Rattle.justfile_model.specs.ReaderState.{◌>>=◌}
 use Rattle.justfile_model.specs.Tree.{Quoted}
 use Rattle.justfile_parse_expression.specs.TableReader.{Read, State, expect, leaves, string_leaf}
-use Rattle.justfile_parse_expression.specs.declared.significant.TableEntry.{TableEntry}
+use Rattle.justfile_parse_expression.specs.Significant.{TableEntry}
 use Rattle.justfile_parse_expression.proofs.Rules.{bind_alike, then_made}
 use Rattle.justfile_parse_item_parts.specs.PartTable.{expansion_mark, file_path}
 use Rattle.justfile_expression.specs.LeafTree.{Leaf}

@@ -1,4 +1,5 @@
 -- A keyword, and what follows it.
+use Rattle.std.specs.Borrow.{Bor}
 use Rattle.std.proofs.Common.{◌≡◌, ◌∙◌, ℕ, Bool, true, false, cond, List, [], ◌∷◌, Option, Some, None, IsTrue, is_some, refl, sym, ap}
 use Rattle.std.specs.Prelude.{◌||◌, ◌&&◌}
 use Rattle.std.specs.Str.{bytes_eq}
@@ -7,9 +8,9 @@ use Rattle.justfile_vocabulary.specs.declared.token_kind.TokenKind.TheVariants a
 use Rattle.justfile_model.specs.PartReader as parts
 use Rattle.justfile_model.specs.ReaderState as reading
 use Rattle.justfile_model.specs.ReaderState.{accept_by, at, begin_with, same_kind}
-use Rattle.justfile_parse_expression.specs.MethodResults.{Takes}
+use Rattle.justfile_parse_expression.specs.MethodResults.{TakesEntry}
 use Rattle.justfile_parse_expression.specs.TableReader.{State, accept_keyword, leaves, next_are}
-use Rattle.justfile_parse_expression.specs.declared.significant.TableEntry.{TableEntry}
+use Rattle.justfile_parse_expression.specs.Significant.{TableEntry}
 use Rattle.justfile_parse_item_parts.specs.PartTable.{accept_keyword_before, follows, follows_past}
 use Rattle.justfile_parse_item_parts.specs.declared.lookahead.Lookahead.{Lookahead}
 use Rattle.justfile_parse_item_parts.specs.declared.lookahead.Lookahead.TheVariants as followings
@@ -57,11 +58,11 @@ module _ (word : List ℕ) (s : State) (w : TableEntry × State) (is : accept_ke
 
 module _ (word : List ℕ) (following : Lookahead) (s : State) where
   -- the word that is taken is taken before what follows it
-  pub taken : (found : Option TableEntry) (rest : State) → Takes found rest (accept_keyword word s) → follows_past following s ≡ true
-      → Takes found rest (accept_keyword_before word (follows following) s)
+  pub taken : (found : Option (Bor TableEntry)) (rest : State) → TakesEntry found rest (accept_keyword word s) → follows_past following s ≡ true
+      → TakesEntry found rest (accept_keyword_before word (follows following) s)
   unfolding parts.accept_keyword_before
   taken (Some entry) rest is there =
-      let h : follows following rest ≡ true = sym (followed word s (entry, rest) is following) ∙ there in
+      let h : follows following rest ≡ true = sym (followed word s (entry.now, rest) is following) ∙ there in
       rw (is, h) refl
   taken None rest is there = rw is refl
 

@@ -15,7 +15,7 @@ use Rattle.justfile_parse_attribute.specs.AttributeTable.{separator}
 use Rattle.justfile_parse_attribute.specs.ParseErrors.{IsParseError}
 use Rattle.justfile_parse_attribute.specs.declared.parse_error.ParseError.{ParseError}
 use Rattle.justfile_parse_expression.specs.TableReader.{Read, ReadError, State, accept, expect, leaves}
-use Rattle.justfile_parse_expression.specs.declared.significant.TableEntry.{TableEntry}
+use Rattle.justfile_parse_expression.specs.Significant.{TableEntry}
 use Rattle.justfile_parse_header.specs.Counting.{TookBindingNumbers, counters_of, identifiers_left}
 use Rattle.justfile_parse_header.specs.HeaderTable.{next_binding_number}
 use Rattle.justfile_parse_header.proofs.BindingNumbers.{took_both, took_none}
@@ -159,10 +159,10 @@ separator_fewer s =
 
 module _ (old : List (Name × Number)) (first : Numerator) (s : State) where
   pub name_read : (entry : TableEntry) (rest : State) (name : Name) (number : Number) (next : Numerator) (new : List (Name × Number)) → expect kinds.Identifier s ≡ Ok (entry, rest)
-      → next_binding_number (counters_of first) rest ≡ Ok ((number.0, counters_of next), rest) → name.token ≡ entry.token.now → new ≡ old ++ (name, number) ∷ []
+      → next_binding_number (counters_of first) rest ≡ Ok ((number.0, counters_of next), rest) → name.token ≡ entry.0 → new ≡ old ++ (name, number) ∷ []
       → one_name (numbered_leaves old) (counters_of first) s ≡ Ok ((numbered_leaves new, counters_of next), rest)
   unfolding one_name parts.numbered_name leaves
   name_read entry rest name number next new taken numbers same is =
-      let all : numbered_leaves new ≡ numbered_leaves old ++ Named entry.token.now (Some number) ∷ [] =
+      let all : numbered_leaves new ≡ numbered_leaves old ++ Named entry.0 (Some number) ∷ [] =
       ap numbered_leaves is ∙ map-append numbered_leaf old ((name, number) ∷ []) ∙ ap (λ (t : Token). numbered_leaves old ++ Named t (Some number) ∷ []) same in
       rw (taken, numbers, all) refl

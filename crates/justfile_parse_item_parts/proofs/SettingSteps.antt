@@ -19,7 +19,7 @@ use Rattle.justfile_model.specs.Tree.{Expr, Exprs}
 use Rattle.justfile_model.specs.declared.level.Level.TheVariants as levels
 use Rattle.justfile_parse_expression.specs.TableReader as table
 use Rattle.justfile_parse_expression.specs.TableReader.{At, Read, ReadExpr, State, accept, element, expect, leaves, next_are, read}
-use Rattle.justfile_parse_expression.specs.declared.significant.TableEntry.{TableEntry}
+use Rattle.justfile_parse_expression.specs.Significant.{TableEntry}
 use Rattle.justfile_model.proofs.ExpressionReading.{sequence_is}
 use Rattle.justfile_parse_expression.proofs.Rules.{bind_alike, then_made}
 use Rattle.justfile_parse_item_parts.specs.PartTable as reader
@@ -34,12 +34,12 @@ use Rattle.justfile_parse_item_parts.proofs.Refused.{errs}
 -- ---- keywords
 
 -- the keyword that is found
-pub keyword_found : (name : TableEntry) (s : State) (found : Option Keyword) → keyword_named (lexeme_of name.token.now) ≡ found
+pub keyword_found : (name : TableEntry) (s : State) (found : Option Keyword) → keyword_named (lexeme_of name.0) ≡ found
     → reader.setting_keyword name s ≡ parts.keyword_or_none leaves name s found
 unfolding parts.setting_keyword leaves
 keyword_found name s found is = ap (parts.keyword_or_none leaves name s) is
 
-pub keyword_refused : (name : TableEntry) (s : State) → keyword_named (lexeme_of name.token.now) ≡ None → reader.setting_keyword name s ≡ Err (UnknownSetting name.token.now)
+pub keyword_refused : (name : TableEntry) (s : State) → keyword_named (lexeme_of name.0) ≡ None → reader.setting_keyword name s ≡ Err (UnknownSetting name.0)
 unfolding leaves
 keyword_refused name s none = keyword_found name s None none
 
@@ -47,12 +47,12 @@ keyword_refused name s none = keyword_found name s None none
 
 module _ (name : TableEntry) (keyword : Keyword) where
   made_of : (found : ReadExpr)
-      → ((found >>= then_made tree.Value) >>= λ value. obeying (value_broken value.1.run.conditions.current views_leaves (Some PlainForm) keyword name.token.now value.0) value.1 >>= λ checked. Ok (value.0, checked.1))
-      ≡ (found >>= λ e. reader.plain_made e.1.run.conditions.current name.token.now keyword e.0 e.1)
+      → ((found >>= then_made tree.Value) >>= λ value. obeying (value_broken value.1.run.conditions.current views_leaves (Some PlainForm) keyword name.0 value.0) value.1 >>= λ checked. Ok (value.0, checked.1))
+      ≡ (found >>= λ e. reader.plain_made e.1.run.conditions.current name.0 keyword e.0 e.1)
   made_of (Ok e) = refl
   made_of (Err f) = refl
 
-  pub plain_is : (s : State) → reader.plain_value name keyword s ≡ (read (At levels.Expression false s) >>= λ e. reader.plain_made e.1.run.conditions.current name.token.now keyword e.0 e.1)
+  pub plain_is : (s : State) → reader.plain_value name keyword s ≡ (read (At levels.Expression false s) >>= λ e. reader.plain_made e.1.run.conditions.current name.0 keyword e.0 e.1)
   unfolding parts.plain_value parts.expression_value leaves
   plain_is s = made_of (read (At levels.Expression false s))
 
@@ -66,12 +66,12 @@ module _ (name : TableEntry) (keyword : Keyword) (s : State) where
   -- the value of a setting, after its name
   pub plain_read : (operator : TableEntry) (from : State) → expect kinds.ColonEquals s ≡ Ok (operator, from) → (e : Expr Leaf Token) (rest : State) → read (At levels.Expression false from) ≡ Ok (e, rest)
       → (current : VersionNumbers) → rest.run.conditions.current ≡ current
-      → reader.after_operator (reader.plain_value name keyword) s ≡ reader.plain_made current name.token.now keyword e rest
+      → reader.after_operator (reader.plain_value name keyword) s ≡ reader.plain_made current name.0 keyword e rest
   plain_read operator from opened e rest found current is =
       ap (λ (o : Read TableEntry). o >>= λ operator. reader.plain_value name keyword operator.1) opened
       ∙ plain_is name keyword from
-      ∙ ap (λ (o : ReadExpr). o >>= λ e. reader.plain_made e.1.run.conditions.current name.token.now keyword e.0 e.1) found
-      ∙ ap (λ (v : VersionNumbers). reader.plain_made v name.token.now keyword e rest) is
+      ∙ ap (λ (o : ReadExpr). o >>= λ e. reader.plain_made e.1.run.conditions.current name.0 keyword e.0 e.1) found
+      ∙ ap (λ (v : VersionNumbers). reader.plain_made v name.0 keyword e rest) is
 
 -- ---- interpreters
 
@@ -122,6 +122,6 @@ interpreter_is s = bind_alike (expect kinds.BracketL s) _ _ (λ opener. brackete
 
 -- a keyword isn't the name of a setting
 pub no_setting_fails : (name : TableEntry) (s : State) (operator : TableEntry) (from : State) (error : ParseError) (fault : Fault)
-    → expect kinds.ColonEquals s ≡ Ok (operator, from) → IsErrorOfFault error fault → IsFaultOf (UnknownSetting name.token.now) fault
+    → expect kinds.ColonEquals s ≡ Ok (operator, from) → IsErrorOfFault error fault → IsFaultOf (UnknownSetting name.0) fault
     → IsParseError error from ⊥ (reader.after_operator (reader.no_setting name) s)
-no_setting_fails name s operator from error fault found h k = rw found (errs (LeafValue × State) (UnknownSetting name.token.now) fault error from h k)
+no_setting_fails name s operator from error fault found h k = rw found (errs (LeafValue × State) (UnknownSetting name.0) fault error from h k)

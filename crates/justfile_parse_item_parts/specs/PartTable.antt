@@ -16,7 +16,7 @@ use Rattle.justfile_model.specs.Tree as tree
 use Rattle.justfile_model.specs.Tree.{Expr, Quoted, SettingValue}
 use Rattle.justfile_parse_attribute.specs.AttributeTable.{separator, view_of}
 use Rattle.justfile_parse_expression.specs.TableReader.{Read, Sequence, State, accept, element, expect, leaves, next_are, read}
-use Rattle.justfile_parse_expression.specs.declared.significant.TableEntry.{TableEntry}
+use Rattle.justfile_parse_expression.specs.Significant.{TableEntry}
 use Rattle.justfile_parse_item_parts.specs.declared.lookahead.Lookahead.{Lookahead}
 use Rattle.justfile_parse_item_parts.specs.declared.lookahead.Lookahead.TheVariants as followings
 use Rattle.justfile_expression.specs.LeafViews.{views_leaves}
@@ -155,7 +155,7 @@ after_operator next s = do
 
 -- the read error for a keyword that isn't the name of a setting
 abbrev pub no_setting : TableEntry → State → Read LeafValue
-no_setting name s = Err (UnknownSetting name.token.now)
+no_setting name s = Err (UnknownSetting name.0)
 
 -- what follows a command, which has no arguments if it is the last element
 abbrev pub command_end : Expr Leaf Token → (is_last : Bool) → State → Read LeafValue

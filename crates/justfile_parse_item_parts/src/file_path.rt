@@ -11,7 +11,7 @@ ghost use Rattle.justfile_parse_item_parts.specs.Parts.{optional_path_tree, path
 
 use crate::errors::expected_keyword_error;
 use justfile_parse_attribute::{ParseError, rule_error};
-use justfile_parse_expression::significant::TableEntry;
+use justfile_parse_expression::significant::SignificantToken;
 use justfile_parse_expression::{ExpressionError, ExpressionParser, SyntaxError, is_word};
 use justfile_token::{Expander, StringLiteral};
 use justfile_vocabulary::{Keyword, TokenKind};
@@ -42,16 +42,16 @@ pub fn parse_optional_path<'src, X: Expander>(
 ///
 /// The tokens are refused, a literal has no text, or memory runs out.
 #[tactic(auto, using(justfile_parse_attribute::proofs::AttributeSteps::broken_first, crate::proofs::FilePaths::path_is))]
-pub fn parse_file_path<'run, 'src, X: Expander>(
-    parser: &mut ExpressionParser<'run, 'src, X>,
-) -> Result<(TableEntry<'run, 'src>, StringLiteral<'src>), ParseError<'src>>
+pub fn parse_file_path<'src, X: Expander>(
+    parser: &mut ExpressionParser<'_, 'src, X>,
+) -> Result<(SignificantToken<'src>, StringLiteral<'src>), ParseError<'src>>
     ensures reads { ParsesRuled X.answer path_tree result parser.old parser.new reader.file_path }
     ensures progress { OnOk result (tokens_left parser.new < tokens_left parser.old) }
 {
     let expand = parse_mark(parser)?;
     let token = expect_string(parser)?;
     let path = parser.cook_literal(token, expand)?;
-    Ok((token, path))
+    Ok((*token, path))
 }
 
 /// Whether a path comes next, with or without a mark.
@@ -80,7 +80,7 @@ fn parse_mark<'src, X: Expander>(
     } else {
         Err(rule_error(
             parser.alloc,
-            expected_keyword_error(parser.alloc, &[Keyword::X], *mark.token),
+            expected_keyword_error(parser.alloc, &[Keyword::X], mark.0),
         ))
     }
 }
@@ -89,10 +89,10 @@ fn parse_mark<'src, X: Expander>(
 #[tactic(auto, unfolding(justfile_model::specs::ReaderState::expect))]
 fn expect_string<'run, 'src, X: Expander>(
     parser: &mut ExpressionParser<'run, 'src, X>,
-) -> Result<TableEntry<'run, 'src>, ExpressionError<'src>>
-    ensures reads { Parses X.answer (λ entry. entry) result parser.old parser.new
+) -> Result<&'run SignificantToken<'src>, ExpressionError<'src>>
+    ensures reads { Parses X.answer (λ entry. entry.now) result parser.old parser.new
         (table.expect kinds.StringToken) }
-    ensures entry { IfOk result (IsOf kinds.StringToken) }
+    ensures entry { IfOk result (λ entry. IsOf kinds.StringToken entry.now) }
     ensures progress { OnOk result (tokens_left parser.new < tokens_left parser.old) }
 {
     match parser.accept(TokenKind::StringToken) {

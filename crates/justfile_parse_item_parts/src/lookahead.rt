@@ -1,12 +1,12 @@
 //! The keywords that items begin with. A keyword is an ordinary name unless what follows it fits.
 ghost use Rattle.std.specs.Prelude.{◌≡◌};
 ghost use Rattle.justfile_vocabulary.specs.Keyword.{keyword_text};
-ghost use Rattle.justfile_parse_expression.specs.MethodResults.{Takes};
+ghost use Rattle.justfile_parse_expression.specs.MethodResults.{TakesEntry};
 ghost use Rattle.justfile_parse_expression.specs.View.{Moves, state_of};
 ghost use Rattle.justfile_parse_item_parts.specs.PartTable as reader;
 
 use justfile_parse_expression::ExpressionParser;
-use justfile_parse_expression::significant::TableEntry;
+use justfile_parse_expression::significant::SignificantToken;
 use justfile_token::Expander;
 use justfile_vocabulary::{Keyword, TokenKind};
 
@@ -30,8 +30,8 @@ pub fn accept_keyword_before<'run, 'src, X: Expander>(
     parser: &mut ExpressionParser<'run, 'src, X>,
     keyword: Keyword,
     lookahead: Lookahead,
-) -> Option<TableEntry<'run, 'src>>
-    ensures takes { Takes result (state_of X.answer parser.new) (reader.accept_keyword_before
+) -> Option<&'run SignificantToken<'src>>
+    ensures takes { TakesEntry result (state_of X.answer parser.new) (reader.accept_keyword_before
         (keyword_text keyword) (reader.follows lookahead) (state_of X.answer parser.old)) }
     ensures moves { Moves result parser.old parser.new }
 {

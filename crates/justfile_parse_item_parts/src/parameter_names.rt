@@ -76,6 +76,6 @@ fn parse_numbered_name<'src, X: Expander>(
 {
     let name = parser.expect(TokenKind::Identifier)?;
     let number = next_binding_number(numerator)?;
-    parameters.push((Name::from_identifier(*name.token), number))?;
+    parameters.push((Name::from_identifier(name.0), number))?;
     Ok(())
 }

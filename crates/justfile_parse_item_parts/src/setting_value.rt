@@ -19,7 +19,7 @@ use crate::plain::make_plain;
 use justfile_attribute::Interpreter;
 use justfile_expression::Expression;
 use justfile_parse_attribute::{ParseError, rule_error};
-use justfile_parse_expression::significant::TableEntry;
+use justfile_parse_expression::significant::SignificantToken;
 use justfile_parse_expression::{ExpressionError, ExpressionParser, SyntaxError, is_word};
 use justfile_setting::{Setting, SettingForm, setting_form};
 use justfile_token::Expander;
@@ -33,14 +33,14 @@ use std::alloc::Global;
 /// The name isn't a keyword, or memory runs out.
 pub fn setting_keyword<'src>(
     alloc: Global,
-    name: TableEntry<'_, 'src>,
+    name: &SignificantToken<'src>,
 ) -> Result<Keyword, ParseError<'src>>
     ensures { (s : State)
-        → ReadsRuled (λ keyword. keyword) result s (reader.setting_keyword name.entry s) }
+        → ReadsRuled (λ keyword. keyword) result s (reader.setting_keyword name.now s) }
 {
-    match Keyword::from_lexeme(name.token.lexeme()) {
+    match Keyword::from_lexeme(name.0.lexeme()) {
         Some(keyword) => Ok(keyword),
-        None => Err(rule_error(alloc, unknown_setting_error(*name.token))),
+        None => Err(rule_error(alloc, unknown_setting_error(name.0))),
     }
 }
 
@@ -51,11 +51,11 @@ pub fn setting_keyword<'src>(
 /// The tokens are refused, a literal has no text, the value breaks a rule, or memory runs out.
 pub fn parse_setting_value<'src, X: Expander>(
     parser: &mut ExpressionParser<'_, 'src, X>,
-    name: TableEntry<'_, 'src>,
+    name: &SignificantToken<'src>,
     keyword: Keyword,
 ) -> Result<Setting<'src>, ParseError<'src>>
     ensures reads { ParsesRuled X.answer leaf_value_of result parser.old parser.new
-        (reader.setting_value name.entry keyword (forms.setting_form keyword)) }
+        (reader.setting_value name.now keyword (forms.setting_form keyword)) }
     ensures keyword { IfOk result (λ setting. keyword_of setting ≡ keyword) }
     ensures fields { IfOk result HasDerivedSettingFields }
     ensures progress { OnOk result (tokens_left parser.new ≤ tokens_left parser.old) }
@@ -102,8 +102,8 @@ fn parse_truth<'src, X: Expander>(
 
 /// Returns the boolean that a word spells.
 #[tactic(auto, using(crate::proofs::Refused::errs), unfolding(justfile_model::specs::PartReader::truth_of, justfile_parse_expression::specs::TableReader::leaves))]
-fn find_truth<'src>(alloc: Global, word: TableEntry<'_, 'src>) -> Result<bool, ParseError<'src>>
-    ensures { (s : State) → ReadsRuled tree.Truth result s (reader.truth_of (word.entry, s)) }
+fn find_truth<'src>(alloc: Global, word: &SignificantToken<'src>) -> Result<bool, ParseError<'src>>
+    ensures { (s : State) → ReadsRuled tree.Truth result s (reader.truth_of (word.now, s)) }
 {
     if is_word(word, Keyword::True.lexeme()) {
         Ok(true)
@@ -112,7 +112,7 @@ fn find_truth<'src>(alloc: Global, word: TableEntry<'_, 'src>) -> Result<bool, P
     } else {
         Err(rule_error(
             alloc,
-            expected_keyword_error(alloc, &[Keyword::True, Keyword::False], *word.token),
+            expected_keyword_error(alloc, &[Keyword::True, Keyword::False], word.0),
         ))
     }
 }
@@ -203,30 +203,30 @@ fn make_interpreter<'src>(
 #[tactic(auto, using(crate::proofs::SettingSteps::plain_is))]
 fn parse_plain_setting<'src, X: Expander>(
     parser: &mut ExpressionParser<'_, 'src, X>,
-    name: TableEntry<'_, 'src>,
+    name: &SignificantToken<'src>,
     keyword: Keyword,
 ) -> Result<Setting<'src>, ParseError<'src>>
     requires { forms.setting_form keyword ≡ Some forms.PlainForm }
     ensures reads { ParsesRuled X.answer leaf_value_of result parser.old parser.new
-        (reader.after_operator (reader.plain_value name.entry keyword)) }
+        (reader.after_operator (reader.plain_value name.now keyword)) }
     ensures keyword { IfOk result (λ setting. keyword_of setting ≡ keyword) }
     ensures fields { IfOk result HasDerivedSettingFields }
     ensures progress { OnOk result (tokens_left parser.new < tokens_left parser.old) }
 {
     parser.expect(TokenKind::ColonEquals)?;
     let value = parser.parse_expression()?;
-    make_plain(parser.alloc, parser.current(), *name.token, keyword, value)
+    make_plain(parser.alloc, parser.current(), name.0, keyword, value)
 }
 
 /// Refuses a keyword that isn't the name of a setting, once `:=` is taken.
 fn refuse_setting<'src, X: Expander>(
     parser: &mut ExpressionParser<'_, 'src, X>,
-    name: TableEntry<'_, 'src>,
+    name: &SignificantToken<'src>,
 ) -> Result<Setting<'src>, ParseError<'src>>
     ensures reads { ParsesRuled X.answer leaf_value_of result parser.old parser.new
-        (reader.after_operator (reader.no_setting name.entry)) }
+        (reader.after_operator (reader.no_setting name.now)) }
     ensures never { OnOk result ⊥ }
 {
     parser.expect(TokenKind::ColonEquals)?;
-    Err(rule_error(parser.alloc, unknown_setting_error(*name.token)))
+    Err(rule_error(parser.alloc, unknown_setting_error(name.0)))
 }

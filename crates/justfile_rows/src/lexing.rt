@@ -5,7 +5,7 @@ use crate::word::Word;
 use justfile_syntax::compile_error::CompileError;
 use justfile_syntax::fault::Fault;
 use justfile_syntax::lexer::Lexer;
-use justfile_syntax::parser::{TableEntry, significant};
+use justfile_syntax::parser::significant;
 use justfile_syntax::string_kind::StringKind;
 use justfile_syntax::token::Token;
 use justfile_syntax::token_kind::TokenKind;
@@ -126,10 +126,10 @@ fn push_significant(answer: &mut Answer, tokens: &[Token<'_>]) {
     }
 }
 
-fn push_table(answer: &mut Answer, table: &[TableEntry<'_, '_>]) {
-    for entry in table {
-        answer.push_made(format!(in answer.alloc(); "{:?}", entry.token.kind));
-        answer.push_if("glued", entry.glued);
+fn push_table(answer: &mut Answer, table: &[(Token<'_>, bool)]) {
+    for (token, glued) in table {
+        answer.push_made(format!(in answer.alloc(); "{:?}", token.kind));
+        answer.push_if("glued", *glued);
     }
 }
 

@@ -262,7 +262,7 @@ pub mod parser {
     pub use justfile_canonical::reading::{Reader, read_root, release};
     pub use justfile_canonical::root::parse_root;
     pub use justfile_literal::cook_string;
-    pub use justfile_parse::significant::{TableEntry, significant};
+    pub use justfile_parse::significant::significant;
     pub use justfile_parse::{Parser, RECURSION_LIMIT};
 }
 

@@ -7,7 +7,7 @@ use Rattle.justfile_parse_attribute.specs.ParseErrors.{IsParseError}
 use Rattle.justfile_parse.specs.ErrorFaults.{IsFaultOfError}
 use Rattle.justfile_parse_item.specs.Tree.{item_tree}
 use Rattle.justfile_parse_expression.specs.View.{state_of}
-use Rattle.justfile_parse_expression.specs.declared.significant.TableEntry.{TableEntry}
+use Rattle.justfile_parse_expression.specs.Significant.{TableEntry}
 use Rattle.justfile_parse_expression.proofs.Rest.{noted_is}
 use Rattle.justfile_parse.proofs.FileResults.{read_of, unread}
 use Rattle.justfile_parse.proofs.parse.parse_table.Goals as goal

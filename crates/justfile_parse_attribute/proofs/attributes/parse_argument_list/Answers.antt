@@ -14,11 +14,11 @@ returns-in_err-parse_next_argument-clause-reads g c =
     let A = g.X.Expander.answer in
     let p = err_from_is_err_and c.from_residual.result c.from_residual.ensures.1 in
     rw (p.1, p.2)
-    (list_stops c.args.name c.args.keys _ (state_of A c.list.parser) _ c.list.invariant.value c.in_err-parse_next_argument.field-0.0 (state_of A c.parse_next_argument.new.parser) c.in_err-parse_next_argument.ensures.reads)
+    (list_stops c.args.name.now c.args.keys _ (state_of A c.list.parser) _ c.list.invariant.value c.in_err-parse_next_argument.field-0.0 (state_of A c.parse_next_argument.new.parser) c.in_err-parse_next_argument.ensures.reads)
 
 pub returns-then-branch-clause-reads : goal.returns-then-branch-clause-reads
 returns-then-branch-clause-reads g c =
     let A = g.X.Expander.answer in
     let rest = state_of A c.parse_next_argument.new.parser in
-    let found : ◌≡◌ {A = Read (Arguments × Bool)} (list_step c.args.name c.args.keys (arguments_of c.list.arguments) (state_of A c.list.parser)) (Ok ((arguments_of c.parse_next_argument.new.arguments, true), rest)) = first_of (grind (arith, common_steps), search rules) in
-    list_ends c.args.name c.args.keys _ (state_of A c.list.parser) _ c.list.invariant.value _ rest found
+    let found : ◌≡◌ {A = Read (Arguments × Bool)} (list_step c.args.name.now c.args.keys (arguments_of c.list.arguments) (state_of A c.list.parser)) (Ok ((arguments_of c.parse_next_argument.new.arguments, true), rest)) = first_of (grind (arith, common_steps), search rules) in
+    list_ends c.args.name.now c.args.keys _ (state_of A c.list.parser) _ c.list.invariant.value _ rest found

@@ -10,7 +10,7 @@ returns-in_err-kind-clause-reads g c =
     let A = g.X.Expander.answer in
     let p = err_from_is_err_and c.from_residual-in_err-kind.result c.from_residual-in_err-kind.ensures.1 in
     rw (p.1, p.2)
-    (kind_fails (map entry_of_pair c.args.attributes.now.pairs.items) (state_of A c.args.parser.now) c.in_ok-name.name (state_of A c.expect.new.self) c.in_err-kind.field-0.0
+    (kind_fails (map entry_of_pair c.args.attributes.now.pairs.items) (state_of A c.args.parser.now) c.in_ok-name.name.now (state_of A c.expect.new.self) c.in_err-kind.field-0.0
     c.in_ok-name.ensures.reads c.in_err-kind.ensures.reads)
 
 pub returns-in_err-arguments-clause-reads : goal.returns-in_err-arguments-clause-reads
@@ -18,6 +18,6 @@ returns-in_err-arguments-clause-reads g c =
     let A = g.X.Expander.answer in
     let p = err_from_is_err_and c.from_residual-in_err-arguments.result c.from_residual-in_err-arguments.ensures.1 in
     rw (p.1, p.2)
-    (arguments_fail (map entry_of_pair c.args.attributes.now.pairs.items) (state_of A c.args.parser.now) c.in_ok-name.name (state_of A c.expect.new.self) c.in_ok-kind.kind
+    (arguments_fail (map entry_of_pair c.args.attributes.now.pairs.items) (state_of A c.args.parser.now) c.in_ok-name.name.now (state_of A c.expect.new.self) c.in_ok-kind.kind
     c.accepts_keyword_arguments.result (state_of A c.parse_arguments.new.parser) c.in_err-arguments.field-0.0
     c.in_ok-name.ensures.reads c.in_ok-kind.ensures.reads c.accepts_keyword_arguments.ensures c.in_err-arguments.ensures.reads)

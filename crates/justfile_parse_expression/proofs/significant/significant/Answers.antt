@@ -1,6 +1,6 @@
 use Rattle.std.proofs.Common.{sym, ap, ◌∙◌, Vec}
 use Rattle.std.specs.declared.alloc.Global.{Global}
-use Rattle.justfile_parse_expression.specs.declared.significant.TableEntry.{TableEntry}
+use Rattle.justfile_parse_expression.specs.Significant.{TableEntry}
 use Rattle.justfile_parse_expression.proofs.SignificantLemmas.{skips, takes, same_table}
 use Rattle.justfile_parse_expression.proofs.significant.significant.Goals as goal
 use Rattle.justfile_parse_expression.proofs.significant.significant.Goals.{then-is_whitespace, else-is_whitespace+in_ok-push_entry}

@@ -15,7 +15,7 @@ returns-clause-reads g c =
     let A = g.X.Expander.answer in
     let rest = state_of A c.parse_arguments.new.parser in
     let UnbrokenItems : List ReadArgument → Type 0 = λ l. ◌≡◌ {A = Read (Unit {0})} (obeying (misplaced_star c.args.star (map read_argument l)) rest) (Ok (tt, rest)) in
-    parenthesized_read c.args.star (state_of A c.args.parser.now) c.in_ok-expect.field-0 (state_of A c.expect.new.self)
+    parenthesized_read c.args.star (state_of A c.args.parser.now) c.in_ok-expect.field-0.now (state_of A c.expect.new.self)
     (record { arguments = c.in_ok-arguments-2.arguments; recipe = c.in_ok-recipe.recipe }) (state_of A c.parse_namepath.new.parser)
     c.in_ok-arguments.arguments.items rest c.in_ok-expect.ensures.reads c.in_ok-recipe.ensures.reads c.in_ok-arguments.ensures.reads
     (subst UnbrokenItems c.as_slice.ensures.value (c.in_ok-check_stars.ensures rest)) c.in_ok-arguments-2.ensures
@@ -28,7 +28,7 @@ returns-in_err-check_stars-clause-reads g c =
     let Halted : List ReadArgument → Type 0 = λ l. IsParseError error rest ⊥ (obeying (misplaced_star c.args.star (map read_argument l)) rest) in
     let p = err_from_is_err_and c.from_residual-in_err-check_stars.result c.from_residual-in_err-check_stars.ensures.1 in
     rw (p.1, p.2)
-    (stars_fail c.args.star (state_of A c.args.parser.now) c.in_ok-expect.field-0 (state_of A c.expect.new.self)
+    (stars_fail c.args.star (state_of A c.args.parser.now) c.in_ok-expect.field-0.now (state_of A c.expect.new.self)
     (path_tree c.in_ok-recipe.recipe) (state_of A c.parse_namepath.new.parser)
     c.in_ok-arguments.arguments.items rest error c.in_ok-expect.ensures.reads c.in_ok-recipe.ensures.reads c.in_ok-arguments.ensures.reads
     (subst Halted c.as_slice.ensures.value (c.in_err-check_stars.ensures rest)))

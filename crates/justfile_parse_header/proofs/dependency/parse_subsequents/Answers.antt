@@ -9,14 +9,14 @@ returns-in_err-parse_dependencies-clause-reads g c =
     let A = g.X.Expander.answer in
     let p = err_from_is_err_and c.from_residual.result c.from_residual.ensures.1 in
     rw (p.1, p.2)
-    (subsequents_fail c.args.dependencies.now.items (state_of A c.args.parser.now) c.in-Some._operator (state_of A c.accept.new.self) c.in-Some.ensures.takes
+    (subsequents_fail c.args.dependencies.now.items (state_of A c.args.parser.now) c.in-Some._operator.now (state_of A c.accept.new.self) c.in-Some.ensures.takes
     c.in_err-parse_dependencies.field-0.0 (state_of A c.parse_dependencies.new.parser) c.in_err-parse_dependencies.ensures.reads)
 
 pub returns-then-len-priors-clause-reads : goal.returns-then-len-priors-clause-reads
 returns-then-len-priors-clause-reads g c =
     let A = g.X.Expander.answer in
     let new = c.parse_dependencies.new.dependencies in
-    subsequents_missing c.args.dependencies.now.items (state_of A c.args.parser.now) c.in-Some._operator (state_of A c.accept.new.self) c.in-Some.ensures.takes
+    subsequents_missing c.args.dependencies.now.items (state_of A c.args.parser.now) c.in-Some._operator.now (state_of A c.accept.new.self) c.in-Some.ensures.takes
     new.items (state_of A c.parse_dependencies.new.parser) c.in_ok-parse_dependencies.ensures.reads
     (omega (arith, c.len-priors.ensures, c.len.ensures, c.args.dependencies.now.ok.0, new.ok.0, c.if-len-priors.true))
 
@@ -24,6 +24,6 @@ pub returns-clause-reads : goal.returns-clause-reads
 returns-clause-reads g c =
     let A = g.X.Expander.answer in
     let new = c.parse_dependencies.new.dependencies in
-    subsequents_read c.args.dependencies.now.items (state_of A c.args.parser.now) c.in-Some._operator (state_of A c.accept.new.self) c.in-Some.ensures.takes
+    subsequents_read c.args.dependencies.now.items (state_of A c.args.parser.now) c.in-Some._operator.now (state_of A c.accept.new.self) c.in-Some.ensures.takes
     new.items (state_of A c.parse_dependencies.new.parser) c.in_ok-parse_dependencies.ensures.reads
     (λ same. absurd (omega (arith, same, c.len-priors.ensures, c.len.ensures, c.args.dependencies.now.ok.0, new.ok.0, c.if-len-priors.false)))

@@ -53,7 +53,7 @@ name_taken : (g : Over) (c : In_ok-note_arg_attributes g)
     → identifiers_left (state_of g.X.Expander.answer c.note_arg_attributes.new.parser) + 1 ≤ identifiers_left (state_of g.X.Expander.answer c.args.parser.now)
 name_taken g c =
     let s1 = state_of g.X.Expander.answer c.expect.new.self in
-    let first = name_fewer (state_of g.X.Expander.answer c.args.parser.now) (c.in_ok-name.name, s1) c.in_ok-name.ensures.reads in
+    let first = name_fewer (state_of g.X.Expander.answer c.args.parser.now) (c.in_ok-name.name.now, s1) c.in_ok-name.ensures.reads in
     let same = noted_names _ s1 (state_of g.X.Expander.answer c.note_arg_attributes.new.parser) c.in_ok-note_arg_attributes.ensures.notes in
     omega (arith, first, same)
 
@@ -62,7 +62,7 @@ numbers_taken : (g : Over) (c : In_ok-parameters g)
     → TookBindingNumbers c.args.numerator.now c.parse_parameters.new.numerator (identifiers_left (state_of g.X.Expander.answer c.args.parser.now)) 0
 numbers_taken g c =
     let s1 = state_of g.X.Expander.answer c.expect.new.self in
-    let first = name_fewer (state_of g.X.Expander.answer c.args.parser.now) (c.in_ok-name.name, s1) c.in_ok-name.ensures.reads in
+    let first = name_fewer (state_of g.X.Expander.answer c.args.parser.now) (c.in_ok-name.name.now, s1) c.in_ok-name.ensures.reads in
     let same = noted_names _ s1 (state_of g.X.Expander.answer c.note_arg_attributes.new.parser) c.in_ok-note_arg_attributes.ensures.notes in
     within c.args.numerator.now c.parse_parameters.new.numerator (identifiers_left (state_of g.X.Expander.answer c.note_arg_attributes.new.parser))
     (identifiers_left (state_of g.X.Expander.answer c.parse_parameters.new.parser)) (identifiers_left (state_of g.X.Expander.answer c.args.parser.now)) 0 c.in_ok-parameters.ensures.numbers
@@ -100,7 +100,7 @@ returns-in_err-check_options-clause-reads g c =
     let p = err_from_is_err_and c.from_residual-in_err-check_options.result c.from_residual-in_err-check_options.ensures.1 in
     let left = state_of g.X.Expander.answer c.note_arg_attributes.new.parser in
     let error = c.in_err-check_options.field-0.0 in
-    let options : State → Read (Unit {0}) = λ t. obeying (reader.same_options c.in_ok-name.name.token.now (rules_of c.args.attributes.now)) t in
+    let options : State → Read (Unit {0}) = λ t. obeying (reader.same_options c.in_ok-name.name.now.0 (rules_of c.args.attributes.now)) t in
     let P : State → Type 0 = λ t. IsParseError error left ⊥ (options t) in
     let fails = options_fail (rules_of c.args.attributes.now) (counters_of c.args.numerator.now) (state_of g.X.Expander.answer c.args.parser.now) c.in_ok-name.ensures.reads in
     rw (p.1, p.2)

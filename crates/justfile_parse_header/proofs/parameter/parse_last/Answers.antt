@@ -11,7 +11,7 @@ use Rattle.justfile_parse_header.proofs.parameter.parse_last.Goals as goal
 pub returns-in-Some-clause-numbers : goal.returns-in-Some-clause-numbers
 returns-in-Some-clause-numbers g c =
     let A = g.X.Expander.answer in
-    took_after_token c.args.numerator.now c.parse_variadic.new.numerator kinds.Plus (state_of A c.args.parser.now) (c.in-Some._plus, state_of A c.accept.new.self)
+    took_after_token c.args.numerator.now c.parse_variadic.new.numerator kinds.Plus (state_of A c.args.parser.now) (c.in-Some._plus.now, state_of A c.accept.new.self)
     (identifiers_left_after c.parse_variadic.result (state_of A c.parse_variadic.new.parser)) c.in-Some.ensures.takes c.parse_variadic.ensures.numbers
 
 pub returns-in-Some-accept-clause-numbers : goal.returns-in-Some-accept-clause-numbers
@@ -21,7 +21,7 @@ returns-in-Some-accept-clause-numbers g c =
     let following = identifiers_left_after call.result (state_of A call.new.parser) in
     let P : ExpressionParser _ → Type 0 = λ p. TookBindingNumbers c.args.numerator.now call.new.numerator (identifiers_left (state_of A p)) following in
     subst P c.in_default.ensures.moves
-    (took_after_token c.args.numerator.now call.new.numerator kinds.Asterisk (state_of A c.accept.new.self) (c.in-Some-accept._star, state_of A c.accept-2.new.self) following
+    (took_after_token c.args.numerator.now call.new.numerator kinds.Asterisk (state_of A c.accept.new.self) (c.in-Some-accept._star.now, state_of A c.accept-2.new.self) following
     c.in-Some-accept.ensures.takes call.ensures.numbers)
 
 pub returns-clause-fields : goal.returns-clause-fields

@@ -13,13 +13,13 @@ pub returns-in-Some-clause-reads : goal.returns-in-Some-clause-reads
 returns-in-Some-clause-reads g c =
     let A = g.X.Expander.answer in
     let x : reader.Parameters = (map parameter_tree c.args.parameters.now.list.items, counters_of c.args.numerator.now) in
-    rw (exported (rules_of c.args.arg_attributes.now.attributes.now) c.args.kind x (state_of A c.args.parser.now) c.in-Some._dollar (state_of A c.accept.new.self) c.in-Some.ensures.takes)
+    rw (exported (rules_of c.args.arg_attributes.now.attributes.now) c.args.kind x (state_of A c.args.parser.now) c.in-Some._dollar.now (state_of A c.accept.new.self) c.in-Some.ensures.takes)
     c.parse_named.ensures.reads
 
 pub returns-in-Some-clause-numbers : goal.returns-in-Some-clause-numbers
 returns-in-Some-clause-numbers g c =
     let A = g.X.Expander.answer in
-    took_after_token c.args.numerator.now c.parse_named.new.numerator kinds.Dollar (state_of A c.args.parser.now) (c.in-Some._dollar, state_of A c.accept.new.self)
+    took_after_token c.args.numerator.now c.parse_named.new.numerator kinds.Dollar (state_of A c.args.parser.now) (c.in-Some._dollar.now, state_of A c.accept.new.self)
     (identifiers_left_after c.parse_named.result (state_of A c.parse_named.new.parser)) c.in-Some.ensures.takes c.parse_named.ensures.numbers
 
 pub returns-in-None-clause-reads : goal.returns-in-None-clause-reads

@@ -14,7 +14,7 @@ returns-in_err-attributes-clause-reads g c =
     let named = state_of A c.expect.new.self in
     let p = err_from_is_err_and c.from_residual-in_err-attributes.result c.from_residual-in_err-attributes.ensures.1 in
     rw (p.1, p.2)
-    (function_attributes_fail (map entry_of_pair c.args.attributes.items) (counters_of c.args.numerator.now) (state_of A c.args.parser.now) c.in_ok-name.name named c.in_ok-name.ensures.reads
+    (function_attributes_fail (map entry_of_pair c.args.attributes.items) (counters_of c.args.numerator.now) (state_of A c.args.parser.now) c.in_ok-name.name.now named c.in_ok-name.ensures.reads
     c.in_err-attributes.field-0.0 named _ (c.in_err-attributes.ensures.reads named))
 
 pub returns-in_err-parameters-clause-reads : goal.returns-in_err-parameters-clause-reads
@@ -23,34 +23,34 @@ returns-in_err-parameters-clause-reads g c =
     let named = state_of A c.expect.new.self in
     let p = err_from_is_err_and c.from_residual-in_err-parameters.result c.from_residual-in_err-parameters.ensures.1 in
     rw (p.1, p.2)
-    (function_errs (map entry_of_pair c.args.attributes.items) (counters_of c.args.numerator.now) (state_of A c.args.parser.now) c.in_ok-name.name named c.in_ok-name.ensures.reads
-    c.in_ok-expect.field-0 (state_of A c.expect-2.new.self) (c.in_ok-attributes.ensures.reads named) c.in_ok-expect.ensures.reads
+    (function_errs (map entry_of_pair c.args.attributes.items) (counters_of c.args.numerator.now) (state_of A c.args.parser.now) c.in_ok-name.name.now named c.in_ok-name.ensures.reads
+    c.in_ok-expect.field-0.now (state_of A c.expect-2.new.self) (c.in_ok-attributes.ensures.reads named) c.in_ok-expect.ensures.reads
     c.in_err-parameters.field-0.0 (state_of A c.parse_parameter_names.new.parser) (reading.NoNumber (counters_of c.parse_parameter_names.new.numerator)) c.in_err-parameters.ensures.reads)
 
 pub returns-in_err-parameters-clause-moved : goal.returns-in_err-parameters-clause-moved
 returns-in_err-parameters-clause-moved g c =
     let A = g.X.Expander.answer in
     let opened = state_of A c.expect-2.new.self in
-    function_moved c.args.numerator.now c.parse_parameter_names.new.numerator (state_of A c.args.parser.now) (state_of A c.expect.new.self) opened c.in_ok-name.name c.in_ok-expect.field-0
+    function_moved c.args.numerator.now c.parse_parameter_names.new.numerator (state_of A c.args.parser.now) (state_of A c.expect.new.self) opened c.in_ok-name.name.now c.in_ok-expect.field-0.now
     0 c.in_ok-name.ensures.reads c.in_ok-expect.ensures.reads c.in_err-parameters.ensures.numbers
 
 pub returns-in_err-expect-2-clause-moved : goal.returns-in_err-expect-2-clause-moved
 returns-in_err-expect-2-clause-moved g c =
     let A = g.X.Expander.answer in
     let opened = state_of A c.expect-2.new.self in
-    function_moved c.args.numerator.now c.parse_parameter_names.new.numerator (state_of A c.args.parser.now) (state_of A c.expect.new.self) opened c.in_ok-name.name c.in_ok-expect.field-0
+    function_moved c.args.numerator.now c.parse_parameter_names.new.numerator (state_of A c.args.parser.now) (state_of A c.expect.new.self) opened c.in_ok-name.name.now c.in_ok-expect.field-0.now
     (identifiers_left (state_of A c.parse_parameter_names.new.parser)) c.in_ok-name.ensures.reads c.in_ok-expect.ensures.reads c.in_ok-parameters.ensures.numbers
 
 pub returns-in_err-body-clause-moved : goal.returns-in_err-body-clause-moved
 returns-in_err-body-clause-moved g c =
     let A = g.X.Expander.answer in
     let opened = state_of A c.expect-2.new.self in
-    function_moved c.args.numerator.now c.parse_parameter_names.new.numerator (state_of A c.args.parser.now) (state_of A c.expect.new.self) opened c.in_ok-name.name c.in_ok-expect.field-0
+    function_moved c.args.numerator.now c.parse_parameter_names.new.numerator (state_of A c.args.parser.now) (state_of A c.expect.new.self) opened c.in_ok-name.name.now c.in_ok-expect.field-0.now
     (identifiers_left (state_of A c.parse_parameter_names.new.parser)) c.in_ok-name.ensures.reads c.in_ok-expect.ensures.reads c.in_ok-parameters.ensures.numbers
 
 pub returns-clause-moved : goal.returns-clause-moved
 returns-clause-moved g c =
     let A = g.X.Expander.answer in
     let opened = state_of A c.expect-2.new.self in
-    function_moved c.args.numerator.now c.parse_parameter_names.new.numerator (state_of A c.args.parser.now) (state_of A c.expect.new.self) opened c.in_ok-name.name c.in_ok-expect.field-0
+    function_moved c.args.numerator.now c.parse_parameter_names.new.numerator (state_of A c.args.parser.now) (state_of A c.expect.new.self) opened c.in_ok-name.name.now c.in_ok-expect.field-0.now
     (identifiers_left (state_of A c.parse_parameter_names.new.parser)) c.in_ok-name.ensures.reads c.in_ok-expect.ensures.reads c.in_ok-parameters.ensures.numbers

@@ -18,13 +18,13 @@ returns-in_err-expect_nothing-clause-reads g c =
     let p = err_from_is_err_and c.from_residual.result c.from_residual.ensures.1 in
     rw (p.1, p.2)
     (goes_past (state_of A c.args.parser.now) (state_of A c.lines.parser) c.args.numerator.now c.lines.numerator c.lines.items.items c.lines.invariant
-    c.in-Some._end (state_of A c.accept.new.self) c.in-Some.ensures.takes c.in_err-expect_nothing.field-0.0 _ c.in_err-expect_nothing.ensures)
+    c.in-Some._end.now (state_of A c.accept.new.self) c.in-Some.ensures.takes c.in_err-expect_nothing.field-0.0 _ c.in_err-expect_nothing.ensures)
 
 pub returns-in-Some-clause-reads : goal.returns-in-Some-clause-reads
 returns-in-Some-clause-reads g c =
     let A = g.X.Expander.answer in
     ends (state_of A c.args.parser.now) (state_of A c.lines.parser) c.args.numerator.now c.lines.numerator c.lines.items.items c.lines.invariant
-    c.in-Some._end (state_of A c.accept.new.self) c.in-Some.ensures.takes c.in_ok-expect_nothing.ensures
+    c.in-Some._end.now (state_of A c.accept.new.self) c.in-Some.ensures.takes c.in_ok-expect_nothing.ensures
 
 pub lines-preserved : goal.lines-preserved
 lines-preserved g c =

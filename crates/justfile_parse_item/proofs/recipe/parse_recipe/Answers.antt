@@ -76,7 +76,7 @@ returns-clause-reads g c =
     c.in_ok-number.number.0 (counters_of c.next_recipe_number.new.numerator) (c.in_ok-number.ensures.reads u)
     (record { file_depth = q.file_depth; import_offsets = c.in_ok-import_offsets.import_offsets.items; name = c.from_identifier.result.token; number = c.in_ok-number.number })
     _ _
-    (recipe_named q.file_depth u.run.file_depth c.in_ok-import_offsets.import_offsets.items u.run.import_offsets c.from_identifier.result.token c.in_ok-header.header.name.token.now c.in_ok-number.number
+    (recipe_named q.file_depth u.run.file_depth c.in_ok-import_offsets.import_offsets.items u.run.import_offsets c.from_identifier.result.token c.in_ok-header.header.name.0 c.in_ok-number.number
     (sym (file_depth_is A q)) (copied ∙ sym (import_offsets_are A q)) c.from_identifier.ensures)
     c.comment_text.ensures refl
 

@@ -13,6 +13,6 @@ returns-in_err-attributes-clause-reads g c =
     let p = err_from_is_err_and c.from_residual-in_err-attributes.result c.from_residual-in_err-attributes.ensures.1 in
     let there = state_of A c.parse_namepath.new.parser in
     rw (p.1, p.2)
-    (λ n. alias_errs (map entry_of_pair c.args.attributes.items) n (state_of A c.args.parser.now) c.in_ok-name.name (state_of A c.expect.new.self) c.in_ok-name.ensures.reads
-    c.in_ok-expect.field-0 (state_of A c.expect-2.new.self) _ there c.in_ok-expect.ensures.reads c.in_ok-target.ensures.reads
+    (λ n. alias_errs (map entry_of_pair c.args.attributes.items) n (state_of A c.args.parser.now) c.in_ok-name.name.now (state_of A c.expect.new.self) c.in_ok-name.ensures.reads
+    c.in_ok-expect.field-0.now (state_of A c.expect-2.new.self) _ there c.in_ok-expect.ensures.reads c.in_ok-target.ensures.reads
     c.in_err-attributes.field-0.0 there (c.in_err-attributes.ensures.reads there))

@@ -13,5 +13,5 @@ returns-in_err-attributes-clause-reads g c =
     let there = state_of A c.parse_optional_path.new.parser in
     let p = err_from_is_err_and c.from_residual-in_err-attributes.result c.from_residual-in_err-attributes.ensures.1 in
     rw (p.1, p.2)
-    (λ n. module_errs (map entry_of_pair c.args.attributes.items) n (state_of A c.args.parser.now) c.in_ok-name.name (state_of A c.expect.new.self) c.in_ok-name.ensures.reads
+    (λ n. module_errs (map entry_of_pair c.args.attributes.items) n (state_of A c.args.parser.now) c.in_ok-name.name.now (state_of A c.expect.new.self) c.in_ok-name.ensures.reads
     c.args.optional _ there c.in_ok-relative.ensures.reads c.in_err-attributes.field-0.0 there (c.in_err-attributes.ensures.reads there))

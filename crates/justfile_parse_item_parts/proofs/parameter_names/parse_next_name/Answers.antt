@@ -14,7 +14,7 @@ returns-in-Some-clause-numbers g c =
     let A = g.X.Expander.answer in
     let s = state_of A c.args.parser.now in
     let s1 = state_of A c.accept.new.self in
-    took_none c.args.numerator.now (identifiers_left s) (identifiers_left s1) (accept_fewer kinds.ParenR s (c.in-Some._closer, s1) c.in-Some.ensures.takes)
+    took_none c.args.numerator.now (identifiers_left s) (identifiers_left s1) (accept_fewer kinds.ParenR s (c.in-Some._closer.now, s1) c.in-Some.ensures.takes)
 
 pub returns-clause-numbers : goal.returns-clause-numbers
 returns-clause-numbers g c =

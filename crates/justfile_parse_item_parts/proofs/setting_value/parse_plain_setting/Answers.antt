@@ -15,6 +15,6 @@ returns-clause-reads g c =
     let from = state_of A c.expect.new.self in
     let rest = state_of A c.parse_expression.new.self in
     let e = leaf_tree_of c.in_ok-value.value.value in
-    let is = plain_read c.args.name c.args.keyword (state_of A c.args.parser.now) c.in_ok-expect.field-0 from c.in_ok-expect.ensures.reads e rest c.in_ok-value.ensures.reads
+    let is = plain_read c.args.name.now c.args.keyword (state_of A c.args.parser.now) c.in_ok-expect.field-0.now from c.in_ok-expect.ensures.reads e rest c.in_ok-value.ensures.reads
     (version_numbers c.current.result) c.current.ensures in
     subst (λ (o : Read LeafValue). ReadsRuled leaf_value_of c.make_plain.result rest o) (sym is) (c.make_plain.ensures.reads rest)

@@ -11,10 +11,10 @@ use Rattle.justfile_setting.proofs.KeywordNames.{found}
 
 pub returns-in-Some : goal.returns-in-Some
 returns-in-Some c =
-    λ s. keyword_found c.args.name s _ (ap keyword_named (sym c.lexeme.ensures) ∙ sym (found c.lexeme.result.now c.from_lexeme.result c.from_lexeme.ensures) ∙ c.in-Some.is)
+    λ s. keyword_found c.args.name.now s _ (ap keyword_named (sym c.lexeme.ensures) ∙ sym (found c.lexeme.result.now c.from_lexeme.result c.from_lexeme.ensures) ∙ c.in-Some.is)
 
 pub returns-in-None : goal.returns-in-None
 returns-in-None c =
     let is = ap keyword_named (sym c.lexeme.ensures) ∙ sym (found c.lexeme.result.now c.from_lexeme.result c.from_lexeme.ensures) ∙ c.in-None.is in
-    λ s. subst (λ (o : Read Keyword). IsParseError c.rule_error.result s ⊥ o) (sym (keyword_refused c.args.name s is))
-    (errs (Keyword × State) (UnknownSetting c.args.name.token.now) c.unknown_setting_error.result c.rule_error.result s c.rule_error.ensures c.unknown_setting_error.ensures)
+    λ s. subst (λ (o : Read Keyword). IsParseError c.rule_error.result s ⊥ o) (sym (keyword_refused c.args.name.now s is))
+    (errs (Keyword × State) (UnknownSetting c.args.name.now.0) c.unknown_setting_error.result c.rule_error.result s c.rule_error.ensures c.unknown_setting_error.ensures)

@@ -60,7 +60,7 @@ parse_sequence-elements-preserved g t c =
 pub parse_parts-returns-then-is_last-clause-reads : goal.parse_parts-returns-then-is_last-clause-reads
 parse_parts-returns-then-is_last-clause-reads g t c =
     let s = state_of g.X.Expander.answer c.parts.self in
-    let start = lexeme_of c.args.start.token.now in
+    let start = lexeme_of c.args.start.now.0 in
     let rest = state_of g.X.Expander.answer c.parse_pair.new.self in
     let e = c.in_ok-expression.expression in
     let l = c.in_ok-expression.literal in
@@ -71,7 +71,7 @@ parse_parts-returns-then-is_last-clause-reads g t c =
 pub parse_parts-parts-preserved : goal.parse_parts-parts-preserved
 parse_parts-parts-preserved g t c =
     let s = state_of g.X.Expander.answer c.parts.self in
-    let start = lexeme_of c.args.start.token.now in
+    let start = lexeme_of c.args.start.now.0 in
     let rest = state_of g.X.Expander.answer c.parse_pair.new.self in
     let e = c.in_ok-expression.expression in
     let l = c.in_ok-expression.literal in
@@ -85,18 +85,18 @@ parse_parts-parts-preserved g t c =
 
 pub parse_pair-parse_part-requires : goal.parse_pair-parse_part-requires
 parse_pair-parse_part-requires g t c =
-    let kind = kind_of (lexeme_of c.args.start.token.now) in
+    let kind = kind_of (lexeme_of c.args.start.now.0) in
     record { ended = after_expression kind (state_of g.X.Expander.answer c.args.self.now) (leaf_tree_of c.in_ok-expression.expression.value) (state_of g.X.Expander.answer c.parse_level.new.self) c.in_ok-expression.ensures.reads c.requires.ended }
 
 pub parse_format-parse_format_string-requires : goal.parse_format-parse_format_string-requires
 parse_format-parse_format_string-requires g t c κs within =
-    let start = c.in-Some.start in
+    let start = c.in-Some.start.now in
     let ended = after_start g.X.Expander.answer c.args.self.now _ start (state_of g.X.Expander.answer c.accept_marked.new.self) c.in-Some.ensures.takes c.in-Some.ensures.entry.0 in
     (first_of (grind (arith, common_steps), search rules), (search rules, (c.in-Some.ensures.entry, ended)))
 
 pub parse_parts-returns-in_err-expression-clause-reads : goal.parse_parts-returns-in_err-expression-clause-reads
 parse_parts-returns-in_err-expression-clause-reads g t c =
-    let start = lexeme_of c.args.start.token.now in
+    let start = lexeme_of c.args.start.now.0 in
     let p = err_from_is_err_and c.from_residual.result c.from_residual.ensures.1 in
     rw (p.1, p.2) (parts.stops_at start (state_of g.X.Expander.answer c.parts.self) c.parts.parts.items c.in_err-expression.field-0.0 (state_of g.X.Expander.answer c.parse_pair.new.self) (format_parts start (state_of g.X.Expander.answer c.args.self.now)) c.parts.invariant.value c.in_err-expression.ensures.reads)
 
@@ -110,4 +110,4 @@ pub parse_branches-returns-in_err-last-clause-reads : goal.parse_branches-return
 parse_branches-returns-in_err-last-clause-reads g t c =
     let A = g.X.Expander.answer in
     let p = err_from_is_err_and c.from_residual.result c.from_residual.ensures.1 in
-    rw (p.1, p.2) (branching.stops c.branches.word (state_of A c.branches.self) c.branches.row.items c.branches.link c.in_err-last.field-0.0 (state_of A c.parse_branch.new.self) (branches (link_of c.args.first) c.args.word (state_of A c.args.self.now)) c.branches.invariant.value c.in_err-last.ensures.reads)
+    rw (p.1, p.2) (branching.stops c.branches.word (state_of A c.branches.self) c.branches.row.items c.branches.link c.in_err-last.field-0.0 (state_of A c.parse_branch.new.self) (branches (link_of c.args.first) c.args.word.now (state_of A c.args.self.now)) c.branches.invariant.value c.in_err-last.ensures.reads)

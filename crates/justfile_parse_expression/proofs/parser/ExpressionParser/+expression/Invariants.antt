@@ -111,8 +111,8 @@ decreases-parse_sequence-elements g l = tokens_left l.self
 abbrev pub invariant-parse_parts-parts : goal.invariant-parse_parts-parts
 invariant-parse_parts-parts g l = record {
   ahead : tokens_left l.self ≤ tokens_left l.fn.self;
-  ended : IsEndedFrom (kind_of (lexeme_of l.start.token.now)) (state_of g.X.Expander.answer l.self);
-  value : parts.with_front l.parts.items (parts.pairs (lexeme_of l.start.token.now) (state_of g.X.Expander.answer l.self)) ≡ format_parts (lexeme_of l.start.token.now) (state_of g.X.Expander.answer l.fn.self);
+  ended : IsEndedFrom (kind_of (lexeme_of l.start.0)) (state_of g.X.Expander.answer l.self);
+  value : parts.with_front l.parts.items (parts.pairs (lexeme_of l.start.0) (state_of g.X.Expander.answer l.self)) ≡ format_parts (lexeme_of l.start.0) (state_of g.X.Expander.answer l.fn.self);
 }
 
 abbrev pub decreases-parse_parts-parts : goal.decreases-parse_parts-parts
