@@ -1,14 +1,18 @@
 -- Raw text, read over plain bytes and piece by piece.
-use Rattle.std.proofs.Common.{◌≡◌, ℕ, zero, suc, ◌+◌, ◌-◌, ◌<◌, ◌≤◌, Bool, true, false, cond, eqb, ltb, List, [], ◌∷◌, length, get_or, drop, refl, sym, ap, subst, ◌∙◌, arith, add-one, zero-add, drop-cons, drop-drop, length-drop}
-use Rattle.std.specs.Prelude.{◌||◌, ◌&&◌, min}
+use Rattle.std.proofs.Common.{◌≡◌, ℕ, zero, suc, ◌+◌, ◌-◌, ◌<◌, ◌≤◌, Bool, true, false, cond, eqb, ltb, List, [], ◌∷◌, length, get_or, drop, refl, sym, ap, subst, ◌∙◌, arith, add-one, zero-add, drop-cons, drop-drop, length-drop, get_or-drop}
+use Rattle.std.specs.Prelude.{◌||◌, ◌&&◌, not, min}
 use Rattle.std.specs.List.{prefix_len}
+use Rattle.std.proofs.lemmas.Bool.{and_parts}
 use Rattle.std.proofs.lemmas.Bool.Decides.{nat_tests}
 use Rattle.std.proofs.lemmas.List.Sums.{prefix_len-le-length}
+use Rattle.justfile_token.specs.declared.string_kind.StringDelimiter.{StringDelimiter}
+use Rattle.justfile_token.specs.declared.string_kind.StringDelimiter.TheVariants as delimiters
 use Rattle.justfile_token.specs.StringKind.{quote_of, escapes}
 use Rattle.justfile_model.specs.declared.raw_text.RawText.{RawText}
 use Rattle.justfile_model.specs.declared.raw_text.RawText.TheVariants.{Comment, Body, Literal}
 use Rattle.justfile_model.specs.LiteralText.{hides, ends, pieces_len, raw_len}
-use Rattle.justfile_lex.specs.RawTexts.{is_plain, IsScanStep, IsWithinRaw}
+use Rattle.justfile_model.proofs.CutLemmas.{eq_from}
+use Rattle.justfile_lex.specs.RawTexts.{is_plain, is_plain_end, IsScanStep, IsWithinRaw}
 
 -- the text from a position is the byte there and the rest
 pub cell : (bs : List ℕ) (i : ℕ) → i < length bs → drop i bs ≡ get_or bs i 0 ∷ drop (i + 1) bs
@@ -103,6 +107,39 @@ past_plain s (b ∷ bs) = go (is_plain s b) refl (past_plain s bs)
         let rest : raw_len s bs ≡ prefix_len (is_plain s) bs + raw_len s (drop (suc (prefix_len (is_plain s) bs)) (b ∷ bs)) = ih in
         rw one (omega (arith, in_plain (hides s) (ends s) b bs (omega (arith, plain_hides s b bs e)) (plain_ends s b bs e), rest))
     go false e ih = sym (zero-add (raw_len s (b ∷ bs)))
+
+-- the text ends at a byte at which it ends whatever follows
+quote_other : (d : StringDelimiter) → (eqb (quote_of d) 92 ≡ false) × (eqb (quote_of d) 123 ≡ false)
+quote_other delimiters.Backtick = (refl, refl)
+quote_other delimiters.QuoteDouble = (refl, refl)
+quote_other delimiters.QuoteSingle = (refl, refl)
+
+not_true : (t : Bool) → not t ≡ true → t ≡ false
+not_true true h = cc
+not_true false h = refl
+
+stops : (s : RawText) (b : ℕ) (bs : List ℕ) → is_plain_end s b ≡ true → (hides s (b ∷ bs) ≤ 0) × (ends s (b ∷ bs) ≡ true)
+stops Comment b bs h = subst (λ (c : ℕ). (hides Comment (c ∷ bs) ≤ 0) × (ends Comment (c ∷ bs) ≡ true)) (sym (eq_from b 10 h)) (omega arith, refl)
+stops Body b bs h = subst (λ (c : ℕ). (hides Body (c ∷ bs) ≤ 0) × (ends Body (c ∷ bs) ≡ true)) (sym (eq_from b 10 h)) (omega arith, refl)
+stops (Literal k format) b bs h =
+    let quote : eqb b (quote_of k.delimiter) ≡ true = (and_parts _ _ h).0 in
+    let single : k.indented ≡ false = not_true k.indented (and_parts _ _ h).1 in
+    let is = eq_from b (quote_of k.delimiter) quote in
+    let slash : eqb b 92 ≡ false = ap (λ c. eqb c 92) is ∙ (quote_other k.delimiter).0 in
+    let brace : eqb b 123 ≡ false = ap (λ c. eqb c 123) is ∙ (quote_other k.delimiter).1 in
+    let none : hides (Literal k format) (b ∷ bs) ≡ 0 = rw (slash, brace, and_false (escapes k.delimiter), and_false format) refl in
+    let end : ends (Literal k format) (b ∷ bs) ≡ true = rw (single, quote) refl in
+    (omega (arith, none), end)
+
+pub raw_none : (s : RawText) (rest : List ℕ) → is_plain_end s (get_or rest 0 0) ≡ true → raw_len s rest ≡ 0
+raw_none s [] h = in_nothing (hides s) (ends s) [] (omega arith)
+raw_none s (b ∷ bs) h = let is = stops s b bs h in at_end (hides s) (ends s) (b ∷ bs) is.0 is.1
+
+pub inside_stop : (s : RawText) (bs : List ℕ) (at : ℕ) → IsWithinRaw s bs at → is_plain_end s (get_or bs at 0) ≡ true → at ≡ raw_len s bs
+inside_stop s bs at h e =
+    let there : at + 0 ≡ at = omega arith in
+    let none = raw_none s (drop at bs) (ap (is_plain_end s) (get_or-drop at bs 0 0 ∙ ap (λ i. get_or bs i 0) there) ∙ e) in
+    omega (arith, h.length_is, none)
 
 pub piece_none : (s : RawText) (rest : List ℕ) → length rest ≡ 0 → IsScanStep s rest 0
 piece_none s rest h = record { within = omega arith; length_is = in_nothing (hides s) (ends s) rest (omega arith) }

@@ -12,6 +12,12 @@ is_plain Comment b = nat_lt byte.carriage_return b
 is_plain Body b = nat_lt byte.carriage_return b && not (b == byte.brace_left)
 is_plain (Literal k format) b = not (b == quote_of k.delimiter) && not (b == byte.backslash) && not (b == byte.brace_left)
 
+-- a byte at which the text ends, whatever follows it
+abbrev pub is_plain_end : RawText → ℕ → Bool
+is_plain_end Comment b = b == byte.line_feed
+is_plain_end Body b = b == byte.line_feed
+is_plain_end (Literal k format) b = b == quote_of k.delimiter && not k.indented
+
 -- The piece at the start has `n` bytes; 0 means that the text ends here.
 pub record IsScanStep (s : RawText) (rest : List ℕ) (n : ℕ) : Type 0 where
   pub within : n ≤ length rest

@@ -3,20 +3,25 @@ ghost use Rattle.std.specs.List.{prefix_len};
 ghost use Rattle.justfile_model.specs.declared.raw_text.RawText.TheVariants.{Literal};
 ghost use Rattle.justfile_token.specs.StringKind.{quote_of};
 ghost use Rattle.justfile_model.specs.LiteralText.{is_delimiter, hides, ends, raw_len};
-ghost use Rattle.justfile_lex.specs.RawTexts.{is_plain, IsScanStep};
+ghost use Rattle.justfile_lex.specs.RawTexts.{is_plain, is_plain_end, IsScanStep};
 
 use crate::bytes::{is_interpolation_escape, is_interpolation_start, is_line_end, skip};
 use justfile_model::RawText;
 use justfile_token::{StringDelimiter, StringKind};
 use justfile_vocabulary::bytes::byte_at;
 
-/// Returns the number of bytes before the first end that isn't hidden.
+/// Returns the number of bytes before the first end that isn't hidden. It is inlined for each kind
+/// of text, so it doesn't test the kind at each piece.
+#[inline(always)]
 pub(crate) fn raw_len(text: RawText, bytes: &[u8]) -> usize
     ensures { result ≡ raw_len text bytes.now }
 {
     let mut at: usize = 0;
     'pieces: loop {
         at += plain_len(text, skip(bytes, at));
+        if is_plain_end(text, byte_at(bytes, at)) {
+            return at;
+        }
         let more = piece_len(text, skip(bytes, at));
         if more == 0 {
             return at;
@@ -60,6 +65,17 @@ fn is_plain(text: RawText, byte: u8) -> bool
         RawText::Literal { kind, .. } => {
             byte != quote_of(kind.delimiter) && byte != b'\\' && byte != b'{'
         }
+    }
+}
+
+/// Whether the text ends before this byte, whatever follows it. Most texts end so.
+#[inline(always)]
+fn is_plain_end(text: RawText, byte: u8) -> bool
+    ensures { result ≡ is_plain_end text byte }
+{
+    match text {
+        RawText::Comment | RawText::Body => byte == b'\n',
+        RawText::Literal { kind, .. } => byte == quote_of(kind.delimiter) && !kind.indented,
     }
 }
 

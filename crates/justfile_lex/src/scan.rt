@@ -91,7 +91,8 @@ fn scan_by_class(mode: &Mode, class: ByteClass, rest: &str) -> Scanned
     }
 }
 
-/// Scans a line end of this length, which is whitespace while a delimiter or an interpolation is open.
+/// Scans a line end of this length, which is whitespace while a delimiter or an interpolation is
+/// open.
 fn scan_line_end(mode: &Mode, length: usize) -> Scanned
     ensures { found_of result ≡ result_ok (line_end_token (mode_of mode.now) length) }
 {
@@ -166,7 +167,7 @@ fn scan_doubled(byte: u8, kind: TokenKind, rest: &[u8]) -> Scanned
     }
 }
 
-/// Scans a byte order mark. No other character begins with such a byte and is a token.
+/// Scans a byte order mark. No other character beyond ASCII begins a token.
 fn scan_multibyte(rest: &str) -> Scanned
     requires { 0 < length rest.now }
     ensures { found_of result ≡ result_ok (multibyte_token rest.now) }
