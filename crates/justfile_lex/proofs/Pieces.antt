@@ -1,6 +1,6 @@
 -- Raw text, read over plain bytes and piece by piece.
-use Rattle.std.proofs.Common.{◌≡◌, ℕ, zero, suc, ◌+◌, ◌-◌, ◌<◌, ◌≤◌, Bool, true, false, cond, eqb, ltb, List, [], ◌∷◌, length, get_or, drop, refl, sym, ap, subst, ◌∙◌, arith, add-one, zero-add, drop-cons, drop-drop, length-drop, get_or-drop}
-use Rattle.std.specs.Prelude.{◌||◌, ◌&&◌, not, min}
+use Rattle.std.proofs.Common.{◌≡◌, ℕ, zero, suc, ◌+◌, ◌<◌, ◌≤◌, Bool, true, false, cond, eqb, ltb, List, [], ◌∷◌, length, get_or, drop, refl, sym, ap, subst, ◌∙◌, arith, add-one, zero-add, drop-cons, drop-drop, length-drop, get_or-drop}
+use Rattle.std.specs.Prelude.{◌&&◌, not, min}
 use Rattle.std.specs.List.{prefix_len}
 use Rattle.std.proofs.lemmas.Bool.{and_parts}
 use Rattle.std.proofs.lemmas.Bool.Decides.{nat_tests}

@@ -1,27 +1,24 @@
 -- The error where there is no next token, by the first byte.
-use Rattle.std.proofs.Common.{◌≡◌, ℕ, zero, suc, ◌+◌, ◌<◌, ◌⊎◌, inl, inr, Bool, true, false, cond, eqb, List, [], ◌∷◌, length, get_or, take, drop, Option, Some, None, Ok, Err, refl, sym, ap, subst, ◌∙◌, arith}
-use Rattle.std.specs.Prelude.{◌&&◌, not, nat_eq, if◌then◌else◌}
+use Rattle.std.proofs.Common.{◌≡◌, ℕ, zero, suc, ◌+◌, ◌<◌, Bool, true, false, cond, eqb, List, [], ◌∷◌, length, get_or, take, drop, Option, Some, None, Ok, Err, refl, sym, ap, subst, ◌∙◌, arith}
+use Rattle.std.specs.Prelude.{◌&&◌, not, nat_eq}
 use Rattle.std.specs.List.{starts_with}
 use Rattle.std.specs.Result.{result_ok}
 use Rattle.std.specs.Str.{bytes_eq}
-use Rattle.justfile_model.proofs.CutLemmas.{eq_from}
 use Rattle.justfile_vocabulary.specs.declared.byte_class.ByteClass.{ByteClass}
 use Rattle.justfile_vocabulary.specs.declared.byte_class.ByteClass.TheVariants as classes
 use Rattle.justfile_vocabulary.specs.declared.token_kind.TokenKind.{TokenKind}
 use Rattle.justfile_vocabulary.specs.declared.token_kind.TokenKind.TheVariants.{AmpersandAmpersand, BarBar, Eof}
 use Rattle.justfile_vocabulary.specs.ByteClass.{class_of}
-use Rattle.justfile_token.specs.declared.delimiter.Delimiter.{Delimiter}
-use Rattle.justfile_token.specs.declared.delimiter.Delimiter.TheVariants.{Brace, Bracket, Paren}
 use Rattle.justfile_token.specs.declared.string_kind.StringKind.{StringKind}
 use Rattle.justfile_model.specs.declared.open_delimiter.OpenDelimiter.{OpenDelimiter}
 use Rattle.justfile_model.specs.declared.raw_text.RawText.TheVariants as raw_texts
-use Rattle.justfile_model.specs.Bytes.{blank, is_blank, blank_len, is_interpolation_start, is_interpolation_end, is_mixed, closes_levels, first_char}
-use Rattle.justfile_model.specs.LexicalFault.{LexicalError, Here, EscapeEndOfFile, InvalidEscapeSequence, UnpairedCarriageReturn}
+use Rattle.justfile_model.specs.Bytes.{blank, is_blank, blank_len, is_interpolation_start, is_interpolation_end, closes_levels, first_char}
+use Rattle.justfile_model.specs.LexicalFault.{LexicalError, Here, UnpairedCarriageReturn}
 use Rattle.justfile_model.specs.LiteralText.{raw_len}
 use Rattle.justfile_model.specs.Modes.{Mode, head_of, is_empty, innermost, nested}
 use Rattle.justfile_model.specs.Tok.{Tok}
-use Rattle.justfile_model.specs.Next.{NextToken, unknown, doubled_token, fixed_token, opening, literal_part, literal_token, unterminated, is_same, closing_delimiter, brace_by, closing, line_end_token, escaped_line_end, multibyte_token, other_token, token_by_class, text_or, body_token, at_end_by, Region, InText, InInterpolation, OutsideText, region_by, interpolated, token_in_region, token_within_line, blanks_or, is_level, begins_blank_line, layout, next_by, next}
-use Rattle.justfile_lex.specs.Explained.{undoubled, unmatched}
+use Rattle.justfile_model.specs.Next.{NextToken, unknown, doubled_token, fixed_token, opening, literal_part, literal_token, unterminated, brace_by, closing, line_end_token, multibyte_token, other_token, token_by_class, text_or, body_token, at_end_by, Region, InText, InInterpolation, OutsideText, region_by, token_in_region, token_within_line, blanks_or, is_level, begins_blank_line, layout, next_by, next}
+use Rattle.justfile_lex.specs.Explained.{undoubled}
 use Rattle.justfile_lex.specs.Layouts.{indent}
 
 -- if the first has no token, it is the second

@@ -1,4 +1,4 @@
-use Rattle.std.proofs.Common.{◌≡◌, ◌+◌, true, rules, sym, ap, subst, ◌∙◌, arith, length, drop, length-drop}
+use Rattle.std.proofs.Common.{◌≡◌, true, rules, sym, ap, subst, ◌∙◌, arith, length, length-drop}
 use Rattle.std.specs.List.{prefix_len}
 use Rattle.std.proofs.lemmas.List.Sums.{prefix_len-le-length}
 use Rattle.justfile_lex.specs.RawTexts.{is_plain, is_plain_end, IsScanStep}

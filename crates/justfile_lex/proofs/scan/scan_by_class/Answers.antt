@@ -1,4 +1,4 @@
-use Rattle.std.proofs.Common.{◌≤◌, length, arith, sym, subst, ◌∙◌}
+use Rattle.std.proofs.Common.{◌≤◌, length, sym, subst, ◌∙◌}
 use Rattle.justfile_token.specs.StringKind.{delimiter_len, kind_of}
 use Rattle.justfile_model.proofs.CutLemmas.{opener_fits}
 use Rattle.justfile_lex.proofs.scan.scan_by_class.Goals as goal
