@@ -3,6 +3,8 @@ ghost use Rattle.std.specs.Prelude.{◌≡◌};
 ghost use Rattle.justfile_canonical.specs.Fault.{fault_text};
 
 use std::alloc::{AllocError, AllocFailed};
+use std::error::Error;
+use std::fmt;
 
 /// Why a text isn't formatted.
 #[derive(Debug, Drop)]
@@ -31,6 +33,20 @@ impl FormatFault {
         }
     }
 }
+
+/// Writes its lines, which `justfmt` writes to standard error: with `error: ` before the message, and
+/// with a newline at the end.
+impl fmt::Display for FormatFault {
+    ghost use Rattle.std.specs.Prelude.{Some};
+
+    ghost output = { λ fault. Some (fault_text fault) };
+
+    fn fmt<W: fmt::Write>(&self, f: &mut fmt::Formatter<W>) -> fmt::Result {
+        f.write_str(self.lines())
+    }
+}
+
+impl Error for FormatFault {}
 
 impl From<AllocError> for FormatFault {
     ghost use Rattle.justfile_canonical.specs.declared.fault.FormatFault.TheVariants.{Memory};
