@@ -46,8 +46,16 @@ pub fn format_and_forget(alloc: Global, path: &str, source: &str) -> Result<Stri
     Ok(text)
 }
 
-/// Parses a text as the root file at this path.
-fn parse<'src>(alloc: Global, path: &'src str, source: &'src str) -> Result<Ast<'src>, FormatFault>
+/// Parses a text as the root file at this path, to format it.
+///
+/// # Errors
+///
+/// The text isn't a justfile, or memory or numbers run out.
+pub fn parse<'src>(
+    alloc: Global,
+    path: &'src str,
+    source: &'src str,
+) -> Result<Ast<'src>, FormatFault>
     ensures ok { IfOk result (IsFileOf source.now) }
     ensures err { IfErr result (IsFaultOf path.now source.now) }
 {
@@ -80,8 +88,12 @@ fn print(ast: &mut Ast<'_>, alloc: Global) -> Result<String, FormatFault>
     Ok(ast.print(alloc, indentation)?)
 }
 
-/// Returns the indentation of body lines, or `NotPrintable` if the file can't be printed.
-fn printing_indentation(ast: &Ast<'_>) -> Result<Indentation, FormatFault>
+/// Returns the indentation of body lines that the canonical text has.
+///
+/// # Errors
+///
+/// `NotPrintable` if the file can't be printed.
+pub fn printing_indentation(ast: &Ast<'_>) -> Result<Indentation, FormatFault>
     requires { IsIndented ast.now }
     ensures printable { OnOk result (printable (ast_shape ast.now) ≡ true) }
     ensures indented { IfOk result (λ indentation. IsIndentedBy (indentation_of (tree_of ast.now))

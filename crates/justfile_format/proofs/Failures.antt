@@ -4,7 +4,7 @@ use Rattle.justfile_canonical.specs.Fault.{IsFaultOf}
 use Rattle.justfile_canonical.specs.Formatting.{IsUnprintable, LacksNumbers}
 use Rattle.justfile_canonical.specs.declared.fault.FormatFault.{FormatFault}
 use Rattle.justfile_canonical.specs.declared.fault.FormatFault.TheVariants as faults
-use Rattle.justfile_format.specs.Failure.{IfRejected, IsOfText, failure_of}
+use Rattle.justfile_format.specs.Failure.{IfRejected, IsOfText, IsOfTextOrWriting, failure_of}
 use Rattle.justfile_format.specs.Formatting.{IsRejection}
 use Rattle.justfile_format.specs.declared.failure.Failure.{Failure}
 use Rattle.justfile_format.specs.declared.failure.Failure.TheVariants as failures
@@ -32,3 +32,9 @@ of_text (faults.Rejected lines) = tt
 of_text faults.NotPrintable = tt
 of_text faults.Memory = tt
 of_text faults.Numbers = tt
+
+pub of_text_or_writing : (fault : FormatFault) → IsOfTextOrWriting (failure_of fault)
+of_text_or_writing (faults.Rejected lines) = tt
+of_text_or_writing faults.NotPrintable = tt
+of_text_or_writing faults.Memory = tt
+of_text_or_writing faults.Numbers = tt

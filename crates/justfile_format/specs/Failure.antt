@@ -46,6 +46,13 @@ IsOfText Memory = Unit {0}
 IsOfText Numbers = Unit {0}
 IsOfText _ = ⊥
 
+-- The failure is one of writing the canonical text of a file.
+abbrev pub IsOfFile : Failure → Type 0
+IsOfFile NotPrintable = Unit {0}
+IsOfFile Writing = Unit {0}
+IsOfFile Memory = Unit {0}
+IsOfFile _ = ⊥
+
 -- The failure is one of formatting a text or of writing the result.
 abbrev pub IsOfTextOrWriting : Failure → Type 0
 IsOfTextOrWriting Writing = Unit {0}

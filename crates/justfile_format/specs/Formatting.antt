@@ -2,7 +2,8 @@
 use Rattle.std.specs.Prelude.{◌≢◌, ℕ, List, Option, codes}
 use Rattle.std.specs.Io.KnownBytes.{Appends}
 use Rattle.justfile_canonical.specs.Formatting as canonical
-use Rattle.justfile_canonical.specs.Formatting.{IsFormatted}
+use Rattle.justfile_ast.specs.declared.ast.Ast.{Ast}
+use Rattle.justfile_canonical.specs.Formatting.{IsFormatted, IsPrinted}
 
 -- The text isn't a justfile, and the lines tell which error is the cause. The path is always this one.
 abbrev pub IsRejection : (source lines : List ℕ) → Type 0
@@ -12,6 +13,12 @@ IsRejection source lines = canonical.IsRejection (codes "justfile") source lines
 pub record Formats (source : List ℕ) (old new : Option (List ℕ)) : Type 0 where
   pub canonical : List ℕ
   pub formatted : IsFormatted source canonical
+  pub written : Appends old new canonical
+
+-- The canonical text of the file was written after what had been written before.
+pub record WritesFile (ast : Ast) (old new : Option (List ℕ)) : Type 0 where
+  pub canonical : List ℕ
+  pub printed : IsPrinted ast canonical
   pub written : Appends old new canonical
 
 -- The text is a justfile, but not its own canonical text.

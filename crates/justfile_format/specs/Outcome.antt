@@ -4,7 +4,8 @@ use Rattle.std.specs.Io.KnownBytes.{Appends}
 use Rattle.std.specs.Str.{IsUtf8}
 use Rattle.justfile_format.specs.Arguments.{AsksCheck, AsksFormat}
 use Rattle.justfile_format.specs.Failure.{failure_text, status_of}
-use Rattle.justfile_canonical.specs.Formatting.{IsFormatted, IsUnprintable, LacksNumbers}
+use Rattle.justfile_ast.specs.declared.ast.Ast.{Ast}
+use Rattle.justfile_canonical.specs.Formatting.{IsFormatted, IsPrinted, IsUnprintable, LacksNumbers}
 use Rattle.justfile_format.specs.Formatting.{IsRejection}
 use Rattle.justfile_format.specs.declared.failure.Failure.{Failure}
 use Rattle.justfile_format.specs.declared.failure.Failure.TheVariants.{Usage, Reading, NotUtf8, Rejected, NotPrintable, Writing, Memory, Numbers}
@@ -20,6 +21,12 @@ pub record AppendsBeginning (old new : Option (List ℕ)) (text : List ℕ) : Ty
 pub record FormatsBeginning (source : List ℕ) (old new : Option (List ℕ)) : Type 0 where
   pub canonical : List ℕ
   pub formatted : IsFormatted source canonical
+  pub written : AppendsBeginning old new canonical
+
+-- The beginning of the canonical text of the file or all of it was written after what had been written before.
+pub record WritesFileBeginning (ast : Ast) (old new : Option (List ℕ)) : Type 0 where
+  pub canonical : List ℕ
+  pub printed : IsPrinted ast canonical
   pub written : AppendsBeginning old new canonical
 
 -- What a failure implies about the arguments, the input, and the output before and after. That reading failed or memory ran out implies

@@ -3,8 +3,9 @@ ghost use Rattle.std.specs.Prelude.{◌≡◌};
 ghost use Rattle.justfile_format.specs.Failure.{failure_text, status_of};
 ghost use Rattle.justfile_format.specs.Outcome.{AppendsBeginning};
 
+use crate::output::write_up_to;
+use justfile_syntax::ast::WriteFault;
 use justfile_syntax::format::FormatFault;
-use justfile_syntax::write_fault::{WriteFault, write_whole};
 use std::alloc::{AllocError, AllocFailed};
 use std::io::Write;
 
@@ -103,12 +104,12 @@ impl Failure {
 }
 
 /// Writes the failure's lines up to the first write that fails, and returns the exit status.
-#[tactic(auto, using(crate::proofs::Outcomes::told))]
+#[tactic(auto, using(crate::proofs::Outcomes::front))]
 pub fn report<E: Write>(failure: &Failure, errors: &mut E) -> u8
     ensures status { result ≡ status_of failure.now }
     ensures told { AppendsBeginning (E.contents errors.old) (E.contents errors.new)
         (failure_text failure.now) }
 {
-    let _ = write_whole(failure.message().as_bytes(), errors);
+    let _ = write_up_to(failure.message().as_bytes(), errors);
     failure.status()
 }

@@ -1,24 +1,36 @@
 //! From a text to its canonical text, as the program has it: as the file `justfile`.
-ghost use Rattle.std.specs.Prelude.{◌≡◌, ◌≢◌, Err, IfErr, IfOk, OnOk, string_bytes};
-ghost use Rattle.justfile_canonical.specs.Formatting.{IsFormatted, IsUnprintable, LacksNumbers};
+ghost use Rattle.std.specs.Prelude.{◌≡◌, ◌≢◌, [], Err, IfErr, IfOk, OnErr, OnOk, false, string_bytes};
+ghost use Rattle.std.specs.Io.KnownBytes.{Appends};
+ghost use Rattle.justfile_syntax.specs.Printing.{normal, printable, text};
+ghost use Rattle.justfile_syntax.specs.Words.{indentation_text};
+ghost use Rattle.justfile_ast.specs.Ast.{ast_shape};
+ghost use Rattle.justfile_canonical.specs.Formatting.{IsFormatted, IsIndented, IsUnprintable, LacksNumbers};
 ghost use Rattle.justfile_format.specs.declared.failure.Failure.TheVariants as failures;
-ghost use Rattle.justfile_format.specs.Failure.{IfRejected, IsOfText, IsOfTextOrWriting};
-ghost use Rattle.justfile_format.specs.Outcome.{FormatsBeginning};
-ghost use Rattle.justfile_format.specs.Formatting.{Formats, IsRejection};
+ghost use Rattle.justfile_format.specs.Buffered.{buffered};
+ghost use Rattle.justfile_format.specs.Failure.{IfRejected, IsOfFile, IsOfText, IsOfTextOrWriting};
+ghost use Rattle.justfile_format.specs.Outcome.{AppendsBeginning, FormatsBeginning, WritesFileBeginning};
+ghost use Rattle.justfile_format.specs.Formatting.{Formats, IsRejection, WritesFile};
 
+use crate::buffer::Buffer;
 use crate::failure::Failure;
+use justfile_canonical::formatting::{parse, printing_indentation};
+use justfile_syntax::ast::{Ast, WriteFault};
 use justfile_syntax::format::format_and_forget;
-use justfile_syntax::write_fault::write_whole;
+use justfile_syntax::indentation::Indentation;
 use std::alloc::Global;
 use std::io::Write;
+use std::mem;
 
-/// Writes the canonical text of a justfile, without flushing it. Prints the text to memory first,
-/// because it consists of many small pieces, and writing a piece takes longer than copying it.
+/// How many bytes of the canonical text are written at once.
+const CAPACITY: usize = 8 * 1024;
+
+/// Writes the canonical text of a justfile, without flushing it. Takes no memory for the text, only
+/// for a buffer. Doesn't free the tree, because the program ends soon.
 ///
 /// # Errors
 ///
 /// As for `format_text`, or a write fails. Unless a write fails, nothing is written.
-#[tactic(auto, using(crate::proofs::Outcomes::formatted_part))]
+#[tactic(auto, using(crate::proofs::Failures::rejected, crate::proofs::Failures::unprintable, crate::proofs::Failures::numbers, crate::proofs::Failures::of_text_or_writing, crate::proofs::Files::formats, crate::proofs::Files::begins, crate::proofs::Files::never_rejected, crate::proofs::Files::unprinted, crate::proofs::Files::not_numbers, crate::proofs::Files::of_file))]
 pub fn format_to<W: Write>(alloc: Global, source: &str, writer: &mut W) -> Result<(), Failure>
     ensures ok { OnOk result (Formats source.now (W.contents writer.old) (W.contents writer.new)) }
     ensures rejected { IfErr result (IfRejected (IsRejection source.now)) }
@@ -29,9 +41,77 @@ pub fn format_to<W: Write>(alloc: Global, source: &str, writer: &mut W) -> Resul
     ensures unwritten { IfErr result (λ e. e ≢ failures.Writing → writer.new ≡ writer.old) }
     ensures err { IfErr result IsOfTextOrWriting }
 {
-    let text = format_text(alloc, source)?;
-    write_whole(text.as_bytes(), writer)?;
+    match parse(alloc, "justfile", source) {
+        Ok(mut ast) => {
+            let written = write_file(&mut ast, alloc, writer);
+            mem::forget(ast);
+            written
+        }
+        Err(fault) => Err(Failure::from(fault)),
+    }
+}
+
+/// Writes the canonical text of a file. It is passed as `&mut` because the check of a caller that
+/// holds the file can't tell of a shared reference.
+#[tactic(auto, using(crate::proofs::Files::printed, crate::proofs::Files::printed_beginning))]
+fn write_file<W: Write>(ast: &mut Ast<'_>, alloc: Global, writer: &mut W) -> Result<(), Failure>
+    requires { IsIndented ast.old }
+    ensures ok { OnOk result
+        (WritesFile ast.old (W.contents writer.old) (W.contents writer.new)) }
+    ensures unprintable { result ≡ Err failures.NotPrintable
+        → printable (ast_shape ast.old) ≡ false }
+    ensures part { result ≡ Err failures.Writing
+        → WritesFileBeginning ast.old (W.contents writer.old) (W.contents writer.new) }
+    ensures unwritten { IfErr result (λ e. e ≢ failures.Writing → writer.new ≡ writer.old) }
+    ensures err { IfErr result IsOfFile }
+{
+    let indentation = printing_indentation(ast)?;
+    let mut room = Vec::with_capacity(alloc, CAPACITY)?;
+    print_buffered(ast, indentation, &mut room, writer)?;
     Ok(())
+}
+
+/// Writes the printed text of a file through a buffer that has this room, because it consists of many
+/// small pieces, and writing a piece takes longer than copying it.
+fn print_buffered<W: Write>(
+    ast: &Ast<'_>,
+    indentation: Indentation,
+    room: &mut Vec<u8>,
+    writer: &mut W,
+) -> Result<(), WriteFault>
+    requires { room.old.items ≡ [] }
+    ensures ok { OnOk result (Appends (W.contents writer.old) (W.contents writer.new)
+        (text (normal (ast_shape ast.now)) (indentation_text indentation))) }
+    ensures err { OnErr result (AppendsBeginning (W.contents writer.old) (W.contents writer.new)
+        (text (normal (ast_shape ast.now)) (indentation_text indentation))) }
+{
+    let mut buffer = Buffer {
+        writer,
+        held: room,
+        passed: 0,
+    };
+    print_all(ast, indentation, &mut buffer)
+}
+
+/// Prints a file to a buffer, and writes all that this holds.
+fn print_all<W: Write>(
+    ast: &Ast<'_>,
+    indentation: Indentation,
+    buffer: &mut Buffer<'_, W>,
+) -> Result<(), WriteFault>
+    ensures ok { OnOk result
+        (Appends (buffered W.contents buffer.old) (buffered W.contents buffer.new)
+        (text (normal (ast_shape ast.now)) (indentation_text indentation))) }
+    ensures empty { OnOk result (buffer.new.held.now.items ≡ []) }
+    ensures err { OnErr result
+        (AppendsBeginning (buffered W.contents buffer.old) (buffered W.contents buffer.new)
+        (text (normal (ast_shape ast.now)) (indentation_text indentation))) }
+{
+    ast.print_to(indentation, buffer)?;
+    match buffer.pass_on() {
+        Ok(()) => Ok(()),
+        Err(_) => Err(WriteFault::Failed),
+    }
 }
 
 /// Returns the canonical text of a justfile. Doesn't free the tree, because the program ends soon.

@@ -1,8 +1,10 @@
 //! Formats a justfile: what the program `justfmt` does with its arguments and its input.
 #![tactic(auto)]
 
+mod buffer;
 pub mod failure;
 pub mod formatting;
 mod input;
+mod output;
 pub mod run;
 pub mod system;

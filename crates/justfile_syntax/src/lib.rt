@@ -14,21 +14,22 @@ pub mod assignment {
 }
 
 pub mod ast {
-    //! Files: `Ast` has the items, and prints them.
+    //! Files: `Ast` has the items, and prints them to a text or to a writer, which can fail.
 
-    pub use justfile_ast::Ast;
+    pub use justfile_ast::{Ast, WriteFault};
 }
 
 pub mod attribute {
-    //! Attributes: their kinds, what they hold, and their order.
+    //! Attributes: their kinds, what they hold, what they are made of, and their order.
 
     pub use justfile_attribute::{Attribute, attribute_content_cmp};
-    pub use justfile_attribute_rules::KeywordArguments;
+    pub use justfile_attribute_rules::{KeyMap, KeywordArguments};
     pub use justfile_vocabulary::AttributeKind;
 }
 
 pub mod attribute_set {
-    //! The attributes of an item, in the order of their content.
+    //! The attributes of an item, in the order of their content. A set of them is a `PairSet`, which
+    //! keeps pairs of any type in the `ContentOrder` of their first parts.
 
     pub use justfile_attribute_set::{
         AttributeSet, ContentOrder, IntoKeys, IntoNamed, Keys, PairSet, Written,
@@ -148,45 +149,52 @@ pub mod keyword {
 pub mod laws {
     //! Statements about the definitions, as contracts of functions that do nothing.
 
+    // What users rely on: what tokens and lines are joined, what there is only one of, what doesn't
+    // change when it is done again, and what rises.
     pub use justfile_ast::laws::same_numbers;
-    pub use justfile_attribute::laws::{attributes_equal, interpreters_ordered, new_attributes};
     pub use justfile_attribute_set::laws::sets_in_order;
     pub use justfile_canonical::laws::formatted_texts;
     pub use justfile_expression::laws::{
-        cases_equal, cases_ordered, errors_equal, expression_contents_ordered, expressions_ordered,
-        literals_ordered, modulepaths_ordered, namepaths_ordered, names_ordered, numbers_ordered,
-        string_kinds_ordered, tokens_ordered, words_equal,
+        expressions_ordered, literals_ordered, namepaths_ordered, names_ordered, tokens_ordered,
+    };
+    pub use justfile_literal::laws::{lines_joined, one_answer as one_literal, unindented_already};
+    pub use justfile_model::attribute_laws::content_order;
+    pub use justfile_model::grammar_laws::{normal_twice, numbers_rise, reads};
+    pub use justfile_model::laws::{eof_is_last, offsets_rise, one_answer, tiling};
+    pub use justfile_round_trip::{least_need, reads_back};
+
+    // The other laws, by crate.
+    pub use justfile_attribute::laws::{attributes_equal, interpreters_ordered, new_attributes};
+    pub use justfile_expression::laws::{
+        cases_equal, cases_ordered, errors_equal, expression_contents_ordered, modulepaths_ordered,
+        numbers_ordered, string_kinds_ordered, words_equal,
     };
     pub use justfile_item::laws::bindings_equal;
     pub use justfile_line::laws::{lines_equal, sigils_ordered};
     pub use justfile_literal::laws::{
-        answer_for_all as literal_for_all, cooked_is_utf8, indentation_is_longest, lines_joined,
-        longest_front, one_answer as one_literal, unindented_already,
+        answer_for_all as literal_for_all, cooked_is_utf8, indentation_is_longest, longest_front,
     };
-    pub use justfile_model::attribute_laws::{attributes_made, content_order};
+    pub use justfile_model::attribute_laws::attributes_made;
     pub use justfile_model::grammar_laws::{
-        counts, expanders, indentations, needs, normal_twice, numbers_rise, printing, reads,
-        shapes, uncommented,
+        counts, expanders, indentations, needs, printing, shapes, uncommented,
     };
-    pub use justfile_model::laws::{
-        answer_for_all, eof_is_last, in_order, lines_start_at_column_0, offsets_rise, one_answer,
-        tiling,
-    };
+    pub use justfile_model::laws::{answer_for_all, in_order, lines_start_at_column_0};
     pub use justfile_model::lexing_laws::{
         bodies_follow_colons, levels_close_before_blank_lines, literals_end_at_first_end,
         open_is_unclosed, reads_up_to_first_end,
     };
     pub use justfile_recipe_header::laws::header_parts_equal;
-    pub use justfile_round_trip::{least_need, modes_agree, reads_back};
+    pub use justfile_round_trip::modes_agree;
     pub use justfile_vocabulary::laws::{
         attribute_names, indentation_texts, one_spelling, signal_names, versions_ordered,
     };
 }
 
 pub mod lexer {
-    //! From a text to its tokens.
+    //! From a text to its tokens, by the classes of its bytes.
 
     pub use justfile_lex::Lexer;
+    pub use justfile_vocabulary::byte_class::{ByteClass, byte_class};
 }
 
 pub mod line {
@@ -196,9 +204,10 @@ pub mod line {
 }
 
 pub mod list {
-    //! Lists of alternatives, as messages show them.
+    //! Lists of alternatives, as messages show them, and what can be an alternative.
 
     pub use justfile_vocabulary::List;
+    pub use justfile_vocabulary::alternative::Alternative;
 }
 
 pub mod list_feature {
@@ -279,9 +288,9 @@ pub mod set {
 }
 
 pub mod setting {
-    //! What settings hold, their defaults and their conflicts.
+    //! What settings hold, their forms, their defaults and their conflicts.
 
-    pub use justfile_setting::{Setting, Value};
+    pub use justfile_setting::{Setting, SettingForm, Value, setting_form};
 }
 
 pub mod sigil {
@@ -309,8 +318,9 @@ pub mod string_kind {
 }
 
 pub mod string_literal {
-    //! Literals, with their texts.
+    //! Literals with their texts, and what their escapes stand for.
 
+    pub use justfile_literal::cook_string;
     pub use justfile_token::StringLiteral;
     pub use justfile_vocabulary::FormatStringPart;
 }
@@ -355,12 +365,6 @@ pub mod version {
     //! Versions of `just`.
 
     pub use justfile_vocabulary::Version;
-}
-
-pub mod write_fault {
-    //! Why a text wasn't written, and a call that writes all bytes.
-
-    pub use justfile_ast::{WriteFault, write_whole};
 }
 
 #[cfg(test)]

@@ -1,6 +1,6 @@
 //! Printing to writers that take few bytes, and that fail.
 
-use crate::ast::Ast;
+use crate::ast::{Ast, WriteFault};
 use crate::expander::Unchanged;
 use crate::indentation::Indentation;
 use crate::numerator::Numerator;
@@ -8,7 +8,6 @@ use crate::parser::{Parser, RECURSION_LIMIT};
 use crate::source::Source;
 use crate::tests::support::same;
 use crate::version::Version;
-use crate::write_fault::WriteFault;
 use std::alloc::Global;
 use std::io::{self, ErrorKind, Write};
 use std::process::Abort;
