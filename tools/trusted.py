@@ -145,6 +145,7 @@ GROUPS = [
         ("justfile_parse/src/parse.rt", ["parse", "parse_source"]),
         ("justfile_ast/src/ast.rt", ["print", "print_to", "printable"]),
     ],
+    [("justfile_files/src/run.rt", ["run"]), ("line_diff/src/unified.rt", ["unified_diff"])],
 ]
 
 

@@ -1,0 +1,218 @@
+#!/bin/sh
+# Tries the built program justfiles on the files of a scratch folder, and examples/pre-commit in a
+# scratch repository: files.sh [PROGRAM]
+#
+# Each row is what is tried and how it ended. Ends with 1 if something ended otherwise than it should.
+# What needs another user or a small file system is tried only by root, and the function for Vim only
+# where there is Vim. Needs git and patch.
+set -u
+top=$(cd "$(dirname "$0")/.." && pwd)
+program=${1:-$top/crates/justfiles/out/justfiles}
+[ -x "$program" ] || { echo "files.sh: no program $program: rt run in crates/justfiles builds it" >&2; exit 2; }
+work=$(mktemp -d) || exit 2
+trap 'umount "$work/small" 2> /dev/null; chmod -R u+w "$work"; rm -rf "$work"' EXIT
+mkdir "$work/bin" && cp "$program" "$work/bin/justfiles" && cd "$work" && mkdir files && cd files || exit 2
+PATH=$work/bin:$PATH
+unformatted='name:="x"
+'
+formatted='name := "x"
+'
+broken='build: clean &&
+'
+failed=0
+
+# Compares what came of a case with what should have: row NAME GOT WANTED
+row() {
+    what=$(printf %s "$1" | tr '\n\t' '  ')
+    if [ "$2" = "$3" ]; then
+        printf '%-58s as it should\n' "$what"
+    else
+        printf '%-58s GOT %s WANTED %s\n' "$what" "$2" "$3"
+        failed=1
+    fi
+}
+
+# Makes a file with a text: put NAME TEXT
+put() {
+    printf '%s' "$2" > "$1"
+}
+
+# Runs the program and keeps its status and what it wrote.
+run() {
+    justfiles "$@" > ../output 2> ../errors
+    status=$?
+}
+
+# The text of a file, with a mark so that its line ends stay.
+text() {
+    cat < "$1"; printf .
+}
+
+for name in 'plain.just' 'with blank.just' "quote's.just" 'double"quote.just' 'back\slash.just' 'new
+line.just' 'tab	.just' ' blanks ' 'üñí.just'; do
+    put "$name" "$unformatted"
+    run --check -- "$name"
+    row "--check names $name" "$status $(text ../output)" "1 $name
+."
+    run --diff -- "$name"
+    row "--diff of $name has status 1" "$status" 1
+    cp "$name" ../kept
+    patch -s -p0 < ../output > ../patched 2>&1
+    row "patch takes the diff of $name" "$(text "$name")" "$formatted."
+    cp ../kept "$name"
+    run -- "$name"
+    row "$name is formatted in place" "$status $(text "$name")" "0 $formatted."
+    run --check -- "$name"
+    row "then --check says nothing of it" "$status $(cat ../output ../errors)" '0 '
+    rm "$name"
+done
+
+put -- "$formatted"; put -n.just "$unformatted"; put - "$unformatted"
+run -n.just; row 'a name with - is no name without --' "$status $(cat ../errors)" '3 usage: justfiles [--check | --diff] FILE..'
+run -; row '- is no file without --' "$status" 3
+run -- - -n.just; row 'after -- both are files' "$status $(text -)$(text -n.just)" "0 $formatted.$formatted."
+run; row 'no file' "$status $(cat ../errors)" '3 usage: justfiles [--check | --diff] FILE..'
+run --check; row '--check without a file' "$status" 3
+run --check --diff x; row 'two options' "$status" 3
+rm -- -- - -n.just
+
+put a.just "$unformatted"; put b.just "$broken"; put c.just "$formatted"; put d.just "$unformatted"
+run a.just b.just missing.just c.just d.just
+row 'bad files keep no others from being done' "$status $(text a.just)$(text b.just)$(text d.just)" "3 $formatted.$broken.$formatted."
+row 'errors name the file, its line and column' "$(grep -c 'b.just:1:16$' ../errors) $(grep -c '^error: missing.just: ' ../errors)" '1 1'
+run a.just b.just; row 'a rejected file has status 2' "$status" 2
+put a.just "$unformatted"; run --check a.just b.just; row 'rejected outweighs not formatted' "$status" 2
+row '--check changes nothing' "$(text a.just)" "$unformatted."
+run --diff a.just; row '--diff changes nothing' "$(text a.just)" "$unformatted."
+put e.just 'a:
+	echo
+'; put f.just ''
+before=$(stat -c '%i %Y %Z' c.just); run c.just f.just
+row 'a formatted file is not touched' "$status $(stat -c '%i %Y %Z' c.just)" "0 $before"
+printf 'name := "x"\r\n' > crlf.just; run crlf.just
+row 'CRLF becomes LF' "$status $(text crlf.just)" "0 $formatted."
+printf 'name := "x"' > end.just; run --diff end.just; cp end.just ../kept; patch -s -p0 < ../output
+row 'a diff that adds the last line end' "$(text end.just)" "$formatted."
+printf 'a:\n\techo {{"x\r"}}\r{{b}}\n\techo\r\r\n' > return.just; run return.just
+row 'a body line that ends in a carriage return has a place' "$status $(grep -c 'return.just:3:2$' ../errors)" '2 1'
+printf '\377\n' > bytes.just; run bytes.just
+row 'a file that is not UTF-8' "$status $(cat ../errors)" '3 error: bytes.just: not UTF-8'
+mkdir folder.just; run folder.just; row 'a folder' "$status" 3
+mkfifo pipe.just; { printf '%s' "$unformatted" > pipe.just & }; run pipe.just
+row 'a pipe is not replaced' "$status $(test -p pipe.just && echo pipe)" '3 pipe'
+
+mkdir sub; put sub/target.just "$unformatted"; ln -s sub/target.just link.just; ln -s nowhere dangling.just
+run link.just
+row 'a link stays, and its file is formatted' "$status $(readlink link.just) $(text sub/target.just)" "0 sub/target.just $formatted."
+run dangling.just; row 'a link to nothing' "$status $(readlink dangling.just)" '3 nowhere'
+put mode.just "$unformatted"; chmod 754 mode.just; run mode.just
+row 'permissions stay' "$status $(stat -c %a mode.just)" '0 754'
+row 'no other file is left over' "$(ls -A | grep -c '\.new$')" 0
+
+# files may have one block
+i=0; : > big.just; while [ $i -lt 200 ]; do echo "name$i:='some text that is long enough'"; i=$((i + 1)); done >> big.just
+cp big.just ../kept
+(trap '' XFSZ; ulimit -f 1; justfiles big.just > ../output 2> ../errors; echo $? > ../status)
+row 'a file that would be too big is left as it was' "$(cat ../status) $(cmp big.just ../kept && echo same)" '3 same'
+row 'and no other file' "$(ls -A | grep -c '\.new$')" 0
+if [ "$(id -u)" = 0 ] && mkdir ../small && mount -t tmpfs -o size=16k none ../small 2> /dev/null; then
+    cp ../kept ../small/big.just; run ../small/big.just
+    row 'on a full disk a file is left as it was' "$status $(cmp ../small/big.just ../kept && echo same)" '3 same'
+    row 'and no other file' "$(ls -A ../small | wc -l) $(grep -c '^error: ../small/big.just: ' ../errors)" '1 1'
+    umount ../small
+fi
+justfiles --diff big.just > /dev/full 2> ../errors; row 'a report that cannot be written' "$?" 3
+row 'and an error that says so' "$(grep -c '^error: big.just: ' ../errors)" 1
+
+# as another user, whom permissions stop
+as_nobody() {
+    setpriv --reuid 65534 --regid 65534 --clear-groups justfiles "$@" 2> ../errors
+}
+if [ "$(id -u)" = 0 ] && command -v setpriv > /dev/null; then
+    mkdir other && put other/readonly.just "$unformatted" && chmod 444 other/readonly.just && chmod 777 other . ..
+    as_nobody other/readonly.just
+    row 'no permission to write the file' "$? $(text other/readonly.just)" "3 $unformatted."
+    chmod 666 other/readonly.just; chmod 555 other
+    as_nobody other/readonly.just
+    row 'no permission to write its folder' "$? $(text other/readonly.just)" "3 $unformatted."
+    chmod 777 other; chmod 000 other/readonly.just
+    as_nobody other/readonly.just
+    row 'no permission to read the file' "$?" 3
+    chown 65534:65534 other/readonly.just; chmod 640 other/readonly.just; justfiles other/readonly.just
+    row 'the owner stays' "$? $(stat -c '%u %g %a' other/readonly.just)" '0 65534 65534 640'
+fi
+
+# the function for Vim, as README has it
+if command -v vim > /dev/null; then
+    sed -n '/^```vim$/,/^```$/p' "$top/README.md" | sed '1d;$d' > ../vimrc
+    edit() {
+        vim -Nu ../vimrc -n -es "$@" -c 'qa!' justfile < /dev/null > /dev/null 2>&1
+    }
+    put justfile "$broken"; edit -c 'redir! > ../messages' -c write -c 'redir END'
+    row 'Vim saves a rejected file' "$(text justfile)" "$broken."
+    row 'and shows its error and place after its own message' "$(grep -v '^$' ../messages | tail -n 2 | sed 's/^".*written$/written/')" \
+        "written
+error: expected '*', identifier, or '(', but found end of line at 1:16"
+    put justfile 'a:="1"
+
+
+
+b := "2"
+c:="3"
+d := "4"
+'
+    edit -c '5mark b' -c '6mark c' -c '7mark d' -c '7' -c write -c "call writefile([line(\"'b\") . line(\"'c\") . line(\"'d\") . line('.')], '../marks')"
+    row 'Vim keeps marks and the cursor' "$(cat ../marks) $(text justfile)" '3455 a := "1"
+
+b := "2"
+c := "3"
+d := "4"
+.'
+    printf 'name:="x"\r\n' > justfile; edit -c write; row 'Vim saves CRLF as LF' "$(text justfile)" "$formatted."
+    put justfile "$unformatted"; PATH=$(echo "$PATH" | cut -d: -f2-) edit -c 'redir! > ../messages' -c write -c 'redir END'
+    row 'Vim tells that there is no program' "$(text justfile) $(grep -c 'justfiles.*not found' ../messages)" "$unformatted. 1"
+    rm justfile
+fi
+
+# the hook
+cd .. && git init -q repository && cd repository || exit 2
+git config user.name x; git config user.email x@example.org; git config commit.gpgsign false
+cp "$top/examples/pre-commit" .git/hooks/pre-commit && chmod +x .git/hooks/pre-commit
+commit() {
+    git commit -q -m x "$@" > ../output 2> ../errors
+    status=$?
+}
+put justfile "$formatted"; git add .; commit; row 'the hook passes a formatted justfile' "$status" 0
+for name in 'with blank.just' "quote's.just" 'double"quote.just' 'back\slash.just' 'new
+line.just' '-n.just' 'UP.JUST' 'JUSTFILE2.just' 'sub folder/.JustFile'; do
+    mkdir -p 'sub folder'; put "./$name" "$unformatted"; git add .; commit
+    row "it rejects $name unformatted" "$status" 1
+    put "./$name" "$formatted"; git add .; commit
+    row "and passes it formatted" "$status" 0
+done
+put justfile "$unformatted"; git add justfile; put justfile "$formatted"; commit
+row 'what is staged counts, not what is formatted after' "$status" 1
+git add justfile; put justfile "$unformatted"; put other.txt x; git add other.txt; commit
+row 'and not what is unformatted after' "$status" 0
+git checkout -q justfile; put justfile "$broken"; git add justfile; commit
+row 'it tells a rejected file, with its place' "$status $(grep -c 'justfile:1:16$' ../errors)" '1 1'
+git reset -q --hard; git rm -q 'with blank.just'; commit; row 'a file that is deleted' "$status" 0
+git mv "quote's.just" renamed.just; commit; row 'a file that is renamed' "$status" 0
+git mv renamed.just again.just; put again.just "$unformatted"; git add .; commit
+row 'a file that is renamed and unformatted' "$status" 1
+git reset -q --hard; ln -s justfile link.just; ln -s nowhere dangling.just; git add .; commit
+row 'links' "$status" 0
+put justfile "$unformatted"; commit -a; row 'commit -a' "$status" 1
+git reset -q --hard; put x.txt y; git add .; commit; row 'no justfile at all' "$status" 0
+step=$(sed -n 's/^  run: \(justfiles .*\)/\1/p' "$top/README.md")
+sh -c "$step" > ../output 2> ../errors; row 'the step of CI passes a formatted file' "$?" 0
+put justfile "$unformatted"; sh -c "$step" > ../output 2> ../errors
+row 'and shows the diff of another' "$? $(grep -c '^+name := ' ../output)" '1 1'
+put justfile "$broken"; sh -c "$step" > ../output 2> ../errors
+row 'and the error of one that is rejected' "$? $(grep -c 'justfile:1:16$' ../errors)" '2 1'
+git reset -q --hard
+put justfile "$formatted
+"; git add .
+rm ../bin/justfiles; commit
+row 'no program on PATH' "$status $(cat ../errors)" '1 pre-commit: justfiles is not on PATH'
+exit $failed

@@ -1,0 +1,23 @@
+-- A formatter for tests.
+use Rattle.std.specs.Prelude.{◌≡◌, ◌≢◌, ℕ, List, codes}
+use Rattle.std.proofs.Common.{sym, ◌∙◌}
+
+-- Each text but one has the same formatted text.
+pub record FormatsConstantly (source text : List ℕ) : Type 0 where
+  pub good : source ≢ codes "bad\n"
+  pub is : text ≡ codes "formatted\n"
+
+abbrev pub RejectsBad : (name source lines : List ℕ) → Type 0
+RejectsBad name source lines = source ≡ codes "bad\n"
+
+pub one : (source text other : List ℕ) → FormatsConstantly source text → FormatsConstantly source other → text ≡ other
+one source text other f g = f.is ∙ sym g.is
+
+apart : codes "formatted\n" ≢ codes "bad\n"
+apart e = cc
+
+pub settled : (source text : List ℕ) → FormatsConstantly source text → FormatsConstantly text text
+settled source text f = record { good = λ e. apart (sym f.is ∙ e); is = f.is }
+
+pub never_both : (name source lines text : List ℕ) → RejectsBad name source lines → FormatsConstantly source text → ⊥
+never_both name source lines text r f = f.good r

@@ -1,0 +1,112 @@
+//! Runs what `justfiles` does over a folder in memory, with each read, each replacement and each write
+//! of a report failing in turn. Writes a line for each run: the arguments, what fails, the status, the
+//! texts of the files, and what was written to the output and as errors.
+#![tactic(auto)]
+
+mod folder;
+mod formatter;
+mod writer;
+
+use folder::MemoryFolder;
+use formatter::Constant;
+use justfile_files::run::run;
+use std::alloc::{AllocError, Global};
+use std::io;
+use writer::MemoryWriter;
+
+/// The arguments of each run.
+static CASES: &[&str] = &[
+    "",
+    "--check",
+    "--diff --",
+    "--check --diff a",
+    "a --check",
+    "-",
+    "a b c",
+    "--check a b c",
+    "--diff a b c",
+    "bad a missing b",
+    "--check bad a b",
+    "--check -- -n a",
+    "-- -n",
+    "bytes a",
+    "a a",
+];
+
+/// How many calls of each kind fail in turn.
+const MOST_CALLS: usize = 3;
+
+/// Which read, which replacement and which write of a report fails, each counted from 0.
+#[derive(Clone, Copy, Debug)]
+pub struct Faults {
+    pub read: usize,
+    pub replacement: usize,
+    pub write: usize,
+}
+
+/// No call fails.
+const NONE: Faults = Faults {
+    read: usize::MAX,
+    replacement: usize::MAX,
+    write: usize::MAX,
+};
+
+/// Returns the words of a text.
+fn words(alloc: Global, text: &str) -> Result<Vec<String>, AllocError> {
+    let mut words = Vec::new(alloc);
+    for word in text.split_whitespace() {
+        words.push(word.to_string(alloc)?)?;
+    }
+    Ok(words)
+}
+
+/// Runs a case, and writes its line.
+fn run_case(rt: &HostRuntime, case: &str, what: &str, faults: Faults) -> io::Result<()> {
+    let alloc = rt.alloc();
+    let arguments = words(alloc, case)?;
+    let mut folder = MemoryFolder::new(alloc, faults)?;
+    let mut output = MemoryWriter::new(alloc, faults.write);
+    let mut errors = MemoryWriter::new(alloc, usize::MAX);
+    let status = run(
+        alloc,
+        &arguments,
+        &Constant,
+        &mut folder,
+        &mut output,
+        &mut errors,
+    );
+    let files = folder.text(alloc)?;
+    println!(rt;
+        "[{case}] {what} {status} {files} {:?} {:?}",
+        output.text(),
+        errors.text()
+    )
+}
+
+fn main(rt: HostRuntime) -> io::Result<()> {
+    for case in CASES {
+        run_case(&rt, case, "nothing", NONE)?;
+        for call in 0..MOST_CALLS {
+            run_case(&rt, case, "read", Faults { read: call, ..NONE })?;
+            run_case(
+                &rt,
+                case,
+                "replacement",
+                Faults {
+                    replacement: call,
+                    ..NONE
+                },
+            )?;
+            run_case(
+                &rt,
+                case,
+                "write",
+                Faults {
+                    write: call,
+                    ..NONE
+                },
+            )?;
+        }
+    }
+    Ok(())
+}

@@ -1,0 +1,20 @@
+-- Why a file can't be formatted.
+use Rattle.std.specs.Prelude.{ℕ, Bool, true, false, Result, Ok, Err}
+use Rattle.justfile_files.specs.declared.failure.Failure.{Failure}
+use Rattle.justfile_files.specs.declared.failure.Failure.TheVariants as failures
+use Rattle.justfile_files.specs.declared.formatter.Refusal.{Refusal}
+use Rattle.justfile_files.specs.declared.formatter.Refusal.TheVariants as faults
+
+abbrev pub failure_of : Refusal → Failure
+failure_of (faults.Rejected lines) = failures.Rejected lines
+failure_of (faults.Exhausted what) = failures.Exhausted what
+
+abbrev pub failure_status : Failure → ℕ
+failure_status (failures.Rejected lines) = 2
+failure_status _ = 3
+
+-- the status of a file: whether it is formatted, or why it can't be
+abbrev pub status_in : Result Bool Failure → ℕ
+status_in (Ok true) = 0
+status_in (Ok false) = 1
+status_in (Err failure) = failure_status failure

@@ -1,0 +1,11 @@
+//! Formats the files of a folder, or tells which of them aren't formatted, or what formatting would
+//! change.
+#![tactic(auto)]
+
+mod failure;
+mod file;
+pub mod folder;
+pub mod formatter;
+mod report;
+pub mod request;
+pub mod run;

@@ -1,0 +1,58 @@
+//! What is written about a file that isn't formatted.
+ghost use Rattle.std.specs.Prelude.{◌≡◌, ◌≢◌, false, IfErr, IfOk, string_bytes};
+ghost use Rattle.justfile_files.specs.declared.request.Task.TheVariants as tasks;
+ghost use Rattle.justfile_files.specs.Failure.{failure_status};
+ghost use Rattle.justfile_files.specs.Outcome.{IsReport, WritesReport};
+
+use crate::failure::Failure;
+use crate::request::Task;
+use line_diff::unified_diff;
+use std::alloc::{AllocError, Global};
+use std::io::Write;
+
+/// Writes the report of a file with this name and text, whose formatted text is another. Returns
+/// whether the file is formatted: it isn't.
+pub(crate) fn write_report<O: Write>(
+    alloc: Global,
+    task: Task,
+    name: &str,
+    source: &str,
+    text: &str,
+    output: &mut O,
+) -> Result<bool, Failure>
+    requires { task ≢ tasks.Format }
+    ensures ok { IfOk result (λ formatted. (formatted ≡ false)
+        × WritesReport task name.now source.now text.now
+        (O.contents output.old) (O.contents output.new)) }
+    ensures err { IfErr result (λ failure. failure_status failure ≡ 3) }
+{
+    let report = match report_text(alloc, task, name, source, text) {
+        Ok(report) => report,
+        Err(_) => return Err(Failure::Exhausted("out of memory")),
+    };
+    if let Err(error) = output.write_all(report.as_bytes()) {
+        return Err(Failure::Writing(error));
+    }
+    match output.flush() {
+        Ok(()) => Ok(false),
+        Err(error) => Err(Failure::Writing(error)),
+    }
+}
+
+/// Returns the report: the name on a line, or the diff from the text to the formatted text.
+fn report_text(
+    alloc: Global,
+    task: Task,
+    name: &str,
+    source: &str,
+    text: &str,
+) -> Result<String, AllocError>
+    requires { task ≢ tasks.Format }
+    ensures { IfOk result
+        (λ report. IsReport task name.now source.now text.now (string_bytes report)) }
+{
+    match task {
+        Task::Diff => unified_diff(alloc, name, source, text),
+        _ => format!(in alloc; "{name}\n"),
+    }
+}

@@ -1,0 +1,25 @@
+-- Why a justfile can't be formatted.
+use Rattle.std.specs.Prelude.{◌≡◌, ℕ, List, ◌++◌, codes, string_bytes}
+use Rattle.justfile_canonical.specs.Formatting.{IsRejection, IsUnprintable}
+use Rattle.justfile_canonical.specs.declared.fault.FormatFault.{FormatFault}
+use Rattle.justfile_canonical.specs.declared.fault.FormatFault.TheVariants as faults
+use Rattle.justfile_files.specs.declared.formatter.Refusal.{Refusal}
+use Rattle.justfile_files.specs.declared.formatter.Refusal.TheVariants.{Exhausted, Rejected}
+
+-- The lines tell of a carriage return at the end of a body line.
+pub record TellsReturn (lines : List ℕ) : Type 0 where
+  pub excerpt : List ℕ
+  pub is : lines ≡ codes "error: a body line ends in a carriage return\n" ++ excerpt
+
+-- The text isn't a justfile, or a line of a body ends in a carriage return; and the lines tell that of the file with this name.
+pub data IsRefused (name source lines : List ℕ) : Type 0 where
+  rejected : IsRejection name source lines → IsRefused name source lines
+  unprintable : IsUnprintable source → TellsReturn lines → IsRefused name source lines
+
+-- The refusal tells the fault, or memory ran out.
+abbrev pub IsRefusalOf : FormatFault → Refusal → Type 0
+IsRefusalOf (faults.Rejected lines) (Rejected told) = told ≡ lines
+IsRefusalOf faults.NotPrintable (Rejected told) = TellsReturn (string_bytes told)
+IsRefusalOf faults.Memory (Rejected told) = ⊥
+IsRefusalOf faults.Numbers (Rejected told) = ⊥
+IsRefusalOf fault (Exhausted what) = Unit {0}

@@ -1,0 +1,9 @@
+-- What is refused has no formatted text.
+use Rattle.std.specs.Prelude.{ℕ, List}
+use Rattle.justfile_canonical.specs.Formatting.{HasNone, IsFormatted}
+use Rattle.justfile_canonical.proofs.Formatted as formatted
+use Rattle.justfiles.specs.Justfile.{IsRefused, rejected, unprintable}
+
+pub never_both : (name source lines text : List ℕ) → IsRefused name source lines → IsFormatted source text → ⊥
+never_both name source lines text (rejected r) f = formatted.never_both source text f (HasNone.rejected r.rejected)
+never_both name source lines text (unprintable u e) f = formatted.never_both source text f (HasNone.unprintable u)

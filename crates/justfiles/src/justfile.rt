@@ -1,0 +1,67 @@
+//! Justfiles as texts that can be formatted.
+ghost use Rattle.std.specs.Prelude.{IfOk, string_bytes};
+ghost use Rattle.justfile_canonical.specs.declared.fault.FormatFault.TheVariants as faults;
+ghost use Rattle.justfile_canonical.specs.Formatting.{IsFormatted};
+ghost use Rattle.justfile_canonical.proofs.Formatted as formatted;
+ghost use Rattle.justfiles.specs.Justfile.{IsRefusalOf, IsRefused, TellsReturn};
+ghost use Rattle.justfiles.specs.Laws.{never_both};
+
+use crate::returned::returned_excerpt;
+use justfile_files::formatter::{Formatter, Refusal};
+use justfile_syntax::format::{FormatFault, format_text};
+use std::alloc::{AllocError, Global};
+
+/// Formats justfiles.
+pub struct Justfile;
+
+impl Formatter for Justfile {
+    ghost formats = { IsFormatted };
+
+    ghost rejects = { IsRefused };
+
+    ghost one = { λ source text other f g. formatted.one source text other f g };
+
+    ghost settled = { formatted.again };
+
+    ghost never_both = { never_both };
+
+    #[tactic(auto, using(crate::proofs::Refusals::refused))]
+    fn format(&self, alloc: Global, name: &str, source: &str) -> Result<String, Refusal> {
+        match format_text(alloc, name, source) {
+            Ok(text) => Ok(text),
+            Err(fault) => Err(refusal(alloc, name, source, fault)),
+        }
+    }
+}
+
+/// Returns why the text of a file with a name isn't formatted.
+fn refusal(alloc: Global, name: &str, source: &str, fault: FormatFault) -> Refusal
+    ensures { IsRefusalOf fault result }
+{
+    match fault {
+        FormatFault::Rejected(lines) => Refusal::Rejected(lines),
+        FormatFault::NotPrintable => unprintable(alloc, name, source),
+        FormatFault::Memory => Refusal::Exhausted("out of memory"),
+        FormatFault::Numbers => Refusal::Exhausted("out of numbers"),
+    }
+}
+
+/// Makes the refusal of a text that would lose a carriage return at the end of a body line.
+fn unprintable(alloc: Global, name: &str, source: &str) -> Refusal
+    ensures { IsRefusalOf faults.NotPrintable result }
+{
+    match unprintable_lines(alloc, name, source) {
+        Ok(lines) => Refusal::Rejected(lines),
+        Err(_) => Refusal::Exhausted("out of memory"),
+    }
+}
+
+/// Returns the lines that tell of such a text, with the excerpt of the first body line.
+fn unprintable_lines(alloc: Global, name: &str, source: &str) -> Result<String, AllocError>
+    ensures { IfOk result (λ lines. TellsReturn (string_bytes lines)) }
+{
+    let excerpt = returned_excerpt(alloc, name, source)?;
+    let mut lines = "error: a body line ends in a carriage return\n".to_string(alloc)?;
+    lines.push_str(excerpt.as_str())?;
+    Ok(lines)
+}

@@ -1,0 +1,138 @@
+-- Hunks, one after the other.
+use Rattle.std.proofs.Common.{◌≡◌, ℕ, ◌+◌, ◌-◌, ◌≤◌, ◌<◌, List, [], ◌∷◌, ◌++◌, length, map, take, drop, All, false, Result, Ok, Err, OnOk, codes, nat_eq, is_ok, if◌then◌else◌, refl, sym, ap, subst, ◌∙◌, arith, append_assoc, append-nil}
+use Rattle.std.specs.List.{ends_with, flat_map}
+use Rattle.std.proofs.lemmas.Grind.{flat_map-append}
+use Rattle.std.proofs.lemmas.List.{drop-drop, length-drop, length-map, length-take, take-append-drop}
+use Rattle.std.proofs.lemmas.List.Elements.{All-head, All-tail}
+use Rattle.line_diff.specs.declared.edits.Edit.{Edit}
+use Rattle.line_diff.specs.Edits.{IsKept, new_lines, old_lines}
+use Rattle.line_diff.specs.Lines.{text_lines}
+use Rattle.line_diff.specs.Unified.{IsUnified, diff_text, header_text}
+use Rattle.line_diff.specs.Hunks.{AreHunks, Hunk, ended_line, Leads, hunk_text, hunks_text}
+
+-- lines that are kept
+pub kept_old : (edits : List Edit) → All IsKept edits → old_lines edits ≡ map (λ e. e.line.now) edits
+kept_old [] h = refl
+kept_old (e ∷ edits) h = rw (All-head IsKept e edits h) (ap (λ l. e.line.now ∷ l) (kept_old edits (All-tail IsKept e edits h)))
+
+pub kept_new : (edits : List Edit) → All IsKept edits → new_lines edits ≡ map (λ e. e.line.now) edits
+kept_new [] h = refl
+kept_new (e ∷ edits) h = rw (All-head IsKept e edits h) (ap (λ l. e.line.now ∷ l) (kept_new edits (All-tail IsKept e edits h)))
+
+-- So much of the edits is in the text, and hunks for the rest complete it.
+pub record Reached (edits : List Edit) (from old_before new_before : ℕ) (text : List ℕ) : Type 0 where
+  pub hunks : List Hunk
+  pub leads : (more : List Hunk) → Leads old_before new_before more (old_lines (drop from edits)) (new_lines (drop from edits))
+      → Leads 0 0 (hunks ++ more) (old_lines edits) (new_lines edits)
+  pub is : text ≡ hunks_text hunks
+  pub old_small : old_before ≤ from
+  pub new_small : new_before ≤ from
+
+pub begins : (edits : List Edit) → Reached edits 0 0 0 []
+begins edits = record { hunks = []; leads = λ more h. h; is = refl; old_small = omega arith; new_small = omega arith }
+
+-- the edits from one place on are those up to another place, a hunk, and the rest
+cut : (edits : List Edit) (from start finish : ℕ) → from ≤ start → start ≤ finish
+    → drop from edits ≡ take (start - from) (drop from edits) ++ (take (finish - start) (drop start edits) ++ drop finish edits)
+cut edits from start finish h k =
+    sym (take-append-drop (start - from) (drop from edits))
+    ∙ ap (λ (l : List Edit). take (start - from) (drop from edits) ++ l)
+    (drop-drop (start - from) from edits ∙ ap (λ (n : ℕ). drop n edits) (omega arith)
+    ∙ sym (take-append-drop (finish - start) (drop start edits))
+    ∙ ap (λ (l : List Edit). take (finish - start) (drop start edits) ++ l)
+    (drop-drop (finish - start) start edits ∙ ap (λ (n : ℕ). drop n edits) (omega arith)))
+
+-- lines of three parts
+parts : (part : Edit → List (List ℕ)) (all kept hunk rest : List Edit) (same : List (List ℕ)) → all ≡ kept ++ (hunk ++ rest) → flat_map part kept ≡ same
+    → flat_map part all ≡ (same ++ flat_map part hunk) ++ flat_map part rest
+parts part all kept hunk rest same e f =
+    ap (flat_map part) e ∙ flat_map-append part kept (hunk ++ rest)
+    ∙ ap (λ (l : List (List ℕ)). l ++ flat_map part (hunk ++ rest)) f
+    ∙ ap (λ (l : List (List ℕ)). same ++ l) (flat_map-append part hunk rest)
+    ∙ sym (append_assoc same (flat_map part hunk) (flat_map part rest))
+
+-- one hunk more
+module _ (edits : List Edit) (from old_before new_before : ℕ) (text : List ℕ) (start finish old_count new_count : ℕ) (new_text : List ℕ)
+    (reached : Reached edits from old_before new_before text) (kept : All IsKept (take (start - from) (drop from edits)))
+    (after : from ≤ start) (some : start < finish) (within : finish ≤ length edits) where
+  abbrev hunk : Hunk
+  hunk = record { old_before = old_before + (start - from); new_before = new_before + (start - from); edits = take (finish - start) (drop start edits) }
+
+  lines_kept : length (map (λ (e : Edit). e.line.now) (take (start - from) (drop from edits))) ≡ start - from
+  lines_kept = length-map (take (start - from) (drop from edits)) (λ (e : Edit). e.line.now) ∙ omega (arith, length-take (start - from) (drop from edits), length-drop from edits)
+
+  pub reached_more : new_text ≡ text ++ hunk_text (record {
+    old_before = old_before + (start - from);
+    new_before = new_before + (start - from);
+    edits = take (finish - start) (drop start edits);
+  })
+      → old_count ≡ length (old_lines (take (finish - start) (drop start edits))) → new_count ≡ length (new_lines (take (finish - start) (drop start edits)))
+      → old_count ≤ length (take (finish - start) (drop start edits)) → new_count ≤ length (take (finish - start) (drop start edits))
+      → Reached edits finish (old_before + (start - from) + old_count) (new_before + (start - from) + new_count) new_text
+  reached_more is o n om nm = record {
+    hunks = reached.hunks ++ hunk ∷ [];
+    leads = λ more led.
+        subst (λ (hs : List Hunk). Leads 0 0 hs (old_lines edits) (new_lines edits)) (sym (append_assoc reached.hunks (hunk ∷ []) more))
+        (reached.leads (hunk ∷ more) (
+          map (λ (e : Edit). e.line.now) (take (start - from) (drop from edits)),
+          old_lines (drop finish edits),
+          new_lines (drop finish edits),
+          parts _ (drop from edits) _ _ (drop finish edits) _ (cut edits from start finish after (omega arith)) (kept_old _ kept),
+          parts _ (drop from edits) _ _ (drop finish edits) _ (cut edits from start finish after (omega arith)) (kept_new _ kept),
+          ap (λ (k : ℕ). old_before + k) (sym lines_kept),
+          ap (λ (k : ℕ). new_before + k) (sym lines_kept),
+          rw (← o, ← n) led,
+        ));
+    is = is ∙ ap (λ (l : List ℕ). l ++ hunk_text hunk) reached.is
+        ∙ ap (λ (l : List ℕ). hunks_text reached.hunks ++ l) (sym (append-nil (hunk_text hunk))) ∙ sym (flat_map-append hunk_text reached.hunks (hunk ∷ []));
+    old_small = omega (arith, reached.old_small, length-take (finish - start) (drop start edits), length-drop start edits);
+    new_small = omega (arith, reached.new_small, length-take (finish - start) (drop start edits), length-drop start edits);
+  }
+
+-- nothing changes in the rest
+pub ends : (edits : List Edit) (from old_before new_before : ℕ) (text : List ℕ) → Reached edits from old_before new_before text → All IsKept (drop from edits)
+    → AreHunks edits text
+ends edits from o n text r kept = record {
+  hunks = r.hunks;
+  leads = subst (λ hs. Leads 0 0 hs (old_lines edits) (new_lines edits)) (append-nil r.hunks) (r.leads [] (kept_old _ kept ∙ sym (kept_new _ kept)));
+  is = r.is;
+}
+
+-- ---- texts
+
+-- what the last push makes, if it succeeds
+pub pushed : {A E : Type 0} (r : Result A E) (new more whole old : List ℕ) → new ≡ (if is_ok r then more else old) → more ≡ whole → OnOk r (new ≡ whole)
+pushed (Ok v) new more whole old h e = h ∙ e
+pushed (Err v) new more whole old h e = tt
+
+pub unended : (line : List ℕ) → ends_with nat_eq line (codes "\n") ≡ false → line ++ codes "\n\\ No newline at end of file\n" ≡ ended_line line
+unended line e = rw e refl
+
+pub edit_written : (old mid now signed sign_text line tail ended : List ℕ) → now ≡ mid ++ line → mid ≡ old ++ signed → signed ≡ sign_text → line ++ tail ≡ ended
+    → now ++ tail ≡ old ++ (sign_text ++ ended)
+edit_written old mid now signed sign_text line tail ended e f g h =
+    ap (λ (l : List ℕ). l ++ tail) (e ∙ ap (λ (l : List ℕ). l ++ line) (f ∙ ap (λ (l : List ℕ). old ++ l) g))
+    ∙ append_assoc (old ++ sign_text) line tail
+    ∙ append_assoc old sign_text (line ++ tail)
+    ∙ ap (λ (l : List ℕ). old ++ (sign_text ++ l)) h
+
+-- the header, and the hunks, of which there is one
+with_hunks : (name bytes : List ℕ) (hunks : List Hunk) → bytes ≡ hunks_text hunks → 0 < length bytes → header_text name ++ bytes ≡ diff_text name hunks
+with_hunks name bytes [] e some = absurd (omega (arith, ap length e))
+with_hunks name bytes (h ∷ hs) e some = ap (λ (l : List ℕ). header_text name ++ l) e
+
+without_hunks : (name bytes : List ℕ) (hunks : List Hunk) → bytes ≡ hunks_text hunks → length bytes ≡ 0 → bytes ≡ diff_text name hunks
+without_hunks name bytes [] e none = e
+without_hunks name bytes (h ∷ hs) e none = absurd (omega (arith, ap length e))
+
+pub headed : (name old new text bytes header : List ℕ) (edits : List Edit) → AreHunks edits bytes → old_lines edits ≡ text_lines old
+    → new_lines edits ≡ text_lines new → 0 < length bytes → header ≡ header_text name → text ≡ header ++ bytes → IsUnified name old new text
+headed name old new text bytes header edits h o n some e is = record {
+  hunks = h.hunks;
+  leads = rw (← o, ← n) h.leads;
+  is = is ∙ ap (λ (l : List ℕ). l ++ bytes) e ∙ with_hunks name bytes h.hunks h.is some;
+}
+
+pub unheaded : (name old new bytes : List ℕ) (edits : List Edit) → AreHunks edits bytes → old_lines edits ≡ text_lines old → new_lines edits ≡ text_lines new
+    → length bytes ≡ 0 → IsUnified name old new bytes
+unheaded name old new bytes edits h o n none = record { hunks = h.hunks; leads = rw (← o, ← n) h.leads; is = without_hunks name bytes h.hunks h.is none }

@@ -1,0 +1,4 @@
+pub mod EditLemmas
+pub mod HunkLemmas
+pub mod LabelLemmas
+pub mod LineLemmas

@@ -1,0 +1,5 @@
+pub mod Edits
+pub mod Hunks
+pub mod Label
+pub mod Lines
+pub mod Unified

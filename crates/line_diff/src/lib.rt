@@ -1,0 +1,14 @@
+//! Unified diffs of two texts, in the form that `patch` takes.
+#![tactic(auto)]
+
+mod edits;
+mod hunks;
+mod label;
+mod lengths;
+mod lines;
+mod shared;
+mod unified;
+
+pub use edits::{Change, Edit, diff_lines};
+pub use lines::lines_of;
+pub use unified::unified_diff;
