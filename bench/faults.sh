@@ -48,8 +48,10 @@ is_failure() {
 
 # Whether a run ended as one of these two, though standard error could not be written in full.
 is_cut_off() {
-    { [ "$1" = "$plain" ] && cmp -s "$work/output" "$work/plain_output" && is_beginning "$work/errors" "$work/plain_errors"; } ||
-        { [ "$1" = 3 ] && is_beginning "$work/output" "$work/plain_output" && is_beginning "$work/errors" "$work/line"; }
+    { [ "$1" = "$plain" ] && cmp -s "$work/output" "$work/plain_output" &&
+        is_beginning "$work/errors" "$work/plain_errors"; } ||
+        { [ "$1" = 3 ] && is_beginning "$work/output" "$work/plain_output" &&
+            is_beginning "$work/errors" "$work/line"; }
 }
 
 # Fails each call of a name in turn: NAME-OF-TEXT CALL HOW LINE, with the argument in $argument.

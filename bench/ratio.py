@@ -32,7 +32,8 @@ def main():
     lexer, formatter, folder = sys.argv[1:]
     names = [name.split(".") for name in os.listdir(folder)]
     ratios = []
-    print("| justfile | bytes | tokens | lexing, s | formatting, s | lexing, ns a byte | formatting, ns a byte | times lexing |")
+    print("| justfile | bytes | tokens | lexing, s | formatting, s "
+          "| lexing, ns a byte | formatting, ns a byte | times lexing |")
     print("|---|---:|---:|---:|---:|---:|---:|---:|")
     for kind, size in sorted(names, key=lambda name: (name[0], int(name[1]))):
         text, ratio = row(lexer, formatter, os.path.join(folder, kind + "." + size), kind)

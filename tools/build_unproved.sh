@@ -34,7 +34,8 @@ chmod +x "$work/kit/bin/rt" "$work/kit/toolchain/bin/clang"
 
 clang="$kit/toolchain/bin/clang --target=x86_64-unknown-linux-gnu --sysroot=$kit/toolchain --no-default-config"
 $clang -S -emit-llvm -O0 -Xclang -disable-llvm-passes -x ir "$work/module.bc" -o "$work/module.ll"
-sed -i -e '/call void @"rattle-llvm-checks::/d' -e '/call void @llvm.trap()/d' -e 's/ sanitize_address//g' "$work/module.ll"
+sed -i -e '/call void @"rattle-llvm-checks::/d' -e '/call void @llvm.trap()/d' \
+    -e 's/ sanitize_address//g' "$work/module.ll"
 python3 "$top/tools/inline_hints.py" "$work/module.ll"
 $clang -march=x86-64 -ffunction-sections -fdata-sections -fPIE -O2 -c -x ir "$work/module.ll" -o "$work/module.o"
 "$kit/bin/rattle-link" --target x86_64-unknown-linux-gnu --toolchain "$kit/toolchain" -o "$program" "$work/module.o" \

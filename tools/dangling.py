@@ -1,9 +1,10 @@
 #!/usr/bin/env python3
 """Lists the imports that name nothing: dangling.py
 
-A check finds these too, after minutes; this takes seconds, for use after a name or a file was changed. It reads the `use` lines of all
-.antt files, the `ghost use` lines of all sources, and the paths in their tactics, and looks for the file and the name in specs/ and
-proofs/ of this repository. What the checker itself makes of a source (`declared`, `contracts`, goals) is only looked up as a file.
+A check finds these too, after minutes; this takes seconds, for use after a name or a file was changed. It reads the
+`use` lines of all .antt files, the `ghost use` lines of all sources, and the paths in their tactics, and looks for
+the file and the name in specs/ and proofs/ of this repository. What the checker itself makes of a source (`declared`,
+`contracts`, goals) is only looked up as a file.
 """
 import functools
 import re
@@ -27,7 +28,8 @@ def names_in(path):
 def of_source(crate, parts):
     """Whether the module of a source exists that a path goes through."""
     modules = [part for part in parts if re.match(r"[a-z]", part)]
-    return any((CRATES / crate / "src" / "/".join(modules[:count])).with_suffix(".rt").exists() for count in range(1, len(modules) + 1))
+    paths = (CRATES / crate / "src" / "/".join(modules[:count]) for count in range(1, len(modules) + 1))
+    return any(path.with_suffix(".rt").exists() for path in paths)
 
 
 def missing(head, names):
@@ -66,7 +68,8 @@ def by_alias(text, aliases):
 
 def main():
     bad = False
-    for path in sorted([*CRATES.glob("*/specs/**/*.antt"), *CRATES.glob("*/proofs/**/*.antt"), *CRATES.glob("*/src/**/*.rt")]):
+    kinds = ("specs/**/*.antt", "proofs/**/*.antt", "src/**/*.rt")
+    for path in sorted(path for kind in kinds for path in CRATES.glob(f"*/{kind}")):
         text = path.read_text()
         named, aliases = imports(text, r"(?:ghost |pub |unfoldable |abbrev )*use ")
         wanted = [*named.values(), *((head, None) for head in aliases.values())]

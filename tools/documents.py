@@ -2,22 +2,31 @@
 """Checks the documents against the repository: documents.py [--write]
 
 - Each link between documents resolves, its heading included.
-- Each path and each name in backticks exists in the repository: as a file, as a folder, or as a word of its code, comments aside.
-  Where a crate is named with them, as in `NAME` of `CRATE`, they exist in that crate.
+- Each path and each name in backticks exists in the repository: as a file, as a folder, or as a word of its code,
+  comments aside. Where a crate is named with them, as in `NAME` of `CRATE`, they exist in that crate, and in a section
+  of CLAIMS that is named for a crate they exist in that one.
+- Each clause that CLAIMS cites promise by promise stands in the contract or the definition that it names (clauses.py).
+- Each script that a document names has its run bit, and each command of a block of code is there.
 - Each block of code after a line that ends in a path in backticks and a colon stands in that file, line by line.
-- Each count that can be computed is as stated: rows, wrong bodies, crates, and the table of sizes.
+- Each figure that can be computed is as stated, and no command takes two times (figures.py).
+- No line has more than 300 characters, but for the tables of calls in CLAIMS.
+- Each source of a crate begins with a line `//!`, which says what it has.
 
-Prints what it finds, and ends with 1 if it found something. With --write it rewrites the table of docs/SIZES.md.
+Prints what it finds, and ends with 1 if it found something. With --write it rewrites the tables of docs/SIZES.md, those
+of the times from docs/times.txt.
 """
+import os
 import re
 import sys
 from functools import cache
-from pathlib import Path
 from subprocess import run
 
-TOP = Path(__file__).resolve().parent.parent
-CRATES = TOP / "crates"
-SIZES = TOP / "docs/SIZES.md"
+sys.dont_write_bytecode = True
+import clauses  # noqa: E402
+import figures  # noqa: E402
+from figures import NAMES, TOP, halves  # noqa: E402
+
+LONGEST = 300
 
 # Names in backticks that the repository's code doesn't have, each group with its reason.
 EXCEPTIONS = {
@@ -26,7 +35,7 @@ EXCEPTIONS = {
         ArgumentPatternRegex ConstEval absolute recipe_path references variable_references
     """,
     "Rattle's kit, its commands, flags and messages, and the names that its checker makes": """
-        AnswersOffered AnswersTried Lts Proof base dac8208d650f15bf holes incremental jobs kit logic oantt plant prop_f
+        Lts Proof base dac8208d650f15bf holes incremental jobs kit logic oantt plant prop_f
         put_payload rattle rlib scope tell try unsupported
     """,
     "what rt builds": "out",
@@ -35,6 +44,9 @@ EXCEPTIONS = {
     """,
     "placeholders, and prefixes of names": "CASE CRATE FIELD MODULE NAME PID TYPE entries_ over_",
 }
+# Names that sections of CLAIMS have though the section's crate doesn't: the program whose language this is, and what
+# the crate never returns.
+ELSEWHERE = {None: {"just"}, "justfile_lex": {"Numbers"}}
 WORD = re.compile(r"[A-Za-z_]\w*")
 PATH = re.compile(
     r"[\w./+-]+\.(?:antt|rt|md|py|sh|c|rows|edit|just|txt)\b"
@@ -42,16 +54,27 @@ PATH = re.compile(
 )
 
 
+def listed(*flags):
+    """What `git ls-files` lists."""
+    found = run(["git", "-C", TOP, "ls-files", "-z", *flags], capture_output=True, check=True)
+    return [it for it in found.stdout.decode().split("\0") if it]
+
+
 def tracked():
     """The files of the repository."""
-    listed = run(["git", "-C", TOP, "ls-files", "-z", "--cached", "--others", "--exclude-standard"], capture_output=True, check=True)
-    return [it for it in listed.stdout.decode().split("\0") if it and (TOP / it).is_file()]
+    return [it for it in listed("--cached", "--others", "--exclude-standard") if (TOP / it).is_file()]
+
+
+def runnable():
+    """The files whose run bit is set: in the repository, and of new files in the folder."""
+    new = {it for it in listed("--others", "--exclude-standard") if os.access(TOP / it, os.X_OK)}
+    return new | {it.partition("\t")[2] for it in listed("--stage") if it.startswith("100755")}
 
 
 FILES = tracked()
 DOCUMENTS = [it for it in FILES if it.endswith(".md")]
 CODE = [it for it in FILES if not it.endswith(".md") and it != "tools/documents.py"]
-NAMES = [line.partition(":")[0] for line in (TOP / "crates.txt").read_text().splitlines() if line]
+RUNNABLE = runnable()
 
 
 def bare(file):
@@ -66,7 +89,7 @@ def bare(file):
 
 @cache
 def words(crate):
-    """The words of a crate's code and the names of its files; of all of the repository without a crate."""
+    """The words of a crate's code and the names of its files, or of one of its folders; without a crate of all."""
     found = set()
     for file in CODE:
         if crate is None or file.startswith(f"crates/{crate}/"):
@@ -92,23 +115,61 @@ def paths():
     return found
 
 
-def spans(text):
-    """Each piece of inline code, with the number of its line and the crate that is named with it; blocks of code are left out."""
-    fenced = False
-    for number, line in enumerate(text.split("\n"), 1):
-        if line.lstrip().startswith("```"):
-            fenced = not fenced
-        if fenced or line.lstrip().startswith("```") or re.match(r"    \s*[^\s*-]", line):
-            continue
-        line = line.replace("\\|", "|")
+def spans(prose):
+    """Each piece of inline code: its line number, itself, and the crate whose words it may have, if there is one."""
+    section = None
+    for number, line in prose:
+        if line.startswith("## "):
+            found = re.match(r"## `(\w+)`:", line)
+            section = found.group(1) if found and found.group(1) in NAMES else None
         for found in re.finditer(r"(`+) ?(.+?) ?\1(?!`)", line):
-            yield number, found.group(2), crate_after(line[found.end() :])
+            crate = crate_after(line[found.end() :]) or crate_before(line[: found.start()], section)
+            yield number, found.group(2), crate
 
 
 def crate_after(rest):
     """The crate that is named after a name, as in `NAME`, `OTHER` and `THIRD` of `CRATE`."""
     found = re.match(r"(?:(?:,| and|, and) `[^`]+`)* of `(\w+)`", rest)
     return found.group(1) if found and found.group(1) in NAMES else None
+
+
+def crate_before(line, section):
+    """The crate whose words a name has after this beginning of a line, in a section named for a crate: in the column of
+    definitions those of its specs/, and in that of tests those of all tests."""
+    cell = line.count("|") if line.startswith("|") else 0
+    if not section:
+        return None
+    if cell == 4 or re.search(r"[Rr]ows of [^.;]*$", line):
+        return "tests"
+    if cell != 3 or "as for" in line.split("|")[3]:
+        return section
+    lead = re.search(r"(?:`(\w+)`|\b(model)): [^;|.]*$", line)
+    named = lead and (lead.group(1) or "justfile_model")
+    return (named if named in NAMES else section) + "/specs"
+
+
+def known(crate):
+    """The words that a name with this crate may have. Those of justfiles and the names of laws stand in any section."""
+    if crate == "tests":
+        return words("justfile_rows") | words("justfile_syntax") | tests() | set(NAMES)
+    if crate.endswith("/specs"):
+        return words(crate) | set(NAMES)
+    elsewhere = ELSEWHERE[None] | ELSEWHERE.get(crate, set())
+    return words(crate) | words("justfile_vocabulary") | laws() | elsewhere | set(NAMES)
+
+
+@cache
+def tests():
+    """The words of the files that have tests, as functions or as data."""
+    texts = {file: bare(file) for file in CODE if file.startswith("crates/")}
+    return {it for file, text in texts.items() if "/data/" in file or "#[test]" in text for it in WORD.findall(text)}
+
+
+@cache
+def laws():
+    """The names of the laws that the library passes on."""
+    module = bare("crates/justfile_syntax/src/lib.rt").partition("pub mod laws {")[2].partition("\n}\n")[0]
+    return set(WORD.findall(module))
 
 
 def check_span(code, crate):
@@ -122,13 +183,45 @@ def check_span(code, crate):
         if len(word) > 1 and word not in allowed():
             if word not in words(None):
                 return f"{word}: no such name"
-            if crate and word not in words(crate):
+            if crate and "/" not in code and word not in known(crate):
                 return f"{word}: not in {crate}"
     return None
 
 
+def check_runnable(prose):
+    """Each script that inline code names has its run bit."""
+    for number, line in prose:
+        for code in re.findall(r"`([^`]+)`", line):
+            for path in PATH.findall(code):
+                if path in FILES and path not in RUNNABLE and (TOP / path).read_bytes().startswith(b"#!"):
+                    yield f"{number}: {path} has no run bit"
+
+
+def check_commands(blocks):
+    """Each file that a command of a block runs is there with its run bit, and each folder that it goes to is there."""
+    for number, line, language in blocks:
+        if language not in ("", "sh", "yaml"):
+            continue
+        for command in re.split(r"&&|\|\||[|;(]", re.sub(r"\$\(.*?\)", "", line)):
+            name, *rest = command.split() or [""]
+            if name == "cd" and rest and not (TOP / rest[0].rstrip(")")).is_dir():
+                yield f"{number}: {rest[0]}: no such folder"
+            if re.fullmatch(r"(?:tools|bench|examples|\.ci)/\S+", name) and name not in RUNNABLE:
+                yield f"{number}: {name}: {'no run bit' if name in FILES else 'no such file'}"
+
+
+def check_widths(text):
+    """No line is too long, but for rows of calls in the sections of CLAIMS."""
+    of_calls = False
+    for number, line in enumerate(text.split("\n"), 1):
+        if line.startswith("## "):
+            of_calls = line.startswith("## `")
+        if len(line) > LONGEST and not (of_calls and line.startswith("|")):
+            yield f"{number}: {len(line)} characters"
+
+
 def quotes(text):
-    """Each block of code with the path that the line before it names, as in `crates/NAME/src/lib.rt`:, and its line number."""
+    """Each block of code with the path that the line before it names, as in `crates/NAME/src/lib.rt`:, and its line."""
     for found in re.finditer(r"`([\w./-]+/[\w./-]+)`:\n\n```\w*\n(.*?)^```$", text, re.M | re.S):
         yield text.count("\n", 0, found.start()) + 1, found.group(1), found.group(2)
 
@@ -169,89 +262,29 @@ def check_links(file, text):
             yield f"{target}: no such heading"
 
 
-def lines(pattern):
-    """The lines of the files of a pattern that aren't blank."""
-    return sum(1 for path in CRATES.glob(pattern) for line in path.read_text().split("\n") if line.strip())
+def check_heads():
+    for file in FILES:
+        if re.match(r"crates/\w+/src/.*\.rt$", file) and not (TOP / file).read_text().startswith("//!"):
+            yield f"{file}: no line //! at its head"
 
 
-def sizes(crate):
-    """A crate's functions, lines of code, of tests, of definitions and of proofs, and wrong bodies."""
-    tests = [path for path in CRATES.glob(f"{crate}/src/**/*.rt") if "tests" in (*path.parts, path.stem)]
-    code = [path for path in CRATES.glob(f"{crate}/src/**/*.rt") if path not in tests]
-    functions = sum(len(re.findall(r"^\s*(?:pub(?:\([^)]*\))? )?(?:const )?fn \w", path.read_text(), re.M)) for path in code)
-    by_kind = [sum(1 for path in paths for line in path.read_text().split("\n") if line.strip()) for paths in (code, tests)]
-    edits = len(list(CRATES.glob(f"{crate}/must-fail/*.edit")))
-    return [functions, *by_kind, lines(f"{crate}/specs/**/*.antt"), lines(f"{crate}/proofs/**/*.antt"), edits]
-
-
-def size_rows():
-    """The rows of the table of sizes."""
-    each = {crate: sizes(crate) for crate in NAMES}
-    each["all"] = [sum(column) for column in zip(*each.values())]
-    return [f"| {name if name == 'all' else f'`{name}`'} | {' | '.join(map(str, row))} |" for name, row in each.items()]
-
-
-def counted():
-    """Each count with the document and the pattern that states it."""
-    stdout = (CRATES / "justfile_rows/stdout").read_text().rstrip("\n").split("\n")[-1]
-    hold, fail, unread = map(int, re.findall(r"\d+", stdout))
-    data = sum(path.read_text().count("\n") for path in CRATES.glob("justfile_rows/data/*.rows"))
-    edits = len(list(CRATES.glob("*/must-fail/*.edit")))
-    yield "docs/SIZES.md", r"(\d[\d,]*) rows in", hold + fail + unread
-    yield "docs/SIZES.md", r"(\d[\d,]*) lines of `data/`", data
-    yield "docs/CLAIMS.md", r"(\d[\d,]*) rows of data", hold
-    yield "docs/CLAIMS.md", r"(\d[\d,]*) wrong bodies", edits
-    yield "docs/ARCHITECTURE.md", r"The (\d[\d,]*) crates", len(NAMES)
-
-
-def check_neighbours():
-    """The counts of files in the table of neighbours, by `git grep`."""
-    for name, stated in re.findall(r"^\| [^|]+ \| `(\w+)` \| (\d+) \|$", (TOP / "docs/ARCHITECTURE.md").read_text(), re.M):
-        listed = run(["git", "-C", TOP, "grep", "-lw", name, "--", "crates"], capture_output=True, text=True).stdout
-        if listed.count("\n") != int(stated):
-            yield f"docs/ARCHITECTURE.md: {stated} files name {name}: {listed.count(chr(10))}"
-
-
-def check_wrong_bodies():
-    """Each wrong body is listed in CLAIMS."""
-    text = (TOP / "docs/CLAIMS.md").read_text()
-    for path in sorted(CRATES.glob("*/must-fail/*.edit")):
-        if f"`{path.stem}`" not in text:
-            yield f"docs/CLAIMS.md: the wrong body {path.stem} of {path.parts[-3]} is missing"
-
-
-def check_counts():
-    for file, pattern, count in counted():
-        stated = re.findall(pattern, (TOP / file).read_text())
-        if not stated:
-            yield f"{file}: a count is not stated: {pattern}, {count:,}"
-        for one in stated:
-            if int(one.replace(",", "")) != count:
-                yield f"{file}: {one} is {count:,}: {pattern}"
-
-
-def check_sizes(write):
-    text = SIZES.read_text()
-    table = re.search(r"(?<=\|---:\|\n)(?:\| (?:`\w+`|all) \| \d+ \| \d+ \| \d+ \| \d+ \| \d+ \| \d+ \|\n)+", text)
-    made = "\n".join(size_rows()) + "\n"
-    if table.group(0) == made:
-        return
-    if write:
-        SIZES.write_text(text.replace(table.group(0), made))
-    else:
-        yield "docs/SIZES.md: the table of sizes is not what the crates have: --write writes it"
+def check_document(file, text):
+    """What is wrong with a document apart from its figures."""
+    prose, blocks = halves(text)
+    yield from (f"{file}: {it}" for it in check_links(file, text))
+    yield from check_quotes(file, text)
+    for check in (check_runnable(prose), check_commands(blocks), check_widths(text)):
+        yield from (f"{file}:{it}" for it in check)
+    for number, code, crate in spans(prose):
+        if wrong := check_span(code, crate):
+            yield f"{file}:{number}: `{code}`: {wrong}"
 
 
 def main():
-    found = list(check_sizes("--write" in sys.argv))
+    found = list(figures.check({it: (TOP / it).read_text() for it in DOCUMENTS}, "--write" in sys.argv))
+    found.extend([*clauses.check(), *check_heads()])
     for file in DOCUMENTS:
-        text = (TOP / file).read_text()
-        found.extend(f"{file}: {it}" for it in check_links(file, text))
-        found.extend(check_quotes(file, text))
-        for number, code, crate in spans(text):
-            if wrong := check_span(code, crate):
-                found.append(f"{file}:{number}: `{code}`: {wrong}")
-    found.extend(it for check in (check_counts, check_neighbours, check_wrong_bodies) for it in check())
+        found.extend(check_document(file, (TOP / file).read_text()))
     print("\n".join(found), end="\n" if found else "")
     return 1 if found else 0
 

@@ -1,9 +1,9 @@
 #!/usr/bin/env python3
 """Gives a module of `rt try` the inline hints of the sources, and drops its fills: inline_hints.py MODULE.ll
 
-The module has no attribute for `#[inline(always)]` or `#[inline(never)]`, and fills each local variable with 0xAA before its first use.
-A program that is proved is compiled with the hints and without the fills. build_unproved.sh runs this, so that what it builds takes
-about as many instructions as the proved program.
+The module has no attribute for `#[inline(always)]` or `#[inline(never)]`, and fills each local variable with 0xAA
+before its first use. A program that is proved is compiled with the hints and without the fills. build_unproved.sh
+runs this, so that what it builds takes about as many instructions as the proved program.
 """
 import re
 import sys

@@ -1,9 +1,10 @@
 #!/usr/bin/env python3
 """Checks the tables of docs/CLAIMS.md under "What you have to trust", or writes their last column with --write.
 
-What a statement rests on is found by name: from the definitions that the clauses of public calls cite, on to all that these are made
-of. Each table is for a group of calls, and lists the files with definitions that the tables before it don't have. A row's last column is the number of the
-lines of these definitions in its files, comments aside, rounded up to ten. Files without a path are those of `justfile_model`.
+What a statement rests on is found by name: from the definitions that the clauses of public calls cite, on to all that
+these are made of. Each table is for a group of calls, and lists the files with definitions that the tables before it
+don't have. A row's last column is the number of the lines of these definitions in its files, comments aside, rounded
+up to ten. Files without a path are those of `justfile_model`.
 """
 import functools
 import re
@@ -29,7 +30,8 @@ class File:
         self.read_units(text)
 
     def read_units(self, text):
-        """Stores the lines of each definition, with the headers of the modules around it, and the definition of each constructor and field."""
+        """Stores the lines of each definition, with the headers of the modules around it, and which definition each
+        constructor and each field belongs to."""
         levels, headers, current = [0], [], None
         for line in text.split("\n"):
             bare = line.strip()

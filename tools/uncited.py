@@ -1,10 +1,10 @@
 #!/usr/bin/env python3
 """Lists the definitions and lemmas that nothing cites: uncited.py
 
-A declaration of specs/ or proofs/ is cited by another declaration of its file, by a file that imports it from there, or by its path,
-as in `using(crate::proofs::Rest::marked_end)`. Lines that only import a name don't cite it, nor do comments. Answers to goals have the
-names of the goals, and examples are there to be read: the files Answers.antt and Invariants.antt of proofs/, and files whose names end
-in Examples, cite but are not listed.
+A declaration of specs/ or proofs/ is cited by another declaration of its file, by a file that imports it from there,
+or by its path, as in `using(crate::proofs::Rest::marked_end)`. Lines that only import a name don't cite it, nor do
+comments. Answers to goals have the names of the goals, and examples are there to be read: the files Answers.antt and
+Invariants.antt of proofs/, and files whose names end in Examples, cite but are not listed.
 
 It only lists: a definition may still be worth keeping, for readers or as the subject of a law.
 """
@@ -39,7 +39,8 @@ def cited_by_use(text, use, comment):
     """The pairs of a module and a name that a file cites beyond its own declarations."""
     names, aliases = imports(text, use)
     text = re.sub(comment, "", text, flags=re.M)
-    again = {(head, old) for head, old in names.values() if re.search(rf"^\s*(?:unfoldable )?pub use {re.escape(head)}\.\{{[^}}]*{re.escape(old)}", text, re.M)}
+    passed = r"^\s*(?:unfoldable )?pub use %s\.\{[^}]*%s"
+    again = {it for it in names.values() if re.search(passed % tuple(map(re.escape, it)), text, re.M)}
     plain, dotted = words(IMPORT.sub("", text))
     by_name = {it for new, it in names.items() if new in plain}
     by_alias = {(aliases[alias], name) for alias, name in dotted if alias in aliases}
@@ -54,7 +55,8 @@ def cited_by_path(text, crate):
 
 
 def main():
-    cited, files = set(), [File(path) for part in ("specs", "proofs") for path in sorted(CRATES.glob(f"*/{part}/**/*.antt"))]
+    paths = (path for part in ("specs", "proofs") for path in sorted(CRATES.glob(f"*/{part}/**/*.antt")))
+    cited, files = set(), [File(path) for path in paths]
     for file in files:
         cited |= cited_by_use(file.path.read_text(), r"(?:pub |unfoldable |abbrev )*use ", r"(?:^|\s)--\s.*$")
     for path in [*CRATES.glob("*/src/**/*.rt"), *CRATES.glob("*/must-fail/*.edit")]:
@@ -62,7 +64,8 @@ def main():
         cited |= cited_by_use(text, r"ghost use ", r"(?<!:)//.*$")
         cited |= set(cited_by_path(text, path.relative_to(CRATES).parts[0]))
     for file in files:
-        inside = {unit: words(re.sub(r"\s--\s.*$", "", "\n".join(lines), flags=re.M))[0] for unit, lines in file.units.items()}
+        texts = {unit: re.sub(r"\s--\s.*$", "", "\n".join(lines), flags=re.M) for unit, lines in file.units.items()}
+        inside = {unit: words(text)[0] for unit, text in texts.items()}
         for unit in file.units:
             owned = {unit} | {field for field, owner in file.owner.items() if owner == unit}
             outside = any((module(file.path), name) in cited for name in owned)

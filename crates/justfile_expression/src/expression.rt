@@ -334,7 +334,7 @@ pub fn copy_optional<'src>(
     copy_option(alloc, expression, None)
 }
 
-/// Copies an optional expression. If `copied` is given, it is that copy.
+/// Copies an optional expression, or takes `copied`, where that is a copy of it already.
 #[cycle(copy)]
 fn copy_option<'src>(
     alloc: Global,
@@ -350,7 +350,8 @@ fn copy_option<'src>(
     }
 }
 
-/// Copies an expression into a box of its own. If `copied` is given, it is that copy.
+/// Copies an expression into a box of its own, or takes `copied`, where that is a copy of it
+/// already.
 #[cycle(copy)]
 fn copy_right<'src>(
     alloc: Global,

@@ -1,3 +1,4 @@
+//! The classes of bytes that lexing asks for, and runs of such bytes.
 ghost use Rattle.std.specs.Prelude.{◌≡◌, ◌+◌, ◌<◌, ◌≤◌, ◌||◌, ◌&&◌, ◌==◌, nat_eq, false, length, take, drop, MatchOption};
 ghost use Rattle.std.specs.List.{prefix_len, list_any, starts_with};
 ghost use Rattle.std.specs.Str.{IsCharBoundary};

@@ -1,3 +1,4 @@
+//! The lexer: from a text to its tokens, or to its lexical fault.
 ghost use Rattle.std.specs.Prelude.{◌≡◌, ◌+◌, ◌≤◌, ◌||◌, ◌==◌, length, drop, map, Ok, Err, IfOk, OnOk, IfErr, All, MatchOption, None, Some};
 ghost use Rattle.std.specs.Result.{result_ok};
 ghost use Rattle.std.specs.Str.{IsCharBoundary, IsUtf8};

@@ -1,3 +1,4 @@
+//! Literals and parts of format strings, and the delimiters that end them.
 ghost use Rattle.std.specs.Prelude.{◌≡◌, ◌≤◌, ◌<◌, ◌&&◌, length, true};
 ghost use Rattle.std.specs.Result.{result_ok};
 ghost use Rattle.justfile_token.specs.StringKind.{delimiter_len, kind_of};

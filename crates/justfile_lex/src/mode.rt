@@ -1,3 +1,4 @@
+//! The mode: what the lexer has to know of the earlier tokens.
 ghost use Rattle.std.specs.Prelude.{◌≡◌, ◌||◌, ◌+◌, ◌≤◌, map, not, length, ◌==◌, [], ◌∷◌, OnOk, None, true, false};
 ghost use Rattle.std.specs.List.{list_any, count_by};
 ghost use Rattle.std.specs.Str.{bytes_eq};
@@ -188,7 +189,7 @@ impl<'src> Mode<'src> {
     }
 }
 
-/// Whether one of the texts is this one.
+/// Whether `text` is among the texts.
 fn contains(texts: &[&str], text: &str) -> bool
     ensures { result ≡ list_any (λ t. bytes_eq t.now text.now) texts.now }
 {

@@ -1,3 +1,4 @@
+//! The lengths of comments, texts of bodies and insides of literals, up to their first end.
 ghost use Rattle.std.specs.Prelude.{◌≡◌};
 ghost use Rattle.std.specs.List.{prefix_len};
 ghost use Rattle.justfile_model.specs.declared.raw_text.RawText.TheVariants.{Literal};
@@ -53,9 +54,9 @@ fn plain_len_of(text: RawText, bytes: &[u8]) -> usize
         .count()
 }
 
-/// Whether a byte hides nothing and doesn't begin an end, whatever follows. Some other bytes don't
-/// either, such as a tab, which is rejected here because one comparison covers all control
-/// characters up to the line ends.
+/// Whether a byte is known to hide nothing and to begin no end, whatever follows. The comparison
+/// that covers the line ends also covers the control characters before them, such as a tab, though
+/// these would qualify.
 fn is_plain(text: RawText, byte: u8) -> bool
     ensures { result ≡ is_plain text byte }
 {

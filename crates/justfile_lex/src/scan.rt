@@ -1,3 +1,4 @@
+//! The next token within a line, by the class of its first byte.
 ghost use Rattle.std.specs.Prelude.{◌≡◌, ◌+◌, ◌<◌, ◌≤◌, length, slice_index, true};
 ghost use Rattle.std.specs.Result.{result_ok};
 ghost use Rattle.justfile_vocabulary.specs.ByteClass.{class_of};

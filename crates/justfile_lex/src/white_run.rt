@@ -1,3 +1,4 @@
+//! Whether levels close before blank lines, read once for each run of white bytes.
 ghost use Rattle.std.specs.Prelude.{◌≡◌, false};
 ghost use Rattle.justfile_model.specs.Bytes.{white, line_feed, closes_levels};
 

@@ -1,3 +1,4 @@
+//! The text of a literal with its escapes replaced.
 ghost use Rattle.std.specs.Prelude.{◌≡◌, ◌++◌, ℕ, List, IfErr, IfOk, Ok, OnOk, encode_utf8_all, option_to_list, string_bytes};
 ghost use Rattle.justfile_model.specs.Cook.{Cooks, IsCookFault, Refused};
 ghost use Rattle.justfile_model.specs.Literals.{escaped};

@@ -1,3 +1,4 @@
+//! One piece of a text with escapes: a character or an escape.
 ghost use Rattle.std.specs.Prelude.{◌≡◌, ◌<◌, [], ◌∷◌, IfOk, IfSome, IsUtf8, MatchOption, SomeIff, chars, length};
 ghost use Rattle.std.specs.Char.{IsScalar};
 ghost use Rattle.std.specs.Str.Parse.{digits_value};

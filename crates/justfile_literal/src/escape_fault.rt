@@ -1,3 +1,4 @@
+//! Why an escape is invalid, and the error that reports it.
 ghost use Rattle.std.specs.Prelude.{◌≡◌, IfOk, Some};
 ghost use Rattle.justfile_model.specs.EscapeFault.{escape_fault_of};
 ghost use Rattle.justfile_literal.specs.Pieces.{piece_fault};

@@ -1,3 +1,4 @@
+//! A text without the indentation that its lines share.
 ghost use Rattle.std.specs.Prelude.{◌≡◌, [], ◌∷◌, ◌++◌, false, true, IfOk, OnOk, drop, length, map, nat_eq, string_bytes};
 ghost use Rattle.std.specs.List.{All, common_prefix_len, list_all, prefix_len};
 ghost use Rattle.justfile_vocabulary.specs.Indentation.{is_space_or_tab};

@@ -1,3 +1,4 @@
+//! The operators of comparisons.
 ghost use Rattle.std.specs.Prelude.{◌≡◌};
 ghost use Rattle.justfile_model.specs.ConditionalOperator.{operator_sign};
 

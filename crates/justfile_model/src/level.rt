@@ -1,3 +1,4 @@
+//! The levels of precedence of expressions.
 /// The precedence levels of expressions, from the loosest to the tightest.
 #[derive(Clone, Copy)]
 pub enum Level {

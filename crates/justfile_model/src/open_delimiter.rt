@@ -1,3 +1,4 @@
+//! Delimiters that are open while a text is lexed.
 use justfile_token::Delimiter;
 
 /// An open delimiter, and the line on which its token ends. For a format string that is the line on

@@ -1,3 +1,4 @@
+//! The operators between two expressions.
 use crate::conditional_operator::ConditionalOperator;
 
 /// An operator between two expressions.

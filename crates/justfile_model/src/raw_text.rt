@@ -1,3 +1,4 @@
+//! The kinds of text that are read up to an end.
 use justfile_token::StringKind;
 
 /// Text that is read byte by byte up to an end.

@@ -51,9 +51,9 @@ fn set_docs(alloc: Global, items: &mut Vec<Item<'_>>) -> Result<(), AllocError>
     Ok(())
 }
 
-/// Moves the item at `place` to the end of the first `kept` items, which are done. If the comment
-/// before it becomes its doc, it takes the comment's place. Returns how many items are done now. A
-/// line end has no fields, so it isn't moved but made at its new place.
+/// Moves the item at `place` to the end of the first `kept` items, which are done, or to the place
+/// of the last of these, if that is a comment which becomes the item's doc. Returns how many items
+/// are done now. A line end has no fields, so it isn't moved but made at its new place.
 fn keep_item(
     alloc: Global,
     items: &mut Vec<Item<'_>>,

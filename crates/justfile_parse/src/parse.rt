@@ -146,7 +146,8 @@ impl Parser {
     }
 }
 
-/// Parses the items of a file from the table of its tokens. Also returns the uses of features.
+/// Parses the items of a file from the table of its tokens, and gives recipes and modules their
+/// docs. Also returns the uses of features.
 fn parse_table<'run, 'src, X: Expander>(
     alloc: Global,
     file_depth: u32,

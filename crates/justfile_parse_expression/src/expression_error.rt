@@ -1,3 +1,4 @@
+//! Why the next token is refused, and why an expression can't be parsed.
 ghost use Rattle.std.specs.Prelude.{IsTrue};
 ghost use Rattle.justfile_parse_expression.specs.Fault.{is_literal_kind};
 

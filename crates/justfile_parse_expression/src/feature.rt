@@ -1,3 +1,4 @@
+//! How the parser notes features that need the setting `lists`.
 ghost use Rattle.std.specs.Prelude.{◌≡◌};
 ghost use Rattle.justfile_model.specs.Features.{function_feature, noted, noted_if, uncompared_feature};
 ghost use Rattle.justfile_model.specs.ReaderState.{with};

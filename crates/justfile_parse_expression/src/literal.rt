@@ -1,3 +1,4 @@
+//! Parsing of literals outside of format strings.
 ghost use Rattle.std.specs.Prelude.{◌≡◌, IsTrue, IfOk, Ok, false, option_map};
 ghost use Rattle.justfile_token.specs.StringKind.{kind_of};
 ghost use Rattle.justfile_token.specs.Token.{lexeme_of};

@@ -1,3 +1,4 @@
+//! The tokens that the parser reads: all but whitespace.
 ghost use Rattle.std.specs.Prelude.{◌≡◌, [], ◌∷◌, ◌++◌, map, IfOk, OnOk};
 ghost use Rattle.justfile_model.specs.SignificantTokens.{is_whitespace, significant_tokens};
 ghost use Rattle.justfile_model.specs.Tok.{tok_of};

@@ -186,8 +186,8 @@ fn make_comment<'src>(comment: Token<'src>) -> Item<'src>
     Item::Comment(comment.lexeme().trim_end())
 }
 
-/// Appends an item, and returns whether it has a body. It branches on the answer, because the
-/// checker can't check a `let` of it (`docs/TOOLCHAIN.md`, "could not tell").
+/// Appends an item, and returns whether it has a body. An `if` asks for that, because the checker
+/// reaches its limit at a `let` of it (`docs/TOOLCHAIN.md`, "could not tell").
 fn push_parsed<'src>(
     items: &mut Vec<Item<'src>>,
     item: Item<'src>,

@@ -25,7 +25,7 @@ pub enum Lookahead {
     Set,
 }
 
-/// Takes the next token if it is this keyword and what has to follow it does.
+/// Takes the next token if it is this keyword and is followed as the lookahead asks.
 pub fn accept_keyword_before<'run, 'src, X: Expander>(
     parser: &mut ExpressionParser<'run, 'src, X>,
     keyword: Keyword,
@@ -49,7 +49,7 @@ pub fn peek_assignment<X: Expander>(parser: &ExpressionParser<'_, '_, X>) -> boo
     parser.peek_kinds(&[TokenKind::Identifier, TokenKind::ColonEquals])
 }
 
-/// Whether what has to follow a keyword comes after the next token, which is a keyword.
+/// Whether the next token, a keyword, is followed as the lookahead asks.
 fn follows_keyword<X: Expander>(parser: &ExpressionParser<'_, '_, X>, lookahead: Lookahead) -> bool
     ensures { result ≡ reader.follows_past lookahead (state_of X.answer parser.now) }
 {

@@ -1,3 +1,4 @@
+//! Errors: a kind, and the token at which it is reported.
 ghost use Rattle.std.specs.Prelude.{◌≡◌};
 
 use crate::compile_error_kind::CompileErrorKind;

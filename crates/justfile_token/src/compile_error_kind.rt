@@ -1,3 +1,4 @@
+//! The kinds of errors, with what their messages name.
 use crate::delimiter::Delimiter;
 use crate::name::Name;
 use crate::namepath::Namepath;

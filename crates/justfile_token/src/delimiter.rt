@@ -1,3 +1,4 @@
+//! Delimiters that can be open while a text is lexed.
 ghost use Rattle.std.specs.Prelude.{◌≡◌};
 ghost use Rattle.justfile_token.specs.Delimiter.{open_text, close_text};
 

@@ -1,3 +1,4 @@
+//! What expands the texts of literals with the mark `x`.
 ghost use Rattle.std.specs.Prelude.{◌≡◌, ℕ, List, Result, Ok, IfOk, IfErr, string_bytes};
 ghost use Rattle.justfile_token.specs.Expander.{Refuses};
 

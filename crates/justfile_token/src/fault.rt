@@ -1,3 +1,4 @@
+//! Why a call returned no value: an error of the text, or memory or numbers ran out.
 use crate::compile_error::CompileError;
 use std::alloc::{AllocError, AllocFailed};
 use std::error::Error;

@@ -1,3 +1,4 @@
+//! Values that are found by a name.
 ghost use Rattle.std.specs.Prelude.{◌≡◌, ℕ, List};
 ghost use Rattle.justfile_token.specs.Name.{name_text};
 

@@ -1,3 +1,4 @@
+//! Paths of modules, as texts that are copied.
 ghost use Rattle.std.specs.Prelude.{◌≡◌, [], ◌∷◌, ◌++◌, IfOk, OnOk, OnErr, Some, map, string_bytes};
 
 use crate::namepath::Namepath;

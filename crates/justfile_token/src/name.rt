@@ -1,3 +1,4 @@
+//! Names: tokens that are identifiers.
 ghost use Rattle.std.specs.Prelude.{◌≡◌};
 ghost use Rattle.justfile_vocabulary.specs.declared.token_kind.TokenKind.TheVariants.{Identifier};
 

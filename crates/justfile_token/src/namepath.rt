@@ -1,3 +1,4 @@
+//! Paths of names, which are never empty.
 ghost use Rattle.std.specs.Prelude.{◌≡◌, ◌<◌, ◌-◌, [], ◌∷◌, ◌++◌, length, slice_get, IfOk, OnOk, OnErr, Some};
 ghost use Rattle.std.specs.Slice.Iter.{iter_rest};
 

@@ -1,3 +1,4 @@
+//! Where a text comes from.
 ghost use Rattle.std.specs.Prelude.{◌≡◌, None, []};
 
 use crate::namepath::Namepath;

@@ -1,3 +1,4 @@
+//! The delimiters of literals.
 ghost use Rattle.std.specs.Prelude.{◌≡◌, IfErr, IfSome, slice_index, take, if◌then◌else◌};
 ghost use Rattle.std.specs.Result.{result_ok};
 ghost use Rattle.justfile_token.specs.CompileErrorKind.{internal_message};

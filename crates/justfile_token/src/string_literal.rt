@@ -1,3 +1,4 @@
+//! Literals, with their texts and their tokens.
 ghost use Rattle.std.specs.Prelude.{◌≡◌, IfOk, Some};
 
 use crate::string_kind::StringKind;

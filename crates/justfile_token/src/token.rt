@@ -1,3 +1,4 @@
+//! Tokens: parts of a text, with their kinds and positions.
 ghost use Rattle.std.specs.Prelude.{◌≡◌, ◌+◌};
 ghost use Rattle.justfile_token.specs.Slice.{IsWithin, slice_of};
 

@@ -1,3 +1,4 @@
+//! What a message can list as alternatives.
 ghost use Rattle.std.specs.Prelude.{◌≡◌, ℕ, List, Some, encode_utf8};
 ghost use Rattle.std.specs.Fmt.{DisplaysOnOk};
 ghost use Rattle.justfile_vocabulary.specs.Keyword.{keyword_text};

@@ -1,3 +1,4 @@
+//! The kinds of attributes, and their names.
 ghost use Rattle.std.specs.Prelude.{◌≡◌};
 
 /// The kind of an attribute. The order is the one in which attributes are printed.

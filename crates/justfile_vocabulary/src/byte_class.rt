@@ -1,3 +1,4 @@
+//! The classes of bytes by which the lexer branches.
 ghost use Rattle.std.specs.Prelude.{◌≡◌};
 ghost use Rattle.justfile_vocabulary.specs.ByteClass.{class_of};
 

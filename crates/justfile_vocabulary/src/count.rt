@@ -1,3 +1,4 @@
+//! Counted nouns in messages.
 use std::fmt;
 
 /// A noun in the number that a count requires, with or without the count before it.

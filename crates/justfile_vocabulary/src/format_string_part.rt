@@ -1,3 +1,4 @@
+//! The parts of format strings.
 /// The part of a format string that a literal makes up.
 #[derive(Clone, Copy, Debug, PartialEq, Eq, PartialOrd, Ord)]
 pub enum FormatStringPart {

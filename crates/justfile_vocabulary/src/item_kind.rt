@@ -1,3 +1,4 @@
+//! The kinds of items, and their names in messages.
 ghost use Rattle.std.specs.Prelude.{◌≡◌};
 
 use std::fmt;

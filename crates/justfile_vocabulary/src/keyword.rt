@@ -1,3 +1,4 @@
+//! The keywords, and how they are spelled.
 ghost use Rattle.std.specs.Prelude.{◌≡◌, ◌↔◌, IsTrue, MatchOption};
 
 use std::fmt;

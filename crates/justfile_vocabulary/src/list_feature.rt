@@ -1,3 +1,4 @@
+//! The features that need the setting `lists`, and what messages call them.
 ghost use Rattle.std.specs.Prelude.{◌≡◌};
 ghost use Rattle.justfile_vocabulary.specs.ListFeature.{feature_text, is_function};
 

@@ -1,3 +1,4 @@
+//! What hands out the numbers of bindings and recipes.
 ghost use Rattle.std.specs.Prelude.{◌≡◌, ◌+◌, ◌-◌, ◌^◌, ◌<◌, ◌↔◌, IsNone, IfSome, OnSome, IfNone};
 
 use crate::number::Number;

@@ -1,3 +1,4 @@
+//! The signals that the attribute `continue` may name.
 ghost use Rattle.std.specs.Prelude.{◌≡◌};
 
 use std::fmt;

@@ -1,3 +1,4 @@
+//! Options as they are written on a command line.
 use std::fmt;
 
 /// How an option is written on the command line.

@@ -1,3 +1,4 @@
+//! The kinds of tokens, and what messages call them.
 ghost use Rattle.std.specs.Prelude.{◌≡◌};
 ghost use Rattle.justfile_vocabulary.specs.TokenKind.{kind_text};
 

@@ -1,3 +1,4 @@
+//! The features that need the setting `unstable`.
 /// A feature that requires the setting `unstable`.
 #[derive(Clone, Copy, Debug, PartialEq, Eq, PartialOrd, Ord)]
 pub enum UnstableFeature {

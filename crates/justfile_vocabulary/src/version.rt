@@ -1,3 +1,4 @@
+//! Versions of `just`.
 ghost use Rattle.std.specs.Prelude.{◌≡◌, ℕ, ◌∷◌, ◌++◌, IfSome, IfNone};
 ghost use Rattle.justfile_vocabulary.specs.NumberText.{HasNoDot, IsNumberText};
 

@@ -1,3 +1,4 @@
+//! How attributes were written: their names and comments.
 ghost use Rattle.std.specs.Prelude.{◌≡◌, IfOk, map};
 ghost use Rattle.justfile_written.specs.Written.{commented, line_commented, uncommented};
 

@@ -137,7 +137,7 @@ def refused(form, level):
 
 def main():
     print("# Each form that has an expression in it, nested 254 to 258 times, in each place for an")
-    print("# expression. Written by bench/nesting.py, which computes the expected results.")
+    print("# expression. Written by tools/nesting.py, which computes the expected results.")
     for form in FORMS:
         print("\n# %s" % unmarked(form[0]).replace("E", "..").rstrip())
         for level in LEVELS:

@@ -1,0 +1,247 @@
+"""The figures of the documents: which ones are stated, and what the repository has.
+
+- The table of sizes, counted in the sources.
+- The table of times, which are those of docs/times.txt.
+- Counts in sentences: wrong bodies, crates, files that name a neighbour.
+- Times in sentences, each that stands soon after a command. A command has one time in all documents, and one that
+  proves a crate from nothing has that of the crate and of all below it.
+
+Counts of rows aren't stated anywhere: the output of `justfile_rows` has them.
+"""
+import re
+from pathlib import Path
+from subprocess import run
+
+TOP = Path(__file__).resolve().parent.parent
+CRATES = TOP / "crates"
+SIZES = TOP / "docs/SIZES.md"
+TIMES = TOP / "docs/times.txt"
+PARTS = ("proof", "tests", "wrong bodies")
+LISTED = [line.partition(":") for line in (TOP / "crates.txt").read_text().splitlines() if ":" in line]
+BELOW = {name: rest.split() for name, _, rest in LISTED}
+NAMES = list(BELOW)
+
+WORDS = {word: count for count, word in enumerate("zero one two three four five six seven eight nine ten".split())}
+WORDS |= {"a": 1, "an": 1, "half a": 0.5}
+AMOUNT = "|".join(sorted(WORDS, key=len, reverse=True))
+TIME = re.compile(rf"\b({AMOUNT}|\d[\d,]*) (CPU )?(second|minute|hour)s?( on the clock)?\b")
+COMMAND = re.compile(r"`([^`]*\b(?:rt (?:try|check|run|lib|ci)|tools/\w+|bench/\w+)\b[^`]*)`")
+SECONDS = {"second": 1, "minute": 60, "hour": 3600}
+SOON = 100
+
+
+# Sizes
+
+
+def lines(files):
+    """How many lines of some files aren't blank."""
+    return sum(1 for path in files for line in path.read_text().split("\n") if line.strip())
+
+
+def sizes(crate):
+    """A crate's functions, lines of code, of tests, of definitions and of proofs, and wrong bodies."""
+    tests = [path for path in CRATES.glob(f"{crate}/src/**/*.rt") if "tests" in (*path.parts, path.stem)]
+    code = [path for path in CRATES.glob(f"{crate}/src/**/*.rt") if path not in tests]
+    function = re.compile(r"^\s*(?:pub(?:\([^)]*\))? )?(?:const )?fn \w", re.M)
+    functions = sum(len(function.findall(path.read_text())) for path in code)
+    edits = len(list(CRATES.glob(f"{crate}/must-fail/*.edit")))
+    specs, proofs = (CRATES.glob(f"{crate}/{folder}/**/*.antt") for folder in ("specs", "proofs"))
+    return [functions, *map(lines, (code, tests, specs, proofs)), edits]
+
+
+def size_table():
+    each = {crate: sizes(crate) for crate in NAMES}
+    each["all"] = [sum(column) for column in zip(*each.values())]
+    head = ("crate", "functions", "code", "tests", "definitions", "proofs", "wrong bodies")
+    return table(head, {name: list(map(str, row)) for name, row in each.items()})
+
+
+def table(head, rows):
+    """A table of Markdown whose columns but the first are numbers."""
+    made = ["| " + " | ".join(head) + " |", "|---" + "|---:" * (len(head) - 1) + "|"]
+    for name, row in rows.items():
+        made.append(f"| {name if name == 'all' else f'`{name}`'} | {' | '.join(row)} |")
+    return "\n".join(made) + "\n"
+
+
+# Times
+
+
+def measured():
+    """How the times were measured, and the seconds on the clock and of the processor by crate and part."""
+    how, times = [], {}
+    for line in TIMES.read_text().splitlines():
+        if line.startswith("#"):
+            how.append(line.lstrip("# "))
+        elif line.strip():
+            crate, part, clock, cpu = line.split("\t")
+            times[crate, part] = (None if clock == "-" else float(clock), float(cpu))
+    return how[0], times
+
+
+def time_table(times):
+    """The processor's seconds of each part of each crate and of all its parts, and those on the clock."""
+    rows, shown = {}, "{:.0f}".format
+    for crate in NAMES:
+        parts = [times.get((crate, part)) for part in PARTS]
+        known = [part for part in parts if part]
+        sums = [[part[at] for part in known] for at in (1, 0)]
+        rows[crate] = [shown(part[1]) if part else "" for part in parts]
+        rows[crate] += [shown(sum(it)) if it and None not in it else "" for it in sums]
+    of_part = [sum(cpu for (_, it), (_, cpu) in times.items() if it == part) for part in PARTS]
+    clock = times.get(("all", "clock"), (None, 0))[0]
+    rows["all"] = [*map(shown, of_part), shown(sum(of_part)), shown(clock) if clock else ""]
+    return table(("crate", *PARTS, "in all", "on the clock"), rows)
+
+
+def from_nothing(crate, times):
+    """The processor's seconds that a crate takes with those below it; all crates with their tests and wrong bodies."""
+    if crate is None:
+        return sum(cpu for (_, part), (_, cpu) in times.items() if part in PARTS)
+    found, left = set(), [crate]
+    while left:
+        it = left.pop()
+        if it not in found:
+            found.add(it)
+            left.extend(below for below in BELOW[it] if below in BELOW)
+    return sum(times[it, "proof"][1] for it in found if (it, "proof") in times)
+
+
+def written(write):
+    """The two tables and the sentence before that of times, as SIZES has them; with `write` they are written."""
+    how, times = measured()
+    text = SIZES.read_text()
+    made = text
+    for heading, body in (("Sizes", size_table()), ("Times", time_table(times))):
+        at = made.index(f"\n## {heading}\n")
+        old = re.compile(r"^\| crate .*\n(?:\|.*\n)+", re.M).search(made, at).group(0)
+        made = made.replace(old, body)
+    made = re.sub(r"(?<=\n\nMeasured: ).*", lambda _: how, made)
+    if made == text:
+        return
+    if write:
+        SIZES.write_text(made)
+    else:
+        yield "docs/SIZES.md: its tables are not what the crates and docs/times.txt have: --write writes them"
+
+
+# Sentences
+
+
+def is_code(line):
+    """Whether a line that continues no paragraph is one of an indented block of code."""
+    return re.match(r"    \s*[^\s*-]", line) is not None
+
+
+def halves(text):
+    """The paragraphs outside of blocks of code, each on one line, and the lines of blocks with their language, both
+    with the number of their first line. An item of a list, a heading and a row of a table is a paragraph."""
+    fenced, prose, blocks = None, [], []
+    ended = True
+    for number, line in enumerate(text.split("\n"), 1):
+        if line.lstrip().startswith("```"):
+            fenced, ended = None if fenced is not None else line.strip("` "), True
+        elif fenced is not None or (ended and is_code(line)):
+            blocks.append((number, line, fenced or ""))
+            ended = True
+        elif ended or not line.strip() or re.match(r"\s*(?:[-*] |[#|]|\d+\. )", line):
+            prose.append((number, line))
+            ended = not line.strip() or line[0] in "#|"
+        else:
+            prose[-1] = (prose[-1][0], f"{prose[-1][1]} {line.strip()}")
+    return [(number, line.replace("\\|", "|")) for number, line in prose], blocks
+
+
+def counted():
+    """Each count with the pattern that states it, in any document."""
+    edits = len(list(CRATES.glob("*/must-fail/*.edit")))
+    yield r"[Tt]he (\d[\d,]*) crates", len(NAMES)
+    yield r"(\d[\d,]*) wrong bodies", edits
+    yield r"\b(\d[\d,]*) rows\b", None
+
+
+def check_counts(texts):
+    for pattern, count in counted():
+        for file, text in texts.items():
+            for found in re.finditer(pattern, text):
+                number = text.count("\n", 0, found.start()) + 1
+                if count is None:
+                    yield f"{file}:{number}: {found.group(0)}: a count of rows is stale with the next row"
+                elif int(found.group(1).replace(",", "")) != count:
+                    yield f"{file}:{number}: {found.group(0)}: {count:,} by the repository"
+
+
+def commands_in(line):
+    """The commands that a line names; in a row of a table only those that fill their cell."""
+    for found in COMMAND.finditer(line):
+        before, after = line[: found.start()].rstrip(), line[found.end() :].lstrip()
+        if not line.startswith("|") or (before.endswith("|") and after[:1] in ("|", ",")):
+            yield found
+
+
+def stated_times(texts):
+    """Each time that a document gives soon after a command: its place, the command, the unit and seconds."""
+    for file, text in texts.items():
+        for number, line in halves(text)[0]:
+            commands = list(commands_in(line))
+            bare = re.sub(r"`[^`]*`", lambda code: " " * len(code.group(0)), line)
+            for found in TIME.finditer(bare):
+                before = [it.group(1) for it in commands if 0 < found.start() - it.end() < SOON]
+                amount, cpu, unit, clock = found.groups()
+                seconds = (WORDS.get(amount) or int(amount.replace(",", ""))) * SECONDS[unit]
+                kind = "on the clock" if clock else "of the processor" if cpu else "in all"
+                if before:
+                    yield f"{file}:{number}", before[-1], kind, seconds
+
+
+def crate_of(command):
+    """The crate that a command proves from nothing with those below it, or None for all; False if it does neither."""
+    found = re.fullmatch(r"rt ci(?: (\w+))?", command)
+    if found:
+        return found.group(1)
+    found = re.match(r"\(?cd crates/(\w+) && rt (?:run|lib|check)\b", command)
+    if found:
+        return found.group(1)
+    return "justfmt" if command == "rt run" else False
+
+
+def check_times(texts):
+    """A command has one time, and one that proves has the time that was measured, within a tenth."""
+    _, times = measured()
+    first = {}
+    for place, command, kind, seconds in stated_times(texts):
+        crate = crate_of(command)
+        if crate is not False and kind == "of the processor":
+            known = from_nothing(crate, times)
+            if abs(seconds - known) > known / 10:
+                yield f"{place}: `{command}` takes {seconds / 60:.0f} CPU minutes: {known / 60:.0f} by docs/times.txt"
+            continue
+        earlier, value = first.setdefault((command, kind), (place, seconds))
+        if value != seconds:
+            yield f"{place}: `{command}` takes {seconds:.0f} seconds {kind}, and {value:.0f} at {earlier}"
+
+
+def check_neighbours():
+    """The counts of files in the table of neighbours, by `git grep`."""
+    text = (TOP / "docs/ARCHITECTURE.md").read_text()
+    for name, stated in re.findall(r"^\| [^|]+ \| `(\w+)` \| (\d+) \|$", text, re.M):
+        listed = run(["git", "-C", TOP, "grep", "-lw", name, "--", "crates"], capture_output=True, text=True).stdout
+        if listed.count("\n") != int(stated):
+            yield f"docs/ARCHITECTURE.md: {stated} files name {name}: {listed.count(chr(10))}"
+
+
+def check_wrong_bodies():
+    """Each wrong body is listed in CLAIMS."""
+    text = (TOP / "docs/CLAIMS.md").read_text()
+    for path in sorted(CRATES.glob("*/must-fail/*.edit")):
+        if f"`{path.stem}`" not in text:
+            yield f"docs/CLAIMS.md: the wrong body {path.stem} of {path.parts[-3]} is missing"
+
+
+def check(texts, write):
+    """What is wrong with the figures of these documents, by their names."""
+    yield from written(write)
+    yield from check_counts(texts)
+    yield from check_times(texts)
+    yield from check_neighbours()
+    yield from check_wrong_bodies()
