@@ -1,5 +1,6 @@
 -- The expressions in an expression, by its parts, and what is left of them on the way along a path.
 use mathlib.Core.Former.{Count}
+use native.Mathlib.Numerals.{unary_clauses}
 use Rattle.std.proofs.Common.{◌≡◌, ◌∙◌, ◌<◌, ◌+◌, ◌*◌, ℕ, zero, suc, List, [], ◌∷◌, ◌++◌, Option, None, Some, map, length, drop, reverse, refl, sym, ap, append_assoc, append-nil, arith}
 use Rattle.std.proofs.lemmas.List.{length-append, map-append, reverse-append}
 use Rattle.std.proofs.lemmas.Grind.{flat_map-append}
@@ -44,18 +45,18 @@ by_parts (And' p lhs q rhs) = two lhs rhs
 by_parts (Assert' p condition None' name) = refl
 by_parts (Assert' p condition (Some' q message) name) = two condition message
 by_parts (Backtick contents token) = refl
-by_parts (Call' name n arguments) = in_row n arguments ∙ ap (flat_map with_inner) (sym (elements _ _ (items-the_row-Expression n arguments)))
+by_parts (Call' name n arguments) = in_row _ arguments ∙ ap (flat_map with_inner) (sym (elements _ _ (items-the_row-Expression _ arguments)))
 by_parts (Comparison' p lhs operator q rhs token) = two lhs rhs
 by_parts (Concatenation' p lhs operator q rhs) = two lhs rhs
-by_parts (Conditional' p condition q branch None') = ap (λ es. with_inner condition ++ es) refl
+by_parts (Conditional' p condition q branch None') = refl
 by_parts (Conditional' p condition q branch (Some' r other)) = ap (λ es. with_inner condition ++ es) (two branch other)
 by_parts (FormatString' first n expressions) =
-    in_parts n expressions
-    ∙ ap (flat_map with_inner) (sym (row_parts (then_part _) (then_part _) (λ p. p.0) (λ p. refl) (λ p. refl) (items-the_row-Expression-FormatString-1-2 n expressions)))
+    in_parts _ expressions
+    ∙ ap (flat_map with_inner) (sym (row_parts (then_part _) (then_part _) (λ p. p.0) (λ p. refl) (λ p. refl) (items-the_row-Expression-FormatString-1-2 _ expressions)))
 by_parts (Group' p contents) = one contents
 by_parts (Join' None' operator q rhs) = one rhs
 by_parts (Join' (Some' p lhs) operator q rhs) = two lhs rhs
-by_parts (List' n elements_row opener) = in_row n elements_row ∙ ap (flat_map with_inner) (sym (elements _ _ (items-the_row-Expression n elements_row)))
+by_parts (List' n row opener) = in_row _ row ∙ ap (flat_map with_inner) (sym (elements _ _ (items-the_row-Expression _ row)))
 by_parts (ListConcatenation' p lhs operator q rhs) = two lhs rhs
 by_parts (Not' p operand) = one operand
 by_parts (Or' p lhs q rhs) = two lhs rhs
@@ -66,8 +67,8 @@ by_parts (Variable name number) = refl
 
 dropped : {X : Type 0} (xs : List X) (i : ℕ) (x : X) → Some x ≡ slice_get xs i → drop i xs ≡ x ∷ drop (i + 1) xs
 dropped [] i x h = absurd cc
-dropped (y ∷ ys) zero x h = ap (λ z. z ∷ ys) cc
-dropped (y ∷ ys) (suc i) x h = dropped ys i x h
+dropped (y ∷ ys) zero x h = let same : y ≡ x = cc in ap (λ z. z ∷ ys) same
+dropped (y ∷ ys) (suc i) x h = simp unary_clauses (dropped ys i x h)
 
 none_left : {X : Type 0} (xs : List X) (i : ℕ) → None ≡ slice_get xs i → drop i xs ≡ []
 none_left [] zero h = refl
@@ -95,7 +96,7 @@ module _ (old path : List (Bor Expression × ℕ)) (e : Bor Expression) (place :
       ∙ ap (λ es. flat_map with_inner es ++ left_along path) (dropped (parts_of e.now) place part.now at)
       ∙ ap (λ es. part.now ∷ es)
       (append_assoc (inner part.now) (left (e, place + 1)) (left_along path)
-      ∙ ap (λ es. es ++ left (e, place + 1) ++ left_along path) (by_parts part.now)
+      ∙ ap (λ es. es ++ (left (e, place + 1) ++ left_along path)) (by_parts part.now)
       ∙ ap (λ es. left (part, 0) ++ es) (sym (longer path (e, place + 1)))
       ∙ sym (longer (path ++ (e, place + 1) ∷ []) (part, 0)) ∙ ap left_along (sym pushed))
 
@@ -103,12 +104,22 @@ module _ (old path : List (Bor Expression × ℕ)) (e : Bor Expression) (place :
   pub back : None ≡ slice_get (parts_of e.now) place → left_along old ≡ left_along path
   back at = ap left_along is ∙ longer path (e, place) ∙ ap (λ es. flat_map with_inner es ++ left_along path) (none_left (parts_of e.now) place at)
 
-  longer_by : (n : ℕ) (new : List (Bor Expression × ℕ)) (tail : List (Bor Expression × ℕ)) → new ≡ path ++ tail → length tail ≡ n → length new + 1 ≡ length old + n
-  longer_by n new tail e h = omega (arith, ap length e, length-append path tail, h, ap length is, length-append path ((e, place) ∷ []))
-
 -- what is left, and how long the path is: this gets less at each step
 abbrev pub steps_left : List (Bor Expression × ℕ) → ℕ
 steps_left path = 2 * length (left_along path) + length path
+
+one_more : {X : Type 0} (xs : List X) (x : X) → length (xs ++ x ∷ []) ≡ length xs + 1
+one_more xs x = length-append xs (x ∷ [])
+
+module _ (old path : List (Bor Expression × ℕ)) (e : Bor Expression) (place : ℕ) (is : old ≡ path ++ (e, place) ∷ []) where
+  pub deeper_falls : (new : List (Bor Expression × ℕ)) (part : Bor Expression) → Some part.now ≡ slice_get (parts_of e.now) place
+      → new ≡ (path ++ (e, place + 1) ∷ []) ++ (part, 0) ∷ [] → steps_left new < steps_left old
+  deeper_falls new part at pushed =
+      omega (arith, ap length (deeper old path e place is new part at pushed), ap length is, one_more path (e, place), ap length pushed,
+      one_more (path ++ (e, place + 1) ∷ []) (part, 0), one_more path (e, place + 1))
+
+  pub back_falls : None ≡ slice_get (parts_of e.now) place → steps_left path < steps_left old
+  back_falls at = omega (arith, ap length (back old path e place is at), ap length is, one_more path (e, place))
 
 module _ (whole : List Expression) (found more : List (Bor Expression)) (part : Bor Expression) (old new : List Expression) where
   -- what was found and what is left are the whole, after one more is found
@@ -116,3 +127,12 @@ module _ (whole : List Expression) (found more : List (Bor Expression)) (part : 
   found_more so_far is next =
       ap (λ es. referents es ++ new) is ∙ ap (λ es. es ++ new) (map-append (λ (e : Bor Expression). e.now) found (part ∷ []))
       ∙ append_assoc (referents found) (part.now ∷ []) new ∙ ap (λ es. referents found ++ es) (sym next) ∙ so_far
+
+-- what was found and what is left along the first path are the whole
+pub begun : (e : Bor Expression) (found more : List (Bor Expression)) (empty path : List (Bor Expression × ℕ)) → more ≡ found ++ e ∷ [] → empty ≡ []
+    → path ≡ empty ++ (e, 0) ∷ [] → referents more ++ left_along path ≡ referents found ++ with_inner e.now
+begun e found more empty path pushed none is =
+    ap (λ es. referents es ++ left_along path) pushed ∙ ap (λ es. es ++ left_along path) (map-append (λ (e : Bor Expression). e.now) found (e ∷ []))
+    ∙ append_assoc (referents found) (e.now ∷ []) (left_along path)
+    ∙ ap (λ es. referents found ++ e.now ∷ es)
+    (ap left_along is ∙ longer empty (e, 0) ∙ ap (λ es. left (e, 0) ++ left_along es) none ∙ append-nil (left (e, 0)) ∙ sym (by_parts e.now))

@@ -14,7 +14,7 @@ abbrev mutual
   inner (Call' name n arguments) = row_inner arguments
   inner (Comparison' p lhs operator q rhs token) = lhs ∷ inner lhs ++ rhs ∷ inner rhs
   inner (Concatenation' p lhs operator q rhs) = lhs ∷ inner lhs ++ rhs ∷ inner rhs
-  inner (Conditional' p condition q branch otherwise) = condition ∷ inner condition ++ branch ∷ inner branch ++ optional_inner otherwise
+  inner (Conditional' p condition q branch otherwise) = condition ∷ inner condition ++ (branch ∷ inner branch ++ optional_inner otherwise)
   inner (FormatString' first n expressions) = part_inner expressions
   inner (Group' p contents) = contents ∷ inner contents
   inner (Join' lhs operator q rhs) = optional_inner lhs ++ rhs ∷ inner rhs
