@@ -1,9 +1,8 @@
 -- The expressions in an expression, by its parts, and what is left of them on the way along a path.
 use mathlib.Core.Former.{Count}
 use native.Mathlib.Numerals.{unary_clauses}
-use Rattle.std.proofs.Common.{◌≡◌, ◌∙◌, ◌<◌, ◌+◌, ◌*◌, ℕ, zero, suc, List, [], ◌∷◌, ◌++◌, Option, None, Some, map, length, drop, reverse, refl, sym, ap, append_assoc, append-nil, arith}
+use Rattle.std.proofs.Common.{◌≡◌, ◌∙◌, ◌<◌, ◌+◌, ◌*◌, ℕ, zero, suc, List, [], ◌∷◌, ◌++◌, None, Some, map, length, drop, reverse, refl, sym, ap, append_assoc, append-nil, arith}
 use Rattle.std.proofs.lemmas.List.{length-append, map-append, reverse-append}
-use Rattle.std.proofs.lemmas.Grind.{flat_map-append}
 use Rattle.std.specs.Borrow.{Bor}
 use Rattle.std.specs.List.{flat_map, slice_get}
 use Rattle.justfile_token.specs.declared.string_literal.StringLiteral as literals
@@ -65,10 +64,13 @@ by_parts (Variable name number) = refl
 
 -- ---- along a path
 
+cut : {X : Type 0} (xs : List X) (i : ℕ) (x : X) → Some x ≡ slice_get xs i → drop i xs ≡ x ∷ drop (suc i) xs
+cut [] i x h = absurd cc
+cut (y ∷ ys) zero x h = let same : y ≡ x = cc in ap (λ z. z ∷ ys) same
+cut (y ∷ ys) (suc i) x h = cut ys i x h
+
 dropped : {X : Type 0} (xs : List X) (i : ℕ) (x : X) → Some x ≡ slice_get xs i → drop i xs ≡ x ∷ drop (i + 1) xs
-dropped [] i x h = absurd cc
-dropped (y ∷ ys) zero x h = let same : y ≡ x = cc in ap (λ z. z ∷ ys) same
-dropped (y ∷ ys) (suc i) x h = simp unary_clauses (dropped ys i x h)
+dropped xs i x h = simp unary_clauses (cut xs i x h)
 
 none_left : {X : Type 0} (xs : List X) (i : ℕ) → None ≡ slice_get xs i → drop i xs ≡ []
 none_left [] zero h = refl
@@ -115,11 +117,15 @@ module _ (old path : List (Bor Expression × ℕ)) (e : Bor Expression) (place :
   pub deeper_falls : (new : List (Bor Expression × ℕ)) (part : Bor Expression) → Some part.now ≡ slice_get (parts_of e.now) place
       → new ≡ (path ++ (e, place + 1) ∷ []) ++ (part, 0) ∷ [] → steps_left new < steps_left old
   deeper_falls new part at pushed =
-      omega (arith, ap length (deeper old path e place is new part at pushed), ap length is, one_more path (e, place), ap length pushed,
-      one_more (path ++ (e, place + 1) ∷ []) (part, 0), one_more path (e, place + 1))
-
-  pub back_falls : None ≡ slice_get (parts_of e.now) place → steps_left path < steps_left old
-  back_falls at = omega (arith, ap length (back old path e place is at), ap length is, one_more path (e, place))
+      omega (
+        arith,
+        ap length (deeper old path e place is new part at pushed),
+        ap length is,
+        one_more path (e, place),
+        ap length pushed,
+        one_more (path ++ (e, place + 1) ∷ []) (part, 0),
+        one_more path (e, place + 1),
+      )
 
 module _ (whole : List Expression) (found more : List (Bor Expression)) (part : Bor Expression) (old new : List Expression) where
   -- what was found and what is left are the whole, after one more is found

@@ -21,14 +21,15 @@ pushed_symbol old new symbol want e is = ap (map shown) e ∙ map-append shown o
 
 -- ---- the elements that a loop has visited
 
-module _ {X A : Type 0} (xs : List X) (i : ℕ) (x : X) (inside : i < length xs) (at : x ≡ get_or xs i x) where
+module _ {X : Type 0} (xs : List X) (i : ℕ) (x : X) (inside : i < length xs) (at : x ≡ get_or xs i x) where
   visited : take (i + 1) xs ≡ take i xs ++ x ∷ []
   visited = take_more xs i x inside ∙ ap (λ y. take i xs ++ y ∷ []) (sym at)
 
-  -- what is gathered of each
-  pub gathered : (f : X → List A) (t u : List A) → t ≡ flat_map f (take i xs) → u ≡ t ++ f x → u ≡ flat_map f (take (i + 1) xs)
-  gathered f t u so_far e = e ∙ ap (λ a. a ++ f x) so_far ∙ flat_map_more f [] (take i xs) x ∙ ap (flat_map f) (sym visited)
+  module _ {A : Type 0} where
+    -- what is gathered of each
+    pub gathered : (f : X → List A) (t u : List A) → t ≡ flat_map f (take i xs) → u ≡ t ++ f x → u ≡ flat_map f (take (i + 1) xs)
+    gathered f t u so_far e = e ∙ ap (λ a. a ++ f x) so_far ∙ flat_map_more f [] (take i xs) x ∙ ap (flat_map f) (sym visited)
 
-  -- what each is mapped to
-  pub mapped : (f : X → A) (t u : List A) → t ≡ map f (take i xs) → u ≡ t ++ f x ∷ [] → u ≡ map f (take (i + 1) xs)
-  mapped f t u so_far e = e ∙ ap (λ a. a ++ f x ∷ []) so_far ∙ sym (map-append f (take i xs) (x ∷ [])) ∙ ap (map f) (sym visited)
+    -- what each is mapped to
+    pub mapped : (f : X → A) (t u : List A) → t ≡ map f (take i xs) → u ≡ t ++ f x ∷ [] → u ≡ map f (take (i + 1) xs)
+    mapped f t u so_far e = e ∙ ap (λ a. a ++ f x ∷ []) so_far ∙ sym (map-append f (take i xs) (x ∷ [])) ∙ ap (map f) (sym visited)
