@@ -19,17 +19,9 @@ pushed_text old new text bytes e is = ap (map string_bytes) e ∙ map-append str
 pub pushed_symbol : (old new : List Symbol) (symbol : Symbol) (want : Shown) → new ≡ old ++ symbol ∷ [] → shown symbol ≡ want → map shown new ≡ map shown old ++ want ∷ []
 pushed_symbol old new symbol want e is = ap (map shown) e ∙ map-append shown old (symbol ∷ []) ∙ ap (λ s. map shown old ++ s ∷ []) is
 
--- ---- the elements that a loop has visited
+-- ---- what a loop has gathered of each element
 
-module _ {X : Type 0} (xs : List X) (i : ℕ) (x : X) (inside : i < length xs) (at : x ≡ get_or xs i x) where
-  visited : take (i + 1) xs ≡ take i xs ++ x ∷ []
-  visited = take_more xs i x inside ∙ ap (λ y. take i xs ++ y ∷ []) (sym at)
-
-  module _ {A : Type 0} where
-    -- what is gathered of each
-    pub gathered : (f : X → List A) (t u : List A) → t ≡ flat_map f (take i xs) → u ≡ t ++ f x → u ≡ flat_map f (take (i + 1) xs)
-    gathered f t u so_far e = e ∙ ap (λ a. a ++ f x) so_far ∙ flat_map_more f [] (take i xs) x ∙ ap (flat_map f) (sym visited)
-
-    -- what each is mapped to
-    pub mapped : (f : X → A) (t u : List A) → t ≡ map f (take i xs) → u ≡ t ++ f x ∷ [] → u ≡ map f (take (i + 1) xs)
-    mapped f t u so_far e = e ∙ ap (λ a. a ++ f x ∷ []) so_far ∙ sym (map-append f (take i xs) (x ∷ [])) ∙ ap (map f) (sym visited)
+pub gathered : {X A : Type 0} (xs : List X) (i : ℕ) (x : X) → i < length xs → x ≡ get_or xs i x → (f : X → List A) (t u : List A) → t ≡ flat_map f (take i xs) → u ≡ t ++ f x
+    → u ≡ flat_map f (take (i + 1) xs)
+gathered xs i x inside at f t u so_far e =
+    e ∙ ap (λ a. a ++ f x) so_far ∙ flat_map_more f [] (take i xs) x ∙ ap (flat_map f) (sym (take_more xs i x inside ∙ ap (λ y. take i xs ++ y ∷ []) (sym at)))
