@@ -5,6 +5,7 @@ use Rattle.std.specs.Option.{option_map}
 use Rattle.std.proofs.lemmas.List.Elements.{All-head, All-tail}
 use Rattle.std.proofs.lemmas.Option.{none-some, same_Some}
 use Rattle.justfile_vocabulary.specs.Indentation.{indentation_text}
+use Rattle.justfile_vocabulary.specs.declared.numerator.Numerator.{Numerator}
 use Rattle.justfile_token.specs.StringLiteral.{begins_format_string}
 use Rattle.justfile_token.specs.Token.{lexeme_of}
 use Rattle.justfile_vocabulary.specs.declared.indentation.Indentation.{Indentation}
@@ -25,7 +26,8 @@ use Rattle.justfile_item.specs.declared.item.Item.TheVariants as items
 use Rattle.justfile_ast.specs.declared.ast.Ast.{Ast}
 use Rattle.justfile_parse_item.specs.Filled.{IsFilledItem, IsFilledLiteral, IsFilledSetting}
 use Rattle.justfile_canonical.specs.Formatting.{IsFileOf, IsIndented, IsIndentedBy, MatchesLiteral}
-use Rattle.justfile_canonical.specs.Root.{IsRoot, unchanged}
+use Rattle.justfile_parse.specs.Parsing.{IsParsedText}
+use Rattle.justfile_canonical.specs.Root.{IsRoot, conditions, unchanged}
 
 -- ---- what the literal stands for
 
@@ -104,14 +106,17 @@ module _ (IsToken : Token → Type 0) where
         (holds_items all (All-tail (IsFilledItem unchanged IsToken depth offsets) i all given))
 
 -- a file that was parsed has the indentation of its literal
-pub indented : (path source : List ℕ) (r : Result Ast Fault) → IfOk r (IsRoot path source) → IfOk r IsIndented
-indented path source (Ok ast) root = holds_items _ 0 [] ast.items.items root.parsed.filled.given
-indented path source (Err fault) root = tt
+parsed_indented : (path source : List ℕ) (old new : Numerator) (ast : Ast) → IsParsedText conditions path source 0 [] old new ast → IsIndented ast
+parsed_indented path source old new ast parsed = holds_items _ 0 [] ast.items.items parsed.filled.given
+
+pub indented : (path source : List ℕ) (old new : Numerator) (r : Result Ast Fault) → IfOk r (IsParsedText conditions path source 0 [] old new) → IfOk r IsIndented
+indented path source old new (Ok ast) parsed = parsed_indented path source old new ast parsed
+indented path source old new (Err fault) parsed = tt
 
 -- it is that of its text
 pub file_of : (path source : List ℕ) (ast : Ast) → IsRoot path source ast → IsFileOf source ast
 file_of path source ast root =
-    record { derives = root.parsed.derives; indented = indented path source (Ok ast) root }
+    record { derives = root.parsed.derives; indented = parsed_indented path source root.old root.new ast root.parsed }
 
 -- ---- the indentation of the printed text
 

@@ -17,6 +17,12 @@ unchanged text = Some (Ok text)
 abbrev pub conditions : Conditions
 conditions = record { limit = 256; expander = unchanged; current = record { major = 1; minor = 58; patch = 0 } }
 
+-- The file is that of the text, read as the root file at this path, with numbers counted from `old` to `new`.
+pub record IsRootFrom (old new : Numerator) (path source : List ℕ) (ast : Ast) : Type 0 where
+  pub parsed : IsParsedText conditions path source 0 [] old new ast
+  pub module_path : names_of ast.module_path ≡ []
+  pub working_directory : string_bytes ast.working_directory ≡ []
+
 -- The file is that of the text, read as the root file at this path, with numbers from 0 on.
 pub record IsRoot (path source : List ℕ) (ast : Ast) : Type 0 where
   pub old : Numerator

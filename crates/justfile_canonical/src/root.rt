@@ -1,7 +1,13 @@
 //! Root files: a text without imports, parsed under the usual conditions.
-ghost use Rattle.std.specs.Prelude.{IfOk, IfErr};
+ghost use Rattle.std.specs.Prelude.{◌≡◌, List, IfOk, IfErr};
+ghost use Rattle.justfile_vocabulary.specs.Numerator.{constants_of};
+ghost use Rattle.justfile_model.specs.Lexed.{Lexed};
+ghost use Rattle.justfile_model.specs.SignificantTokens.{identifiers, significant_tokens};
+ghost use Rattle.justfile_model.specs.Tok.{Tok};
+ghost use Rattle.justfile_parse.specs.Parsing.{HasNoTree};
+ghost use Rattle.justfile_parse_item.specs.MethodResults.{CountersMoved};
 ghost use Rattle.justfile_canonical.specs.Formatting.{IsIndented};
-ghost use Rattle.justfile_canonical.specs.Root.{HasNoRoot, IsRoot};
+ghost use Rattle.justfile_canonical.specs.Root.{HasNoRoot, IsRoot, IsRootFrom, conditions};
 
 use justfile_ast::Ast;
 use justfile_parse::{Parser, RECURSION_LIMIT};
@@ -27,6 +33,32 @@ pub fn parse_root<'src>(
     ensures err { IfErr result (HasNoRoot path.now source.now) }
 {
     let mut numerator = Numerator::new(0);
+    parse_root_with(alloc, &mut numerator, path, source)
+}
+
+/// Parses a text as `parse_root` does, with numbers from this numerator: for a program that has
+/// constants, whose numbers come first, or that numbers several files.
+///
+/// # Errors
+///
+/// As for `Parser::parse_source`.
+pub fn parse_root_with<'src>(
+    alloc: Global,
+    numerator: &mut Numerator,
+    path: &'src str,
+    source: &'src str,
+) -> CompileResult<'src, Ast<'src>>
+    ensures ok { IfOk result (IsRootFrom numerator.old numerator.new path.now source.now) }
+    // The indentation that the file sets is the text of its literal.
+    ensures indented { IfOk result IsIndented }
+    ensures err { IfErr result
+        (HasNoTree conditions path.now source.now numerator.old numerator.new) }
+    ensures moved { (tokens : List Tok) → Lexed source.now tokens
+        → CountersMoved numerator.old numerator.new (identifiers (significant_tokens tokens)) }
+    ensures unmoved { ((tokens : List Tok) → Lexed source.now tokens → ⊥)
+        → numerator.new ≡ numerator.old }
+    ensures constants { constants_of numerator.new ≡ constants_of numerator.old }
+{
     let place = Source {
         file_depth: 0,
         import_offsets: &[],
@@ -35,7 +67,7 @@ pub fn parse_root<'src>(
     };
     Parser::parse_source(
         alloc,
-        &mut numerator,
+        numerator,
         path,
         &place,
         source,

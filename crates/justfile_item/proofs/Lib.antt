@@ -1,3 +1,4 @@
 pub mod AttributeLines
+pub mod InnerExpressions
 pub mod ItemTexts
 pub mod ShownDocs

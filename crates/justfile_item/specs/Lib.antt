@@ -1,3 +1,4 @@
+pub mod AllExpressions
 pub mod Assignment
 pub mod Attributes
 pub mod Copies

@@ -1,5 +1,5 @@
 -- What items of several kinds have.
-use Rattle.std.specs.Prelude.{ℕ, List, Option, None, Some, String, find, string_bytes}
+use Rattle.std.specs.Prelude.{ℕ, Bool, false, List, Option, None, Some, String, find, string_bytes}
 use Rattle.std.specs.Global.{Global}
 use Rattle.std.specs.Option.{option_map}
 use Rattle.justfile_vocabulary.specs.declared.attribute_kind.AttributeKind.TheVariants.{Doc}
@@ -12,6 +12,7 @@ use Rattle.justfile_attribute.specs.declared.attribute.Attribute.{Attribute}
 use Rattle.justfile_attribute.specs.declared.attribute.Attribute.TheVariants as attributes
 use Rattle.justfile_attribute_set.specs.AttributeSet.{AttributeSet, attributes_of}
 use Rattle.justfile_attribute_set.specs.Attributes.{is_of_kind}
+use Rattle.justfile_item.specs.Private.{is_private_item}
 use Rattle.justfile_item.specs.declared.item.Item.{Item}
 use Rattle.justfile_item.specs.declared.item.Item.TheVariants as items
 
@@ -63,3 +64,16 @@ abbrev pub item_doc : Item → Option (List ℕ)
 item_doc (items.Module attributes doc name optional relative) = listed_doc attributes doc
 item_doc (items.Recipe r) = listed_doc r.attributes r.doc
 item_doc _ = None
+
+-- whether lists omit an item: by the field of an assignment or a recipe, and by the name and the attributes of an alias, a function or a module
+abbrev pub is_item_private : Item → Bool
+is_item_private (items.Alias a) = is_private_item a.name.token a.attributes
+is_item_private (items.Assignment a) = a.private
+is_item_private (items.Comment text) = false
+is_item_private (items.Function f) = is_private_item f.name.token f.attributes
+is_item_private (items.Import attributes optional relative) = false
+is_item_private (items.Module attributes doc name optional relative) = is_private_item name.token attributes
+is_item_private items.Newline = false
+is_item_private (items.Recipe r) = r.private
+is_item_private (items.Setting s) = false
+is_item_private (items.Unexport attributes name) = false

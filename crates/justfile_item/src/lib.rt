@@ -2,6 +2,7 @@
 #![tactic(auto)]
 
 pub mod alias;
+mod all_expressions;
 pub mod assignment;
 mod attributes;
 pub mod binding;

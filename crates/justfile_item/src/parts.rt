@@ -1,12 +1,13 @@
-//! What items of several kinds have: a kind, a name, attributes, and a doc.
+//! What items of several kinds have: a kind, a name, attributes, a doc, and whether they are private.
 ghost use Rattle.std.specs.Prelude.{◌≡◌, Some};
 ghost use Rattle.std.specs.Option.{option_copied};
 ghost use Rattle.justfile_item.specs.ItemText.{item_attributes};
 ghost use Rattle.justfile_item.specs.Parts as parts;
-ghost use Rattle.justfile_item.specs.Parts.{attribute_doc, item_doc, item_kind, item_name, literal_text_of};
+ghost use Rattle.justfile_item.specs.Parts.{attribute_doc, is_item_private, item_doc, item_kind, item_name, literal_text_of};
 
 use crate::doc::text_of;
 use crate::item::Item;
+use crate::private::is_private_item;
 use justfile_attribute::Attribute;
 use justfile_attribute_set::AttributeSet;
 use justfile_expression::Expression;
@@ -87,6 +88,30 @@ impl<'src> Item<'src> {
             | Item::Newline
             | Item::Setting(_)
             | Item::Unexport { .. } => None,
+        }
+    }
+
+    /// Whether the item is private, so that lists omit it: whether it has the attribute `private`
+    /// or a name that begins with `_`. For an assignment and a recipe it is their field `private`.
+    /// Only aliases, assignments, functions, modules and recipes can be private.
+    pub fn is_private(&self) -> bool
+        ensures { result ≡ is_item_private self.now }
+    {
+        match self {
+            Item::Alias(alias) => is_private_item(alias.name.token, &alias.attributes),
+            Item::Assignment(assignment) => assignment.private,
+            Item::Function(function) => is_private_item(function.name.token, &function.attributes),
+            Item::Module {
+                attributes,
+                name,
+                ..
+            } => is_private_item(name.token, attributes),
+            Item::Recipe(recipe) => recipe.private,
+            Item::Comment(_)
+            | Item::Import { .. }
+            | Item::Newline
+            | Item::Setting(_)
+            | Item::Unexport { .. } => false,
         }
     }
 }

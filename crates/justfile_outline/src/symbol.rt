@@ -1,11 +1,11 @@
 //! Symbols: their type, and how one is made.
-ghost use Rattle.std.specs.Prelude.{◌≡◌, IfOk, map, string_bytes};
+ghost use Rattle.std.specs.Prelude.{◌≡◌, IfOk};
 ghost use Rattle.justfile_outline.specs.Shown.{shown};
 ghost use Rattle.justfile_outline.specs.Symbols.{symbol_of};
 
-use crate::parts::{doc_of, group_texts};
-use justfile_attribute_set::AttributeSet;
-use justfile_token::Name;
+use crate::parts::{copy_doc, copy_groups, copy_target, parameters_text};
+use justfile_item::Item;
+use justfile_token::{Name, Namepath};
 use justfile_vocabulary::ItemKind;
 use std::alloc::{AllocError, Global};
 
@@ -18,39 +18,39 @@ pub struct Symbol<'src> {
     pub name: Name<'src>,
     /// The parameters of a recipe or a function as they are printed, each after a space.
     pub parameters: String,
-    /// The text of its attribute `doc`, if that is a plain literal, or else the doc from the comment
-    /// before it. `None` if there is neither, or another attribute `doc`.
+    /// Its doc, as `Item::doc` returns it: that of a recipe or a module by its attribute `doc`, or
+    /// else by the comment before it.
     pub doc: Option<String>,
     /// The names of its groups, in order.
     pub groups: Vec<String>,
+    /// The path of the recipe that an alias refers to. `None` for other items.
+    pub target: Option<Namepath<'src>>,
     /// Whether lists omit it.
     pub is_private: bool,
     /// Whether its attributes enable it on this system, which is Linux.
     pub is_enabled: bool,
 }
 
-/// Returns the symbol of an item with these attributes, and with this doc from a comment.
+/// Returns the symbol of an item with this name.
 pub(crate) fn make_symbol<'src>(
-    attributes: &AttributeSet<'src>,
+    item: &Item<'src>,
     alloc: Global,
-    kind: ItemKind,
     name: Name<'src>,
-    parameters: String,
-    comment: &Option<String>,
-    is_private: bool,
 ) -> Result<Symbol<'src>, AllocError>
-    ensures { IfOk result (λ symbol. shown symbol ≡ symbol_of attributes.now kind name.entry
-        (string_bytes parameters) comment.now is_private) }
+    ensures { IfOk result (λ symbol. shown symbol ≡ symbol_of item.now name.entry) }
 {
-    let doc = doc_of(attributes, alloc, comment)?;
-    let groups = group_texts(attributes.written(), alloc)?;
+    let parameters = parameters_text(item, alloc)?;
+    let doc = copy_doc(item, alloc)?;
+    let groups = copy_groups(item, alloc)?;
+    let target = copy_target(item, alloc)?;
     Ok(Symbol {
-        kind,
+        kind: item.kind(),
         name,
         parameters,
         doc,
         groups,
-        is_private,
-        is_enabled: attributes.is_enabled(),
+        target,
+        is_private: item.is_private(),
+        is_enabled: item.is_enabled(),
     })
 }

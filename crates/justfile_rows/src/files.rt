@@ -2,7 +2,9 @@
 
 use crate::attributes::attributes;
 use crate::beginnings::beginnings;
+use crate::copies::copies_items;
 use crate::expansion::Expansion;
+use crate::expressions::expressions;
 use crate::fields::indentation_of;
 use crate::headers::docs;
 use crate::items::{
@@ -94,6 +96,7 @@ fn push_of_items(items: &[Item<'_>], answer: &mut Answer, word: Word, fields: &[
         Word::Attributes => attributes(items, answer),
         Word::Docs => docs(items, answer),
         Word::Enabled => enabled(items, answer),
+        Word::Expressions => expressions(items, answer),
         Word::Keys => keys(items, answer),
         Word::Expands | Word::Literal | Word::Value => push_of_value(items, answer, word),
         Word::Orders => orders(items, answer),
@@ -108,7 +111,10 @@ fn push_of_items(items: &[Item<'_>], answer: &mut Answer, word: Word, fields: &[
 fn push_printed(ast: &mut Ast<'_>, answer: &mut Answer, word: Word, fields: &[String]) {
     let indentation = indentation_for(word, fields);
     match word {
-        Word::Copies => copies(ast, answer, indentation),
+        Word::Copies => {
+            copies(ast, answer, indentation);
+            copies_items(&ast.items, answer);
+        }
         Word::ExpandsTo => push_value_and_text(ast, answer),
         Word::PrintsItem => prints_item(ast, answer, indentation),
         _ => prints(ast, answer, indentation, limit_of(word, fields)),
@@ -172,8 +178,7 @@ fn push_parsed(answer: &mut Answer, word: Word, fields: &[String]) {
         Err(fault) => push_why(&mut found, word, text, &fault),
     }
     if word == Word::Numbers {
-        push_number(answer, numerator.next_binding());
-        push_number(answer, numerator.next_recipe());
+        push_next(answer, &mut numerator);
     }
     answer.push_all(&found);
 }
@@ -185,6 +190,12 @@ fn push_why(answer: &mut Answer, word: Word, text: &str, fault: &Fault<'_>) {
         Word::Message => push_message(answer, text, fault),
         _ => push_fault(answer, text, fault),
     }
+}
+
+/// Writes the numbers of the next binding and of the next recipe.
+pub(crate) fn push_next(answer: &mut Answer, numerator: &mut Numerator) {
+    push_number(answer, numerator.next_binding());
+    push_number(answer, numerator.next_recipe());
 }
 
 /// Writes a number, or `none`.

@@ -8,6 +8,7 @@ use justfile_syntax::assignment::Assignment;
 use justfile_syntax::ast::Ast;
 use justfile_syntax::attribute_set::AttributeSet;
 use justfile_syntax::expression::Expression;
+use justfile_syntax::format::own_indentation;
 use justfile_syntax::fragment::Fragment;
 use justfile_syntax::function_definition::FunctionDefinition;
 use justfile_syntax::item::Item;
@@ -243,7 +244,7 @@ fn push_item(item: &Item<'_>, answer: &mut Answer) {
 }
 
 /// Writes the items of a file.
-fn push_items(items: &[Item<'_>], answer: &mut Answer) {
+pub(crate) fn push_items(items: &[Item<'_>], answer: &mut Answer) {
     for item in items {
         push_item(item, answer);
     }
@@ -285,8 +286,16 @@ pub(crate) fn unstable(answer: &mut Answer, features: &BTreeSet<UnstableFeature>
     }
 }
 
-/// Writes the indentation that a file sets, or `none`.
+/// Writes the indentation that a file sets, or `none`. Writes `own` after it if the file isn't printed
+/// at this indentation, or else at four spaces.
 pub(crate) fn indented(ast: &Ast<'_>, answer: &mut Answer) {
+    push_indentation(ast, answer);
+    let expected = ast.indentation().unwrap_or_default();
+    answer.push_if("own", own_indentation(ast) != expected);
+}
+
+/// Writes the indentation that a file sets, or `none`.
+fn push_indentation(ast: &Ast<'_>, answer: &mut Answer) {
     match ast.indentation() {
         Some(indentation) => answer.push_made(indentation.to_string(answer.alloc())),
         None => answer.push("none"),

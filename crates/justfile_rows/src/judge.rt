@@ -4,7 +4,9 @@ use crate::attributes::{attribute_kind, signal, switch};
 use crate::fields::are_readable;
 use crate::files::push_fields;
 use crate::lexing::lex;
-use crate::program::{breaks_each, formats, runs};
+use crate::program::{breaks_each, formats, formats_at, runs};
+use crate::roots::roots;
+use crate::symbols::push_symbols;
 use crate::texts::{class, cooks, identifier, indentation, keyword, opens, unindents, version};
 use crate::word::Word;
 use row_notation::{Answer, field_at};
@@ -54,6 +56,7 @@ fn found(alloc: Global, word: Word, fields: &[String]) -> Answer {
         Word::Class => class(&mut answer, text),
         Word::Cooks => cooks(&mut answer, text),
         Word::Formats => formats(&mut answer, text),
+        Word::FormatsAt => formats_at(&mut answer, fields),
         Word::Identifier => identifier(&mut answer, fields),
         Word::Indentation => indentation(&mut answer, text),
         Word::Keyword => keyword(&mut answer, text),
@@ -61,8 +64,10 @@ fn found(alloc: Global, word: Word, fields: &[String]) -> Answer {
             lex(&mut answer, word, text);
         }
         Word::Opens => opens(&mut answer, text),
+        Word::Roots => roots(&mut answer, fields),
         Word::Signal => signal(&mut answer, text),
         Word::Switch => switch(&mut answer, fields),
+        Word::Symbols => push_symbols(&mut answer, text),
         Word::Unindents => unindents(&mut answer, text),
         Word::Version => version(&mut answer, text),
         _ => push_fields(&mut answer, word, fields),

@@ -7,8 +7,9 @@ use justfile_syntax::item::Item;
 use row_notation::{Answer, Text};
 use std::alloc::AllocError;
 
-/// Writes what each item has: its kind, its name, the kinds of its attributes, its groups, its doc,
-/// the truth of a setting, and its expressions, each with the lexeme that it begins with.
+/// Writes what each item has: its kind, its name, whether it is private, the kinds of its
+/// attributes, its groups, its doc, the truth of a setting, and its expressions, each with the lexeme
+/// that it begins with.
 pub(crate) fn parts(items: &[Item<'_>], answer: &mut Answer) {
     for item in items {
         push_parts(item, answer);
@@ -19,6 +20,7 @@ fn push_parts(item: &Item<'_>, answer: &mut Answer) {
     let mut shown = Text::new(answer.alloc());
     shown.put_made(item.kind().to_string(answer.alloc()));
     put_item_name(item, &mut shown);
+    put_if(&mut shown, " private", item.is_private());
     put_kinds(item, &mut shown);
     put_item_doc(item, &mut shown);
     put_truth(item, &mut shown);
@@ -72,17 +74,18 @@ fn put_truth(item: &Item<'_>, shown: &mut Text) {
     }
 }
 
-/// Writes the expressions of an item, each in brackets after the lexeme that it begins with, and in
-/// place of a literal its text in ‹›.
+/// Writes the expressions of an item.
 fn put_expressions(item: &Item<'_>, shown: &mut Text) -> Result<(), AllocError> {
     let expressions = item.expressions(shown.alloc())?;
     for place in 0..expressions.len() {
-        put_part(expressions[place], shown);
+        put_expression_of(expressions[place], shown);
     }
     Ok(())
 }
 
-fn put_part(expression: &Expression<'_>, shown: &mut Text) {
+/// Writes an expression after a blank: a literal by its text in ‹›, and another in brackets after
+/// the lexeme that it begins with.
+pub(crate) fn put_expression_of(expression: &Expression<'_>, shown: &mut Text) {
     if let Some(literal) = expression.as_string_literal() {
         return put_marked(shown, " ", literal.cooked.as_str());
     }

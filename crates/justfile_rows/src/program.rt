@@ -1,8 +1,12 @@
 //! Runs of the program `justfmt`.
 
+use crate::fields::indentation_of;
+use crate::refusal::push_fault;
 use crate::stream::Stream;
 use crate::word::Word;
+use formatted::{formatted, formatted_as_set};
 use justfile_format::run::run;
+use justfile_syntax::format::format_text;
 use row_notation::{Answer, field_at, number_at};
 use std::alloc::{AllocError, Global};
 
@@ -84,6 +88,17 @@ fn push_run(answer: &mut Answer, listed: &str, streams: &mut Streams<'_>) {
     answer.push(streams.errors.text());
 }
 
+/// Writes `library` if `format_text` doesn't return the text or the lines that a run without arguments
+/// writes.
+fn push_library(answer: &mut Answer, source: &str, streams: &Streams<'_>) {
+    let (output, errors) = (streams.output.text(), streams.errors.text());
+    let is_same = match format_text(answer.alloc(), "justfile", source) {
+        Ok(text) => text.as_str() == output && errors.is_empty(),
+        Err(fault) => output.is_empty() && fault.lines() == errors,
+    };
+    answer.push_if("library", !is_same);
+}
+
 /// Writes the run of a row, in which the input, a stream or nothing fails.
 pub(crate) fn runs(answer: &mut Answer, word: Word, fields: &[String]) {
     let is_plain = word == Word::Run;
@@ -96,7 +111,11 @@ pub(crate) fn runs(answer: &mut Answer, word: Word, fields: &[String]) {
     };
     let mut streams = Streams::new(answer.alloc(), input);
     streams.fail(name, number_at(fields, 1), MOST_BYTES);
-    push_run(answer, field_at(fields, arguments_place), &mut streams);
+    let listed = field_at(fields, arguments_place);
+    push_run(answer, listed, &mut streams);
+    if is_plain && listed.is_empty() {
+        push_library(answer, field_at(fields, 1), &streams);
+    }
 }
 
 /// How many calls fail in turn at most.
@@ -154,11 +173,30 @@ fn push_begun(answer: &mut Answer, word: &str, stream: &Stream<'_>, plain: &Stre
 pub(crate) fn formats(answer: &mut Answer, source: &str) {
     let mut streams = Streams::new(answer.alloc(), source.as_bytes());
     let status = run_over(answer, "", &mut streams);
-    let formatted = streams.output.text();
-    answer.push(formatted);
+    let printed = streams.output.text();
+    answer.push(printed);
     push_rest(answer, status, &streams);
-    push_again(answer, "", formatted, formatted);
-    push_again(answer, "--check", formatted, "");
+    push_library(answer, source, &streams);
+    push_caller(answer, source, printed);
+    push_again(answer, "", printed, printed);
+    push_again(answer, "--check", printed, "");
+}
+
+/// Writes `caller` if `formatted_as_set` returns another text than this.
+fn push_caller(answer: &mut Answer, source: &str, expected: &str) {
+    match formatted_as_set(answer.alloc(), source) {
+        Ok(text) => answer.push_if("caller", text.as_str() != expected),
+        Err(fault) => push_fault(answer, source, &fault),
+    }
+}
+
+/// Writes what `formatted` returns for a text at an indentation.
+pub(crate) fn formats_at(answer: &mut Answer, fields: &[String]) {
+    let source = field_at(fields, 1);
+    match formatted(answer.alloc(), source, indentation_of(field_at(fields, 0))) {
+        Ok(text) => answer.push(text.as_str()),
+        Err(fault) => push_fault(answer, source, &fault),
+    }
 }
 
 /// Runs the program over a formatted text, and writes what it does besides writing the expected

@@ -2,7 +2,7 @@
 
 use crate::attributes::push_attribute;
 use justfile_syntax::attribute::Attribute;
-use justfile_syntax::attribute_set::{AttributeSet, IntoNamed};
+use justfile_syntax::attribute_set::{AttributeSet, ContentOrder, IntoNamed, PairSet};
 use justfile_syntax::item::Item;
 use justfile_syntax::name::Name;
 use row_notation::Answer;
@@ -111,6 +111,62 @@ fn push_set<'src>(
     push_members(made, answer);
     answer.push_if("unequal", !is_equal);
     push_named(set, made, answer, name);
+    push_taken(set, answer);
+}
+
+/// Writes `remade` if the set that is made of what a set was taken apart to isn't equal to it,
+/// `untaken` if its attributes by value are others, and `filled` if a new set has attributes.
+fn push_taken(set: &AttributeSet<'_>, answer: &mut Answer) {
+    match (remade(set, answer.alloc()), is_taken(set, answer.alloc())) {
+        (Ok(is_remade), Ok(is_taken)) => {
+            answer.push_if("remade", !is_remade);
+            answer.push_if("untaken", !is_taken);
+        }
+        _ => answer.fail(),
+    }
+    answer.push_if("filled", AttributeSet::new(answer.alloc()).len() > 0);
+}
+
+/// Whether a set is made again of what a copy of it is taken apart to.
+fn remade(set: &AttributeSet<'_>, alloc: Global) -> Result<bool, AllocError> {
+    match set.clone(alloc) {
+        Ok(copy) => is_made(set, AttributeSet::from_parsed(copy.into_written())),
+        Err(error) => Err(error),
+    }
+}
+
+/// Whether a set that was made is equal to this one.
+fn is_made<'src>(
+    set: &AttributeSet<'src>,
+    made: Result<AttributeSet<'src>, AllocError>,
+) -> Result<bool, AllocError> {
+    match made {
+        Ok(made) => Ok(made == *set),
+        Err(error) => Err(error),
+    }
+}
+
+/// Whether a copy of a set, by value, has the set's attributes in order.
+fn is_taken(set: &AttributeSet<'_>, alloc: Global) -> Result<bool, AllocError> {
+    match set.clone(alloc) {
+        Ok(copy) => Ok(has_keys(copy, set.written())),
+        Err(error) => Err(error),
+    }
+}
+
+/// Whether a set, by value, has the first components of these pairs, in order.
+fn has_keys<K: ContentOrder + PartialEq + Drop, V: Drop>(
+    set: PairSet<K, V>,
+    pairs: &[(K, V)],
+) -> bool {
+    let mut place: usize = 0;
+    for key in set {
+        match pairs.get(place) {
+            Some(pair) if pair.0 == key => place = place.saturating_add(1),
+            _ => return false,
+        }
+    }
+    place == pairs.len()
 }
 
 /// Makes a set from the attributes and names of a set, and then of an equal one in which each

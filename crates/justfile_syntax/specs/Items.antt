@@ -1,9 +1,10 @@
 -- Items and their parts, and how the definitions see them.
+pub use Rattle.justfile_item.specs.AllExpressions.{all_expressions, inner, with_inner}
 pub use Rattle.justfile_item.specs.Copies.{IsSameItem}
 pub use Rattle.justfile_item.specs.Expressions.{item_expressions}
 pub use Rattle.justfile_item.specs.Item.{alias_of, assignment_of, function_of, header_of, is_item_enabled, item_cooked, item_numbers, item_of, item_recipe_numbers, item_shape, recipe_of, setting_of}
 pub use Rattle.justfile_item.specs.ItemText.{item_attributes}
-pub use Rattle.justfile_item.specs.Parts.{item_doc, item_kind, item_name}
+pub use Rattle.justfile_item.specs.Parts.{is_item_private, item_doc, item_kind, item_name}
 pub use Rattle.justfile_item.specs.Private.{is_private_item}
 pub use Rattle.justfile_item.specs.Resolved.{IsResolvedItem}
 pub use Rattle.justfile_item.specs.declared.alias.Alias.{Alias}

@@ -269,7 +269,7 @@ pub mod parser {
     //! From a text or its tokens to a file.
 
     pub use justfile_canonical::reading::{Reader, read_root, release};
-    pub use justfile_canonical::root::parse_root;
+    pub use justfile_canonical::root::{parse_root, parse_root_with};
     pub use justfile_literal::cook_string;
     pub use justfile_parse::significant::significant;
     pub use justfile_parse::{Parser, RECURSION_LIMIT};

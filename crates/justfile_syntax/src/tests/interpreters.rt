@@ -1,7 +1,7 @@
 //! Interpreters whose command and arguments are texts.
 
 use crate::interpreter::Interpreter;
-use crate::tests::support::{same, same_text};
+use crate::tests::support::{holds, same, same_text};
 use std::alloc::Global;
 use std::process::Abort;
 
@@ -23,6 +23,7 @@ fn scripts_are_run_by_sh(rt: HostRuntime) {
     compare_default(&interpreter, &rt, alloc);
     let copy = interpreter.clone(alloc).expect(&rt, "no memory");
     compare_default(&copy, &rt, alloc);
+    holds(&rt, "a copy", copy == interpreter);
 }
 
 #[test]
@@ -37,4 +38,10 @@ fn interpreters_are_written_with_their_arguments(rt: HostRuntime) {
     };
     let written = format!(in alloc; "{interpreter}").expect(&rt, "a text");
     same_text(&rt, "bash", written.as_str(), "bash, -e, -u");
+    let bare = Interpreter {
+        command: "bash",
+        arguments: Vec::new(alloc),
+    };
+    holds(&rt, "fewer arguments", bare < interpreter);
+    holds(&rt, "other arguments", bare != interpreter);
 }

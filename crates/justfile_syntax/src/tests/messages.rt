@@ -9,7 +9,7 @@ use crate::list::List;
 use crate::list_feature::ListFeature;
 use crate::name::Name;
 use crate::namepath::Namepath;
-use crate::tests::support::{first_token, names, same_text};
+use crate::tests::support::{first_token, holds, names, same_text};
 use crate::token::Token;
 use crate::token_kind::TokenKind;
 use std::alloc::Global;
@@ -281,6 +281,19 @@ fn parameters_recipes_and_names(rt: HostRuntime) {
     for (place, text) in NAMED.iter().enumerate() {
         says(&rt, rt.alloc(), &NAME, named(place), text);
     }
+}
+
+/// Whether two of these errors are equal.
+fn are_equal(place: usize, another: usize) -> bool {
+    NAME.error(named(place)) == NAME.error(named(another))
+}
+
+#[test]
+fn errors_are_equal_if_their_kinds_are(rt: HostRuntime) {
+    for (place, text) in NAMED.iter().enumerate() {
+        holds(&rt, text, are_equal(place, place));
+    }
+    holds(&rt, "another kind", !are_equal(0, 1));
 }
 
 /// Returns an error for lines or for features that need the setting `lists`, or an internal error.

@@ -2,13 +2,16 @@
 
 use crate::conditional_operator::ConditionalOperator;
 use crate::delimiter::Delimiter;
+use crate::expander::ExpandFault;
+use crate::fault::Fault;
+use crate::format::FormatFault;
 use crate::lexer::Lexer;
 use crate::list_feature::ListFeature;
 use crate::list_operator::ListOperator;
 use crate::string_kind::StringKind;
 use crate::tests::support::{holds, same_text};
 use crate::version::Version;
-use std::alloc::Global;
+use std::alloc::{AllocError, AllocFailed, Global};
 use std::fmt::Display;
 use std::process::Abort;
 
@@ -168,4 +171,17 @@ fn versions_are_ordered_by_their_numbers(rt: HostRuntime) {
     holds(&rt, "1.9.0", earlier < version(&rt, "1.10.0"));
     holds(&rt, "2.0.0", current < version(&rt, "2.0.0"));
     holds(&rt, "01.058.0", current == version(&rt, "01.058.0"));
+}
+
+#[test]
+fn out_of_memory_is_a_fault(rt: HostRuntime) {
+    let fault = Fault::from(AllocError);
+    holds(&rt, "parsing", matches!(fault, Fault::Memory));
+    let fault = ExpandFault::from(AllocError);
+    holds(&rt, "expanding", matches!(fault, ExpandFault::Memory));
+    let fault = FormatFault::from(AllocError);
+    holds(&rt, "formatting", matches!(fault, FormatFault::Memory));
+    let fault = FormatFault::from(AllocFailed { value: 1u8 });
+    holds(&rt, "a list", matches!(fault, FormatFault::Memory));
+    same_text(&rt, "its line", fault.lines(), "error: out of memory\n");
 }

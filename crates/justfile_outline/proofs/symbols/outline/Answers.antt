@@ -5,4 +5,4 @@ use Rattle.justfile_outline.proofs.symbols.outline.Goals as goal
 
 pub loop-item-preserved : goal.loop-item-preserved
 loop-item-preserved c =
-    gathered item_symbols c.args.items.now c.loop-item.item-index c.item-item.result _ _ (omega arith) c.item-item.is c.loop-item.invariant c.in_ok-push_symbol.ensures
+    gathered c.args.items.now c.loop-item.item-index c.item-item.result (omega arith) c.item-item.is item_symbols _ _ c.loop-item.invariant c.in_ok-push_symbol.ensures
