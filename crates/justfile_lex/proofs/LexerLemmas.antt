@@ -1,22 +1,24 @@
 -- Adding a token keeps the invariant of the lexer.
 use Rattle.std.proofs.Common.{◌≡◌, ◌≢◌, ◌-◌, ◌*◌, ◌<◌, ⊎_elim, ℕ, ◌+◌, ◌≤◌, List, [], ◌∷◌, ◌++◌, length, drop, refl, sym, ap, subst, ◌∙◌, arith, rules}
-use Rattle.std.specs.Prelude.{map, reverse, Option, Some, Err, option_map, IfSome}
+use Rattle.std.specs.Prelude.{map, reverse, Option, Some, Ok, Err, option_map, IfSome}
 use Rattle.std.proofs.lemmas.List.{map-append, reverse-append, length-take-le}
 use Rattle.justfile_vocabulary.specs.declared.token_kind.TokenKind.{TokenKind}
 use Rattle.justfile_token.specs.declared.token.Token.{Token}
 use Rattle.justfile_vocabulary.specs.declared.token_kind.TokenKind.TheVariants.{Eof, Dedent, Indent, InterpolationEnd, InterpolationStart}
-use Rattle.justfile_model.proofs.NextLaws.{Moves}
+use Rattle.justfile_model.proofs.NextLaws.{Moves, token_cut}
+use Rattle.std.specs.Str.{IsUtf8}
+use Rattle.std.proofs.lemmas.Str.{IsCharBoundary-from_rest, IsUtf8-drop}
 use Rattle.justfile_lex.specs.declared.lexer.Lexer.{Lexer}
 use Rattle.justfile_token.specs.Slice.{slice_of}
 use Rattle.justfile_model.specs.Places.{line_of_offset, column_at}
 use Rattle.justfile_model.specs.Tok.{Tok, tok_of}
-use Rattle.justfile_model.specs.Modes.{Mode, mode, mode_after, tail_of}
+use Rattle.justfile_model.specs.Modes.{Mode, mode_after, tail_of}
 use Rattle.justfile_model.specs.LexResult.{IsFrom}
 use Rattle.justfile_lex.specs.Modes.{mode_of, interpolation_start_by}
 use Rattle.justfile_model.specs.LexicalFault.{Unclosed, UnterminatedInterpolation}
 use Rattle.justfile_model.specs.Next.{next, at_end_by}
-use Rattle.justfile_model.specs.Lexed.{next_of, Stands, Begins, IsFault}
-use Rattle.justfile_lex.specs.Lexing.{earlier, IsAtEnd, IsLexerToken, IsLexing, Pushes}
+use Rattle.justfile_model.specs.Lexed.{next_of, Begins, IsFault, IsNext, Lexed, StandsAt}
+use Rattle.justfile_lex.specs.Lexing.{IsLexerToken, IsLexing, IsPlaced, IsReading, Takes}
 
 pub earlier_push : (ts : List Token) (t : Token) → reverse (map tok_of (ts ++ t ∷ [])) ≡ tok_of t ∷ reverse (map tok_of ts)
 earlier_push ts t = ap reverse (map-append tok_of ts (t ∷ [])) ∙ reverse-append (map tok_of ts) (tok_of t ∷ [])
@@ -25,12 +27,12 @@ module _ (l : Lexer) (kind : TokenKind) (len : ℕ) (t : Tok) (at : IsLexerToken
   pub lexeme_len : length t.lexeme ≡ len
   lexeme_len = ap length at.lexeme_is ∙ length-take-le len (drop l.offset l.src.now) fits
 
-  pub stands_at : IsAtEnd l → Stands l.src.now (earlier l) t
-  stands_at end = record {
-    offset_is = at.offset_is ∙ end.offset_is;
+  pub stands_at : IsPlaced l → StandsAt l.src.now l.offset t
+  stands_at placed = record {
+    offset_is = at.offset_is;
     lexeme_is = at.lexeme_is ∙ (λ i. slice_of l.src.now (sym at.offset_is i) (sym lexeme_len i));
-    line_is = at.line_is ∙ end.place.line_is ∙ ap (line_of_offset l.src.now) (sym at.offset_is);
-    column_is = at.column_is ∙ end.place.column_is ∙ ap (column_at l.src.now) (sym at.offset_is);
+    line_is = at.line_is ∙ placed.place.line_is ∙ ap (line_of_offset l.src.now) (sym at.offset_is);
+    column_is = at.column_is ∙ placed.place.column_is ∙ ap (column_at l.src.now) (sym at.offset_is);
   }
 
 -- a token adds at most one level
@@ -48,39 +50,59 @@ tail_less : {A : Type 0} (xs : List A) → 0 < length xs → length (tail_of xs)
 tail_less [] h = absurd (omega arith)
 tail_less (x ∷ xs) h = omega arith
 
--- the next token of the lexer is that of the definition
-pub next_is : (l : Lexer) → IsLexing l → next_of l.src.now (earlier l) ≡ next (mode_of l.mode) (drop l.offset l.src.now)
-next_is l h =
-    let offset = sym h.at_end.offset_is in
-    λ i. next (sym h.mode_is i) (drop (offset i) l.src.now)
-
-pub lexes_on : (old new : Lexer) (kind : TokenKind) (len : ℕ) → IsLexing old → Pushes old new kind len → kind ≢ Eof → IsLexing new
-lexes_on old new kind len h p ne = record {
-  at_end = p.at_end;
-  sources = p.sources;
-  interpolation_is = p.interpolation_is;
-  mode_is = p.mode_is ∙ ap (mode_after p.token.kind p.token) h.mode_is ∙ sym (ap mode p.joined);
-  begins =
-      let begins : Begins old.src.now (p.token ∷ earlier old) = (h.begins, p.is_next, λ e. ne (sym p.kind_is ∙ e)) in
-      subst (λ s. Begins s (earlier new)) (ap (λ (s : _). s.now) (sym p.src_is)) (subst (Begins old.src.now) (sym p.joined) begins);
-}
-
 -- twice the bytes that are left, and the levels that are open
 abbrev pub left : Lexer → ℕ
 left l = 2 * (length l.src.now - l.offset) + length (mode_of l.mode).levels
 
-pub goes_down : (old new : Lexer) (kind : TokenKind) (len : ℕ) → Pushes old new kind len → old.offset + len ≤ length old.src.now → Moves (mode_of old.mode) kind len → kind ≢ Eof → left new < left old
-goes_down old new kind len p end moves ne =
-    let src : length new.src.now ≡ length old.src.now = ap (λ (s : _). length s.now) p.src_is in
-    let levels : length (mode_of new.mode).levels ≡ length (mode_after p.token.kind p.token (mode_of old.mode)).levels = ap (λ m. length m.levels) p.mode_is in
-    let offset = p.offset_is in
-    ⊎_elim
-    (λ more. omega (arith, src, levels, offset, end, more, levels_after p.token.kind p.token (mode_of old.mode)))
-    (λ none. ⊎_elim (λ eof. absurd (ne eof)) (λ dedent.
-    let is : p.token.kind ≡ Dedent = p.kind_is ∙ dedent.0 in
-    let fewer = subst (λ k. length (mode_after k p.token (mode_of old.mode)).levels < length (mode_of old.mode).levels) (sym is) (tail_less (mode_of old.mode).levels dedent.1) in
-    omega (arith, src, levels, offset, end, fewer)) none)
-    moves
+-- the next token of the lexer is that of the definition
+pub next_is : (l : Lexer) (earlier : List Tok) → IsLexing l earlier → next_of l.src.now earlier ≡ next (mode_of l.mode) (drop l.offset l.src.now)
+next_is l earlier h =
+    let offset = sym h.offset_is in
+    λ i. next (sym h.mode_is i) (drop (offset i) l.src.now)
+
+module _ (old new : Lexer) (t : Token) (p : Takes old new t) where
+  module _ (earlier : List Tok) (h : IsLexing old earlier) where
+    pub taken_next : IsNext old.src.now earlier (tok_of t)
+    taken_next = record {
+      stands = subst (λ n. StandsAt old.src.now n (tok_of t)) h.offset_is p.stands;
+      found = next_is old earlier h ∙ p.found ∙ ap (λ (n : ℕ). Ok (t.kind, n)) (sym p.length_is);
+    }
+
+    pub lexes_on : t.kind ≢ Eof → IsLexing new (tok_of t ∷ earlier)
+    lexes_on ne = record {
+      placed = p.placed;
+      offset_is = p.offset_is ∙ (λ i. sym p.stands.offset_is i + sym p.length_is i);
+      mode_is = p.mode_is ∙ ap (mode_after t.kind (tok_of t)) h.mode_is;
+      begins =
+          let begins : Begins old.src.now (tok_of t ∷ earlier) = (h.begins, taken_next, ne) in
+          subst (λ s. Begins s (tok_of t ∷ earlier)) (ap (λ (s : _). s.now) (sym p.src_is)) begins;
+      interpolation_is =
+          subst (λ q. IfSome new.mode.interpolation (IsFrom q new.src.now)) (ap (λ (s : _). s.now) (sym p.path_is))
+          (subst (λ q. IfSome new.mode.interpolation (IsFrom old.path.now q)) (ap (λ (s : _). s.now) (sym p.src_is)) p.interpolation_is);
+    }
+
+  goes_down : old.offset + t.length ≤ length old.src.now → Moves (mode_of old.mode) t.kind t.length → t.kind ≢ Eof → left new < left old
+  goes_down end moves ne =
+      let src : length new.src.now ≡ length old.src.now = ap (λ (s : _). length s.now) p.src_is in
+      let levels : length (mode_of new.mode).levels ≡ length (mode_after t.kind (tok_of t) (mode_of old.mode)).levels = ap (λ m. length m.levels) p.mode_is in
+      let offset = p.offset_is in
+      ⊎_elim
+      (λ more. omega (arith, src, levels, offset, end, more, levels_after t.kind (tok_of t) (mode_of old.mode)))
+      (λ none. ⊎_elim (λ eof. absurd (ne eof)) (λ dedent.
+      let fewer = subst (λ k. length (mode_after k (tok_of t) (mode_of old.mode)).levels < length (mode_of old.mode).levels) (sym dedent.0) (tail_less (mode_of old.mode).levels dedent.1) in
+      omega (arith, src, levels, offset, end, fewer)) none)
+      moves
+
+-- the lexer moves on, up to `Eof`
+pub falls : (old new : Lexer) (t : Token) → Takes old new t → IsUtf8 old.src.now → IsPlaced old → t.kind ≢ Eof → left new < left old
+falls old new t p utf8 placed ne =
+    let cut = token_cut (mode_of old.mode) (drop old.offset old.src.now) (IsUtf8-drop old.src.now old.offset utf8 placed.cut) t.kind t.length p.found in
+    let end = IsCharBoundary-from_rest _ _ _ placed.cut.0 cut.0 in
+    goes_down old new t p end.0 cut.1 ne
+
+-- a list of tokens that the last one ends
+pub all_lexed : (text : List ℕ) (ts : List Token) (t : Token) → Begins text (reverse (map tok_of ts)) → IsNext text (reverse (map tok_of ts)) (tok_of t) → t.kind ≡ Eof → Lexed text (map tok_of (ts ++ t ∷ []))
+all_lexed text ts t begins next end = record { earlier = reverse (map tok_of ts); last = tok_of t; are = earlier_push ts t; begins = begins; is_next = next; is_end = end }
 
 -- the start of an open interpolation is one of the tokens
 pub interpolation_from : (path src : List ℕ) (k : TokenKind) (t : Token) (before : Option Token) → IsFrom path src t → IfSome before (IsFrom path src) → IfSome (interpolation_start_by k t before) (IsFrom path src)
@@ -97,14 +119,14 @@ unclosed_is l t none is = go (drop l.offset l.src.now) none
     go [] h = ap (λ i. at_end_by (option_map tok_of i) (mode_of l.mode).levels) is
     go (b ∷ bs) h = absurd (omega (arith, h))
 
-pub from_open : (l : Lexer) (t : Token) → IsLexing l → l.mode.interpolation ≡ Some t → IsFrom l.path.now l.src.now t
-from_open l t h is = subst (λ i. IfSome i (IsFrom l.path.now l.src.now)) is h.interpolation_is
+pub from_open : (l : Lexer) (t : Token) → IsReading l → l.mode.interpolation ≡ Some t → IsFrom l.path.now l.src.now t
+from_open l t h is = subst (λ i. IfSome i (IsFrom l.path.now l.src.now)) is h.lexing.interpolation_is
 
-pub unclosed_fault : (l : Lexer) (t : Token) → IsLexing l → length (drop l.offset l.src.now) ≡ 0 → l.mode.interpolation ≡ Some t → IsFault l.src.now UnterminatedInterpolation (tok_of t)
+pub unclosed_fault : (l : Lexer) (t : Token) → IsReading l → length (drop l.offset l.src.now) ≡ 0 → l.mode.interpolation ≡ Some t → IsFault l.src.now UnterminatedInterpolation (tok_of t)
 unclosed_fault l t h none is = record {
-  earlier = earlier l;
-  begins = h.begins;
+  earlier = h.earlier;
+  begins = h.lexing.begins;
   refusal = Unclosed (tok_of t);
-  refused = next_is l h ∙ unclosed_is l t none is;
+  refused = next_is l h.earlier h.lexing ∙ unclosed_is l t none is;
   spans = (refl, refl);
 }

@@ -3,5 +3,7 @@ pub mod LexerLemmas
 pub mod Pieces
 pub mod PlaceLemmas
 pub mod Refusals
+pub mod Runs
 pub mod StackLemmas
+pub mod TableLemmas
 pub mod WhiteRunLemmas

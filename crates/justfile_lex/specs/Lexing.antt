@@ -1,5 +1,5 @@
 -- The state of the lexer.
-use Rattle.std.specs.Prelude.{◌≡◌, ℕ, ◌+◌, ◌<◌, ◌==◌, Bool, true, false, not, slice_index, List, ◌∷◌, map, reverse, All, IfSome}
+use Rattle.std.specs.Prelude.{◌≡◌, ℕ, ◌+◌, ◌<◌, ◌==◌, Bool, true, false, not, slice_index, List, drop, length, Ok, IfSome}
 use Rattle.std.specs.Str.{IsCharBoundary}
 use Rattle.justfile_vocabulary.specs.declared.token_kind.TokenKind.{TokenKind}
 use Rattle.justfile_vocabulary.specs.declared.token_kind.TokenKind.TheVariants.{Backtick, ByteOrderMark, Eol, FormatStringContinue, FormatStringEnd, FormatStringStart, InterpolationStart, StringToken, Whitespace}
@@ -12,11 +12,9 @@ use Rattle.justfile_model.specs.Tok.{Tok, tok_of}
 use Rattle.justfile_model.specs.Modes.{mode, mode_after}
 use Rattle.justfile_model.specs.LexResult.{IsFrom}
 use Rattle.justfile_lex.specs.Modes.{mode_of}
-use Rattle.justfile_model.specs.Lexed.{end_of, IsNext, Begins}
-
--- the tokens so far, last one first
-abbrev pub earlier : Lexer → List Tok
-earlier l = reverse (map tok_of l.tokens.items)
+use Rattle.justfile_model.specs.Lexed.{end_of, Begins, StandsAt}
+use Rattle.justfile_model.specs.Next.{next}
+use Rattle.justfile_token.specs.declared.token.Token.{Token}
 
 -- tokens of the kind are searched for line feeds: the other kinds have none
 abbrev pub is_searched : TokenKind → Bool
@@ -40,19 +38,23 @@ is_on_line kind first = not (is_searched kind)
 abbrev pub HasNoFeed : List ℕ → (count : ℕ) → Type 0
 HasNoFeed bs count = (i : ℕ) → i < count → (slice_index bs i == byte.line_feed) ≡ false
 
--- The lexer is at the end of the tokens so far.
-pub record IsAtEnd (l : Lexer) : Type 0 where
-  pub offset_is : l.offset ≡ end_of (earlier l)
+-- The offset is between two characters, and the place is its line and column.
+pub record IsPlaced (l : Lexer) : Type 0 where
   pub cut : IsCharBoundary l.src.now l.offset
   pub place : IsPlace l.src.now l.offset l.place.line l.place.column
 
--- The state of the lexer agrees with the tokens so far, and these are the first tokens of the text.
-pub record IsLexing (l : Lexer) : Type 0 where
-  pub at_end : IsAtEnd l
-  pub mode_is : mode_of l.mode ≡ mode (earlier l)
-  pub begins : Begins l.src.now (earlier l)
-  pub sources : All (IsFrom l.path.now l.src.now) l.tokens.items
+-- The lexer is at the end of the earlier tokens, last one first. Its mode agrees with them, and they are the first tokens of the text.
+pub record IsLexing (l : Lexer) (earlier : List Tok) : Type 0 where
+  pub placed : IsPlaced l
+  pub offset_is : l.offset ≡ end_of earlier
+  pub mode_is : mode_of l.mode ≡ mode earlier
+  pub begins : Begins l.src.now earlier
   pub interpolation_is : IfSome l.mode.interpolation (IsFrom l.path.now l.src.now)
+
+-- the same for some earlier tokens
+pub record IsReading (l : Lexer) : Type 0 where
+  pub earlier : List Tok
+  pub lexing : IsLexing l earlier
 
 -- the token of this kind and length at the lexer's position
 pub record IsLexerToken (l : Lexer) (kind : TokenKind) (len : ℕ) (t : Tok) : Type 0 where
@@ -62,16 +64,15 @@ pub record IsLexerToken (l : Lexer) (kind : TokenKind) (len : ℕ) (t : Tok) : T
   pub line_is : t.line ≡ l.place.line
   pub column_is : t.column ≡ l.place.column
 
--- the next token, of this kind and length, is added to the tokens
-pub record Pushes (old new : Lexer) (kind : TokenKind) (len : ℕ) : Type 0 where
-  pub token : Tok
-  pub kind_is : token.kind ≡ kind
-  pub is_next : IsNext old.src.now (earlier old) token
-  pub joined : earlier new ≡ token ∷ earlier old
-  pub mode_is : mode_of new.mode ≡ mode_after token.kind token (mode_of old.mode)
-  pub sources : All (IsFrom new.path.now new.src.now) new.tokens.items
-  pub interpolation_is : IfSome new.mode.interpolation (IsFrom new.path.now new.src.now)
+-- the lexer has moved past the next token
+pub record Takes (old new : Lexer) (token : Token) : Type 0 where
+  pub found : next (mode_of old.mode) (drop old.offset old.src.now) ≡ Ok (token.kind, token.length)
+  pub stands : StandsAt old.src.now old.offset (tok_of token)
+  pub length_is : length (tok_of token).lexeme ≡ token.length
+  pub source : IsFrom old.path.now old.src.now token
+  pub mode_is : mode_of new.mode ≡ mode_after token.kind (tok_of token) (mode_of old.mode)
+  pub interpolation_is : IfSome new.mode.interpolation (IsFrom old.path.now old.src.now)
   pub path_is : new.path ≡ old.path
   pub src_is : new.src ≡ old.src
-  pub offset_is : new.offset ≡ old.offset + len
-  pub at_end : IsAtEnd new
+  pub offset_is : new.offset ≡ old.offset + token.length
+  pub placed : IsPlaced new

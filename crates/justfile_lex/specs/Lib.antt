@@ -4,4 +4,5 @@ pub mod Lexing
 pub mod Modes
 pub mod RawTexts
 pub mod Scanned
+pub mod SignificantTable
 pub mod WhiteRun

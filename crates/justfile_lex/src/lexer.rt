@@ -1,5 +1,5 @@
 //! The lexer: from a text to its tokens, or to its lexical fault.
-ghost use Rattle.std.specs.Prelude.{◌≡◌, ◌+◌, ◌≤◌, ◌||◌, ◌==◌, length, drop, map, Ok, Err, IfOk, OnOk, IfErr, All, MatchOption, None, Some};
+ghost use Rattle.std.specs.Prelude.{◌≡◌, ◌+◌, ◌≤◌, ◌||◌, ◌==◌, length, drop, map, Ok, Err, IfOk, OnOk, IfErr, All, MatchOption, None, Some, [], ◌∷◌, ◌++◌, cond, not};
 ghost use Rattle.std.specs.Result.{result_ok};
 ghost use Rattle.std.specs.Str.{IsCharBoundary, IsUtf8};
 ghost use Rattle.std.specs.Char.{is_ascii_alphabetic, is_ascii_digit};
@@ -8,11 +8,13 @@ ghost use Rattle.justfile_vocabulary.specs.ByteNames as byte;
 ghost use Rattle.justfile_vocabulary.specs.declared.token_kind.TokenKind.TheVariants.{Unspecified};
 ghost use Rattle.justfile_model.specs.Next.{next};
 ghost use Rattle.justfile_model.specs.Tok.{tok_of};
-ghost use Rattle.justfile_model.specs.Lexed.{Lexed, StandsAt, end_of};
+ghost use Rattle.justfile_model.specs.Lexed.{Lexed, StandsAt};
 ghost use Rattle.justfile_model.specs.LexResult.{IsFrom, IsLexicalError, IsLexerFault};
 ghost use Rattle.justfile_model.specs.Places.{IsPlace};
 ghost use Rattle.justfile_lex.specs.Lexing.{is_on_line, is_searched};
 ghost use Rattle.justfile_lex.specs.Modes.{mode_of};
+ghost use Rattle.justfile_lex.specs.SignificantTable.{IsTableOf};
+ghost use Rattle.justfile_model.specs.SignificantTokens.{is_whitespace};
 
 use crate::bytes::is_blank;
 use crate::explain::explain;
@@ -36,12 +38,10 @@ pub struct Lexer<'src> {
     /// The line and the column of the offset.
     place: Place,
     src: &'src str,
-    /// The tokens so far.
-    tokens: Vec<Token<'src>>,
 }
 
 impl<'src> Lexer<'src> {
-    ghost use Rattle.justfile_lex.specs.Lexing.{earlier, IsAtEnd, IsLexing, Pushes, IsLexerToken};
+    ghost use Rattle.justfile_lex.specs.Lexing.{IsLexerToken, IsLexing, IsPlaced, IsReading, Takes};
 
     /// Opens an interpolation.
     pub const INTERPOLATION_START: &'static str = interpolation::INTERPOLATION_START;
@@ -68,6 +68,7 @@ impl<'src> Lexer<'src> {
     {
         let mut lexer = Lexer::new(alloc, path, src);
         let mut run = WhiteRun::before(src);
+        let mut tokens = Vec::new(alloc);
         'tokens: loop {
             if let Some(start) = lexer.unclosed_interpolation() {
                 return Err(lexer.unterminated(start));
@@ -76,9 +77,44 @@ impl<'src> Lexer<'src> {
             let Some((kind, length)) = scanned.found() else {
                 return Err(lexer.make_fault(alloc));
             };
-            lexer.push(kind, length)?;
+            let token = lexer.take(kind, length)?;
+            tokens.push(token)?;
             if kind == TokenKind::Eof {
-                return Ok(lexer.tokens);
+                return Ok(tokens);
+            }
+        }
+    }
+
+    /// Returns the tokens of a text that aren't whitespace, each with whether it directly follows
+    /// the token before. They are those that `lex` returns, without making a list of all tokens.
+    ///
+    /// # Errors
+    ///
+    /// As for `lex`.
+    pub fn lex_significant(
+        alloc: Global,
+        path: &'src str,
+        src: &'src str,
+    ) -> CompileResult<'src, Vec<(Token<'src>, bool)>>
+        ensures table { IfOk result (λ table. IsTableOf path.now src.now table.items) }
+        ensures fault { IfErr result (IsLexerFault path.now src.now) }
+    {
+        let mut lexer = Lexer::new(alloc, path, src);
+        let mut run = WhiteRun::before(src);
+        let mut table = Vec::new(alloc);
+        let mut glued = false;
+        'tokens: loop {
+            if let Some(start) = lexer.unclosed_interpolation() {
+                return Err(lexer.unterminated(start));
+            }
+            let scanned = layout::scan_token(&lexer.mode, &mut run, lexer.rest());
+            let Some((kind, length)) = scanned.found() else {
+                return Err(lexer.make_fault(alloc));
+            };
+            let token = lexer.take(kind, length)?;
+            glued = push_significant(&mut table, token, glued)?;
+            if kind == TokenKind::Eof {
+                return Ok(table);
             }
         }
     }
@@ -99,7 +135,7 @@ impl<'src> Lexer<'src> {
 
     /// Returns the lexer at the start of a text.
     fn new(alloc: Global, path: &'src str, src: &'src str) -> Self
-        ensures lexing { IsLexing result }
+        ensures lexing { IsLexing result [] }
         ensures offset { result.offset ≡ 0 }
         ensures path { result.path.now ≡ path.now }
         ensures src { result.src.now ≡ src.now }
@@ -110,7 +146,6 @@ impl<'src> Lexer<'src> {
             path,
             place: Place { line: 0, column: 0 },
             src,
-            tokens: Vec::new(alloc),
         }
     }
 
@@ -140,7 +175,7 @@ impl<'src> Lexer<'src> {
 
     /// Returns the fault of a text that ends inside the interpolation that begins with this token.
     fn unterminated(&self, start: Token<'src>) -> Fault<'src>
-        requires lexing { IsLexing self.now }
+        requires reading { IsReading self.now }
         requires at_end { length (drop self.now.offset self.now.src.now) ≡ 0 }
         requires open { self.now.mode.interpolation ≡ Some start }
         ensures { IsLexerFault self.now.path.now self.now.src.now result }
@@ -150,7 +185,7 @@ impl<'src> Lexer<'src> {
 
     /// Returns the fault at the current position, where there is no token.
     fn make_fault(&self, alloc: Global) -> Fault<'src>
-        requires lexing { IsLexing self.now }
+        requires reading { IsReading self.now }
         requires utf8 { IsUtf8 self.now.src.now }
         requires closed { length (drop self.now.offset self.now.src.now) ≡ 0
             → self.now.mode.interpolation ≡ None }
@@ -166,7 +201,7 @@ impl<'src> Lexer<'src> {
 
     /// Returns the error at the current position, where there is no token.
     fn make_error(&self, alloc: Global) -> Result<CompileError<'src>, AllocError>
-        requires lexing { IsLexing self.now }
+        requires reading { IsReading self.now }
         requires utf8 { IsUtf8 self.now.src.now }
         requires closed { length (drop self.now.offset self.now.src.now) ≡ 0
             → self.now.mode.interpolation ≡ None }
@@ -183,9 +218,9 @@ impl<'src> Lexer<'src> {
     /// Returns the token at which an error is reported: the `length` bytes after the next `skip`
     /// ones.
     fn make_error_token(&self, skip: usize, length: usize) -> Token<'src>
-        requires lexing { IsLexing self.now }
+        requires reading { IsReading self.now }
         requires within { IsWithin self.now.src.now (self.now.offset + skip) length }
-        ensures at { StandsAt self.now.src.now (end_of (earlier self.now) + skip) (tok_of result) }
+        ensures at { StandsAt self.now.src.now (self.now.offset + skip) (tok_of result) }
         ensures kind { result.kind ≡ Unspecified }
         ensures length { result.length ≡ length }
         ensures source { IsFrom self.now.path.now self.now.src.now result }
@@ -203,27 +238,30 @@ impl<'src> Lexer<'src> {
         }
     }
 
-    /// Appends the next token and moves to its end.
-    fn push(&mut self, kind: TokenKind, length: usize) -> Result<(), AllocError>
-        requires lexing { IsLexing self.old }
+    /// Returns the next token, which has this kind and length, and moves to its end.
+    #[inline(always)]
+    fn take(&mut self, kind: TokenKind, length: usize) -> Result<Token<'src>, AllocError>
+        requires reading { IsReading self.old }
         requires cut { IsCharBoundary (drop self.old.offset self.old.src.now) length }
         requires found { next (mode_of self.old.mode) (drop self.old.offset self.old.src.now)
             ≡ Ok (kind, length) }
-        ensures { OnOk result (Pushes self.old self.new kind length) }
+        ensures takes { IfOk result (Takes self.old self.new) }
+        ensures kind { IfOk result (λ token. token.kind ≡ kind) }
+        ensures length { IfOk result (λ token. token.length ≡ length) }
     {
         let token = self.make_token(kind, length);
         let place = self.place_past(kind, length);
         self.mode.note(token)?;
-        self.tokens.push(token)?;
         self.place = place;
         self.offset += length;
-        Ok(())
+        Ok(token)
     }
 
     /// Returns the token of this kind and length at the current position.
     fn make_token(&self, kind: TokenKind, length: usize) -> Token<'src>
         requires { IsWithin self.now.src.now self.now.offset length }
         ensures at { IsLexerToken self.now kind length (tok_of result) }
+        ensures length { result.length ≡ length }
         ensures source { IsFrom self.now.path.now self.now.src.now result }
     {
         Token {
@@ -239,7 +277,7 @@ impl<'src> Lexer<'src> {
 
     /// Returns the position after the next token, which has this kind and length.
     fn place_past(&self, kind: TokenKind, length: usize) -> Place
-        requires at_end { IsAtEnd self.now }
+        requires placed { IsPlaced self.now }
         requires within { IsWithin self.now.src.now self.now.offset length }
         requires found { next (mode_of self.now.mode) (drop self.now.offset self.now.src.now)
             ≡ Ok (kind, length) }
@@ -269,6 +307,32 @@ fn is_on_line(kind: TokenKind, first: u8) -> bool
         TokenKind::Whitespace => is_blank(byte_class(first)),
         _ => !is_searched(kind),
     }
+}
+
+/// Appends a token to a table of significant tokens, unless it is whitespace. Returns whether it was
+/// appended, so whether a token after it is glued to it.
+#[inline(always)]
+fn push_significant<'src>(
+    table: &mut Vec<(Token<'src>, bool)>,
+    token: Token<'src>,
+    glued: bool,
+) -> Result<bool, AllocError>
+    ensures after { IfOk result (λ after. after ≡ not (is_whitespace token.entry.kind)) }
+    ensures pushed { OnOk result (table.new.items
+        ≡ table.old.items ++ cond (is_whitespace token.entry.kind) [] ((token.entry, glued) ∷ [])) }
+{
+    if is_whitespace(token.kind) {
+        return Ok(false);
+    }
+    table.push((token, glued))?;
+    Ok(true)
+}
+
+/// Whether tokens of the kind are whitespace.
+fn is_whitespace(kind: TokenKind) -> bool
+    ensures { result ≡ is_whitespace kind }
+{
+    matches!(kind, TokenKind::Whitespace)
 }
 
 /// Whether tokens of the kind are searched for line feeds. The other kinds have none.

@@ -1,6 +1,6 @@
 -- What is read of a table, and what that implies for its tokens.
 use Rattle.std.proofs.Common.{IfSome, ◌≡◌, ◌⊎◌, ℕ, ◌+◌, ◌<◌, ◌≤◌, Bool, true, false, ◌&&◌, cond, IsTrue, rules, List, [], ◌∷◌, ◌++◌, map, length, All, Contains, Option, Some, None, Result, Ok, Err, inl, inr, refl, sym, ap, ◌∙◌, subst, arith}
-use Rattle.std.specs.Prelude.{◌-◌, ◌^◌, codes, get_or, nat_eq, reverse, string_bytes}
+use Rattle.std.specs.Prelude.{◌-◌, ◌^◌, IfOk, codes, get_or, nat_eq, reverse, string_bytes}
 use Rattle.std.specs.Global.{Box}
 use Rattle.std.specs.List.{list_all, flat_map, starts_with}
 use Rattle.std.specs.Option.{option_map}
@@ -519,6 +519,13 @@ module _ (conditions : Conditions) (tokens : List Token) (table : List TableEntr
         };
       }
 
+  -- the same of a result
+  pub parsed_if : All (λ entry. Contains tokens entry.0) table → (file_depth : ℕ) (import_offsets : List ℕ) (result : Result Ast Fault)
+      → IfOk result (λ ast. IsRead conditions table file_depth import_offsets (map significant_of table) old new (ast.items.items, ast.list_features.items)) → IfOk result (λ ast. ast.unstable_features.keys ≡ unstable_features (tree_of ast))
+      → IfOk result (IsParsed conditions (map tok_of tokens) (Contains tokens) file_depth import_offsets old new)
+  parsed_if all file_depth import_offsets (Ok ast) h unstable = parsed_of all file_depth import_offsets ast h unstable
+  parsed_if all file_depth import_offsets (Err fault) h unstable = tt
+
 -- ---- a text
 
 module _ (conditions : Conditions) (path src : List ℕ) (utf8 : IsUtf8 src) (tokens : List Token) (lexed : Lexed src (map tok_of tokens)) (all : All (IsFrom path src) tokens) (old new : Numerator) where
@@ -564,6 +571,11 @@ module _ (conditions : Conditions) (path src : List ℕ) (utf8 : IsUtf8 src) (to
           unstable = h.filled.unstable;
         };
       }
+
+-- the tokens of a text are those of one text
+pub lexed_once : (path src : List ℕ) → IsUtf8 src → (tokens : List Token) → Lexed src (map tok_of tokens) → All (IsFrom path src) tokens → IsOneLex tokens
+lexed_once path src utf8 tokens lexed all =
+    record { text = src; utf8 = utf8; lexed = lexed; source = All-weaker (IsFrom path src) (λ t. t.src.now ≡ src) (λ t h. h.src_is) tokens all }
 
 -- a text with a fault of lexing has no tree
 pub lexical : (conditions : Conditions) (path src : List ℕ) (numerator : Numerator) (fault : Fault) → IsLexerFault path src fault → HasNoTree conditions path src numerator numerator fault

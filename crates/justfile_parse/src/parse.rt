@@ -5,6 +5,8 @@ ghost use Rattle.justfile_vocabulary.specs.Numerator.{constants_of};
 ghost use Rattle.justfile_model.specs.Lexed.{Lexed};
 ghost use Rattle.justfile_model.specs.SignificantTokens.{identifiers, significant_tokens};
 ghost use Rattle.justfile_model.specs.Tok.{Tok, tok_of};
+ghost use Rattle.justfile_model.specs.UnstableFeatures.{unstable_features};
+ghost use Rattle.justfile_ast.specs.Ast.{tree_of};
 ghost use Rattle.justfile_parse.specs.Parsing.{HasNoTree, IsOneLex, IsParsed, IsParsedText, IsUnparsed};
 ghost use Rattle.justfile_parse_expression.specs.Conditions.{conditions_of};
 ghost use Rattle.justfile_parse_expression.specs.FormatStrings.{IsTable};
@@ -75,14 +77,14 @@ impl Parser {
             → numerator.new ≡ numerator.old }
         ensures constants { constants_of numerator.new ≡ constants_of numerator.old }
     {
-        let tokens = Lexer::lex(alloc, path, src)?;
-        Parser::parse(
+        let table = Lexer::lex_significant(alloc, path, src)?;
+        parse_significant(
             alloc,
             source.file_depth,
             source.import_offsets,
             source.namepath,
             numerator,
-            tokens.as_slice(),
+            table.as_slice(),
             source.working_directory,
             expander,
             current,
@@ -125,25 +127,67 @@ impl Parser {
             (identifiers (significant_tokens (map tok_of tokens.now))) }
     {
         let table = significant(alloc, tokens)?;
-        let (items, list_features) = parse_table(
+        parse_significant(
             alloc,
             file_depth,
             import_offsets,
+            module_namepath,
             numerator,
             table.as_slice(),
+            working_directory,
             expander,
             current,
             limit,
-        )?;
-        let (items, unstable_features) = with_unstable(alloc, items)?;
-        Ok(Ast {
-            items,
-            list_features,
-            module_path: Modulepath::from_namepath(alloc, module_namepath)?,
-            unstable_features,
-            working_directory: working_directory.to_string(alloc)?,
-        })
+        )
     }
+}
+
+/// Parses a file from the table of its tokens.
+fn parse_significant<'src, X: Expander>(
+    alloc: Global,
+    file_depth: u32,
+    import_offsets: &[usize],
+    module_namepath: Option<&Namepath<'_>>,
+    numerator: &mut Numerator,
+    table: &[SignificantToken<'src>],
+    working_directory: &str,
+    expander: &X,
+    current: Version,
+    limit: usize,
+) -> CompileResult<'src, Ast<'src>>
+    requires { IsTable table.now }
+    ensures read { IfOk result (λ ast. IsRead (conditions_of X.answer expander.now current limit)
+        table.now file_depth import_offsets.now (map significant_of table.now)
+        numerator.old numerator.new (ast.items.items, ast.list_features.items)) }
+    ensures unstable { IfOk result (λ ast. ast.unstable_features.keys
+        ≡ unstable_features (tree_of ast)) }
+    ensures module_path { IfOk result (λ ast. names_of ast.module_path
+        ≡ module_names module_namepath.entry) }
+    ensures working_directory { IfOk result (λ ast. string_bytes ast.working_directory
+        ≡ working_directory.now) }
+    ensures unread { IfErr result (IsUnread (conditions_of X.answer expander.now current limit)
+        (map significant_of table.now) (IsInTable table.now) numerator.old numerator.new) }
+    ensures moved { CountersMoved numerator.old numerator.new
+        (identifiers (map significant_of table.now)) }
+{
+    let (items, list_features) = parse_table(
+        alloc,
+        file_depth,
+        import_offsets,
+        numerator,
+        table,
+        expander,
+        current,
+        limit,
+    )?;
+    let (items, unstable_features) = with_unstable(alloc, items)?;
+    Ok(Ast {
+        items,
+        list_features,
+        module_path: Modulepath::from_namepath(alloc, module_namepath)?,
+        unstable_features,
+        working_directory: working_directory.to_string(alloc)?,
+    })
 }
 
 /// Parses the items of a file from the table of its tokens, and gives recipes and modules their

@@ -13,6 +13,6 @@ returns c =
     record {
       fault = UnterminatedInterpolation;
       kind_is = ap lexical_fault_of c.new.ensures.kind;
-      is_fault = subst (λ u. IsFault l.src.now UnterminatedInterpolation (tok_of u)) (sym c.new.ensures.token) (unclosed_fault l t c.requires.lexing c.requires.at_end c.requires.open);
-      from = subst (IsFrom l.path.now l.src.now) (sym c.new.ensures.token) (from_open l t c.requires.lexing c.requires.open);
+      is_fault = subst (λ u. IsFault l.src.now UnterminatedInterpolation (tok_of u)) (sym c.new.ensures.token) (unclosed_fault l t c.requires.reading c.requires.at_end c.requires.open);
+      from = subst (IsFrom l.path.now l.src.now) (sym c.new.ensures.token) (from_open l t c.requires.reading c.requires.open);
     }

@@ -1,0 +1,71 @@
+-- The table of significant tokens, token by token.
+use Rattle.std.proofs.Common.{◌≡◌, Bool, true, false, not, cond, List, [], ◌∷◌, ◌++◌, map, refl, sym, ap, ◌∙◌, subst}
+use Rattle.std.specs.List.{filter}
+use Rattle.std.proofs.lemmas.List.{append_assoc, append-nil, map-append}
+use Rattle.std.proofs.lemmas.List.Elements.{filter-append}
+use Rattle.justfile_token.specs.declared.token.Token.{Token}
+use Rattle.justfile_model.specs.Tok.{Tok, tok_of}
+use Rattle.justfile_model.specs.SignificantTokens.{SignificantToken, is_whitespace, significant_from, significant_tokens}
+use Rattle.justfile_lex.specs.SignificantTable.{AreSignificant}
+
+abbrev pub Entry : Type 0
+Entry = Token × Bool
+
+abbrev marked_as : Entry → SignificantToken
+marked_as entry = record { tok = tok_of entry.0; glued = entry.1 }
+
+abbrev kept_in : List Token → List Token
+kept_in = filter (λ t. not (is_whitespace t.kind))
+
+-- the table of these tokens, after which the next one would be glued or not
+pub record IsTableTo (tokens : List Token) (glued : Bool) (table : List Entry) : Type 0 where
+  pub marked : (more : List Tok) → significant_tokens (map tok_of tokens ++ more) ≡ map marked_as table ++ significant_from glued more
+  pub kept : map (λ entry. entry.0) table ≡ kept_in tokens
+
+module _ (tokens : List Token) (glued : Bool) (table : List Entry) (t : Token) (h : IsTableTo tokens glued table) where
+  all_tokens : (more : List Tok) → significant_tokens (map tok_of (tokens ++ t ∷ []) ++ more) ≡ map marked_as table ++ significant_from glued (tok_of t ∷ more)
+  all_tokens more =
+      ap significant_tokens (ap (λ (l : List Tok). l ++ more) (map-append tok_of tokens (t ∷ [])) ∙ append_assoc (map tok_of tokens) (tok_of t ∷ []) more)
+      ∙ h.marked (tok_of t ∷ more)
+
+  all_kept : kept_in (tokens ++ t ∷ []) ≡ kept_in tokens ++ cond (not (is_whitespace t.kind)) (t ∷ []) []
+  all_kept = filter-append (λ t. not (is_whitespace t.kind)) tokens (t ∷ [])
+
+  skips : is_whitespace t.kind ≡ true → IsTableTo (tokens ++ t ∷ []) false table
+  skips white = record {
+    marked = λ more.
+        all_tokens more
+        ∙ ap (λ (b : Bool). map marked_as table ++ cond b (significant_from false more) (marked_as (t, glued) ∷ significant_from true more)) white;
+    kept =
+        h.kept ∙ sym (append-nil (kept_in tokens))
+        ∙ sym (all_kept ∙ ap (λ (b : Bool). kept_in tokens ++ cond (not b) (t ∷ []) []) white);
+  }
+
+  takes : is_whitespace t.kind ≡ false → IsTableTo (tokens ++ t ∷ []) true (table ++ (t, glued) ∷ [])
+  takes other = record {
+    marked = λ more.
+        all_tokens more
+        ∙ ap (λ (b : Bool). map marked_as table ++ cond b (significant_from false more) (marked_as (t, glued) ∷ significant_from true more)) other
+        ∙ sym (ap (λ (l : List SignificantToken). l ++ significant_from true more) (map-append marked_as table ((t, glued) ∷ []))
+        ∙ append_assoc (map marked_as table) (marked_as (t, glued) ∷ []) (significant_from true more));
+    kept =
+        map-append (λ (entry : Entry). entry.0) table ((t, glued) ∷ [])
+        ∙ ap (λ (l : List Token). l ++ t ∷ []) h.kept
+        ∙ sym (all_kept ∙ ap (λ (b : Bool). kept_in tokens ++ cond (not b) (t ∷ []) []) other);
+  }
+
+  pub adds : IsTableTo (tokens ++ t ∷ []) (not (is_whitespace t.kind)) (table ++ cond (is_whitespace t.kind) [] ((t, glued) ∷ []))
+  adds = by (is_whitespace t.kind) refl
+    where
+      by : (b : Bool) → is_whitespace t.kind ≡ b → IsTableTo (tokens ++ t ∷ []) (not b) (table ++ cond b [] ((t, glued) ∷ []))
+      by true white = subst (IsTableTo (tokens ++ t ∷ []) false) (sym (append-nil table)) (skips white)
+      by false other = takes other
+
+pub nothing : IsTableTo [] false []
+nothing = record { marked = λ more. refl; kept = refl }
+
+pub all_significant : (tokens : List Token) (glued : Bool) (table : List Entry) → IsTableTo tokens glued table → AreSignificant tokens table
+all_significant tokens glued table h = record {
+  marked = sym (ap significant_tokens (sym (append-nil (map tok_of tokens))) ∙ h.marked [] ∙ append-nil (map marked_as table));
+  kept = h.kept;
+}
