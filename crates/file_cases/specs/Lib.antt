@@ -1,1 +1,2 @@
 pub mod Constant
+pub mod Memory

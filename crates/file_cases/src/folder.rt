@@ -1,5 +1,7 @@
 //! A folder in memory.
-ghost use Rattle.std.specs.Prelude.{None};
+ghost use Rattle.std.specs.Prelude.{◌≡◌, IfOk, IfSome, OnErr, OnOk};
+ghost use Rattle.justfile_files.specs.Folder.{KeepsFiles, Replaces};
+ghost use Rattle.file_cases.specs.Memory.{IsPlace, bytes_in};
 
 use crate::Faults;
 use justfile_files::folder::Folder;
@@ -58,17 +60,55 @@ impl MemoryFolder {
         }
         Ok(text)
     }
+}
 
-    fn place(&self, name: &str) -> io::Result<usize> {
-        match self.files.iter().position(|file| file.name == name) {
-            Some(place) => Ok(place),
-            None => Err(Error::from(ErrorKind::NotFound)),
+/// Returns the place of the first file with a name.
+fn place_of(files: &[MemoryFile], name: &str) -> Option<usize>
+    ensures { IfSome result (IsPlace files.now name.now) }
+{
+    let mut place = 0;
+    'files: while place < files.len() {
+        if files[place].name == name {
+            return Some(place);
         }
+        place += 1;
     }
+    None
+}
+
+/// Returns a copy of the bytes of the first file with a name.
+fn copy_of(alloc: Global, files: &[MemoryFile], name: &str) -> io::Result<Vec<u8>>
+    ensures { IfOk result (λ bytes. IfSome (bytes_in files.now name.now)
+        (λ known. bytes.items ≡ known)) }
+{
+    let Some(place) = place_of(files, name) else {
+        return Err(Error::from(ErrorKind::NotFound));
+    };
+    let mut bytes = Vec::new(alloc);
+    bytes.extend_from_slice(&files[place].bytes)?;
+    Ok(bytes)
+}
+
+/// Replaces the bytes of the first file with a name by those of a text.
+fn put(alloc: Global, files: &mut Vec<MemoryFile>, name: &str, text: &str) -> io::Result<()>
+    ensures ok { OnOk result (Replaces (bytes_in files.old.items) (bytes_in files.new.items)
+        name.now text.now) }
+    ensures err { OnErr result (KeepsFiles (bytes_in files.old.items) (bytes_in files.new.items)) }
+{
+    let Some(place) = place_of(files, name) else {
+        return Err(Error::from(ErrorKind::NotFound));
+    };
+    let mut bytes = Vec::new(alloc);
+    bytes.extend_from_slice(text.as_bytes())?;
+    let name = files[place].name;
+    files[place] = MemoryFile { name, bytes };
+    Ok(())
 }
 
 impl Folder for MemoryFolder {
-    ghost contents = { λ _ _. None };
+    ghost use Rattle.file_cases.specs.Memory.{contents_of};
+
+    ghost contents = { contents_of };
 
     fn read(&mut self, alloc: Global, name: &str) -> io::Result<Vec<u8>> {
         let number = self.reads;
@@ -76,12 +116,7 @@ impl Folder for MemoryFolder {
         if number == self.faults.read {
             return Err(Error::from(ErrorKind::PermissionDenied));
         }
-        let place = self.place(name)?;
-        let mut bytes = Vec::new(alloc);
-        if let Some(file) = self.files.get(place) {
-            bytes.extend_from_slice(&file.bytes)?;
-        }
-        Ok(bytes)
+        copy_of(alloc, &self.files, name)
     }
 
     fn replace(&mut self, alloc: Global, name: &str, text: &str) -> io::Result<()> {
@@ -90,12 +125,6 @@ impl Folder for MemoryFolder {
         if number == self.faults.replacement {
             return Err(Error::from(ErrorKind::StorageFull));
         }
-        let place = self.place(name)?;
-        let mut bytes = Vec::new(alloc);
-        bytes.extend_from_slice(text.as_bytes())?;
-        if let Some(file) = self.files.get_mut(place) {
-            file.bytes = bytes;
-        }
-        Ok(())
+        put(alloc, &mut self.files, name, text)
     }
 }
