@@ -1,6 +1,7 @@
 -- A formatter for tests.
 use Rattle.std.specs.Prelude.{◌≡◌, ◌≢◌, ℕ, List, codes}
-use Rattle.std.proofs.Common.{sym, ◌∙◌}
+use Rattle.std.specs.Str.{bytes_eq}
+use Rattle.std.proofs.Common.{ap, sym, true≢false, ◌∙◌}
 
 -- Each text but one has the same formatted text.
 pub record FormatsConstantly (source text : List ℕ) : Type 0 where
@@ -14,7 +15,7 @@ pub one : (source text other : List ℕ) → FormatsConstantly source text → F
 one source text other f g = f.is ∙ sym g.is
 
 apart : codes "formatted\n" ≢ codes "bad\n"
-apart e = cc
+apart e = true≢false (ap (λ (l : List ℕ). bytes_eq l (codes "formatted\n")) e)
 
 pub settled : (source text : List ℕ) → FormatsConstantly source text → FormatsConstantly text text
 settled source text f = record { good = λ e. apart (sym f.is ∙ e); is = f.is }
