@@ -8,7 +8,7 @@ use std::alloc::{AllocError, Global};
 use std::collections::BTreeMap;
 
 /// The keyword arguments of an attribute: keys with optional values, at most one of each text.
-#[derive(Drop)]
+#[derive(Debug, Drop)]
 pub struct KeywordArguments<'src> {
     keys: KeyMap<'src>,
     ghost are_keyed: { AreKeyed keys } by { prop_keyed keys },

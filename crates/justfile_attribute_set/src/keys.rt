@@ -9,7 +9,7 @@ use justfile_written::Written;
 use std::{slice, vec};
 
 /// An iterator over the first components of pairs.
-#[derive(Drop)]
+#[derive(Debug, Drop)]
 pub struct Keys<'set, K, V> {
     pairs: slice::Iter<'set, (K, V)>,
 }
@@ -44,7 +44,7 @@ impl<'set, K, V> Iterator for Keys<'set, K, V> {
 }
 
 /// An iterator over the first components of pairs, by value.
-#[derive(Drop)]
+#[derive(Debug, Drop)]
 pub struct IntoKeys<K, V> {
     pairs: vec::IntoIter<(K, V)>,
 }
@@ -80,7 +80,7 @@ impl<K: Drop, V: Drop> Iterator for IntoKeys<K, V> {
 }
 
 /// An iterator over the first components of pairs and their names, by value.
-#[derive(Drop)]
+#[derive(Debug, Drop)]
 pub struct IntoNamed<'src, K> {
     pairs: vec::IntoIter<(K, Written<'src>)>,
 }

@@ -25,6 +25,7 @@ use justfile_recipe_header::try_clone::copy_optional_text;
 use justfile_token::{Name, Namepath, StringLiteral};
 use justfile_vocabulary::Indentation;
 use std::alloc::{AllocError, Global};
+use std::fmt;
 
 /// An item of a file, as in `docs/LANGUAGE.md`.
 #[derive(Drop)]
@@ -151,6 +152,13 @@ impl<'src> Item<'src> {
         let mut printed = String::new(alloc);
         write_item(self, indentation, &mut printed)?;
         Ok(printed)
+    }
+}
+
+/// Writes the text that `print` returns at an indentation of four spaces.
+impl fmt::Debug for Item<'_> {
+    fn fmt<W: fmt::Write>(&self, f: &mut fmt::Formatter<W>) -> fmt::Result {
+        write_item(self, Indentation::default(), f)
     }
 }
 
