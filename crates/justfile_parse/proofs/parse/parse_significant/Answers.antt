@@ -18,5 +18,5 @@ returns-clause-unstable g c = c.in_ok-items-2.ensures.features
 
 pub returns-in_err-items-clause-unread : goal.returns-in_err-items-clause-unread
 returns-in_err-items-clause-unread g c =
-    let p = err_from_is_err_and c.from_residual-in_err-items.result c.from_residual-in_err-items.ensures.1 in
+    let p = err_from_is_err_and c.from_residual.result c.from_residual.ensures.1 in
     rw (p.1, p.2) c.in_err-items.ensures.err

@@ -60,3 +60,8 @@ returns-in_err-table-clause-no_tree g c =
 
 pub returns-clause-constants : goal.returns-clause-constants
 returns-clause-constants g c = c.parse_significant.ensures.moved.constants
+
+pub returns-clause-unmoved : goal.returns-clause-unmoved
+returns-clause-unmoved g c none =
+    let t = c.in_ok-table.ensures.table in
+    absurd (none (map tok_of t.tokens) t.lexed)
