@@ -10,4 +10,3 @@ mod writer;
 
 pub use crate::ast::Ast;
 pub use crate::write_fault::WriteFault;
-pub use crate::writer::write_whole;

@@ -51,7 +51,8 @@ impl<W: Write> Sink for WriterSink<'_, W> {
 
 /// Writes all bytes, with as many writes as that takes. Stops at the first write that fails or
 /// accepts no bytes.
-pub fn write_whole<W: Write>(bytes: &[u8], writer: &mut W) -> Result<(), WriteFault>
+#[inline(always)]
+fn write_whole<W: Write>(bytes: &[u8], writer: &mut W) -> Result<(), WriteFault>
     ensures ok { OnOk result (Appends (W.contents writer.old) (W.contents writer.new) bytes.now) }
     ensures err { OnErr result
         (AppendsPart (W.contents writer.old) (W.contents writer.new) bytes.now) }

@@ -46,7 +46,7 @@ impl<'src> KeywordArguments<'src> {
         insert_key(&mut self.keys, (name, value))
     }
 
-    /// Returns the keys with their values, by their texts.
+    /// Returns the keys with their values, in the order of the keys' texts. No allocation is made.
     pub fn into_map(self) -> KeyMap<'src>
         ensures keys { result ≡ keys_of self.entry }
         ensures keyed { AreKeyed result }

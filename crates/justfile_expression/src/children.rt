@@ -13,6 +13,7 @@ use justfile_model::ConditionalOperator;
 use justfile_token::{Name, StringLiteral};
 
 /// Returns what is written before the first child, or the whole expression if it has no children.
+#[inline(always)]
 pub fn start<'src>(expression: &Expression<'src>) -> Words<'src>
     ensures { texts_of result ≡ start_texts expression.now }
 {
@@ -89,6 +90,7 @@ fn list_start<'src>(elements: &Vec<Expression<'src>>) -> Words<'src>
 
 /// Returns the child with the index `place`, counted from 0, and what is written after it. Returns
 /// `None` if there is no such child.
+#[inline(always)]
 pub fn child<'a, 'src>(
     expression: &'a Expression<'src>,
     place: usize,

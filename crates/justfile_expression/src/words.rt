@@ -96,6 +96,7 @@ impl<'src> Words<'src> {
 }
 
 /// Writes the texts of `words` one after another.
+#[inline(always)]
 pub fn write_words<S: Sink>(words: &Words<'_>, sink: &mut S) -> Result<(), S::Fault>
     ensures { Puts S.took S.failed sink.old result (texts_joined (texts_of words.now)) sink.new }
 {
@@ -106,6 +107,7 @@ pub fn write_words<S: Sink>(words: &Words<'_>, sink: &mut S) -> Result<(), S::Fa
 }
 
 /// Writes a text, unless it is empty.
+#[inline(always)]
 fn put_text<S: Sink>(text: &str, sink: &mut S) -> Result<(), S::Fault>
     ensures { Puts S.took S.failed sink.old result text.now sink.new }
 {

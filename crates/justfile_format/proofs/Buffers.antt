@@ -4,11 +4,13 @@ use Rattle.std.proofs.Math.Seq.{take-append-add, take-append_seam, take-length}
 use Rattle.std.specs.Prelude.{IfSome, OnErr, OnOk}
 use Rattle.justfile_format.specs.Outcome.{AppendsBeginning}
 use Rattle.justfile_ast.specs.Written.{AppendsPart}
-use Rattle.std.proofs.lemmas.List.{length-append, length-take-le}
+use Rattle.std.proofs.lemmas.List.{drop-take, drop_all, length-append, length-drop, length-take-le}
+use Rattle.std.proofs.lemmas.List.Edits.{take-paste}
+use lib.Seq.{paste}
 use Rattle.std.specs.Option.{option_map}
 use Rattle.std.specs.Io.KnownBytes.{Appends, Keeps}
-use Rattle.std.proofs.KnownBytes.{Appends-nil}
-use Rattle.justfile_format.specs.Buffered.{PassesOn, buffered}
+use Rattle.std.proofs.KnownBytes.{Appends-kept, Appends-nil}
+use Rattle.justfile_format.specs.Buffered.{PassesOn, buffered, held}
 use Rattle.justfile_format.specs.declared.buffer.Buffer.{Buffer}
 
 -- ---- by the parts of a buffer
@@ -47,6 +49,16 @@ more_held (Some x) None m n p q held mid new more h is = absurd h
 more_held (Some x) (Some y) m n p q held mid new more h is =
     ap (λ l. n ∷ (length y - q) ∷ (y ++ l)) is ∙ ap (λ l. n ∷ (length y - q) ∷ l) (sym (append_assoc y mid more)) ∙ ap (λ l. l ++ more) h
 
+-- what is left moves to the front of the room
+shifted : (room : List ℕ) (end count : ℕ) → count ≤ end → end ≤ length room → take (end - count) (paste room 0 (drop count room) (end - count)) ≡ drop count (take end room)
+shifted room end count most fits =
+    let left = end - count in
+    let same : left ≡ 0 + left = omega arith in
+    let whole : count + left ≡ end = omega arith in
+    let rest = length-drop count room in
+    ap (λ k. take k (paste room 0 (drop count room) left)) same ∙ take-paste room 0 (drop count room) left (omega arith) (omega arith)
+    ∙ sym (drop-take count left room) ∙ ap (λ k. drop count (take k room)) whole
+
 -- ---- buffers
 
 module _ {W : Type 0} (contents : W → Option (List ℕ)) where
@@ -54,46 +66,65 @@ module _ {W : Type 0} (contents : W → Option (List ℕ)) where
   none_passed b = record { same_reference = refl; got = []; counted = omega arith; is = refl; appended = Appends-nil (contents b.writer.now) }
 
   pub some_passed : (old new : Buffer W) (count : ℕ) → new.writer.ghost_name ≡ old.writer.ghost_name → new.passed ≡ old.passed + count
-      → count ≤ length old.held.now.items → new.held.now.items ≡ drop count old.held.now.items
-      → Appends (contents old.writer.now) (contents new.writer.now) (take count old.held.now.items) → PassesOn contents old new
+      → count ≤ length (held old) → (held new) ≡ drop count (held old)
+      → Appends (contents old.writer.now) (contents new.writer.now) (take count (held old)) → PassesOn contents old new
   some_passed old new count same counted most left appended = record {
     same_reference = same;
-    got = take count old.held.now.items;
-    counted = counted ∙ ap (λ n. old.passed + n) (sym (length-take-le count old.held.now.items most));
-    is = sym (take-append-drop count old.held.now.items) ∙ ap (λ l. take count old.held.now.items ++ l) (sym left);
+    got = take count (held old);
+    counted = counted ∙ ap (λ n. old.passed + n) (sym (length-take-le count (held old) most));
+    is = sym (take-append-drop count (held old)) ∙ ap (λ l. take count (held old) ++ l) (sym left);
     appended = appended;
   }
+
+  pub part_passed : (old new : Buffer W) (count : ℕ) → new.writer.ghost_name ≡ old.writer.ghost_name → new.passed ≡ old.passed + count → count ≤ old.end
+      → old.end ≤ length old.room.now → new.end ≡ old.end - count → new.room.now ≡ paste old.room.now 0 (drop count old.room.now) (old.end - count)
+      → Appends (contents old.writer.now) (contents new.writer.now) (take count (take old.end old.room.now)) → PassesOn contents old new
+  part_passed old new count same counted most fits end shift appended =
+      some_passed old new count same counted (let e = length-take-le old.end old.room.now fits in omega arith)
+      (ap (λ k. take k new.room.now) end ∙ ap (λ l. take (old.end - count) l) shift ∙ shifted old.room.now old.end count most fits) appended
+
+  pub all_passed : (old new : Buffer W) (count : ℕ) → new.writer.ghost_name ≡ old.writer.ghost_name → new.passed ≡ old.passed + count → count ≤ old.end
+      → old.end ≤ count → old.end ≤ length old.room.now → new.end ≡ 0
+      → Appends (contents old.writer.now) (contents new.writer.now) (take count (take old.end old.room.now)) → PassesOn contents old new
+  all_passed old new count same counted most all fits end appended =
+      let e = length-take-le old.end old.room.now fits in
+      some_passed old new count same counted (omega arith)
+      (ap (λ k. take k new.room.now) end ∙ sym (drop_all count (held old) (omega arith))) appended
 
   -- passing on changes nothing of what was written
   pub kept : (old new : Buffer W) → PassesOn contents old new → Keeps (buffered contents old) (buffered contents new)
   kept old new p =
-      moved (contents old.writer.now) (contents new.writer.now) old.writer.ghost_name new.writer.ghost_name old.passed new.passed old.held.now.items new.held.now.items p.got
+      moved (contents old.writer.now) (contents new.writer.now) old.writer.ghost_name new.writer.ghost_name old.passed new.passed (held old) (held new) p.got
       p.same_reference p.counted p.is p.appended
 
   -- nor does a flush of the writer
   pub flushed : (old mid new : Buffer W) → PassesOn contents old mid → new.writer.ghost_name ≡ mid.writer.ghost_name → new.passed ≡ mid.passed
-      → new.held.now.items ≡ mid.held.now.items → Keeps (contents mid.writer.now) (contents new.writer.now) → Keeps (buffered contents old) (buffered contents new)
-  flushed old mid new p same counted held k =
-      subst (λ n. Keeps (buffered contents old) (joined n new.passed new.held.now.items (contents new.writer.now))) (sym same)
-      (subst (λ n. Keeps (buffered contents old) (joined mid.writer.ghost_name n new.held.now.items (contents new.writer.now))) (sym counted)
-      (subst (λ l. Keeps (buffered contents old) (joined mid.writer.ghost_name mid.passed l (contents new.writer.now))) (sym held)
+      → (held new) ≡ (held mid) → Keeps (contents mid.writer.now) (contents new.writer.now) → Keeps (buffered contents old) (buffered contents new)
+  flushed old mid new p same counted is_held k =
+      subst (λ n. Keeps (buffered contents old) (joined n new.passed (held new) (contents new.writer.now))) (sym same)
+      (subst (λ n. Keeps (buffered contents old) (joined mid.writer.ghost_name n (held new) (contents new.writer.now))) (sym counted)
+      (subst (λ l. Keeps (buffered contents old) (joined mid.writer.ghost_name mid.passed l (contents new.writer.now))) (sym is_held)
       (kept_behind (contents old.writer.now) (contents mid.writer.now) (contents new.writer.now) old.writer.ghost_name mid.writer.ghost_name old.passed mid.passed
-      old.held.now.items mid.held.now.items (kept old mid p) k)))
+      (held old) (held mid) (kept old mid p) k)))
 
   -- bytes that are held after that are written
   pub held_more : (old mid new : Buffer W) (more : List ℕ) → PassesOn contents old mid → new.writer ≡ mid.writer → new.passed ≡ mid.passed
-      → new.held.now.items ≡ mid.held.now.items ++ more → Appends (buffered contents old) (buffered contents new) more
-  held_more old mid new more p same counted held =
-      subst (λ w. Appends (buffered contents old) (joined w.ghost_name new.passed new.held.now.items (contents w.now)) more) (sym same)
-      (subst (λ n. Appends (buffered contents old) (joined mid.writer.ghost_name n new.held.now.items (contents mid.writer.now)) more) (sym counted)
-      (more_held (contents old.writer.now) (contents mid.writer.now) old.writer.ghost_name mid.writer.ghost_name old.passed mid.passed old.held.now.items mid.held.now.items
-      new.held.now.items more (kept old mid p) held))
+      → (held new) ≡ (held mid) ++ more → Appends (buffered contents old) (buffered contents new) more
+  held_more old mid new more p same counted is_held =
+      subst (λ w. Appends (buffered contents old) (joined w.ghost_name new.passed (held new) (contents w.now)) more) (sym same)
+      (subst (λ n. Appends (buffered contents old) (joined mid.writer.ghost_name n (held new) (contents mid.writer.now)) more) (sym counted)
+      (more_held (contents old.writer.now) (contents mid.writer.now) old.writer.ghost_name mid.writer.ghost_name old.passed mid.passed (held old) (held mid)
+      (held new) more (kept old mid p) is_held))
+
+  -- no bytes more are held
+  pub none_held : (old new : Buffer W) (bytes : List ℕ) → PassesOn contents old new → Appends (buffered contents old) (buffered contents new) (take 0 bytes)
+  none_held old new bytes p = Appends-kept _ _ _ [] (Appends-nil (buffered contents old)) (kept old new p)
 
   -- all of the bytes are held
-  pub held_all : (old new : Buffer W) (bytes : List ℕ) → new.writer ≡ old.writer → new.passed ≡ old.passed → new.held.now.items ≡ old.held.now.items ++ bytes
+  pub held_all : (old new : Buffer W) (bytes : List ℕ) → new.writer ≡ old.writer → new.passed ≡ old.passed → (held new) ≡ (held old) ++ bytes
       → Appends (buffered contents old) (buffered contents new) (take (length bytes) bytes)
-  held_all old new bytes same counted held =
-      subst (Appends (buffered contents old) (buffered contents new)) (sym (take-length bytes)) (held_more old old new bytes (none_passed old) same counted held)
+  held_all old new bytes same counted is_held =
+      subst (Appends (buffered contents old) (buffered contents new)) (sym (take-length bytes)) (held_more old old new bytes (none_passed old) same counted is_held)
 
 -- ---- what the writer has, where no more is known than what was written
 
@@ -209,3 +240,7 @@ part_of old new text h = record { written = h.written; rest = h.next ∷ h.rest;
 
 pub all_of : (old new : Option (List ℕ)) (text : List ℕ) → Appends old new text → AppendsBeginning old new text
 all_of old new text h = record { written = text; rest = []; is = sym (append-nil text); appended = h }
+
+pub emptied : {W E : Type 0} (b : Buffer W) (r : Result (Unit {0}) E) → OnOk r (b.end ≡ 0) → OnOk r (held b ≡ [])
+emptied b (Ok x) h = ap (λ k. take k b.room.now) h
+emptied b (Err e) h = tt

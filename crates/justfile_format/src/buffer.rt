@@ -1,27 +1,27 @@
 //! A buffer in front of a writer, so that many small pieces of text are few writes.
-ghost use Rattle.std.specs.Prelude.{◌≡◌, ◌+◌, ◌≤◌, ◌++◌, length, vec_len, vec_capacity};
+ghost use Rattle.std.specs.Io.KnownBytes.{Appends};
+ghost use Rattle.std.specs.Prelude.{◌≡◌, ◌+◌, ◌≤◌, ◌++◌, length, take};
 
 use crate::output::write_up_to;
 use std::io::{self, ErrorKind, Write};
 
 /// A writer that holds bytes until they are many, and then writes them to another one. Bytes that
-/// couldn't be written stay held. Nothing is written when it is dropped.
+/// couldn't be written stay held. Nothing is written when it is dropped. It borrows its room, since a
+/// caller's proof can't read what the writer has from a struct that owns memory.
 #[derive(Drop)]
 pub(crate) struct Buffer<'w, W> {
     /// What the bytes are written to.
     pub(crate) writer: &'w mut W,
-    /// The bytes that aren't written yet. They never get more room than they had at the beginning. They
-    /// are borrowed, since a caller's proof reads what the writer has from where the borrow of it ends,
-    /// which is unknown in a struct that owns memory.
-    pub(crate) held: &'w mut Vec<u8>,
+    /// The room for bytes. Those at its front aren't written yet.
+    pub(crate) room: &'w mut [u8],
+    /// How many bytes aren't written yet.
+    pub(crate) end: usize,
     /// How many bytes were written.
     pub(crate) passed: usize,
 }
 
 impl<W: Write> Buffer<'_, W> {
-    ghost use Rattle.std.specs.Prelude.{[], OnOk};
-    ghost use Rattle.std.specs.Io.{WritesAtMost};
-    ghost use Rattle.std.specs.Io.KnownBytes.{WriteAppends};
+    ghost use Rattle.std.specs.Prelude.{OnOk};
     ghost use Rattle.justfile_format.specs.Buffered.{PassesOn, buffered};
 
     /// Writes the bytes that are held.
@@ -29,48 +29,59 @@ impl<W: Write> Buffer<'_, W> {
     /// # Errors
     ///
     /// A write failed or accepted no byte, or more than `usize::MAX` bytes would be written in all.
-    #[tactic(auto, using(crate::proofs::Buffers::none_passed, crate::proofs::Buffers::some_passed))]
+    #[tactic(auto, using(crate::proofs::Buffers::none_passed, crate::proofs::Buffers::part_passed, crate::proofs::Buffers::all_passed))]
     pub(crate) fn pass_on(&mut self) -> io::Result<()>
         ensures some { PassesOn W.contents self.old self.new }
-        ensures all { OnOk result (self.new.held.now.items ≡ []) }
+        ensures all { OnOk result (self.new.end ≡ 0) }
     {
-        let length = self.held.len();
+        let length = self.end;
+        // Never so: the bytes are in the room.
+        if length > self.room.len() {
+            return Err(io::Error::from(ErrorKind::InvalidInput));
+        }
         if length > usize::MAX - self.passed {
             return Err(io::Error::from(ErrorKind::FileTooLarge));
         }
-        let count = write_up_to(self.held, self.writer);
+        let count = write_front(self.room, length, self.writer);
         self.passed += count;
-        self.held.drain(..count);
         if count < length {
+            self.room.copy_within(count..length, 0);
+            self.end = length - count;
             return Err(io::Error::from(ErrorKind::WriteZero));
         }
+        self.end = 0;
         Ok(())
     }
 
     /// Writes the bytes that are held if there is no room for more.
     #[tactic(auto, using(crate::proofs::Buffers::none_passed))]
     fn make_room(&mut self) -> io::Result<()>
-        ensures { PassesOn W.contents self.old self.new }
+        ensures some { PassesOn W.contents self.old self.new }
+        ensures fits { OnOk result (self.new.end ≤ length self.new.room.now) }
     {
-        if self.held.len() < self.held.capacity() {
+        if self.end < self.room.len() {
             return Ok(());
         }
         self.pass_on()
     }
 
-    /// Takes as many bytes as there is room for, once what is held was written if there is none.
+    /// Takes as many bytes as there is room for, once what is held was written if there is none. Returns
+    /// how many, or 0 if a write failed.
     #[inline(never)]
-    #[tactic(auto, using(crate::proofs::Buffers::kept, crate::proofs::Buffers::held_more))]
-    fn write_part(&mut self, bytes: &[u8]) -> io::Result<usize>
-        ensures bound { WritesAtMost result bytes.now }
-        ensures bytes { WriteAppends (buffered W.contents self.old) (buffered W.contents self.new)
-            result bytes.now }
+    #[tactic(auto, using(crate::proofs::Buffers::none_held, crate::proofs::Buffers::held_more))]
+    fn write_part(&mut self, bytes: &[u8]) -> usize
+        ensures bound { result ≤ length bytes.now }
+        ensures bytes { Appends (buffered W.contents self.old) (buffered W.contents self.new)
+            (take result bytes.now) }
     {
-        self.make_room()?;
-        let room = self.held.capacity() - self.held.len();
-        let count = bytes.len().min(room);
-        append(self.held, &bytes[..count]);
-        Ok(count)
+        let Ok(()) = self.make_room() else {
+            return 0;
+        };
+        let count = bytes.len().min(self.room.len() - self.end);
+        let end = self.end + count;
+        put(self.room, self.end, &bytes[..count]);
+        self.end = end;
+        count
     }
 }
 
@@ -80,15 +91,19 @@ impl<W: Write> Write for Buffer<'_, W> {
 
     ghost contents = { buffered W.contents };
 
-    /// Takes all of the bytes if there is room for them, and else as many as there is room for.
+    /// Takes all of the bytes if there is room for them, and else as many as there is room for. Takes
+    /// none if a write failed.
     #[inline(always)]
     #[tactic(auto, using(crate::proofs::Buffers::held_all))]
     fn write(&mut self, bytes: &[u8]) -> io::Result<usize> {
-        if bytes.len() > self.held.capacity() - self.held.len() {
-            return self.write_part(bytes);
+        match self.end.checked_add(bytes.len()) {
+            Some(end) if end <= self.room.len() => {
+                put(self.room, self.end, bytes);
+                self.end = end;
+                Ok(bytes.len())
+            }
+            _ => Ok(self.write_part(bytes)),
         }
-        append(self.held, bytes);
-        Ok(bytes.len())
     }
 
     #[tactic(auto, using(crate::proofs::Buffers::kept, crate::proofs::Buffers::flushed))]
@@ -98,13 +113,24 @@ impl<W: Write> Write for Buffer<'_, W> {
     }
 }
 
-/// Appends bytes for which there is room.
-#[inline(always)]
-fn append(held: &mut Vec<u8>, bytes: &[u8])
-    requires { vec_len held.old + length bytes.now ≤ vec_capacity held.old }
-    ensures { held.new.items ≡ held.old.items ++ bytes.now }
+/// Writes the first bytes of the room, as `write_up_to` does. The room is passed as `&mut`, because the
+/// check doesn't cover a shared reference to one field beside an exclusive one to another.
+fn write_front<W: Write>(room: &mut [u8], end: usize, writer: &mut W) -> usize
+    requires { end ≤ length room.old }
+    ensures count { result ≤ end }
+    ensures written { Appends (W.contents writer.old) (W.contents writer.new)
+        (take result (take end room.old)) }
+    ensures kept { room.new ≡ room.old }
 {
-    let Ok(()) = held.extend_from_slice(bytes) else {
-        unreachable!()
-    };
+    write_up_to(&room[..end], writer)
+}
+
+/// Puts bytes at a place of the room.
+#[inline(always)]
+fn put(room: &mut [u8], place: usize, bytes: &[u8])
+    requires { place + length bytes.now ≤ length room.old }
+    ensures length { length room.new ≡ length room.old }
+    ensures front { take (place + length bytes.now) room.new ≡ take place room.old ++ bytes.now }
+{
+    room[place..place + bytes.len()].copy_from_slice(bytes);
 }

@@ -1,5 +1,5 @@
 //! From a text to its canonical text, as the program has it: as the file `justfile`.
-ghost use Rattle.std.specs.Prelude.{◌≡◌, ◌≢◌, [], Err, IfErr, IfOk, OnErr, OnOk, false, string_bytes};
+ghost use Rattle.std.specs.Prelude.{◌≡◌, ◌≢◌, Err, IfErr, IfOk, OnErr, OnOk, false, string_bytes};
 ghost use Rattle.std.specs.Io.KnownBytes.{Appends};
 ghost use Rattle.justfile_syntax.specs.Printing.{normal, printable, text};
 ghost use Rattle.justfile_syntax.specs.Words.{indentation_text};
@@ -24,8 +24,8 @@ use std::mem;
 /// How many bytes of the canonical text are written at once.
 const CAPACITY: usize = 8 * 1024;
 
-/// Writes the canonical text of a justfile, without flushing it. Takes no memory for the text, only
-/// for a buffer. Doesn't free the tree, because the program ends soon.
+/// Writes the canonical text of a justfile, without flushing it. Takes no memory for the text. Doesn't
+/// free the tree, because the program ends soon.
 ///
 /// # Errors
 ///
@@ -43,7 +43,7 @@ pub fn format_to<W: Write>(alloc: Global, source: &str, writer: &mut W) -> Resul
 {
     match parse(alloc, "justfile", source) {
         Ok(mut ast) => {
-            let written = write_file(&mut ast, alloc, writer);
+            let written = write_file(&mut ast, writer);
             mem::forget(ast);
             written
         }
@@ -54,7 +54,7 @@ pub fn format_to<W: Write>(alloc: Global, source: &str, writer: &mut W) -> Resul
 /// Writes the canonical text of a file. It is passed as `&mut` because the check of a caller that
 /// holds the file can't tell of a shared reference.
 #[tactic(auto, using(crate::proofs::Files::printed, crate::proofs::Files::printed_beginning))]
-fn write_file<W: Write>(ast: &mut Ast<'_>, alloc: Global, writer: &mut W) -> Result<(), Failure>
+fn write_file<W: Write>(ast: &mut Ast<'_>, writer: &mut W) -> Result<(), Failure>
     requires { IsIndented ast.old }
     ensures ok { OnOk result
         (WritesFile ast.old (W.contents writer.old) (W.contents writer.new)) }
@@ -66,28 +66,27 @@ fn write_file<W: Write>(ast: &mut Ast<'_>, alloc: Global, writer: &mut W) -> Res
     ensures err { IfErr result IsOfFile }
 {
     let indentation = printing_indentation(ast)?;
-    let mut room = Vec::with_capacity(alloc, CAPACITY)?;
-    print_buffered(ast, indentation, &mut room, writer)?;
+    print_buffered(ast, indentation, writer)?;
     Ok(())
 }
 
-/// Writes the printed text of a file through a buffer that has this room, because it consists of many
-/// small pieces, and writing a piece takes longer than copying it.
+/// Writes the printed text of a file through a buffer, because it consists of many small pieces, and
+/// writing a piece takes longer than copying it.
 fn print_buffered<W: Write>(
     ast: &Ast<'_>,
     indentation: Indentation,
-    room: &mut Vec<u8>,
     writer: &mut W,
 ) -> Result<(), WriteFault>
-    requires { room.old.items ≡ [] }
     ensures ok { OnOk result (Appends (W.contents writer.old) (W.contents writer.new)
         (text (normal (ast_shape ast.now)) (indentation_text indentation))) }
     ensures err { OnErr result (AppendsBeginning (W.contents writer.old) (W.contents writer.new)
         (text (normal (ast_shape ast.now)) (indentation_text indentation))) }
 {
+    let mut room = [0; CAPACITY];
     let mut buffer = Buffer {
         writer,
-        held: room,
+        room: &mut room,
+        end: 0,
         passed: 0,
     };
     print_all(ast, indentation, &mut buffer)
@@ -102,7 +101,7 @@ fn print_all<W: Write>(
     ensures ok { OnOk result
         (Appends (buffered W.contents buffer.old) (buffered W.contents buffer.new)
         (text (normal (ast_shape ast.now)) (indentation_text indentation))) }
-    ensures empty { OnOk result (buffer.new.held.now.items ≡ []) }
+    ensures empty { OnOk result (buffer.new.end ≡ 0) }
     ensures err { OnErr result
         (AppendsBeginning (buffered W.contents buffer.old) (buffered W.contents buffer.new)
         (text (normal (ast_shape ast.now)) (indentation_text indentation))) }
