@@ -51,7 +51,7 @@ pub(crate) fn copies_items(items: &[Item<'_>], answer: &mut Answer) {
     }
 }
 
-fn copies_alias(alias: &Alias<'_, Namepath<'_>>, answer: &mut Answer) {
+fn copies_alias<'src>(alias: &Alias<'src, Namepath<'src>>, answer: &mut Answer) {
     push_copy(alias, alias.clone(answer.alloc()), answer);
 }
 
