@@ -275,9 +275,7 @@ fn check_stars<'src>(
 
 /// Returns the star of the first argument that has one.
 #[tactic(auto, using(crate::proofs::Stars::first_later, crate::proofs::Stars::first_here, crate::proofs::Stars::first_end))]
-fn find_star<'src>(
-    arguments: &[ReadArgument<'src>],
-) -> Option<SignificantToken<'src>>
+fn find_star<'src>(arguments: &[ReadArgument<'src>]) -> Option<SignificantToken<'src>>
     ensures { result ≡ first_of (stars (map read_argument arguments.now)) }
 {
     for argument in arguments {
