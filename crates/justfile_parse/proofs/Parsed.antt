@@ -197,7 +197,7 @@ module _ (expander : Expansions) (P Q : Token → Type 0) (weaker : (t : Token) 
   given_dependency : (d : UnresolvedDependency) → IsFilledDependency expander P d → IsFilledDependency expander Q d
   given_dependency d h = (
     All-weaker (IsFilledName expander P) (IsFilledName expander Q) (λ name. weaker name.token) (names_in d.recipe) h.0,
-    All-weaker (IsFilledArgument expander P) (IsFilledArgument expander Q) (λ a. given_expression a.expression.value) d.arguments.items h.1,
+    All-weaker (IsFilledArgument expander P) (IsFilledArgument expander Q) (λ a. given_expression a.expression) d.arguments.items h.1,
   )
 
   pub given_weaker : (file_depth : ℕ) (import_offsets : List ℕ) (i : Item) → IsFilledItem expander P file_depth import_offsets i → IsFilledItem expander Q file_depth import_offsets i
@@ -361,7 +361,7 @@ module _ (expander : Expansions) (P : Token → Type 0) where
       → AreCookedTexts expander (lexemes (flat_map (λ (a : tree.DependencyArgument Tok Tok (Unit {0})). expr_literals a.value) (map dependency_argument_of given))) (flat_map argument_cooked given)
   arguments_cook [] all = tt
   arguments_cook (a ∷ given) all =
-      joined_cook expander (expr_literals (expr_of a.expression.value)) _ (argument_cooked a) _ (expression_cooks a.expression.value (All-head (IsFilledArgument expander P) a given all))
+      joined_cook expander (expr_literals (expr_of a.expression)) _ (argument_cooked a) _ (expression_cooks a.expression (All-head (IsFilledArgument expander P) a given all))
       (arguments_cook given (All-tail (IsFilledArgument expander P) a given all))
 
   dependencies_cook : (ds : List UnresolvedDependency) → All (IsFilledDependency expander P) ds → AreCookedTexts expander (lexemes (flat_map dependency_literals (map dependency_of ds))) (flat_map dependency_cooked ds)

@@ -60,7 +60,7 @@ module _ (conditions : Conditions) (bound : ℕ) (IsToken : Token → Type 0) (f
   argument_seen : (d : DependencyArgument) (t : tree.DependencyArgument Tok Tok Tok) → AlikeDependencyArgument seen seen.star (argument_tree d) t
       → (starless_argument t ≡ dependency_argument_of d) × IsFilledArgument conditions.expander IsToken d
   argument_seen d t h =
-      let x = seeing.seen_expression conditions bound IsToken file_depth import_offsets d.expression.value h.value in
+      let x = seeing.seen_expression conditions bound IsToken file_depth import_offsets d.expression h.value in
       ((λ i. record { star = star_seen d.starred h.star i; value = x.same i }), x.given)
 
   dependency_seen : (d : UnresolvedDependency) (t : tree.Dependency Tok Tok Tok) → AlikeDependency seen (dependency_tree d) t

@@ -39,7 +39,7 @@ abbrev pub read_argument : ReadArgument → reader.StarredArgument
 read_argument a = record { star = a.star; value = leaf_tree_of a.value.value }
 
 abbrev pub argument_tree : header_arguments.DependencyArgument → tree.DependencyArgument Leaf Token (Unit {0})
-argument_tree a = record { star = star_of a.starred; value = leaf_tree_of a.expression.value }
+argument_tree a = record { star = star_of a.starred; value = leaf_tree_of a.expression }
 
 abbrev pub dependency_tree : UnresolvedDependency → reader.LeafDependency
 dependency_tree d = record { star = star_of (is_starred d); path = path_tree d.recipe; arguments = map argument_tree d.arguments.items }

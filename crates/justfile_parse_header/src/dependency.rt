@@ -296,11 +296,11 @@ fn tree_arguments<'src>(
         ≡ map (over_dependency_argument (λ x. x) (λ x. x) leaves.star)
         (map read_argument arguments.entry.items)) }
 {
-    let mut kept = Vec::new(alloc);
+    let mut kept = Vec::with_capacity(alloc, arguments.len())?;
     for argument in arguments {
         kept.push(DependencyArgument {
             starred: argument.star.is_some(),
-            expression: argument.value,
+            expression: Box::into_inner(argument.value),
         })?;
     }
     Ok(kept)

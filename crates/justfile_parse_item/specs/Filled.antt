@@ -179,7 +179,7 @@ module _ (expander : Expansions) (IsToken : Token → Type 0) where
   IsFilledParameter p = IsFilledName p.name × IfSome p.default IsFilledBoxed
 
   abbrev pub IsFilledArgument : DependencyArgument → Type 0
-  IsFilledArgument a = IsFilledBoxed a.expression
+  IsFilledArgument a = IsFilledExpression expander IsToken a.expression
 
   -- The names in the dependency's path are tokens that `IsToken` allows, and its arguments have their derived values.
   abbrev pub IsFilledDependency : UnresolvedDependency → Type 0

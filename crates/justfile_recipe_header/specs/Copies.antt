@@ -32,7 +32,7 @@ pub record IsSameParameter (copy original : Parameter) : Type 0 where
 
 -- a copy of an argument: all fields are the same
 pub record IsSameArgument (copy original : DependencyArgument) : Type 0 where
-  pub expression : IsSameExpression copy.expression.value original.expression.value
+  pub expression : IsSameExpression copy.expression original.expression
   pub starred : copy.starred ≡ original.starred
 
 -- a copy of a dependency: its arguments are copies and its path is the same

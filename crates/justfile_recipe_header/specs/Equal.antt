@@ -6,7 +6,7 @@ use Rattle.std.specs.Option.{option_eq}
 use Rattle.std.specs.String.{string_eq}
 use Rattle.justfile_vocabulary.specs.contracts.number.NumberPartialEq.TheImpl as numbers
 use Rattle.justfile_model.specs.contracts.parameter_kind.ParameterKindPartialEq.TheImpl as parameter_kinds
-use Rattle.justfile_expression.specs.Equal.{boxed_eq, name_eq, namepath_eq}
+use Rattle.justfile_expression.specs.Equal.{boxed_eq, expression_eq, name_eq, namepath_eq}
 use Rattle.justfile_recipe_header.specs.declared.parameter.Parameter.{Parameter}
 use Rattle.justfile_recipe_header.specs.declared.unresolved_dependency.DependencyArgument.{DependencyArgument}
 use Rattle.justfile_recipe_header.specs.declared.unresolved_dependency.UnresolvedDependency.{UnresolvedDependency}
@@ -19,7 +19,7 @@ parameter_eq p q =
     && (option_eq nat_eq p.short q.short && option_eq boxed_eq p.value q.value)))))))))))
 
 abbrev pub argument_eq : DependencyArgument → DependencyArgument → Bool
-argument_eq a b = boxed_eq a.expression b.expression && beq a.starred b.starred
+argument_eq a b = expression_eq a.expression b.expression && beq a.starred b.starred
 
 abbrev pub dependency_eq : UnresolvedDependency → UnresolvedDependency → Bool
 dependency_eq d e = pointwise argument_eq d.arguments.items e.arguments.items && namepath_eq d.recipe e.recipe

@@ -12,7 +12,7 @@ abbrev pub parameter_expressions : Parameter → List Expression
 parameter_expressions p = optional_expressions p.default
 
 abbrev pub argument_expressions : DependencyArgument → List Expression
-argument_expressions a = a.expression.value ∷ []
+argument_expressions a = a.expression ∷ []
 
 -- the arguments of a dependency
 abbrev pub dependency_expressions : UnresolvedDependency → List Expression

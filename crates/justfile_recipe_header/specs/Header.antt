@@ -34,7 +34,7 @@ star_of false = None
 
 -- the tree of an argument
 abbrev pub dependency_argument_of : DependencyArgument → tree.DependencyArgument Tok Tok (Unit {0})
-dependency_argument_of a = record { star = star_of a.starred; value = boxed_of a.expression }
+dependency_argument_of a = record { star = star_of a.starred; value = expr_of a.expression }
 
 -- whether any of the arguments is starred
 abbrev pub is_starred : UnresolvedDependency → Bool
@@ -82,7 +82,7 @@ star_text starred = if_some (λ star. fixed_text (codes "*")) (option_map (λ st
 
 -- the text of an argument, without the space before it
 abbrev pub argument_text : DependencyArgument → List ℕ
-argument_text a = star_text a.starred ++ text_of a.expression.value
+argument_text a = star_text a.starred ++ text_of a.expression
 
 -- names with `::` between them
 abbrev pub names_text : List Name → List ℕ
@@ -117,7 +117,7 @@ parameter_cooked p = default_cooked p.default
 
 -- the texts of the literals of an argument, in order
 abbrev pub argument_cooked : DependencyArgument → List (List ℕ)
-argument_cooked a = expr_cooked a.expression.value
+argument_cooked a = expr_cooked a.expression
 
 -- the texts of a dependency's literals, in order
 abbrev pub dependency_cooked : UnresolvedDependency → List (List ℕ)

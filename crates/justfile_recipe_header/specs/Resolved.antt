@@ -16,7 +16,7 @@ module _ (numbers : (name : List ℕ) → Option Number) where
 
   -- an argument: its expression is resolved, and it is starred as before
   pub record IsResolvedArgument (resolved original : DependencyArgument) : Type 0 where
-    pub expression : IsResolved numbers resolved.expression.value original.expression.value
+    pub expression : IsResolved numbers resolved.expression original.expression
     pub starred : resolved.starred ≡ original.starred
 
   -- a dependency: its arguments are resolved, and its path is the same

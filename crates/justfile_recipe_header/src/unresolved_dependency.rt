@@ -8,7 +8,7 @@ ghost use Rattle.justfile_recipe_header.specs.Header.{argument_text, call_text, 
 use crate::path::write_namepath;
 use crate::try_clone::{TryClone, clone_all};
 use crate::write_to::{WriteTo, write_each};
-use justfile_expression::{Expression, Sink, copy_boxed, put_piece, write_expression};
+use justfile_expression::{Expression, Sink, put_piece, write_expression};
 use justfile_token::Namepath;
 use std::alloc::{AllocError, Global};
 use std::fmt;
@@ -17,7 +17,7 @@ use std::fmt;
 #[derive(Drop, PartialEq)]
 pub struct DependencyArgument<'src> {
     /// The value.
-    pub expression: Box<Expression<'src>>,
+    pub expression: Expression<'src>,
     /// Whether the recipe runs once for each element of the value, with `*` before the argument.
     pub starred: bool,
 }
@@ -37,7 +37,7 @@ impl<'src> DependencyArgument<'src> {
         ensures { IfOk result (λ copy. IsSameArgument copy self.now) }
     {
         Ok(DependencyArgument {
-            expression: copy_boxed(alloc, &self.expression)?,
+            expression: self.expression.clone(alloc)?,
             starred: self.starred,
         })
     }
