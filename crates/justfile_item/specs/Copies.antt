@@ -40,7 +40,7 @@ pub record IsSameAssignment (copy original : Binding Expression) : Type 0 where
 -- a copy of a function: all fields are the same
 pub record IsSameFunction (copy original : FunctionDefinition) : Type 0 where
   pub attributes : IsSameAttributes copy.attributes original.attributes
-  pub body : IsSameExpression copy.body.value original.body.value
+  pub body : IsSameExpression copy.body original.body
   pub name : copy.name ≡ original.name
   pub parameters : copy.parameters.items ≡ original.parameters.items
 

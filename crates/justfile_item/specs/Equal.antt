@@ -3,7 +3,7 @@ use Rattle.std.specs.Prelude.{Bool, ◌&&◌, ◌==◌}
 use Rattle.std.specs.Bool.{beq}
 use Rattle.std.specs.Cmp.Lexicographic.{pointwise}
 use Rattle.justfile_vocabulary.specs.contracts.number.NumberPartialEq.TheImpl as numbers
-use Rattle.justfile_expression.specs.Equal.{boxed_eq, name_eq}
+use Rattle.justfile_expression.specs.Equal.{expression_eq, name_eq}
 use Rattle.justfile_attribute_set.specs.contracts.attribute_set.PairSetAttributeWrittenPartialEq.TheImpl as sets
 use Rattle.justfile_item.specs.FunctionParameter.{same_parameter}
 use Rattle.justfile_item.specs.declared.alias.Alias.{Alias}
@@ -22,5 +22,5 @@ module _ {V : Type 0} where
 
 abbrev pub function_eq : FunctionDefinition → FunctionDefinition → Bool
 function_eq f g =
-    sets.eq-value.it f.attributes g.attributes && (boxed_eq f.body g.body && (name_eq f.name g.name
+    sets.eq-value.it f.attributes g.attributes && (expression_eq f.body g.body && (name_eq f.name g.name
     && pointwise same_parameter f.parameters.items g.parameters.items))

@@ -20,7 +20,7 @@ abbrev pub item_expressions : Item → List Expression
 item_expressions (items.Alias a) = set_expressions a.attributes
 item_expressions (items.Assignment a) = set_expressions a.attributes ++ a.value ∷ []
 item_expressions (items.Comment text) = []
-item_expressions (items.Function f) = set_expressions f.attributes ++ f.body.value ∷ []
+item_expressions (items.Function f) = set_expressions f.attributes ++ f.body ∷ []
 item_expressions (items.Import attributes optional relative) = set_expressions attributes
 item_expressions (items.Module attributes doc name optional relative) = set_expressions attributes
 item_expressions items.Newline = []

@@ -44,7 +44,7 @@ function_parameter_of p = tok_of p.0.token
 
 -- the tree of a function
 abbrev pub function_of : FunctionDefinition → FunctionParts Tok Tok
-function_of f = record { name = tok_of f.name.token; parameters = map function_parameter_of f.parameters.items; body = expr_of f.body.value }
+function_of f = record { name = tok_of f.name.token; parameters = map function_parameter_of f.parameters.items; body = expr_of f.body }
 
 -- the path of a file as a tree has it
 abbrev pub quoted_of : StringLiteral → Quoted Tok
@@ -155,7 +155,7 @@ abbrev pub item_cooked : Item → List (List ℕ)
 item_cooked (items.Alias a) = attributes_cooked a.attributes
 item_cooked (items.Assignment a) = attributes_cooked a.attributes ++ expr_cooked a.value
 item_cooked (items.Comment text) = []
-item_cooked (items.Function f) = attributes_cooked f.attributes ++ expr_cooked f.body.value
+item_cooked (items.Function f) = attributes_cooked f.attributes ++ expr_cooked f.body
 item_cooked (items.Import attributes _ relative) = attributes_cooked attributes ++ literal_cooked relative
 item_cooked (items.Module attributes _ _ _ relative) = attributes_cooked attributes ++ optional literal_cooked relative
 item_cooked items.Newline = []

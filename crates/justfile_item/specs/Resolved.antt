@@ -31,7 +31,7 @@ module _ (numbers : (name : List ℕ) → Option Number) where
   pub record IsResolvedFunction (resolved original : FunctionDefinition) : Type 0 where
     pub others : resolved ≡ record original { attributes = resolved.attributes; body = resolved.body }
     pub attributes : AreResolvedAttributes numbers resolved.attributes original.attributes
-    pub body : IsResolved numbers resolved.body.value original.body.value
+    pub body : IsResolved numbers resolved.body original.body
 
   pub record IsResolvedRecipe (resolved original : UnresolvedRecipe) : Type 0 where
     pub others : resolved ≡ record original { attributes = resolved.attributes; body = resolved.body; dependencies = resolved.dependencies; parameters = resolved.parameters }

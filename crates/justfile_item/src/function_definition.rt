@@ -29,7 +29,7 @@ pub struct FunctionDefinition<'src> {
     /// The attributes.
     pub attributes: AttributeSet<'src>,
     /// The expression that a call evaluates.
-    pub body: Box<Expression<'src>>,
+    pub body: Expression<'src>,
     /// The name.
     pub name: Name<'src>,
     /// The parameters, in order, each with its number. The numerator gives no other binding the
@@ -47,7 +47,7 @@ impl<'src> FunctionDefinition<'src> {
         match self.attributes.clone(alloc) {
             Ok(attributes) => Ok(FunctionDefinition {
                 attributes,
-                body,
+                body: Box::into_inner(body),
                 name: self.name,
                 parameters,
             }),
@@ -70,18 +70,18 @@ impl<'src> Keyed<'src> for FunctionDefinition<'src> {
 /// Two functions are equal if all their fields are.
 impl<'src> PartialEq for FunctionDefinition<'src> {
     ghost eq = { λ a b. sets.eq-value.it a.attributes b.attributes
-        && (expressions.eq-value.it a.body.value b.body.value
+        && (expressions.eq-value.it a.body b.body
         && (names.eq-value.it a.name b.name
         && pointwise same_parameter a.parameters.items b.parameters.items)) };
 
     ghost laws = { and_per (on_per (λ f. f.attributes) set_per)
-        (and_per (on_per (λ f. f.body.value) expression_per)
+        (and_per (on_per (λ f. f.body) expression_per)
         (and_per (on_per (λ f. f.name) name_per)
         (on_per (λ f. f.parameters.items) (lists_per parameter_per)))) };
 
     fn eq(&self, other: &Self) -> bool {
         are_equal(&self.attributes, &other.attributes)
-            && *self.body == *other.body
+            && self.body == other.body
             && self.name == other.name
             && have_same_parameters(&self.parameters, &other.parameters)
     }

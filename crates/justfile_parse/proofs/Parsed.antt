@@ -221,7 +221,7 @@ module _ (expander : Expansions) (P Q : Token → Type 0) (weaker : (t : Token) 
       record {
         among = weaker f.name.token h.among;
         parameters = parts.given_numbered expander P Q weaker given_expression f.parameters.items h.parameters;
-        body = given_expression f.body.value h.body;
+        body = given_expression f.body h.body;
         attributes = given_set expander P Q weaker given_expression f.attributes h.attributes;
       }
   given_weaker file_depth import_offsets (Import set optional relative) h =
@@ -387,7 +387,7 @@ module _ (expander : Expansions) (P : Token → Type 0) where
       joined_cook expander (entries_literals (entries_of a.attributes)) _ (attributes_cooked a.attributes) _ (set_cooks expander P expression_cooks a.attributes h.attributes) (expression_cooks a.value h.value)
   item_cooks file_depth import_offsets (Comment text) h = tt
   item_cooks file_depth import_offsets (Function f) h =
-      joined_cook expander (entries_literals (entries_of f.attributes)) _ (attributes_cooked f.attributes) _ (set_cooks expander P expression_cooks f.attributes h.attributes) (expression_cooks f.body.value h.body)
+      joined_cook expander (entries_literals (entries_of f.attributes)) _ (attributes_cooked f.attributes) _ (set_cooks expander P expression_cooks f.attributes h.attributes) (expression_cooks f.body h.body)
   item_cooks file_depth import_offsets (Import set optional relative) h =
       joined_cook expander (entries_literals (entries_of set)) _ (attributes_cooked set) _ (set_cooks expander P expression_cooks set h.attributes_are)
       (parts.relative_cooks expander P expression_cooks relative h.relative_is)

@@ -196,13 +196,13 @@ module _ (conditions : Conditions) (bound : ℕ) (IsToken : Token → Type 0) (f
       }
 
   function_seen : (n : Counters) (f : FunctionDefinition) {ws : List (WrittenAttribute Tok Tok)} {t : Tok} {ts : List Tok} {e : Expr Tok Tok} → AreMeant conditions bound IsToken file_depth import_offsets (leaf_entries_of f.attributes) ws
-      → IsName (name_tree f.name) t → AlikeNames seen n.bindings (map numbered_leaf f.parameters.items) ts → Alike seen (leaf_tree_of f.body.value) e
+      → IsName (name_tree f.name) t → AlikeNames seen n.bindings (map numbered_leaf f.parameters.items) ts → Alike seen (leaf_tree_of f.body) e
       → SeenItem n (items.Function f) (tree.Construct ws (tree.Function (record { name = t; parameters = ts; body = e })))
   function_seen n f {ws} {t} {ts} {e} means h hs v =
       let m = means f.attributes refl in
       let x = headers.name_seen conditions bound IsToken file_depth import_offsets f.name t h in
       let y = parts.names_seen conditions bound IsToken file_depth import_offsets n f.parameters.items hs in
-      let z = seeing.seen_expression conditions bound IsToken file_depth import_offsets f.body.value v in
+      let z = seeing.seen_expression conditions bound IsToken file_depth import_offsets f.body v in
       record {
         same =
             meant_item conditions.expander (tree.Function (record { name = t; parameters = ts; body = e })) ws (sets.entries_of f.attributes) m.0

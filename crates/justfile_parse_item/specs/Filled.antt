@@ -227,7 +227,7 @@ pub record IsFilledBinding (expander : Expansions) (IsToken : Token → Type 0) 
 pub record IsFilledFunction (expander : Expansions) (IsToken : Token → Type 0) (function : FunctionDefinition) : Type 0 where
   pub among : IsToken function.name.token
   pub parameters : All (IsFilledNumbered expander IsToken) function.parameters.items
-  pub body : IsFilledExpression expander IsToken function.body.value
+  pub body : IsFilledExpression expander IsToken function.body
   pub attributes : AreFilledAttributes expander IsToken function.attributes
 
 pub record IsFilledImport (expander : Expansions) (IsToken : Token → Type 0) (attributes : AttributeSet) (relative : literals.StringLiteral) : Type 0 where

@@ -46,7 +46,7 @@ alias_tree a = tree.Construct (leaf_entries_of a.attributes) (tree.Alias (record
 
 abbrev pub function_tree : FunctionDefinition → OrderedItem Leaf Token ℕ
 function_tree f =
-    tree.Construct (leaf_entries_of f.attributes) (tree.Function (record { name = name_tree f.name; parameters = map numbered_leaf f.parameters.items; body = leaf_tree_of f.body.value }))
+    tree.Construct (leaf_entries_of f.attributes) (tree.Function (record { name = name_tree f.name; parameters = map numbered_leaf f.parameters.items; body = leaf_tree_of f.body }))
 
 abbrev pub import_tree : AttributeSet → (optional : Bool) → literals.StringLiteral → OrderedItem Leaf Token ℕ
 import_tree attributes optional relative = tree.Construct (leaf_entries_of attributes) (tree.Import (record { optional = optional; path = quoted_leaf relative }))

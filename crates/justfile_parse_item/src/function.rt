@@ -44,7 +44,7 @@ pub(crate) fn parse_function<'src, X: Expander>(
     let body = parser.parse_expression()?;
     Ok(Item::Function(FunctionDefinition {
         attributes,
-        body,
+        body: Box::into_inner(body),
         name: Name::from_identifier(name.0),
         parameters,
     }))
