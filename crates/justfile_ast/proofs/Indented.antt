@@ -108,8 +108,8 @@ indented_tree (items.Module attributes doc name optional relative ∷ all) = eit
 indented_tree (items.Newline ∷ all) = indented_tree all
 indented_tree (items.Recipe r ∷ all) = either_way (is_enabled (entries_of r.attributes)) (indentation_of (map item_of all)) ∙ indented_tree all
 indented_tree (items.Setting s ∷ all) =
-    ap (λ b. or_else (if b then indentation_literal (keyword_of s.value.value) (value_of s.value.value) else None) (indentation_of (map item_of all))) (enabled_entries s.attributes)
-    ∙ (λ i. or_else (if_enabled (are_enabled (attributes_of s.attributes)) s.value.value i) (indented_tree all i))
+    ap (λ b. or_else (if b then indentation_literal (keyword_of s.value) (value_of s.value) else None) (indentation_of (map item_of all))) (enabled_entries s.attributes)
+    ∙ (λ i. or_else (if_enabled (are_enabled (attributes_of s.attributes)) s.value i) (indented_tree all i))
     ∙ first_found (set_indentation s) (items_indentation all)
 indented_tree (items.Unexport attributes name ∷ all) = either_way (is_enabled (entries_of attributes)) (indentation_of (map item_of all)) ∙ indented_tree all
 
@@ -167,7 +167,7 @@ text_item (items.Import attributes optional relative) whole = tt
 text_item (items.Module attributes doc name optional relative) whole = tt
 text_item items.Newline whole = tt
 text_item (items.Recipe r) whole = tt
-text_item (items.Setting s) whole = text_enabled (are_enabled (attributes_of s.attributes)) s.value.value whole
+text_item (items.Setting s) whole = text_enabled (are_enabled (attributes_of s.attributes)) s.value whole
 text_item (items.Unexport attributes name) whole = tt
 
 -- a property of every literal and indentation that an item sets is a property of the first ones

@@ -65,7 +65,7 @@ pub record IsSameRecipe (copy original : UnresolvedRecipe) : Type 0 where
 pub record IsSameSet (copy original : Set) : Type 0 where
   pub attributes : IsSameAttributes copy.attributes original.attributes
   pub name : copy.name ≡ original.name
-  pub value : IsSameSetting copy.value.value original.value.value
+  pub value : IsSameSetting copy.value original.value
 
 -- a copy of an item: the same case, and all fields are the same
 abbrev pub IsSameItem : (copy original : Item) → Type 0

@@ -25,5 +25,5 @@ item_expressions (items.Import attributes optional relative) = set_expressions a
 item_expressions (items.Module attributes doc name optional relative) = set_expressions attributes
 item_expressions items.Newline = []
 item_expressions (items.Recipe r) = set_expressions r.attributes ++ recipe_expressions r
-item_expressions (items.Setting s) = set_expressions s.attributes ++ setting_expressions s.value.value
+item_expressions (items.Setting s) = set_expressions s.attributes ++ setting_expressions s.value
 item_expressions (items.Unexport attributes name) = set_expressions attributes

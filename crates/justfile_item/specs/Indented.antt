@@ -19,7 +19,7 @@ indentation_set _ = None
 
 -- the same for a setting with attributes, if they enable it on this system
 abbrev pub set_indentation : Set → Option (StringLiteral × Indentation)
-set_indentation s = if are_enabled (attributes_of s.attributes) then indentation_set s.value.value else None
+set_indentation s = if are_enabled (attributes_of s.attributes) then indentation_set s.value else None
 
 -- the same for an item
 abbrev pub item_indentation : Item → Option (StringLiteral × Indentation)
@@ -33,5 +33,5 @@ items_indentation (i ∷ items) = or_else (item_indentation i) (items_indentatio
 
 -- for a setting, its derived fields are right; nothing for other items
 abbrev pub HasDerivedFieldsOfSetting : Item → Type 0
-HasDerivedFieldsOfSetting (items.Setting s) = HasDerivedSettingFields s.value.value
+HasDerivedFieldsOfSetting (items.Setting s) = HasDerivedSettingFields s.value
 HasDerivedFieldsOfSetting _ = Unit {0}

@@ -60,7 +60,7 @@ module_of doc name optional relative = record { doc = option_map string_bytes do
 
 -- the tree of a setting
 abbrev pub setting_of : Set → SettingParts Tok Tok
-setting_of s = record { keyword = keyword_of s.value.value; name = tok_of s.name.token; value = value_of s.value.value }
+setting_of s = record { keyword = keyword_of s.value; name = tok_of s.name.token; value = value_of s.value }
 
 -- the dependencies of a recipe before `&&`, or all if there is no `&&`
 abbrev pub priors_of : UnresolvedRecipe → List UnresolvedDependency
@@ -160,7 +160,7 @@ item_cooked (items.Import attributes _ relative) = attributes_cooked attributes 
 item_cooked (items.Module attributes _ _ _ relative) = attributes_cooked attributes ++ optional literal_cooked relative
 item_cooked items.Newline = []
 item_cooked (items.Recipe r) = attributes_cooked r.attributes ++ header_cooked r ++ flat_map line_cooked r.body.items
-item_cooked (items.Setting s) = attributes_cooked s.attributes ++ setting_cooked s.value.value
+item_cooked (items.Setting s) = attributes_cooked s.attributes ++ setting_cooked s.value
 item_cooked (items.Unexport attributes name) = attributes_cooked attributes
 
 -- the number of a parameter

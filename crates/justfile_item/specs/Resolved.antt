@@ -43,7 +43,7 @@ module _ (numbers : (name : List ℕ) → Option Number) where
   pub record IsResolvedSet (resolved original : Set) : Type 0 where
     pub attributes : AreResolvedAttributes numbers resolved.attributes original.attributes
     pub name : resolved.name ≡ original.name
-    pub value : IsResolvedSetting numbers resolved.value.value original.value.value
+    pub value : IsResolvedSetting numbers resolved.value original.value
 
   -- an item of the same case: its attributes and its expressions are resolved, and all else is the same
   abbrev pub IsResolvedItem : (resolved original : Item) → Type 0

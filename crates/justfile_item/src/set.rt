@@ -24,7 +24,7 @@ pub struct Set<'src> {
     /// The name of the setting.
     pub name: Name<'src>,
     /// The setting with its value.
-    pub value: Box<Setting<'src>>,
+    pub value: Setting<'src>,
 }
 
 impl<'src> Set<'src> {
@@ -37,7 +37,7 @@ impl<'src> Set<'src> {
             Ok(attributes) => Ok(Set {
                 attributes,
                 name: self.name,
-                value,
+                value: Box::into_inner(value),
             }),
             Err(fault) => Err(fault),
         }

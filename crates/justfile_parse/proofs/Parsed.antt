@@ -253,7 +253,7 @@ module _ (expander : Expansions) (P Q : Token → Type 0) (weaker : (t : Token) 
   given_weaker file_depth import_offsets (Setting s) h =
       record {
         among = weaker s.name.token h.among;
-        value = parts.given_setting expander P Q weaker given_expression s.value.value h.value;
+        value = parts.given_setting expander P Q weaker given_expression s.value h.value;
         attributes = given_set expander P Q weaker given_expression s.attributes h.attributes;
       }
   given_weaker file_depth import_offsets (Unexport set name) h =
@@ -405,7 +405,7 @@ module _ (expander : Expansions) (P : Token → Type 0) where
       (joined_cook expander header body (header_cooked r) texts (header_cooks r h) (lines_cook r.body.items h.body)))
   item_cooks file_depth import_offsets (Setting s) h =
       joined_cook expander (entries_literals (entries_of s.attributes)) _ (attributes_cooked s.attributes) _ (set_cooks expander P expression_cooks s.attributes h.attributes)
-      (parts.setting_cooks expander P expression_cooks s.value.value h.value)
+      (parts.setting_cooks expander P expression_cooks s.value h.value)
   item_cooks file_depth import_offsets (Unexport set name) h =
       parts.bare_cook expander (entries_literals (entries_of set)) (attributes_cooked set) (set_cooks expander P expression_cooks set h.attributes_are)
 

@@ -245,16 +245,16 @@ module _ (conditions : Conditions) (bound : ℕ) (IsToken : Token → Type 0) (f
       }
 
   set_seen : (n : Counters) (s : Set) {ws : List (WrittenAttribute Tok Tok)} {t : Tok} {v : SettingValue Tok Tok} → AreMeant conditions bound IsToken file_depth import_offsets (leaf_entries_of s.attributes) ws
-      → IsName (name_tree s.name) t → AlikeValue seen (leaf_value_of s.value.value) v
-      → SeenItem n (items.Setting s) (tree.Construct ws (tree.Setting (record { keyword = keyword_of s.value.value; name = t; value = v })))
+      → IsName (name_tree s.name) t → AlikeValue seen (leaf_value_of s.value) v
+      → SeenItem n (items.Setting s) (tree.Construct ws (tree.Setting (record { keyword = keyword_of s.value; name = t; value = v })))
   set_seen n s {ws} {t} {v} means h k =
       let m = means s.attributes refl in
       let x = headers.name_seen conditions bound IsToken file_depth import_offsets s.name t h in
-      let y = parts.setting_seen conditions bound IsToken file_depth import_offsets s.value.value k in
+      let y = parts.setting_seen conditions bound IsToken file_depth import_offsets s.value k in
       record {
         same =
-            meant_item conditions.expander (tree.Setting (record { keyword = keyword_of s.value.value; name = t; value = v })) ws (sets.entries_of s.attributes) m.0
-            ∙ (λ i. Some (tree.Construct (sets.entries_of s.attributes) (tree.Setting (record { keyword = keyword_of s.value.value; name = x.0 i; value = y.same i }))));
+            meant_item conditions.expander (tree.Setting (record { keyword = keyword_of s.value; name = t; value = v })) ws (sets.entries_of s.attributes) m.0
+            ∙ (λ i. Some (tree.Construct (sets.entries_of s.attributes) (tree.Setting (record { keyword = keyword_of s.value; name = x.0 i; value = y.same i }))));
         given = λ fields. record { among = x.1; value = y.given fields.value; attributes = given_fields s.attributes m.1 fields.attributes };
         numbers = λ more k. k;
         recipe_numbers = λ more k. k;

@@ -39,7 +39,7 @@ pub record HasDerivedRecipeFields (r : UnresolvedRecipe) : Type 0 where
 
 pub record HasDerivedSetFields (s : Set) : Type 0 where
   pub attributes : HasDerivedSetAttributes s.attributes
-  pub value : HasDerivedSettingFields s.value.value
+  pub value : HasDerivedSettingFields s.value
 
 -- The derived fields of an item are right. A comment begins with `#`.
 abbrev pub HasDerivedItemFields : Item → Type 0

@@ -241,7 +241,7 @@ pub record IsFilledModule (expander : Expansions) (IsToken : Token → Type 0) (
 
 pub record IsFilledSet (expander : Expansions) (IsToken : Token → Type 0) (set : Set) : Type 0 where
   pub among : IsToken set.name.token
-  pub value : IsFilledSetting expander IsToken set.value.value
+  pub value : IsFilledSetting expander IsToken set.value
   pub attributes : AreFilledAttributes expander IsToken set.attributes
 
 pub record IsFilledUnexport (expander : Expansions) (IsToken : Token → Type 0) (attributes : AttributeSet) (name : Name) : Type 0 where

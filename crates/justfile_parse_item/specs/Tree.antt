@@ -56,7 +56,7 @@ module_tree attributes doc name optional relative =
     tree.Construct (leaf_entries_of attributes) (tree.Module (record { doc = doc; optional = optional; name = name_tree name; path = option_map quoted_leaf relative }))
 
 abbrev pub set_tree : Set → OrderedItem Leaf Token ℕ
-set_tree s = tree.Construct (leaf_entries_of s.attributes) (tree.Setting (record { keyword = keyword_of s.value.value; name = name_tree s.name; value = leaf_value_of s.value.value }))
+set_tree s = tree.Construct (leaf_entries_of s.attributes) (tree.Setting (record { keyword = keyword_of s.value; name = name_tree s.name; value = leaf_value_of s.value }))
 
 abbrev pub unexport_tree : AttributeSet → Name → OrderedItem Leaf Token ℕ
 unexport_tree attributes name = tree.Construct (leaf_entries_of attributes) (tree.Unexport (name_tree name))

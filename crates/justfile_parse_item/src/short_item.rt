@@ -62,7 +62,7 @@ pub(crate) fn parse_set<'src, X: Expander>(
     Ok(Item::Setting(Set {
         attributes,
         name: Name::from_identifier(name.0),
-        value: Box::new(parser.alloc, value)?,
+        value,
     }))
 }
 
