@@ -1,12 +1,12 @@
 //! The separators between items, which are printed from left to right.
 ghost use Rattle.std.specs.Prelude.{◌≡◌, IfOk};
 ghost use Rattle.justfile_vocabulary.specs.Indentation.{indentation_text};
-ghost use Rattle.justfile_expression.specs.Sink.{Puts};
+ghost use Rattle.justfile_token.specs.Sink.{Puts};
 ghost use Rattle.justfile_item.specs.Item.{item_shape};
 ghost use Rattle.justfile_ast.specs.Separator.{separator_text, is_line_end, next_separator, step_text, with_line_end};
 
-use justfile_expression::Sink;
 use justfile_item::{Item, write_item};
+use justfile_token::Sink;
 use justfile_vocabulary::Indentation;
 
 /// What comes before an item. It determines what is printed there.

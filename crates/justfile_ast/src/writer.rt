@@ -7,7 +7,7 @@ ghost use Rattle.justfile_ast.specs.Written.{AppendsPart};
 ghost use Rattle.justfile_ast.specs.WrittenLaws.{part_before, part_later};
 
 use crate::write_fault::WriteFault;
-use justfile_expression::Sink;
+use justfile_token::Sink;
 use std::io::Write;
 
 /// A writer as a sink.

@@ -1,8 +1,8 @@
 -- The walk over the slots of an attribute.
 use Rattle.std.proofs.Common.{◌≡◌, ◌∙◌, ℕ, zero, suc, ◌+◌, Bool, ◌||◌, is_some, List, [], ◌∷◌, ◌++◌, drop, Option, None, Some, Result, refl, sym, ap, subst, append_assoc, arith}
 use Rattle.std.specs.List.{slice_get}
-use Rattle.justfile_expression.specs.Sink.{Puts}
-use Rattle.justfile_expression.proofs.PutLemmas.{put_last}
+use Rattle.justfile_token.specs.Sink.{Puts}
+use Rattle.justfile_token.proofs.PutLemmas.{put_last}
 use Rattle.justfile_attribute.specs.Print.{Slots, closing, slot_piece, slot_text, slots_text}
 use Rattle.justfile_attribute.specs.declared.part.Part.{Part}
 

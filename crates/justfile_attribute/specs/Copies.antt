@@ -6,14 +6,12 @@ use Rattle.std.specs.List.{AllZip}
 use Rattle.justfile_token.specs.StringLiteral.{IsSameLiteral}
 use Rattle.justfile_token.specs.declared.name.Name.{Name}
 use Rattle.justfile_token.specs.declared.string_literal.StringLiteral.{StringLiteral}
-use Rattle.justfile_expression.specs.Copies.{IsSameBoxed, IsSameIfPresent}
+use Rattle.justfile_token.specs.Copies.{IsSameIfPresent, IsSameText}
+use Rattle.justfile_expression.specs.Copies.{IsSameBoxed}
 use Rattle.justfile_expression.specs.declared.expression.Expression.{Expression}
 use Rattle.justfile_attribute.specs.declared.attribute.Attribute.{Attribute}
 use Rattle.justfile_attribute.specs.declared.attribute.Attribute.TheVariants as attributes
 use Rattle.justfile_attribute.specs.declared.interpreter.Interpreter.{Interpreter}
-
-abbrev pub IsSameText : (copy original : String Global) → Type 0
-IsSameText copy original = string_bytes copy ≡ string_bytes original
 
 -- a copy of a key with its value
 abbrev pub IsSameProperty : (copy original : Name × Box Expression) → Type 0

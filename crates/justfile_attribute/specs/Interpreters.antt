@@ -2,7 +2,7 @@
 use Rattle.std.specs.Prelude.{◌≡◌, [], ◌∷◌, String, codes, map, string_bytes}
 use Rattle.std.specs.Global.{Global}
 use Rattle.std.specs.List.{AllZip}
-use Rattle.justfile_attribute.specs.Copies.{IsSameText}
+use Rattle.justfile_token.specs.Copies.{IsSameText}
 use Rattle.justfile_attribute.specs.declared.interpreter.Interpreter.{Interpreter}
 use Rattle.justfile_expression.specs.Copies.{IsSameExpression}
 use Rattle.justfile_expression.specs.declared.expression.Expression.{Expression}

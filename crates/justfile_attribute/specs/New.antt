@@ -27,19 +27,36 @@ values_of = map (λ (p : Placed Leaf Token). p.value)
 
 -- an attribute of this kind takes no arguments at all
 abbrev pub is_plain : AttributeKind → Bool
+is_plain kinds.Android = true
 is_plain kinds.Arg = false
 is_plain kinds.Cache = false
 is_plain kinds.Confirm = false
 is_plain kinds.Continue = false
+is_plain kinds.Default = true
 is_plain kinds.Doc = false
+is_plain kinds.Dragonfly = true
 is_plain kinds.Env = false
+is_plain kinds.ExitMessage = true
 is_plain kinds.Extension = false
+is_plain kinds.Freebsd = true
 is_plain kinds.Group = false
+is_plain kinds.Linux = true
+is_plain kinds.Macos = true
 is_plain kinds.Metadata = false
+is_plain kinds.Netbsd = true
+is_plain kinds.NoCd = true
+is_plain kinds.NoExitMessage = true
+is_plain kinds.NoQuiet = true
+is_plain kinds.Openbsd = true
+is_plain kinds.Parallel = true
+is_plain kinds.PositionalArguments = true
+is_plain kinds.Private = true
 is_plain kinds.Script = false
+is_plain kinds.Shell = true
 is_plain kinds.Timestamp = false
+is_plain kinds.Unix = true
+is_plain kinds.Windows = true
 is_plain kinds.WorkingDirectory = false
-is_plain kind = true
 
 -- a `continue` attribute from the literals that name its signals, or the broken rule
 abbrev pub continue_made : List (Quoted Leaf) → Made Token (Attribute Leaf Token)
@@ -56,10 +73,36 @@ with_known known made = do
 
 -- an attribute of a kind without rules of its own: it has only literals, or no arguments
 abbrev pub has_no_own_rules : AttributeKind → Bool
+has_no_own_rules kinds.Android = true
 has_no_own_rules kinds.Arg = false
 has_no_own_rules kinds.Cache = false
+has_no_own_rules kinds.Confirm = true
 has_no_own_rules kinds.Continue = false
-has_no_own_rules kind = true
+has_no_own_rules kinds.Default = true
+has_no_own_rules kinds.Doc = true
+has_no_own_rules kinds.Dragonfly = true
+has_no_own_rules kinds.Env = true
+has_no_own_rules kinds.ExitMessage = true
+has_no_own_rules kinds.Extension = true
+has_no_own_rules kinds.Freebsd = true
+has_no_own_rules kinds.Group = true
+has_no_own_rules kinds.Linux = true
+has_no_own_rules kinds.Macos = true
+has_no_own_rules kinds.Metadata = true
+has_no_own_rules kinds.Netbsd = true
+has_no_own_rules kinds.NoCd = true
+has_no_own_rules kinds.NoExitMessage = true
+has_no_own_rules kinds.NoQuiet = true
+has_no_own_rules kinds.Openbsd = true
+has_no_own_rules kinds.Parallel = true
+has_no_own_rules kinds.PositionalArguments = true
+has_no_own_rules kinds.Private = true
+has_no_own_rules kinds.Script = true
+has_no_own_rules kinds.Shell = true
+has_no_own_rules kinds.Timestamp = true
+has_no_own_rules kinds.Unix = true
+has_no_own_rules kinds.Windows = true
+has_no_own_rules kinds.WorkingDirectory = true
 
 -- the derived fields of an `arg` attribute: those that its tree doesn't show
 pub record HasDerivedArgumentFields (help : Option (String Global)) (name : StringLiteral) (long_key : Option Name) (long : Option StringLiteral)

@@ -2,16 +2,16 @@
 ghost use Rattle.std.specs.Prelude.{◌≡◌, IfOk};
 ghost use Rattle.std.specs.List.{AllZip};
 ghost use Rattle.justfile_token.specs.StringLiteral.{IsSameLiteral};
-ghost use Rattle.justfile_expression.specs.Copies.{IsSameIfPresent};
+ghost use Rattle.justfile_token.specs.Copies.{IsSameIfPresent, IsSameText};
 ghost use Rattle.justfile_vocabulary.specs.declared.attribute_kind.AttributeKind.TheVariants as kinds;
 ghost use Rattle.justfile_attribute.specs.Order.{case_kind};
-ghost use Rattle.justfile_attribute.specs.Copies.{IsSameAttribute, IsSameInterpreter, IsSameProperty, IsSameText, unboxed};
+ghost use Rattle.justfile_attribute.specs.Copies.{IsSameAttribute, IsSameInterpreter, IsSameProperty, unboxed};
 ghost use Rattle.justfile_attribute.specs.declared.attribute.Attribute.TheVariants as attributes;
 
 use crate::attribute::Attribute;
 use crate::interpreter::Interpreter;
 use justfile_expression::{Expression, copy_boxed, copy_optional};
-use justfile_token::{Name, StringLiteral};
+use justfile_token::{Name, StringLiteral, copy_optional_text};
 use justfile_vocabulary::Signal;
 use std::alloc::{AllocError, Global};
 use std::collections::BTreeSet;
@@ -161,17 +161,7 @@ fn copy_arg<'src>(alloc: Global, attribute: &Attribute<'src>) -> Result<Attribut
                 value,
             })
         }
-        _ => Err(AllocError),
-    }
-}
-
-/// Returns a copy of an optional text.
-fn copy_optional_text(alloc: Global, text: &Option<String>) -> Result<Option<String>, AllocError>
-    ensures { IfOk result (λ copy. IsSameIfPresent IsSameText copy text.now) }
-{
-    match text {
-        None => Ok(None),
-        Some(text) => Ok(Some(text.as_str().to_string(alloc)?)),
+        _ => unreachable!(),
     }
 }
 

@@ -1,7 +1,7 @@
 //! Interpreters with texts and with expressions.
 ghost use Rattle.std.specs.Prelude.{IfOk};
 ghost use Rattle.std.specs.List.{AllZip};
-ghost use Rattle.justfile_attribute.specs.Copies.{IsSameText};
+ghost use Rattle.justfile_token.specs.Copies.{IsSameText};
 ghost use Rattle.justfile_attribute.specs.Interpreters.{IsDefault, IsSameExpressionInterpreter, IsSameTextInterpreter};
 ghost use Rattle.justfile_expression.specs.Copies.{IsSameExpression};
 

@@ -4,14 +4,14 @@ ghost use Rattle.std.specs.Fmt.{decimal};
 ghost use Rattle.justfile_vocabulary.specs.ByteNames as byte;
 ghost use Rattle.justfile_token.specs.StringLiteral.{literal_text};
 ghost use Rattle.justfile_model.specs.Printing.{attribute_text};
-ghost use Rattle.justfile_expression.specs.Sink.{Puts};
+ghost use Rattle.justfile_token.specs.Sink.{Puts};
 ghost use Rattle.justfile_attribute.specs.Attribute.{attribute_shape};
 ghost use Rattle.justfile_attribute.specs.Print.{closing, opening, part_text, quoted_number, slot_piece, slot_text, slots, slots_text, value_text};
 
 use crate::attribute::Attribute;
 use crate::part::{Part, Value, slot};
-use justfile_expression::{Sink, put_piece, write_expression};
-use justfile_token::StringLiteral;
+use justfile_expression::{put_piece, write_expression};
+use justfile_token::{Sink, StringLiteral};
 use std::fmt;
 
 /// The decimal digits.

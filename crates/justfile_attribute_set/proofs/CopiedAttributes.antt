@@ -14,7 +14,8 @@ use Rattle.justfile_model.specs.Tree.{Expr, Quoted}
 use Rattle.justfile_expression.specs.LeafTree.{Leaf, Literal, leaf_tree_of}
 use Rattle.justfile_expression.specs.declared.expression.Expression.{Expression}
 use Rattle.justfile_attribute.specs.Attribute.{bound_by, leaf_attribute_of, literal_leaf, option_by, property_by, quoted_by, script_by, single_by}
-use Rattle.justfile_expression.specs.Copies.{IsSameBoxed, IsSameIfPresent}
+use Rattle.justfile_token.specs.Copies.{IsSameIfPresent}
+use Rattle.justfile_expression.specs.Copies.{IsSameBoxed}
 use Rattle.justfile_attribute.specs.Copies.{IsSameAttribute, IsSameInterpreter, IsSameProperty}
 use Rattle.justfile_attribute.specs.declared.attribute.Attribute.{Attribute}
 use Rattle.justfile_attribute.specs.declared.attribute.Attribute.TheVariants as attributes

@@ -15,8 +15,9 @@ use Rattle.justfile_expression.specs.LeafViews.{views_leaves}
 use Rattle.justfile_expression.specs.LeafTree.{leaf_tree_of}
 use Rattle.justfile_expression.specs.declared.expression.Expression.{Expression}
 use Rattle.justfile_attribute.specs.Attribute.{leaf_attribute_of, literal_leaf}
-use Rattle.justfile_expression.specs.Copies.{IsSameBoxed, IsSameIfPresent}
-use Rattle.justfile_attribute.specs.Copies.{IsSameAttribute, IsSameProperty, IsSameText}
+use Rattle.justfile_token.specs.Copies.{IsSameIfPresent, IsSameText}
+use Rattle.justfile_expression.specs.Copies.{IsSameBoxed}
+use Rattle.justfile_attribute.specs.Copies.{IsSameAttribute, IsSameProperty}
 use Rattle.justfile_token.specs.StringLiteral.{IsSameLiteral}
 use Rattle.justfile_attribute.specs.New.{HasDerivedAttributeFields}
 use Rattle.justfile_attribute.specs.Order.{boxed_key, case_kind, content_key, count_key, literal_key, name_key, property_key, text_key, token_key}

@@ -13,7 +13,6 @@ mod Loops
 mod Nodes
 mod OrderSteps
 mod PartLemmas
-pub mod PutLemmas
 pub mod Resolved
 mod ResolvedSteps
 mod RightSides

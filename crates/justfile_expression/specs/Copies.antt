@@ -46,12 +46,6 @@ abbrev mutual
 abbrev pub IsSameBoxed : (copy original : Box Expression) → Type 0
 IsSameBoxed copy original = IsSameExpression copy.value original.value
 
--- a copy of an optional value
-abbrev pub IsSameIfPresent : {X : Type 0} → (X → X → Type 0) → (copy original : Option X) → Type 0
-IsSameIfPresent R None None = Unit {0}
-IsSameIfPresent R (Some copy) (Some original) = R copy original
-IsSameIfPresent R _ _ = ⊥
-
 -- the same for an expression of a format string and the part after it
 abbrev pub IsSamePart : (copy original : Expression × literals.StringLiteral) → Type 0
 IsSamePart copy original = IsSameExpression copy.0 original.0 × IsSameLiteral copy.1 original.1

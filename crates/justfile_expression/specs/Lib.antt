@@ -21,7 +21,5 @@ pub mod Resolved
 pub mod ResolvedSteps
 pub mod RightSides
 pub mod SeenKeys
-pub mod Sink
-pub mod SinkLaws
 pub mod Text
 pub mod Texts

@@ -5,7 +5,8 @@ ghost use Rattle.justfile_expression.specs.declared.expression.Expression as cas
 ghost use Rattle.std.specs.List.{All, AllZip};
 ghost use Rattle.std.specs.Option.{option_map};
 ghost use Rattle.justfile_expression.specs.Children.{of_option};
-ghost use Rattle.justfile_expression.specs.Copies.{IsSameExpression, IsSameBoxed, IsSameIfPresent, IsSamePart};
+ghost use Rattle.justfile_token.specs.Copies.{IsSameIfPresent};
+ghost use Rattle.justfile_expression.specs.Copies.{IsSameExpression, IsSameBoxed, IsSamePart};
 ghost use Rattle.justfile_expression.specs.RightSides.{IsCopied, IsLessDeep, IsRow, right_side};
 
 use justfile_model::ConditionalOperator;

@@ -12,9 +12,8 @@ mod list_operator;
 mod order;
 mod parts;
 mod print;
+mod put;
 mod resolve;
-pub mod sink;
-mod sinks;
 mod words;
 
 pub use crate::children::child;
@@ -25,7 +24,7 @@ pub use crate::has_expressions::{
 };
 pub use crate::has_variables::{HasVariables, resolve_each, resolve_optional};
 pub use crate::list_operator::ListOperator;
-pub use crate::print::{put_piece, write_expression};
+pub use crate::print::write_expression;
+pub use crate::put::{put_piece, put_piece_if};
 pub use crate::resolve::resolve_expressions;
-pub use crate::sink::Sink;
 pub use justfile_model::{ConditionalOperator, ListFeature};

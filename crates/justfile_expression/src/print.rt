@@ -1,14 +1,14 @@
 //! Printing of expressions.
 ghost use Rattle.std.specs.Prelude.{◌≡◌, ℕ, List, IfOk, OnErr};
 ghost use Rattle.justfile_model.specs.Printing.{fixed_text};
-ghost use Rattle.justfile_expression.specs.Sink.{Puts};
+ghost use Rattle.justfile_token.specs.Sink.{Puts};
 ghost use Rattle.justfile_expression.specs.Ends.{IsCompleted};
 ghost use Rattle.justfile_expression.specs.Text.{text_of};
 
 use crate::children::{child, start};
 use crate::expression::Expression;
-use crate::sink::Sink;
 use crate::words::write_words;
+use justfile_token::Sink;
 use std::fmt;
 
 impl fmt::Display for Expression<'_> {
@@ -26,14 +26,6 @@ impl fmt::Debug for Expression<'_> {
     fn fmt<W: fmt::Write>(&self, f: &mut fmt::Formatter<W>) -> fmt::Result {
         write_expression(self, f)
     }
-}
-
-/// Writes a fixed piece of text.
-#[tactic(auto, unfolding(justfile_model::specs::Printing::fixed_text))]
-pub fn put_piece<S: Sink>(bytes: &str, sink: &mut S) -> Result<(), S::Fault>
-    ensures { Puts S.took S.failed sink.old result (fixed_text bytes.now) sink.new }
-{
-    sink.put(bytes)
 }
 
 /// Writes the text of an expression. Expressions nest to the right without a limit, so a loop

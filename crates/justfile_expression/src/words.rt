@@ -2,11 +2,10 @@
 ghost use Rattle.std.specs.Prelude.{◌≡◌, ◌++◌, ◌↔◌, [], IsTrue};
 ghost use Rattle.justfile_token.specs.StringLiteral.{literal_marks};
 ghost use Rattle.justfile_token.specs.Token.{lexeme_of};
-ghost use Rattle.justfile_expression.specs.Sink.{Puts};
+ghost use Rattle.justfile_token.specs.Sink.{Puts};
 ghost use Rattle.justfile_expression.specs.Texts.{texts_of, text_alone, lexeme_alone, literal_texts, part_texts, texts_joined};
 
-use crate::sink::Sink;
-use justfile_token::{Name, StringLiteral, Token};
+use justfile_token::{Name, Sink, StringLiteral, Token};
 
 /// The texts written around and for a token, in the order of writing. Absent ones are empty.
 #[derive(Clone, Copy)]

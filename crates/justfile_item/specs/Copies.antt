@@ -1,12 +1,12 @@
 -- Copies of items.
 use Rattle.std.specs.Prelude.{◌≡◌}
 use Rattle.std.specs.List.{AllZip}
-use Rattle.justfile_expression.specs.Copies.{IsSameIfPresent}
+use Rattle.justfile_token.specs.Copies.{IsSameIfPresent, IsSameText}
 use Rattle.justfile_attribute_set.specs.Copies.{IsSameAttributes}
 use Rattle.justfile_token.specs.Namepath.{names_in}
 use Rattle.justfile_token.specs.StringLiteral.{IsSameLiteral}
 use Rattle.justfile_token.specs.declared.namepath.Namepath.{Namepath}
-use Rattle.justfile_recipe_header.specs.Copies.{IsSameDependency, IsSameParameter, IsSameOptionalText}
+use Rattle.justfile_recipe_header.specs.Copies.{IsSameDependency, IsSameParameter}
 use Rattle.justfile_line.specs.Copies.{IsSameLine}
 use Rattle.justfile_setting.specs.Copies.{IsSameSetting}
 use Rattle.justfile_expression.specs.declared.expression.Expression.{Expression}
@@ -50,7 +50,7 @@ pub record IsSameRecipe (copy original : UnresolvedRecipe) : Type 0 where
   pub body : AllZip IsSameLine copy.body.items original.body.items
   pub comment : copy.comment ≡ original.comment
   pub dependencies : AllZip IsSameDependency copy.dependencies.items original.dependencies.items
-  pub doc : IsSameOptionalText copy.doc original.doc
+  pub doc : IsSameIfPresent IsSameText copy.doc original.doc
   pub file_depth : copy.file_depth ≡ original.file_depth
   pub import_offsets : copy.import_offsets.items ≡ original.import_offsets.items
   pub name : copy.name ≡ original.name
@@ -76,7 +76,7 @@ IsSameItem (items.Function copy) (items.Function original) = IsSameFunction copy
 IsSameItem (items.Import attributes optional relative) (items.Import attributes' optional' relative') =
     IsSameAttributes attributes attributes' × (optional ≡ optional') × IsSameLiteral relative relative'
 IsSameItem (items.Module attributes doc name optional relative) (items.Module attributes' doc' name' optional' relative') =
-    IsSameAttributes attributes attributes' × IsSameOptionalText doc doc' × (name ≡ name') × (optional ≡ optional') × IsSameIfPresent IsSameLiteral relative relative'
+    IsSameAttributes attributes attributes' × IsSameIfPresent IsSameText doc doc' × (name ≡ name') × (optional ≡ optional') × IsSameIfPresent IsSameLiteral relative relative'
 IsSameItem items.Newline items.Newline = Unit {0}
 IsSameItem (items.Recipe copy) (items.Recipe original) = IsSameRecipe copy original
 IsSameItem (items.Setting copy) (items.Setting original) = IsSameSet copy original

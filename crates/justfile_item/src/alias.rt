@@ -5,7 +5,7 @@ ghost use Rattle.justfile_attribute_set.specs.contracts.attribute_set.PairSetAtt
 ghost use Rattle.justfile_attribute_set.specs.contracts.attribute_set.PairSetAttributeWrittenPartialEq.TheImpl.Laws.{laws-law as set_per};
 ghost use Rattle.justfile_token.specs.contracts.name.NamePartialEq.TheImpl as names;
 ghost use Rattle.justfile_token.specs.contracts.name.NamePartialEq.TheImpl.Laws.{laws-law as name_per};
-ghost use Rattle.justfile_expression.specs.Sink.{Puts};
+ghost use Rattle.justfile_token.specs.Sink.{Puts};
 ghost use Rattle.justfile_item.specs.Copies.{IsSameAlias};
 ghost use Rattle.justfile_item.specs.ItemText.{alias_text_of};
 ghost use Rattle.justfile_item.specs.Private.{is_private_item};
@@ -13,9 +13,9 @@ ghost use Rattle.justfile_item.specs.Private.{is_private_item};
 use crate::attributes::are_equal;
 use crate::private::is_private_item;
 use justfile_attribute_set::AttributeSet;
-use justfile_expression::{Sink, put_piece};
+use justfile_expression::put_piece;
 use justfile_recipe_header::write_namepath;
-use justfile_token::{Keyed, Name, Namepath};
+use justfile_token::{Keyed, Name, Namepath, Sink};
 use std::alloc::{AllocError, Global};
 use std::fmt;
 

@@ -1,12 +1,12 @@
 //! Assignments to variables.
 ghost use Rattle.std.specs.Prelude.{IfOk};
-ghost use Rattle.justfile_expression.specs.Sink.{Puts};
+ghost use Rattle.justfile_token.specs.Sink.{Puts};
 ghost use Rattle.justfile_item.specs.Assignment.{binding_text};
 ghost use Rattle.justfile_item.specs.Copies.{IsSameAssignment};
 
 use crate::binding::Binding;
-use justfile_expression::{Expression, Sink, put_piece, write_expression};
-use justfile_recipe_header::put_piece_if;
+use justfile_expression::{Expression, put_piece, put_piece_if, write_expression};
+use justfile_token::Sink;
 use std::alloc::{AllocError, Global};
 use std::fmt;
 

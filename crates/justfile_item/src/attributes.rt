@@ -1,13 +1,14 @@
 //! Attributes of constructs: how they are compared and printed.
 ghost use Rattle.std.specs.Prelude.{◌≡◌};
-ghost use Rattle.justfile_expression.specs.Sink.{Puts};
+ghost use Rattle.justfile_token.specs.Sink.{Puts};
 ghost use Rattle.justfile_attribute_set.specs.contracts.attribute_set.PairSetAttributeWrittenPartialEq.TheImpl as sets;
 ghost use Rattle.justfile_item.specs.Attributes.{attribute_line, attributes_text, lines_text};
 
 use crate::comment::write_comment;
 use justfile_attribute::{Attribute, write_attribute};
 use justfile_attribute_set::{AttributeSet, Written};
-use justfile_expression::{Sink, put_piece};
+use justfile_expression::put_piece;
+use justfile_token::Sink;
 
 /// Whether two sets have equal attributes.
 pub(crate) fn are_equal<'src>(attributes: &AttributeSet<'src>, others: &AttributeSet<'src>) -> bool

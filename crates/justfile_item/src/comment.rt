@@ -1,9 +1,10 @@
 //! Comments at the ends of lines.
 ghost use Rattle.std.specs.Option.{option_copied};
 ghost use Rattle.justfile_model.specs.Printing.{comment_text};
-ghost use Rattle.justfile_expression.specs.Sink.{Puts};
+ghost use Rattle.justfile_token.specs.Sink.{Puts};
 
-use justfile_expression::{Sink, put_piece};
+use justfile_expression::put_piece;
+use justfile_token::Sink;
 
 /// Writes a space and a comment, or nothing if there is none.
 pub(crate) fn write_comment<S: Sink>(comment: Option<&str>, sink: &mut S) -> Result<(), S::Fault>

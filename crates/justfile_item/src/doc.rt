@@ -3,10 +3,11 @@ ghost use Rattle.std.specs.Prelude.{◌≡◌, string_bytes};
 ghost use Rattle.std.specs.Option.{option_copied, option_map};
 ghost use Rattle.justfile_item.specs.Doc.{doc_text_of, shown_doc_of};
 ghost use Rattle.justfile_model.specs.Printing.{doc_comment, doc_line};
-ghost use Rattle.justfile_expression.specs.Sink.{Puts};
+ghost use Rattle.justfile_token.specs.Sink.{Puts};
 
 use justfile_attribute_set::AttributeSet;
-use justfile_expression::{Sink, put_piece};
+use justfile_expression::put_piece;
+use justfile_token::Sink;
 use justfile_vocabulary::AttributeKind;
 
 /// Writes the doc of a construct as a comment on a line of its own, unless there is an attribute

@@ -8,7 +8,7 @@ ghost use Rattle.justfile_token.specs.contracts.name.NamePartialEq.TheImpl as na
 ghost use Rattle.justfile_token.specs.contracts.name.NamePartialEq.TheImpl.Laws.{laws-law as name_per};
 ghost use Rattle.justfile_token.specs.Token.{lexeme_of};
 ghost use Rattle.justfile_model.specs.Printing.{fixed_text};
-ghost use Rattle.justfile_expression.specs.Sink.{Puts};
+ghost use Rattle.justfile_token.specs.Sink.{Puts};
 ghost use Rattle.justfile_expression.specs.contracts.order.ExpressionPartialEq.TheImpl as expressions;
 ghost use Rattle.justfile_expression.specs.contracts.order.ExpressionPartialEq.TheImpl.Laws.{laws-law as expression_per};
 ghost use Rattle.justfile_item.specs.Copies.{IsSameFunction};
@@ -17,8 +17,8 @@ ghost use Rattle.justfile_item.specs.ItemText.{function_text_of, later_names_tex
 
 use crate::attributes::are_equal;
 use justfile_attribute_set::AttributeSet;
-use justfile_expression::{Expression, Sink, copy_boxed, put_piece, write_expression};
-use justfile_token::{Keyed, Name};
+use justfile_expression::{Expression, copy_boxed, put_piece, write_expression};
+use justfile_token::{Keyed, Name, Sink};
 use justfile_vocabulary::Number;
 use std::alloc::{AllocError, Global};
 use std::fmt;

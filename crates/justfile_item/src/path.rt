@@ -2,13 +2,12 @@
 ghost use Rattle.std.specs.Prelude.{◌++◌, IfOk};
 ghost use Rattle.justfile_token.specs.StringLiteral.{IsSameLiteral};
 ghost use Rattle.justfile_model.specs.Printing.{mark_text};
-ghost use Rattle.justfile_expression.specs.Sink.{Puts};
-ghost use Rattle.justfile_expression.specs.Copies.{IsSameIfPresent};
+ghost use Rattle.justfile_token.specs.Sink.{Puts};
+ghost use Rattle.justfile_token.specs.Copies.{IsSameIfPresent};
 ghost use Rattle.justfile_item.specs.ItemText.{import_text_of, later_path_text, module_text_of, path_text_of, unexport_text_of};
 
-use justfile_expression::{Sink, put_piece};
-use justfile_recipe_header::put_piece_if;
-use justfile_token::{Name, StringLiteral};
+use justfile_expression::{put_piece, put_piece_if};
+use justfile_token::{Name, Sink, StringLiteral};
 use std::alloc::{AllocError, Global};
 
 /// Returns a copy of an optional path.

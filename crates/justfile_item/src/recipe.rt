@@ -3,7 +3,7 @@ ghost use Rattle.std.specs.Prelude.{◌≡◌, ◌++◌, IfOk, codes};
 ghost use Rattle.std.specs.List.{list_all};
 ghost use Rattle.justfile_vocabulary.specs.Indentation.{indentation_text};
 ghost use Rattle.justfile_model.specs.Printing.{fixed_text, header_text, line_text, body_text, printable_fragments, printable_body};
-ghost use Rattle.justfile_expression.specs.Sink.{Puts};
+ghost use Rattle.justfile_token.specs.Sink.{Puts};
 ghost use Rattle.justfile_line.specs.Body.{fragment_shapes, line_shape, line_shapes};
 ghost use Rattle.justfile_item.specs.Copies.{IsSameRecipe};
 ghost use Rattle.justfile_item.specs.Item.{header_shape, priors_of, subsequents_of};
@@ -11,14 +11,13 @@ ghost use Rattle.justfile_item.specs.Recipe.{unresolved_recipe_text};
 
 use crate::comment::write_comment;
 use justfile_attribute_set::AttributeSet;
-use justfile_expression::{Sink, put_piece};
+use justfile_expression::{put_piece, put_piece_if};
 use justfile_line::{Line, is_printable, write_line};
-use justfile_recipe_header::try_clone::{clone_all, copy_optional_text};
 use justfile_recipe_header::{
-    Parameter, UnresolvedDependency, put_piece_if, write_dependencies, write_parameters,
+    Parameter, UnresolvedDependency, write_dependencies, write_parameters,
     write_subsequents,
 };
-use justfile_token::{Keyed, Name};
+use justfile_token::{Keyed, Name, Sink, clone_all, copy_optional_text};
 use justfile_vocabulary::{Indentation, Number};
 use std::alloc::{AllocError, Global};
 use std::fmt;

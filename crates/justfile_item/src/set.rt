@@ -1,7 +1,7 @@
 //! Settings with their names and attributes.
 ghost use Rattle.std.specs.Prelude.{◌≡◌, IfOk};
 ghost use Rattle.std.specs.Option.{option_map};
-ghost use Rattle.justfile_expression.specs.Sink.{Puts};
+ghost use Rattle.justfile_token.specs.Sink.{Puts};
 ghost use Rattle.justfile_setting.specs.Copies.{IsSameSetting};
 ghost use Rattle.justfile_item.specs.Copies.{IsSameSet};
 ghost use Rattle.justfile_item.specs.Indented.{indentation_set, set_indentation};
@@ -9,9 +9,9 @@ ghost use Rattle.justfile_item.specs.ItemText.{later_value_text, setting_text_of
 
 use crate::copy::boxed_made;
 use justfile_attribute_set::AttributeSet;
-use justfile_expression::{Sink, put_piece};
+use justfile_expression::put_piece;
 use justfile_setting::{Setting, write_setting};
-use justfile_token::{Keyed, Name};
+use justfile_token::{Keyed, Name, Sink};
 use justfile_vocabulary::Indentation;
 use std::alloc::{AllocError, Global};
 use std::fmt;

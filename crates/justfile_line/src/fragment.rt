@@ -1,12 +1,11 @@
 //! Fragments of body lines: texts and interpolations.
 ghost use Rattle.std.specs.Prelude.{◌++◌, codes};
 ghost use Rattle.justfile_model.specs.Printing.{fixed_text, fragment_text};
-ghost use Rattle.justfile_expression.specs.Sink.{Puts};
+ghost use Rattle.justfile_token.specs.Sink.{Puts};
 ghost use Rattle.justfile_line.specs.Body.{fragment_shape};
 
-use justfile_expression::{Expression, Sink, put_piece, write_expression};
-use justfile_recipe_header::try_clone::TryClone;
-use justfile_token::Token;
+use justfile_expression::{Expression, put_piece, write_expression};
+use justfile_token::{Sink, Token, TryClone};
 use std::alloc::{AllocError, Global};
 use std::fmt;
 

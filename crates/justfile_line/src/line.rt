@@ -4,7 +4,7 @@ ghost use Rattle.std.specs.List.{Contains};
 ghost use Rattle.std.specs.Option.{option_copied};
 ghost use Rattle.justfile_vocabulary.specs.Indentation.{indentation_text};
 ghost use Rattle.justfile_model.specs.Printing.{ends_in_return, line_text, printable_fragments};
-ghost use Rattle.justfile_expression.specs.Sink.{Puts};
+ghost use Rattle.justfile_token.specs.Sink.{Puts};
 ghost use Rattle.justfile_line.specs.Copies.{IsSameLine};
 ghost use Rattle.justfile_line.specs.Body.{fragment_shapes, fragments_text, line_shape};
 ghost use Rattle.justfile_line.specs.Line.{IsComment, IsContinuation, IsEmpty, IsShebang, HasSigil, first_text, last_text};
@@ -12,8 +12,7 @@ ghost use Rattle.justfile_line.specs.Sigil.{IsSigilOf};
 
 use crate::fragment::{Fragment, write_fragment};
 use crate::sigil::Sigil;
-use justfile_expression::Sink;
-use justfile_recipe_header::try_clone::{TryClone, clone_all};
+use justfile_token::{Sink, TryClone, clone_all};
 use justfile_vocabulary::Indentation;
 use std::alloc::{AllocError, Global};
 use std::collections::BTreeSet;

@@ -4,7 +4,7 @@ use denote.Enum.Bare.{sameb}
 use Rattle.justfile_vocabulary.specs.AttributeKind.{is_enabler_kind, kind_named, takes_keys}
 use Rattle.justfile_vocabulary.specs.contracts.attribute_kind.AttributeKind.{the_type}
 use Rattle.justfile_vocabulary.specs.declared.attribute_kind.AttributeKind.{AttributeKind}
-use Rattle.justfile_vocabulary.specs.declared.attribute_kind.AttributeKind.TheVariants.{Arg, Cache, Confirm, Continue, Doc, Env, Extension, Group, Metadata, Private, Script, Timestamp, WorkingDirectory}
+use Rattle.justfile_vocabulary.specs.declared.attribute_kind.AttributeKind.TheVariants.{Android, Arg, Cache, Confirm, Continue, Default, Doc, Dragonfly, Env, ExitMessage, Extension, Freebsd, Group, Linux, Macos, Metadata, Netbsd, NoCd, NoExitMessage, NoQuiet, Openbsd, Parallel, PositionalArguments, Private, Script, Shell, Timestamp, Unix, Windows, WorkingDirectory}
 use Rattle.justfile_vocabulary.specs.declared.item_kind.ItemKind.{ItemKind}
 use Rattle.justfile_vocabulary.specs.declared.item_kind.ItemKind.TheVariants as items
 
@@ -29,37 +29,102 @@ known_keys _ = []
 
 -- the positional arguments are arbitrary expressions; those of the other kinds are literals
 abbrev pub takes_expressions : AttributeKind → Bool
+takes_expressions Android = false
+takes_expressions Arg = false
+takes_expressions Cache = false
 takes_expressions Confirm = true
+takes_expressions Continue = false
+takes_expressions Default = false
 takes_expressions Doc = true
+takes_expressions Dragonfly = false
 takes_expressions Env = true
+takes_expressions ExitMessage = false
+takes_expressions Extension = false
+takes_expressions Freebsd = false
+takes_expressions Group = false
+takes_expressions Linux = false
+takes_expressions Macos = false
+takes_expressions Metadata = false
+takes_expressions Netbsd = false
+takes_expressions NoCd = false
+takes_expressions NoExitMessage = false
+takes_expressions NoQuiet = false
+takes_expressions Openbsd = false
+takes_expressions Parallel = false
+takes_expressions PositionalArguments = false
+takes_expressions Private = false
+takes_expressions Script = false
+takes_expressions Shell = false
 takes_expressions Timestamp = true
+takes_expressions Unix = false
+takes_expressions Windows = false
 takes_expressions WorkingDirectory = true
-takes_expressions _ = false
 
 -- the least number of positional arguments
 abbrev pub least_count : AttributeKind → ℕ
+least_count Android = 0
 least_count Arg = 1
+least_count Cache = 0
+least_count Confirm = 0
+least_count Continue = 0
+least_count Default = 0
+least_count Doc = 0
+least_count Dragonfly = 0
 least_count Env = 2
+least_count ExitMessage = 0
 least_count Extension = 1
+least_count Freebsd = 0
 least_count Group = 1
+least_count Linux = 0
+least_count Macos = 0
 least_count Metadata = 1
+least_count Netbsd = 0
+least_count NoCd = 0
+least_count NoExitMessage = 0
+least_count NoQuiet = 0
+least_count Openbsd = 0
+least_count Parallel = 0
+least_count PositionalArguments = 0
+least_count Private = 0
+least_count Script = 0
+least_count Shell = 0
+least_count Timestamp = 0
+least_count Unix = 0
+least_count Windows = 0
 least_count WorkingDirectory = 1
-least_count _ = 0
 
 -- the greatest number of positional arguments, if there is a limit
 abbrev pub most_count : AttributeKind → Option ℕ
+most_count Android = Some 0
 most_count Arg = Some 1
+most_count Cache = Some 0
 most_count Confirm = Some 1
 most_count Continue = None
+most_count Default = Some 0
 most_count Doc = Some 1
+most_count Dragonfly = Some 0
 most_count Env = Some 2
+most_count ExitMessage = Some 0
 most_count Extension = Some 1
+most_count Freebsd = Some 0
 most_count Group = Some 1
+most_count Linux = Some 0
+most_count Macos = Some 0
 most_count Metadata = None
+most_count Netbsd = Some 0
+most_count NoCd = Some 0
+most_count NoExitMessage = Some 0
+most_count NoQuiet = Some 0
+most_count Openbsd = Some 0
+most_count Parallel = Some 0
+most_count PositionalArguments = Some 0
+most_count Private = Some 0
 most_count Script = None
+most_count Shell = Some 0
 most_count Timestamp = Some 1
+most_count Unix = Some 0
+most_count Windows = Some 0
 most_count WorkingDirectory = Some 1
-most_count _ = Some 0
 
 -- an item can have several attributes of this kind
 abbrev pub is_repeatable : AttributeKind → Bool

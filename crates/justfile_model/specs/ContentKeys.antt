@@ -125,11 +125,36 @@ module _ {A B : Type 0} (view : LeafView A B) where
 
   -- the kinds with an optional expression
   abbrev pub is_optional : AttributeKind → Bool
+  is_optional attributes.Android = false
+  is_optional attributes.Arg = false
+  is_optional attributes.Cache = false
   is_optional attributes.Confirm = true
+  is_optional attributes.Continue = false
+  is_optional attributes.Default = false
   is_optional attributes.Doc = true
+  is_optional attributes.Dragonfly = false
+  is_optional attributes.Env = false
+  is_optional attributes.ExitMessage = false
+  is_optional attributes.Extension = false
+  is_optional attributes.Freebsd = false
+  is_optional attributes.Group = false
+  is_optional attributes.Linux = false
+  is_optional attributes.Macos = false
+  is_optional attributes.Metadata = false
+  is_optional attributes.Netbsd = false
+  is_optional attributes.NoCd = false
+  is_optional attributes.NoExitMessage = false
+  is_optional attributes.NoQuiet = false
+  is_optional attributes.Openbsd = false
+  is_optional attributes.Parallel = false
+  is_optional attributes.PositionalArguments = false
+  is_optional attributes.Private = false
   is_optional attributes.Script = true
+  is_optional attributes.Shell = false
   is_optional attributes.Timestamp = true
-  is_optional _ = false
+  is_optional attributes.Unix = false
+  is_optional attributes.Windows = false
+  is_optional attributes.WorkingDirectory = false
 
   abbrev pub plain_keys : (optional : Bool) → Keys ContentLeaf
   plain_keys true = next absent_key end

@@ -6,7 +6,6 @@ pub mod laws;
 pub mod parameter;
 mod parameter_kind;
 mod path;
-pub mod try_clone;
 pub mod unresolved_dependency;
 mod write_to;
 
@@ -16,5 +15,4 @@ pub use crate::unresolved_dependency::{
     DependencyArgument, UnresolvedDependency, write_dependencies, write_dependency,
     write_subsequents,
 };
-pub use crate::write_to::put_piece_if;
 pub use justfile_model::ParameterKind;

@@ -1,15 +1,14 @@
 //! Parameters of recipes.
 ghost use Rattle.std.specs.Prelude.{◌≡◌, ◌++◌, IfOk};
-ghost use Rattle.justfile_expression.specs.Sink.{Puts};
+ghost use Rattle.justfile_token.specs.Sink.{Puts};
 ghost use Rattle.justfile_recipe_header.specs.Header.{default_text, parameter_text_of, parameters_text};
 ghost use Rattle.justfile_recipe_header.specs.Parameter.{is_positive};
 
 use crate::parameter_kind::prefix;
-use crate::try_clone::{TryClone, copy_optional_text};
-use crate::write_to::{WriteTo, put_piece_if, write_each};
-use justfile_expression::{Expression, Sink, copy_optional, put_piece, write_expression};
+use crate::write_to::{WriteTo, write_each};
+use justfile_expression::{Expression, copy_optional, put_piece, put_piece_if, write_expression};
 use justfile_model::ParameterKind;
-use justfile_token::Name;
+use justfile_token::{Name, Sink, TryClone, copy_optional_text};
 use justfile_vocabulary::Number;
 use std::alloc::{AllocError, Global};
 use std::fmt;

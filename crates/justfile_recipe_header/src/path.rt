@@ -2,12 +2,11 @@
 
 ghost use Rattle.justfile_token.specs.Name.{name_text};
 ghost use Rattle.justfile_token.specs.Namepath.{namepath_text};
-ghost use Rattle.justfile_expression.specs.Sink.{Puts};
+ghost use Rattle.justfile_token.specs.Sink.{Puts};
 ghost use Rattle.justfile_recipe_header.specs.Header.{names_text};
 
 use crate::write_to::{WriteTo, write_each};
-use justfile_expression::Sink;
-use justfile_token::{Name, Namepath};
+use justfile_token::{Name, Namepath, Sink};
 
 impl WriteTo for Name<'_> {
     ghost piece_text = { name_text };

@@ -1,15 +1,14 @@
 //! Dependencies of recipes, and their arguments.
 ghost use Rattle.std.specs.Prelude.{◌≡◌, ◌++◌, IfOk};
 ghost use Rattle.std.specs.List.{list_any};
-ghost use Rattle.justfile_expression.specs.Sink.{Puts};
+ghost use Rattle.justfile_token.specs.Sink.{Puts};
 ghost use Rattle.justfile_recipe_header.specs.Copies.{IsSameArgument, IsSameDependency};
 ghost use Rattle.justfile_recipe_header.specs.Header.{argument_text, call_text, dependencies_text, dependency_text_of, is_starred, star_text, subsequents_text_of};
 
 use crate::path::write_namepath;
-use crate::try_clone::{TryClone, clone_all};
 use crate::write_to::{WriteTo, write_each};
-use justfile_expression::{Expression, Sink, put_piece, write_expression};
-use justfile_token::Namepath;
+use justfile_expression::{Expression, put_piece, write_expression};
+use justfile_token::{Namepath, Sink, TryClone, clone_all};
 use std::alloc::{AllocError, Global};
 use std::fmt;
 

@@ -2,9 +2,10 @@
 ghost use Rattle.std.specs.Prelude.{ℕ, List, ◌++◌};
 ghost use Rattle.std.specs.List.{flat_map};
 ghost use Rattle.justfile_model.specs.Printing.{fixed_text, if_true};
-ghost use Rattle.justfile_expression.specs.Sink.{Puts};
+ghost use Rattle.justfile_token.specs.Sink.{Puts};
 
-use justfile_expression::{Sink, put_piece};
+use justfile_expression::put_piece;
+use justfile_token::Sink;
 
 /// Values of a header that are written to a sink.
 pub(crate) trait WriteTo {
@@ -38,16 +39,4 @@ fn write_after<P: WriteTo, S: Sink>(before: &str, piece: &P, sink: &mut S) -> Re
 {
     put_piece(before, sink)?;
     piece.write(sink)
-}
-
-/// Writes a fixed piece of text if `present` is set.
-pub fn put_piece_if<S: Sink>(present: bool, piece: &str, sink: &mut S) -> Result<(), S::Fault>
-    ensures { Puts S.took S.failed sink.old result
-        (if_true present (fixed_text piece.now)) sink.new }
-{
-    if present {
-        put_piece(piece, sink)
-    } else {
-        Ok(())
-    }
 }

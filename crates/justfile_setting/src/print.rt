@@ -2,14 +2,15 @@
 ghost use Rattle.std.specs.Prelude.{◌≡◌, ◌++◌, codes};
 ghost use Rattle.std.specs.List.{flat_map};
 ghost use Rattle.justfile_model.specs.Printing.{fixed_text};
-ghost use Rattle.justfile_expression.specs.Sink.{Puts};
+ghost use Rattle.justfile_token.specs.Sink.{Puts};
 ghost use Rattle.justfile_setting.specs.Print.{interpreter_text, later_texts, setting_output, truth_text, value_text_of};
 ghost use Rattle.justfile_expression.specs.Text.{text_of};
 
 use crate::setting::Setting;
 use crate::value::Value;
 use justfile_attribute::{Interpreter, write_literal};
-use justfile_expression::{Expression, Sink, put_piece, write_expression};
+use justfile_expression::{Expression, put_piece, write_expression};
+use justfile_token::Sink;
 use std::fmt;
 
 impl fmt::Display for Setting<'_> {

@@ -5,4 +5,4 @@ pub use Rattle.justfile_model.specs.Uncommented.{HasNoComments, uncommented_text
 pub use Rattle.justfile_round_trip.specs.RoundTrip.{ReadsBack, printed, times}
 pub use Rattle.justfile_ast.specs.PrintsBack.{PrintsBack}
 pub use Rattle.justfile_ast.specs.Written.{AppendsPart}
-pub use Rattle.justfile_expression.specs.Sink.{Puts}
+pub use Rattle.justfile_token.specs.Sink.{Puts}

@@ -1,2 +1,4 @@
-mod TokenStart
+pub mod CopiedLists
 pub mod PathLemmas
+pub mod PutLemmas
+mod TokenStart

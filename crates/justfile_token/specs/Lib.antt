@@ -1,4 +1,5 @@
 pub mod CompileErrorKind
+pub mod Copies
 pub mod Delimiter
 pub mod Excerpt
 pub mod Expander
@@ -8,6 +9,8 @@ pub mod Modulepath
 pub mod Name
 pub mod Namepath
 pub mod Path
+pub mod Sink
+pub mod SinkLaws
 pub mod Slice
 pub mod StringKind
 pub mod StringLiteral

@@ -1,6 +1,6 @@
 use Rattle.std.proofs.Common.{arith, subst}
 use Rattle.std.specs.Prelude.{IfOk}
-use Rattle.justfile_model.proofs.CopiedLists.{one_more}
+use Rattle.justfile_token.proofs.CopiedLists.{one_more}
 use Rattle.justfile_item.specs.Copies.{IsSameItem}
 use Rattle.justfile_ast.proofs.ast.copy_items.Goals as goal
 

@@ -4,7 +4,7 @@ use Rattle.justfile_vocabulary.specs.Indentation.{indentation_text}
 use Rattle.justfile_model.specs.NormalShape.{normal}
 use Rattle.justfile_model.specs.Printing.{text}
 use Rattle.justfile_model.specs.Tree.{item_shape_of}
-use Rattle.justfile_expression.proofs.PutLemmas.{failed_at}
+use Rattle.justfile_token.proofs.PutLemmas.{failed_at}
 use Rattle.justfile_item.specs.declared.item.Item.{Item}
 use Rattle.justfile_item.specs.Item.{item_of, item_shape}
 use Rattle.justfile_ast.specs.declared.separator.Separator.TheVariants.{Start}

@@ -1,6 +1,6 @@
 use Rattle.std.proofs.Common.{arith}
 use Rattle.justfile_vocabulary.specs.Indentation.{indentation_text}
-use Rattle.justfile_expression.proofs.PutLemmas.{failed_at}
+use Rattle.justfile_token.proofs.PutLemmas.{failed_at}
 use Rattle.justfile_item.specs.Item.{item_shape}
 use Rattle.justfile_ast.proofs.Separators.{took_next, failed_next, separator_next}
 use Rattle.justfile_ast.proofs.ast.write_items.Goals as goal

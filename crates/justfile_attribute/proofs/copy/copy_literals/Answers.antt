@@ -1,6 +1,6 @@
 use Rattle.std.proofs.Common.{arith}
 use Rattle.justfile_token.specs.StringLiteral.{IsSameLiteral}
-use Rattle.justfile_model.proofs.CopiedLists.{one_more}
+use Rattle.justfile_token.proofs.CopiedLists.{one_more}
 use Rattle.justfile_attribute.proofs.copy.copy_literals.Goals as goal
 
 pub loop-literal-preserved : goal.loop-literal-preserved

@@ -1,5 +1,5 @@
 use Rattle.std.proofs.Common.{arith}
-use Rattle.justfile_model.proofs.CopiedLists.{one_more}
+use Rattle.justfile_token.proofs.CopiedLists.{one_more}
 use Rattle.justfile_expression.specs.Copies.{IsSameExpression}
 use Rattle.justfile_attribute.proofs.interpreters.copy_expressions.Goals as goal
 

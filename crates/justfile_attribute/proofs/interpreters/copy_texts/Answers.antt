@@ -1,6 +1,6 @@
 use Rattle.std.proofs.Common.{arith, ◌∙◌}
-use Rattle.justfile_attribute.specs.Copies.{IsSameText}
-use Rattle.justfile_model.proofs.CopiedLists.{one_more}
+use Rattle.justfile_token.specs.Copies.{IsSameText}
+use Rattle.justfile_token.proofs.CopiedLists.{one_more}
 use Rattle.justfile_attribute.proofs.interpreters.copy_texts.Goals as goal
 
 pub loop-text-preserved : goal.loop-text-preserved

@@ -1,6 +1,6 @@
 use Rattle.std.proofs.Common.{take}
 use Rattle.std.specs.List.{AllZip}
-use Rattle.justfile_attribute.specs.Copies.{IsSameText}
+use Rattle.justfile_token.specs.Copies.{IsSameText}
 use Rattle.justfile_attribute.proofs.interpreters.copy_texts.Given as goal
 
 abbrev pub invariant-loop-text : goal.invariant-loop-text

@@ -1,7 +1,7 @@
 use Rattle.std.proofs.Common.{◌+◌, ◌||◌, ◌∙◌, Bool, false, drop, subst, sym, arith}
 use Rattle.std.proofs.lemmas.Option.{slice_get_within}
 use Rattle.justfile_attribute.specs.Print.{slots, slots_text}
-use Rattle.justfile_expression.proofs.PutLemmas.{failed_at}
+use Rattle.justfile_token.proofs.PutLemmas.{failed_at}
 use Rattle.justfile_attribute.proofs.Walk.{Walked, is_there, walked_on, stopped, ended}
 use Rattle.justfile_attribute.proofs.print.write_arguments.Goals as goal
 

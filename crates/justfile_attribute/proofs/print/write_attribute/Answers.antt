@@ -1,5 +1,5 @@
 use Rattle.std.proofs.Common.{rules, ℕ, List, subst}
-use Rattle.justfile_expression.specs.Sink.{Puts}
+use Rattle.justfile_token.specs.Sink.{Puts}
 use Rattle.justfile_attribute.proofs.Printed.{text_is}
 use Rattle.justfile_attribute.proofs.print.write_attribute.Goals as goal
 

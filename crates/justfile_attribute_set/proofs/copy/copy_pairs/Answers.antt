@@ -1,6 +1,6 @@
 use Rattle.std.proofs.Common.{arith}
 use Rattle.justfile_attribute_set.specs.Copies.{IsSamePair}
-use Rattle.justfile_model.proofs.CopiedLists.{one_more}
+use Rattle.justfile_token.proofs.CopiedLists.{one_more}
 use Rattle.justfile_attribute_set.proofs.copy.copy_pairs.Goals as goal
 
 pub loop-pair-preserved : goal.loop-pair-preserved

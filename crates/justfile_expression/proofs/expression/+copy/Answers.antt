@@ -1,6 +1,6 @@
 use Rattle.std.proofs.Common.{None, Some, sym, ◌∙◌, arith}
 use Rattle.justfile_expression.specs.Copies.{IsSameExpression, IsSamePart}
-use Rattle.justfile_model.proofs.CopiedLists.{one_more}
+use Rattle.justfile_token.proofs.CopiedLists.{one_more}
 use Rattle.justfile_expression.proofs.ExpressionCopies.{same_call, same_list, same_format_string}
 use Rattle.justfile_expression.specs.RightSides.{right_side}
 use Rattle.justfile_expression.proofs.RightSides.{popped, popped_deep, emptied, copied}

@@ -5,7 +5,7 @@ use Rattle.justfile_expression.specs.Children.{children, start_texts}
 use Rattle.justfile_expression.specs.Text.{text_of}
 use Rattle.justfile_expression.specs.Texts.{Texts, texts_joined}
 use Rattle.justfile_expression.proofs.Joined.{child_text}
-use Rattle.justfile_expression.proofs.PutLemmas.{failed_at}
+use Rattle.justfile_token.proofs.PutLemmas.{failed_at}
 use Rattle.justfile_expression.proofs.Loops.{at_err, took_next}
 use Rattle.justfile_expression.proofs.Nodes.{fewer}
 use Rattle.justfile_expression.proofs.Walk.{failed_start, failed_child, took_all, rest_nodes, completed_more, rest_fewer, failed_rest, next_completes, all_completed, completed_at, rest_in}

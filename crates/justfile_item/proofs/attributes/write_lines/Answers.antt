@@ -1,5 +1,5 @@
 use Rattle.std.proofs.Common.{arith}
-use Rattle.justfile_expression.proofs.PutLemmas.{failed_at}
+use Rattle.justfile_token.proofs.PutLemmas.{failed_at}
 use Rattle.justfile_expression.proofs.ListLoops.{took_next, failed_next}
 use Rattle.justfile_item.specs.Attributes.{attribute_line, lines_text}
 use Rattle.justfile_item.proofs.AttributeLines.{lines_parts}

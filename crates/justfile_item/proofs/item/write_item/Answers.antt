@@ -1,6 +1,6 @@
 use Rattle.std.proofs.Common.{ℕ, List, subst}
 use Rattle.justfile_vocabulary.specs.Indentation.{indentation_text}
-use Rattle.justfile_expression.proofs.PutLemmas.{failed_at}
+use Rattle.justfile_token.proofs.PutLemmas.{failed_at}
 use Rattle.justfile_item.proofs.ShownDocs.{item_parts}
 use Rattle.justfile_item.proofs.item.write_item.Goals as goal
 

@@ -3,7 +3,7 @@ use Rattle.justfile_vocabulary.specs.Indentation.{indentation_text}
 use Rattle.justfile_model.specs.Printing.{fixed_text, line_text, body_text}
 use Rattle.justfile_line.specs.Body.{line_shape, line_shapes}
 use Rattle.justfile_line.proofs.Bodies.{body_parts}
-use Rattle.justfile_expression.proofs.PutLemmas.{failed_at}
+use Rattle.justfile_token.proofs.PutLemmas.{failed_at}
 use Rattle.justfile_expression.proofs.ListLoops.{took_next, failed_next}
 use Rattle.justfile_item.proofs.recipe.write_body.Goals as goal
 

@@ -4,7 +4,7 @@ use Rattle.justfile_vocabulary.specs.Indentation.{indentation_text}
 use Rattle.justfile_model.specs.Printing.{body_text, comment_text, header_text}
 use Rattle.justfile_line.specs.Body.{line_shapes}
 use Rattle.justfile_line.specs.declared.line.Line.{Line}
-use Rattle.justfile_expression.proofs.PutLemmas.{failed_at}
+use Rattle.justfile_token.proofs.PutLemmas.{failed_at}
 use Rattle.justfile_item.specs.Item.{header_shape}
 use Rattle.justfile_item.specs.Recipe.{unresolved_recipe_text}
 use Rattle.justfile_item.specs.declared.recipe.UnresolvedRecipe.{UnresolvedRecipe}

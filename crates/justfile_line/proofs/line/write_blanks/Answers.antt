@@ -1,5 +1,5 @@
 use Rattle.std.proofs.Common.{List, ℕ, subst, arith}
-use Rattle.justfile_expression.proofs.PutLemmas.{failed_at}
+use Rattle.justfile_token.proofs.PutLemmas.{failed_at}
 use Rattle.justfile_line.proofs.EqualBytes.{took_equal, failed_equal}
 use Rattle.justfile_line.proofs.line.write_blanks.Goals as goal
 

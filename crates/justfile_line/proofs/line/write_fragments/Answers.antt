@@ -2,7 +2,7 @@ use Rattle.std.proofs.Common.{arith}
 use Rattle.justfile_model.specs.Printing.{fragment_text}
 use Rattle.justfile_line.specs.Body.{fragment_shape, fragments_text}
 use Rattle.justfile_line.proofs.Bodies.{fragments_parts}
-use Rattle.justfile_expression.proofs.PutLemmas.{failed_at}
+use Rattle.justfile_token.proofs.PutLemmas.{failed_at}
 use Rattle.justfile_expression.proofs.ListLoops.{took_next, failed_next}
 use Rattle.justfile_line.proofs.line.write_fragments.Goals as goal
 

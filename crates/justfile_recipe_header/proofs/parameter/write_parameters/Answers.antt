@@ -1,5 +1,5 @@
 use Rattle.std.proofs.Common.{List, ℕ, subst}
-use Rattle.justfile_expression.proofs.PutLemmas.{failed_at}
+use Rattle.justfile_token.proofs.PutLemmas.{failed_at}
 use Rattle.justfile_recipe_header.proofs.Parts.{parameters_parts}
 use Rattle.justfile_recipe_header.proofs.parameter.write_parameters.Goals as goal
 

@@ -1,6 +1,6 @@
 use Rattle.std.proofs.Common.{List, ℕ, subst, refl}
-use Rattle.justfile_expression.specs.Sink.{Puts}
-use Rattle.justfile_expression.proofs.PutLemmas.{failed_at, put_last}
+use Rattle.justfile_token.specs.Sink.{Puts}
+use Rattle.justfile_token.proofs.PutLemmas.{failed_at, put_last}
 use Rattle.justfile_recipe_header.proofs.Parts.{called}
 use Rattle.justfile_recipe_header.proofs.unresolved_dependency.write_call.Goals as goal
 

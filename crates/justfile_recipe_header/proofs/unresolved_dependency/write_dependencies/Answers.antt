@@ -1,5 +1,5 @@
 use Rattle.std.proofs.Common.{List, ℕ, subst}
-use Rattle.justfile_expression.proofs.PutLemmas.{failed_at}
+use Rattle.justfile_token.proofs.PutLemmas.{failed_at}
 use Rattle.justfile_recipe_header.proofs.Parts.{dependencies_parts}
 use Rattle.justfile_recipe_header.proofs.unresolved_dependency.write_dependencies.Goals as goal
 

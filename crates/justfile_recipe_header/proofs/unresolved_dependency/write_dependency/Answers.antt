@@ -1,5 +1,5 @@
 use Rattle.std.proofs.Common.{◌≡◌, List, [], ℕ, rules, subst}
-use Rattle.justfile_expression.specs.Sink.{Puts}
+use Rattle.justfile_token.specs.Sink.{Puts}
 use Rattle.justfile_recipe_header.proofs.Parts.{bare_parts, emptied}
 use Rattle.justfile_recipe_header.proofs.unresolved_dependency.write_dependency.Goals as goal
 

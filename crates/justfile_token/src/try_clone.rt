@@ -1,7 +1,7 @@
 //! Copies of optional values and of lists.
 ghost use Rattle.std.specs.Prelude.{IfOk};
 ghost use Rattle.std.specs.List.{AllZip};
-ghost use Rattle.justfile_recipe_header.specs.Copies.{IsSameOptionalText};
+ghost use Rattle.justfile_token.specs.Copies.{IsSameIfPresent, IsSameText};
 
 use std::alloc::{AllocError, Global};
 
@@ -31,7 +31,7 @@ pub fn copy_optional_text(
     alloc: Global,
     text: &Option<String>,
 ) -> Result<Option<String>, AllocError>
-    ensures { IfOk result (λ copy. IsSameOptionalText copy text.now) }
+    ensures { IfOk result (λ copy. IsSameIfPresent IsSameText copy text.now) }
 {
     match text {
         None => Ok(None),

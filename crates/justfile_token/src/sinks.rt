@@ -1,7 +1,7 @@
 //! The sinks: a `String` and a formatter.
 ghost use Rattle.std.specs.Prelude.{◌≡◌, ℕ, List, [], ◌++◌, string_bytes};
 ghost use Rattle.std.proofs.Common.{append-nil, sym};
-ghost use Rattle.justfile_expression.specs.SinkLaws.{text_more, Displays, displays_nothing, displays_more};
+ghost use Rattle.justfile_token.specs.SinkLaws.{text_more, Displays, displays_nothing, displays_more};
 
 use crate::sink::Sink;
 use std::alloc::AllocError;

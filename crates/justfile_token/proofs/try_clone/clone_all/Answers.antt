@@ -1,6 +1,6 @@
 use Rattle.std.proofs.Common.{arith}
-use Rattle.justfile_model.proofs.CopiedLists.{one_more}
-use Rattle.justfile_recipe_header.proofs.try_clone.clone_all.Goals as goal
+use Rattle.justfile_token.proofs.CopiedLists.{one_more}
+use Rattle.justfile_token.proofs.try_clone.clone_all.Goals as goal
 
 pub loop-original-preserved : goal.loop-original-preserved
 loop-original-preserved g c =

@@ -1,6 +1,6 @@
 -- What a function has written once a call of it failed, and after its last call.
 use Rattle.std.proofs.Common.{◌≡◌, ℕ, Result, Ok, Err, IsErr, List, ◌++◌}
-use Rattle.justfile_expression.specs.Sink.{Puts}
+use Rattle.justfile_token.specs.Sink.{Puts}
 
 -- a call failed
 pub failed_at : {S T E : Type 0} (took failed : S → List ℕ → S → Type 0) {a b : S} {text : List ℕ} (r : Result T E) → IsErr r → failed a text b → Puts took failed a r text b
