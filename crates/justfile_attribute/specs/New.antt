@@ -26,37 +26,37 @@ abbrev pub values_of : List (Placed Leaf Token) → List (Expr Leaf Token)
 values_of = map (λ (p : Placed Leaf Token). p.value)
 
 -- an attribute of this kind takes no arguments at all
-abbrev pub is_plain : AttributeKind → Bool
-is_plain kinds.Android = true
-is_plain kinds.Arg = false
-is_plain kinds.Cache = false
-is_plain kinds.Confirm = false
-is_plain kinds.Continue = false
-is_plain kinds.Default = true
-is_plain kinds.Doc = false
-is_plain kinds.Dragonfly = true
-is_plain kinds.Env = false
-is_plain kinds.ExitMessage = true
-is_plain kinds.Extension = false
-is_plain kinds.Freebsd = true
-is_plain kinds.Group = false
-is_plain kinds.Linux = true
-is_plain kinds.Macos = true
-is_plain kinds.Metadata = false
-is_plain kinds.Netbsd = true
-is_plain kinds.NoCd = true
-is_plain kinds.NoExitMessage = true
-is_plain kinds.NoQuiet = true
-is_plain kinds.Openbsd = true
-is_plain kinds.Parallel = true
-is_plain kinds.PositionalArguments = true
-is_plain kinds.Private = true
-is_plain kinds.Script = false
-is_plain kinds.Shell = true
-is_plain kinds.Timestamp = false
-is_plain kinds.Unix = true
-is_plain kinds.Windows = true
-is_plain kinds.WorkingDirectory = false
+abbrev pub takes_no_arguments : AttributeKind → Bool
+takes_no_arguments kinds.Android = true
+takes_no_arguments kinds.Arg = false
+takes_no_arguments kinds.Cache = false
+takes_no_arguments kinds.Confirm = false
+takes_no_arguments kinds.Continue = false
+takes_no_arguments kinds.Default = true
+takes_no_arguments kinds.Doc = false
+takes_no_arguments kinds.Dragonfly = true
+takes_no_arguments kinds.Env = false
+takes_no_arguments kinds.ExitMessage = true
+takes_no_arguments kinds.Extension = false
+takes_no_arguments kinds.Freebsd = true
+takes_no_arguments kinds.Group = false
+takes_no_arguments kinds.Linux = true
+takes_no_arguments kinds.Macos = true
+takes_no_arguments kinds.Metadata = false
+takes_no_arguments kinds.Netbsd = true
+takes_no_arguments kinds.NoCd = true
+takes_no_arguments kinds.NoExitMessage = true
+takes_no_arguments kinds.NoQuiet = true
+takes_no_arguments kinds.Openbsd = true
+takes_no_arguments kinds.Parallel = true
+takes_no_arguments kinds.PositionalArguments = true
+takes_no_arguments kinds.Private = true
+takes_no_arguments kinds.Script = false
+takes_no_arguments kinds.Shell = true
+takes_no_arguments kinds.Timestamp = false
+takes_no_arguments kinds.Unix = true
+takes_no_arguments kinds.Windows = true
+takes_no_arguments kinds.WorkingDirectory = false
 
 -- a `continue` attribute from the literals that name its signals, or the broken rule
 abbrev pub continue_made : List (Quoted Leaf) → Made Token (Attribute Leaf Token)

@@ -11,7 +11,7 @@ ghost use Rattle.justfile_expression.specs.LeafViews.{views_leaves};
 ghost use Rattle.justfile_expression.specs.LeafTree.{leaf_tree_of};
 ghost use Rattle.justfile_attribute.specs.Attribute.{leaf_attribute_of};
 ghost use Rattle.justfile_attribute.specs.Cached.{cache_of, cache_read};
-ghost use Rattle.justfile_attribute.specs.New.{IsCounted, HasDerivedAttributeFields, continue_made, has_no_own_rules, is_plain, values_of, with_known};
+ghost use Rattle.justfile_attribute.specs.New.{IsCounted, HasDerivedAttributeFields, continue_made, has_no_own_rules, takes_no_arguments, values_of, with_known};
 ghost use Rattle.justfile_attribute_rules.specs.ArgumentRules.{AreNamed, rules_of};
 ghost use Rattle.justfile_attribute_rules.specs.Keys.{AreKeyed, IsTaken, key_arguments};
 ghost use Rattle.justfile_attribute_rules.specs.KeywordArguments.{keys_of};
@@ -208,7 +208,7 @@ fn of_plain_literals<'src>(
 
 /// Returns an attribute that takes no arguments.
 fn plain<'src>(kind: AttributeKind) -> Attribute<'src>
-    requires { IsTrue (is_plain kind) }
+    requires { IsTrue (takes_no_arguments kind) }
     ensures made { leaf_attribute_of result ≡ tree.Plain kind }
     ensures fields { HasDerivedAttributeFields result }
 {

@@ -14,8 +14,7 @@ use justfile_attribute_set::AttributeSet;
 use justfile_expression::{put_piece, put_piece_if};
 use justfile_line::{Line, is_printable, write_line};
 use justfile_recipe_header::{
-    Parameter, UnresolvedDependency, write_dependencies, write_parameters,
-    write_subsequents,
+    Parameter, UnresolvedDependency, write_dependencies, write_parameters, write_subsequents,
 };
 use justfile_token::{Keyed, Name, Sink, clone_all, copy_optional_text};
 use justfile_vocabulary::{Indentation, Number};

@@ -8,7 +8,7 @@ pub mod Negations
 pub mod NextKinds
 pub mod Operators
 pub mod Parts
-pub mod Plain
+pub mod SimpleValues
 pub mod Lengths
 pub mod Rest
 pub mod Rows

@@ -13,8 +13,8 @@ ghost use Rattle.justfile_parse_expression.specs.ParsedResults.{Parses};
 ghost use Rattle.justfile_expression.specs.LeafTree.{Literal, literal_of, leaf_tree_of};
 
 use crate::expression_error::{ExpressionError, LiteralError};
-use crate::parser::ExpressionParser;
 use crate::significant::SignificantToken;
+use crate::token_cursor::TokenCursor;
 use crate::value::make_format_string;
 use justfile_expression::Expression;
 use justfile_literal::{command, format_part, string_literal, verbatim_text};
@@ -22,7 +22,7 @@ use justfile_token::{Expander, Fault, StringKind, StringLiteral};
 use justfile_vocabulary::{FormatStringPart, Keyword, TokenKind};
 use std::alloc::Global;
 
-impl<'run, 'src, X: Expander> ExpressionParser<'run, 'src, X> {
+impl<'run, 'src, X: Expander> TokenCursor<'run, 'src, X> {
     ghost use Rattle.justfile_parse_expression.specs.View.{Moves, state_of};
 
     /// Parses a literal, if one comes next.

@@ -17,14 +17,14 @@ ghost use Rattle.justfile_expression.specs.LeafTree.{Literal, Named, format_stri
 use crate::expression_error::{ExpressionError, SyntaxError};
 use crate::feature::find_function_feature;
 use crate::literal::find_kind;
-use crate::parser::ExpressionParser;
 use crate::significant::SignificantToken;
+use crate::token_cursor::TokenCursor;
 use justfile_expression::{Expression, ListFeature};
 use justfile_model::Level;
 use justfile_token::{Expander, Name, StringLiteral, Token};
 use justfile_vocabulary::{FormatStringPart, Keyword, TokenKind};
 
-impl<'run, 'src, X: Expander> ExpressionParser<'run, 'src, X> {
+impl<'run, 'src, X: Expander> TokenCursor<'run, 'src, X> {
     ghost use Rattle.justfile_parse_expression.specs.View.{tokens_left, state_of};
 
     /// Parses what can be on either side of an operator: a value after `!`, or a value without
@@ -41,7 +41,7 @@ impl<'run, 'src, X: Expander> ExpressionParser<'run, 'src, X> {
             reader.value }
         ensures progress { OnOk result (tokens_left self.new < tokens_left self.old) }
     {
-        if self.is_plain() {
+        if self.is_simple_value() {
             return self.parse_name();
         }
         self.parse_any_value()

@@ -15,7 +15,7 @@ use crate::namepath::parse_namepath;
 use justfile_expression::Expression;
 use justfile_parse_attribute::{ParseError, rule_error};
 use justfile_parse_expression::significant::SignificantToken;
-use justfile_parse_expression::{ExpressionError, ExpressionParser, SyntaxError};
+use justfile_parse_expression::{ExpressionError, SyntaxError, TokenCursor};
 use justfile_recipe_header::{DependencyArgument, UnresolvedDependency};
 use justfile_token::{CompileErrorKind, Expander, Fault};
 use justfile_vocabulary::TokenKind;
@@ -33,7 +33,7 @@ pub(crate) struct ReadArgument<'src> {
 /// `dependencies`.
 #[tactic(auto, using(crate::proofs::Dependencies::subsequents_none))]
 pub(crate) fn parse_subsequents<'src, X: Expander>(
-    parser: &mut ExpressionParser<'_, 'src, X>,
+    parser: &mut TokenCursor<'_, 'src, X>,
     dependencies: &mut Vec<UnresolvedDependency<'src>>,
 ) -> Result<(), ParseError<'src>>
     ensures reads { ParsesRuled X.answer
@@ -55,7 +55,7 @@ pub(crate) fn parse_subsequents<'src, X: Expander>(
 /// Parses dependencies up to a token that doesn't begin one, and appends them to `dependencies`.
 #[tactic(auto, using(crate::proofs::Dependencies::dependencies_end, crate::proofs::Dependencies::dependencies_go_on))]
 pub(crate) fn parse_dependencies<'src, X: Expander>(
-    parser: &mut ExpressionParser<'_, 'src, X>,
+    parser: &mut TokenCursor<'_, 'src, X>,
     dependencies: &mut Vec<UnresolvedDependency<'src>>,
 ) -> Result<(), ParseError<'src>>
     ensures reads { ParsesRuled X.answer
@@ -73,7 +73,7 @@ pub(crate) fn parse_dependencies<'src, X: Expander>(
 }
 
 /// Whether a dependency begins with the next token.
-fn begins_dependency<X: Expander>(parser: &ExpressionParser<'_, '_, X>) -> bool
+fn begins_dependency<X: Expander>(parser: &TokenCursor<'_, '_, X>) -> bool
     ensures { result ≡ reader.begins_dependency (state_of X.answer parser.now) }
 {
     parser.peek_kinds(&[TokenKind::Identifier])
@@ -85,7 +85,7 @@ fn begins_dependency<X: Expander>(parser: &ExpressionParser<'_, '_, X>) -> bool
 /// precede.
 #[tactic(auto, using(justfile_parse_attribute::proofs::AttributeSteps::broken_first), unfolding(justfile_model::specs::HeaderReader::dependency))]
 fn parse_dependency<'src, X: Expander>(
-    parser: &mut ExpressionParser<'_, 'src, X>,
+    parser: &mut TokenCursor<'_, 'src, X>,
 ) -> Result<UnresolvedDependency<'src>, ParseError<'src>>
     ensures reads { ParsesRuled X.answer dependency_tree result parser.old parser.new
         reader.dependency }
@@ -103,7 +103,7 @@ fn parse_dependency<'src, X: Expander>(
 /// Parses a dependency without arguments.
 #[tactic(auto, unfolding(justfile_model::specs::HeaderReader::bare_dependency))]
 fn parse_bare<'src, X: Expander>(
-    parser: &mut ExpressionParser<'_, 'src, X>,
+    parser: &mut TokenCursor<'_, 'src, X>,
 ) -> Result<UnresolvedDependency<'src>, ExpressionError<'src>>
     ensures reads { Parses X.answer dependency_tree result parser.old parser.new
         reader.bare_dependency }
@@ -119,7 +119,7 @@ fn parse_bare<'src, X: Expander>(
 /// Parses a path and its arguments in parentheses, after the star before them, if there is one.
 #[tactic(auto, using(justfile_parse_attribute::proofs::AttributeSteps::broken_first), unfolding(justfile_model::specs::HeaderReader::parenthesized))]
 fn parse_parenthesized<'src, X: Expander>(
-    parser: &mut ExpressionParser<'_, 'src, X>,
+    parser: &mut TokenCursor<'_, 'src, X>,
     star: Option<SignificantToken<'src>>,
 ) -> Result<UnresolvedDependency<'src>, ParseError<'src>>
     ensures reads { ParsesRuled X.answer dependency_tree result parser.old parser.new
@@ -137,7 +137,7 @@ fn parse_parenthesized<'src, X: Expander>(
 /// Parses arguments, which nothing separates, and the closing parenthesis.
 #[tactic(auto, using(crate::proofs::Dependencies::arguments_end, crate::proofs::Dependencies::arguments_go_on))]
 fn parse_arguments<'src, X: Expander>(
-    parser: &mut ExpressionParser<'_, 'src, X>,
+    parser: &mut TokenCursor<'_, 'src, X>,
 ) -> Result<Vec<ReadArgument<'src>>, ParseError<'src>>
     ensures reads { ParsesRuled X.answer (λ arguments. map read_argument arguments.items) result
         parser.old parser.new (λ s. reader.dependency_arguments ([], s)) }
@@ -156,7 +156,7 @@ fn parse_arguments<'src, X: Expander>(
 /// Parses an argument with or without a star, after those in `before`.
 #[tactic(auto, unfolding(justfile_model::specs::HeaderReader::dependency_argument))]
 fn parse_argument<'src, X: Expander>(
-    parser: &mut ExpressionParser<'_, 'src, X>,
+    parser: &mut TokenCursor<'_, 'src, X>,
     before: &[ReadArgument<'src>],
 ) -> Result<ReadArgument<'src>, ParseError<'src>>
     ensures reads { ParsesRuled X.answer read_argument result parser.old parser.new
@@ -172,7 +172,7 @@ fn parse_argument<'src, X: Expander>(
 /// Parses an argument without a star.
 #[tactic(auto, unfolding(justfile_model::specs::HeaderReader::plain_argument))]
 fn parse_plain<'src, X: Expander>(
-    parser: &mut ExpressionParser<'_, 'src, X>,
+    parser: &mut TokenCursor<'_, 'src, X>,
 ) -> Result<ReadArgument<'src>, ExpressionError<'src>>
     ensures reads { Parses X.answer read_argument result parser.old parser.new
         reader.plain_argument }
@@ -185,7 +185,7 @@ fn parse_plain<'src, X: Expander>(
 /// Parses an argument after its star. Refuses the star if it is the second.
 #[tactic(auto, using(justfile_parse_attribute::proofs::AttributeSteps::broken_first), unfolding(justfile_model::specs::HeaderReader::starred_argument))]
 fn parse_starred<'src, X: Expander>(
-    parser: &mut ExpressionParser<'_, 'src, X>,
+    parser: &mut TokenCursor<'_, 'src, X>,
     before: &[ReadArgument<'src>],
     star: SignificantToken<'src>,
 ) -> Result<ReadArgument<'src>, ParseError<'src>>

@@ -15,7 +15,7 @@ use crate::options::{check_options, note_arg_attributes};
 use crate::parameter::parse_parameters;
 use justfile_attribute_set::AttributeSet;
 use justfile_parse_attribute::ParseError;
-use justfile_parse_expression::ExpressionParser;
+use justfile_parse_expression::TokenCursor;
 use justfile_parse_expression::significant::SignificantToken;
 use justfile_recipe_header::{Parameter, UnresolvedDependency};
 use justfile_token::Expander;
@@ -41,7 +41,7 @@ pub struct Header<'src> {
 /// The tokens aren't a header, a rule is broken, or memory or numbers run out.
 pub fn parse_header<'src, X: Expander>(
     attributes: &AttributeSet<'src>,
-    parser: &mut ExpressionParser<'_, 'src, X>,
+    parser: &mut TokenCursor<'_, 'src, X>,
     numerator: &mut Numerator,
 ) -> Result<Header<'src>, ParseError<'src>>
     requires { AreKeyed (attributes_of attributes.now) }

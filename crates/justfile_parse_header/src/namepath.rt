@@ -5,7 +5,7 @@ ghost use Rattle.justfile_parse_expression.specs.View.{tokens_left};
 ghost use Rattle.justfile_parse_header.specs.HeaderTable as reader;
 ghost use Rattle.justfile_parse_header.specs.Tree.{path_tree};
 
-use justfile_parse_expression::{ExpressionError, ExpressionParser};
+use justfile_parse_expression::{ExpressionError, TokenCursor};
 use justfile_token::{Expander, Name, Namepath};
 use justfile_vocabulary::TokenKind;
 
@@ -16,7 +16,7 @@ use justfile_vocabulary::TokenKind;
 /// The tokens are refused, or memory runs out.
 #[tactic(auto, using(crate::proofs::Paths::path_begins, crate::proofs::Paths::path_ends, crate::proofs::Paths::path_goes_on))]
 pub fn parse_namepath<'src, X: Expander>(
-    parser: &mut ExpressionParser<'_, 'src, X>,
+    parser: &mut TokenCursor<'_, 'src, X>,
 ) -> Result<Namepath<'src>, ExpressionError<'src>>
     ensures reads { Parses X.answer path_tree result parser.old parser.new reader.path }
     ensures progress { OnOk result (tokens_left parser.new < tokens_left parser.old) }

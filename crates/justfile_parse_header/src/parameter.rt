@@ -25,7 +25,7 @@ use justfile_attribute::Attribute;
 use justfile_attribute_set::AttributeSet;
 use justfile_expression::Expression;
 use justfile_parse_attribute::{ParseError, rule_error};
-use justfile_parse_expression::{ExpressionError, ExpressionParser};
+use justfile_parse_expression::{ExpressionError, TokenCursor};
 use justfile_recipe_header::{Parameter, ParameterKind};
 use justfile_token::{CompileErrorKind, Expander, Fault, Name, Token};
 use justfile_vocabulary::{Numerator, TokenKind};
@@ -35,7 +35,7 @@ use std::alloc::Global;
 #[tactic(auto, unfolding(justfile_model::specs::HeaderReader::parameters))]
 pub(crate) fn parse_parameters<'src, X: Expander>(
     attributes: &AttributeSet<'src>,
-    parser: &mut ExpressionParser<'_, 'src, X>,
+    parser: &mut TokenCursor<'_, 'src, X>,
     numerator: &mut Numerator,
 ) -> Result<Vec<Parameter<'src>>, ParseError<'src>>
     requires { AreKeyed (attributes_of attributes.now) }
@@ -61,7 +61,7 @@ pub(crate) fn parse_parameters<'src, X: Expander>(
 /// Parses parameters that take one argument, and appends them to `parameters`.
 fn parse_singulars<'src, X: Expander>(
     arg_attributes: &ArgAttributes<'_, 'src>,
-    parser: &mut ExpressionParser<'_, 'src, X>,
+    parser: &mut TokenCursor<'_, 'src, X>,
     numerator: &mut Numerator,
     parameters: &mut ReadParameters<'src>,
 ) -> Result<(), ParseError<'src>>
@@ -93,7 +93,7 @@ fn parse_singulars<'src, X: Expander>(
 }
 
 /// Whether the next token begins a parameter that takes one argument.
-fn begins_parameter<X: Expander>(parser: &ExpressionParser<'_, '_, X>) -> bool
+fn begins_parameter<X: Expander>(parser: &TokenCursor<'_, '_, X>) -> bool
     ensures { result ≡ reader.begins_parameter (state_of X.answer parser.now) }
 {
     parser.peek_kinds(&[TokenKind::Identifier]) || parser.peek_kinds(&[TokenKind::Dollar])
@@ -104,7 +104,7 @@ fn begins_parameter<X: Expander>(parser: &ExpressionParser<'_, '_, X>) -> bool
 #[tactic(auto, unfolding(justfile_model::specs::HeaderReader::last_parameter))]
 fn parse_last<'src, X: Expander>(
     arg_attributes: &ArgAttributes<'_, 'src>,
-    parser: &mut ExpressionParser<'_, 'src, X>,
+    parser: &mut TokenCursor<'_, 'src, X>,
     numerator: &mut Numerator,
     parameters: &mut ReadParameters<'src>,
 ) -> Result<(), ParseError<'src>>
@@ -146,7 +146,7 @@ fn parse_last<'src, X: Expander>(
 #[tactic(auto, unfolding(justfile_model::specs::HeaderReader::variadic))]
 fn parse_variadic<'src, X: Expander>(
     arg_attributes: &ArgAttributes<'_, 'src>,
-    parser: &mut ExpressionParser<'_, 'src, X>,
+    parser: &mut TokenCursor<'_, 'src, X>,
     numerator: &mut Numerator,
     parameters: &mut ReadParameters<'src>,
     kind: ParameterKind,
@@ -171,7 +171,7 @@ fn parse_variadic<'src, X: Expander>(
 /// Refuses a name after a variadic parameter.
 #[tactic(auto, unfolding(justfile_model::specs::HeaderReader::expect_no_name, justfile_parse_expression::specs::TableReader::leaves))]
 fn expect_no_name<'src, X: Expander>(
-    parser: &ExpressionParser<'_, 'src, X>,
+    parser: &TokenCursor<'_, 'src, X>,
 ) -> Result<(), ParseError<'src>>
     ensures { ReadsRuled (λ _. tt) result (state_of X.answer parser.now)
         (reader.expect_no_name (state_of X.answer parser.now)) }
@@ -194,7 +194,7 @@ fn after_variadic_error<'src>(name: Token<'src>) -> Fault<'src>
 /// Parses a parameter with or without `$` before it, and appends it to `parameters`.
 fn parse_parameter<'src, X: Expander>(
     arg_attributes: &ArgAttributes<'_, 'src>,
-    parser: &mut ExpressionParser<'_, 'src, X>,
+    parser: &mut TokenCursor<'_, 'src, X>,
     numerator: &mut Numerator,
     parameters: &mut ReadParameters<'src>,
     kind: ParameterKind,
@@ -221,7 +221,7 @@ fn parse_parameter<'src, X: Expander>(
 /// Parses a parameter from its name on, and appends it to `parameters`.
 fn parse_named<'src, X: Expander>(
     arg_attributes: &ArgAttributes<'_, 'src>,
-    parser: &mut ExpressionParser<'_, 'src, X>,
+    parser: &mut TokenCursor<'_, 'src, X>,
     numerator: &mut Numerator,
     parameters: &mut ReadParameters<'src>,
     kind: ParameterKind,
@@ -267,7 +267,7 @@ fn parse_named<'src, X: Expander>(
 /// Parses the default value of a parameter, if `=` comes next.
 #[tactic(auto, unfolding(justfile_model::specs::HeaderReader::default_value))]
 fn parse_default<'src, X: Expander>(
-    parser: &mut ExpressionParser<'_, 'src, X>,
+    parser: &mut TokenCursor<'_, 'src, X>,
 ) -> Result<Option<Box<Expression<'src>>>, ExpressionError<'src>>
     ensures reads { Parses X.answer value_tree result parser.old parser.new reader.default_value }
     ensures progress { OnOk result (tokens_left parser.new ≤ tokens_left parser.old) }

@@ -3,16 +3,13 @@ ghost use Rattle.std.specs.Prelude.{◌≡◌, ◌≤◌};
 ghost use Rattle.justfile_parse_item.specs.ItemTable as reader;
 ghost use Rattle.justfile_parse_expression.specs.View.{tokens_left, state_of};
 
-use justfile_parse_expression::ExpressionParser;
+use justfile_parse_expression::TokenCursor;
 use justfile_token::Expander;
 use justfile_vocabulary::TokenKind;
 
 /// Takes the next token if it is of this kind, and returns whether it is.
 #[tactic(auto, unfolding(justfile_model::specs::ReaderState::accepted))]
-pub(crate) fn accept_kind<X: Expander>(
-    parser: &mut ExpressionParser<'_, '_, X>,
-    kind: TokenKind,
-) -> bool
+pub(crate) fn accept_kind<X: Expander>(parser: &mut TokenCursor<'_, '_, X>, kind: TokenKind) -> bool
     ensures accepts { (result, state_of X.answer parser.new)
         ≡ reader.accepted kind (state_of X.answer parser.old) }
     ensures progress { tokens_left parser.new ≤ tokens_left parser.old }

@@ -14,7 +14,7 @@ use crate::attribute_checks::check_allowed;
 use justfile_attribute::Attribute;
 use justfile_item::{Binding, Item, is_private_item};
 use justfile_parse_attribute::ParseError;
-use justfile_parse_expression::ExpressionParser;
+use justfile_parse_expression::TokenCursor;
 use justfile_parse_header::next_binding_number;
 use justfile_token::{Expander, Name};
 use justfile_vocabulary::{ItemKind, Numerator, TokenKind};
@@ -24,7 +24,7 @@ use justfile_written::Written;
 /// `:=`, and an expression.
 #[tactic(auto, using(crate::proofs::CounterSteps::unmoved, justfile_parse_expression::proofs::Rest::file_depth_is), unfolding(justfile_model::specs::Reader::assignment, justfile_parse_expression::specs::TableReader::leaves))]
 pub(crate) fn parse_assignment<'src, X: Expander>(
-    parser: &mut ExpressionParser<'_, 'src, X>,
+    parser: &mut TokenCursor<'_, 'src, X>,
     eager: bool,
     export: bool,
     attributes: Vec<(Attribute<'src>, Written<'src>)>,

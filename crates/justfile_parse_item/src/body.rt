@@ -10,7 +10,7 @@ ghost use Rattle.justfile_parse_expression.specs.View.{tokens_left, state_of};
 
 use justfile_line::{Fragment, Line};
 use justfile_parse_expression::significant::SignificantToken;
-use justfile_parse_expression::{ExpressionError, ExpressionParser, SyntaxError};
+use justfile_parse_expression::{ExpressionError, SyntaxError, TokenCursor};
 use justfile_token::Expander;
 use justfile_vocabulary::TokenKind;
 
@@ -21,7 +21,7 @@ pub(crate) type CommentedBody<'src> = (Option<SignificantToken<'src>>, Vec<Line<
 /// neither if the recipe has no body.
 #[tactic(auto, using(crate::proofs::Bodies::body_at_once, crate::proofs::Bodies::body_commented, crate::proofs::Bodies::body_missing))]
 pub(crate) fn parse_body_after_header<'src, X: Expander>(
-    parser: &mut ExpressionParser<'_, 'src, X>,
+    parser: &mut TokenCursor<'_, 'src, X>,
 ) -> Result<CommentedBody<'src>, ExpressionError<'src>>
     ensures reads { Parses X.answer (λ b. (b.0, map line_tree b.1.items)) result
         parser.old parser.new reader.optional_body }
@@ -44,7 +44,7 @@ pub(crate) fn parse_body_after_header<'src, X: Expander>(
 /// one.
 #[tactic(auto, unfolding(justfile_model::specs::Reader::body_after))]
 fn parse_body_after<'src, X: Expander>(
-    parser: &mut ExpressionParser<'_, 'src, X>,
+    parser: &mut TokenCursor<'_, 'src, X>,
     comment: Option<SignificantToken<'src>>,
 ) -> Result<CommentedBody<'src>, ExpressionError<'src>>
     ensures reads { Parses X.answer (λ b. (b.0, map line_tree b.1.items)) result
@@ -59,7 +59,7 @@ fn parse_body_after<'src, X: Expander>(
 /// isn't empty.
 #[tactic(auto, using(crate::proofs::Bodies::body_some, crate::proofs::Bodies::body_none))]
 fn parse_body<'src, X: Expander>(
-    parser: &mut ExpressionParser<'_, 'src, X>,
+    parser: &mut TokenCursor<'_, 'src, X>,
 ) -> Result<Vec<Line<'src>>, ExpressionError<'src>>
     ensures reads { Parses X.answer (λ lines. map line_tree lines.items) result
         parser.old parser.new reader.body }
@@ -76,7 +76,7 @@ fn parse_body<'src, X: Expander>(
 /// Parses the lines of a body, and its end.
 #[tactic(auto, using(crate::proofs::Bodies::lines_end, crate::proofs::Bodies::lines_go_on, crate::proofs::Bodies::line_shrinks, crate::proofs::Bodies::lines_stop))]
 fn parse_lines<'src, X: Expander>(
-    parser: &mut ExpressionParser<'_, 'src, X>,
+    parser: &mut TokenCursor<'_, 'src, X>,
 ) -> Result<Vec<Line<'src>>, ExpressionError<'src>>
     ensures reads { Parses X.answer (λ lines. map line_tree lines.items) result
         parser.old parser.new reader.lines }
@@ -96,7 +96,7 @@ fn parse_lines<'src, X: Expander>(
 /// Parses a line of a body.
 #[tactic(auto, unfolding(justfile_model::specs::Reader::body_line))]
 fn parse_body_line<'src, X: Expander>(
-    parser: &mut ExpressionParser<'_, 'src, X>,
+    parser: &mut TokenCursor<'_, 'src, X>,
 ) -> Result<Line<'src>, ExpressionError<'src>>
     ensures reads { Parses X.answer line_tree result parser.old parser.new reader.body_line }
     ensures progress { OnOk result (tokens_left parser.new ≤ tokens_left parser.old) }
@@ -109,7 +109,7 @@ fn parse_body_line<'src, X: Expander>(
 /// Returns the line of the source that the next token begins on, counted from 0, or 0 if no token
 /// is left.
 #[tactic(auto, unfolding(justfile_parse_expression::specs::TableReader::leaves))]
-fn peek_line<X: Expander>(parser: &ExpressionParser<'_, '_, X>) -> usize
+fn peek_line<X: Expander>(parser: &TokenCursor<'_, '_, X>) -> usize
     ensures { result ≡ reader.line_at (state_of X.answer parser.now).left }
 {
     match parser.peek_front() {
@@ -121,7 +121,7 @@ fn peek_line<X: Expander>(parser: &ExpressionParser<'_, '_, X>) -> usize
 /// Parses the rest of a line of a body. Takes the end of the line, but not the end of the body.
 #[tactic(auto, using(crate::proofs::Bodies::line_ends, crate::proofs::Bodies::line_left, crate::proofs::Bodies::line_goes_on, crate::proofs::Bodies::line_stops))]
 fn parse_line_rest<'src, X: Expander>(
-    parser: &mut ExpressionParser<'_, 'src, X>,
+    parser: &mut TokenCursor<'_, 'src, X>,
 ) -> Result<Vec<Fragment<'src>>, ExpressionError<'src>>
     ensures reads { Parses X.answer (λ fragments. map fragment_tree fragments.items) result
         parser.old parser.new reader.line_rest }
@@ -144,7 +144,7 @@ fn parse_line_rest<'src, X: Expander>(
 /// Parses a text, or an expression between `{{` and `}}`.
 #[tactic(auto, using(crate::proofs::Bodies::fragment_is))]
 fn parse_fragment<'src, X: Expander>(
-    parser: &mut ExpressionParser<'_, 'src, X>,
+    parser: &mut TokenCursor<'_, 'src, X>,
 ) -> Result<Fragment<'src>, ExpressionError<'src>>
     ensures reads { Parses X.answer fragment_tree result parser.old parser.new reader.fragment }
     ensures progress { OnOk result (tokens_left parser.new < tokens_left parser.old) }

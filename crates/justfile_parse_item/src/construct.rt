@@ -22,7 +22,7 @@ use crate::source::{parse_import, parse_module};
 use justfile_attribute::Attribute;
 use justfile_item::Item;
 use justfile_parse_attribute::{ParseError, parse_attributes, rule_error};
-use justfile_parse_expression::ExpressionParser;
+use justfile_parse_expression::TokenCursor;
 use justfile_parse_item_parts::{Lookahead, accept_keyword_before, peek_assignment};
 use justfile_token::Expander;
 use justfile_vocabulary::{Keyword, Numerator, TokenKind};
@@ -43,7 +43,7 @@ pub(crate) enum ConstructKeyword {
 /// Parses a construct with its attributes. Requires that no expression is open.
 #[tactic(auto, using(crate::proofs::CounterSteps::unmoved), unfolding(justfile_model::specs::Reader::construct))]
 pub(crate) fn parse_construct<'src, X: Expander>(
-    parser: &mut ExpressionParser<'_, 'src, X>,
+    parser: &mut TokenCursor<'_, 'src, X>,
     numerator: &mut Numerator,
 ) -> Result<Item<'src>, ParseError<'src>>
     requires { (state_of X.answer parser.old).depth ≡ 0 }
@@ -61,7 +61,7 @@ pub(crate) fn parse_construct<'src, X: Expander>(
 /// Parses the attributes before a construct. Refuses them if a blank line or a comment follows.
 #[tactic(auto, unfolding(justfile_model::specs::Reader::attributes))]
 fn parse_item_attributes<'src, X: Expander>(
-    parser: &mut ExpressionParser<'_, 'src, X>,
+    parser: &mut TokenCursor<'_, 'src, X>,
 ) -> Result<Vec<(Attribute<'src>, Written<'src>)>, ParseError<'src>>
     ensures reads { ParsesRuled X.answer (λ pairs. map entry_of_pair pairs.items) result
         parser.old parser.new reader.item_attributes }
@@ -79,7 +79,7 @@ fn parse_item_attributes<'src, X: Expander>(
 }
 
 /// Whether a blank line or a comment comes next.
-fn stands_alone<X: Expander>(parser: &ExpressionParser<'_, '_, X>) -> bool
+fn stands_alone<X: Expander>(parser: &TokenCursor<'_, '_, X>) -> bool
     ensures { result ≡ reader.stands_alone (state_of X.answer parser.now) }
 {
     parser.peek_kinds(&[TokenKind::Eol]) || parser.peek_kinds(&[TokenKind::Comment])
@@ -88,7 +88,7 @@ fn stands_alone<X: Expander>(parser: &ExpressionParser<'_, '_, X>) -> bool
 /// Parses a construct after its attributes.
 #[tactic(auto, using(crate::proofs::ConstructKeywords::content_after_keyword, crate::proofs::ConstructKeywords::content_without_keyword))]
 fn parse_content<'src, X: Expander>(
-    parser: &mut ExpressionParser<'_, 'src, X>,
+    parser: &mut TokenCursor<'_, 'src, X>,
     attributes: Vec<(Attribute<'src>, Written<'src>)>,
     numerator: &mut Numerator,
 ) -> Result<Item<'src>, ParseError<'src>>
@@ -110,7 +110,7 @@ fn parse_content<'src, X: Expander>(
 /// ordinary name unless what follows it fits.
 #[tactic(auto, unfolding(crate::specs::ConstructKeywords::keyword_taken))]
 fn accept_construct_keyword<X: Expander>(
-    parser: &mut ExpressionParser<'_, '_, X>,
+    parser: &mut TokenCursor<'_, '_, X>,
 ) -> Option<ConstructKeyword>
     ensures takes { Takes result (state_of X.answer parser.new)
         (keyword_taken (state_of X.answer parser.old)) }
@@ -141,7 +141,7 @@ fn accept_construct_keyword<X: Expander>(
 /// Parses a construct after its attributes and this keyword.
 fn parse_after_keyword<'src, X: Expander>(
     keyword: ConstructKeyword,
-    parser: &mut ExpressionParser<'_, 'src, X>,
+    parser: &mut TokenCursor<'_, 'src, X>,
     attributes: Vec<(Attribute<'src>, Written<'src>)>,
     numerator: &mut Numerator,
 ) -> Result<Item<'src>, ParseError<'src>>
@@ -168,7 +168,7 @@ fn parse_after_keyword<'src, X: Expander>(
 /// Parses a construct without a keyword, after its attributes.
 #[tactic(auto, unfolding(justfile_model::specs::Reader::without_keyword))]
 fn parse_without_keyword<'src, X: Expander>(
-    parser: &mut ExpressionParser<'_, 'src, X>,
+    parser: &mut TokenCursor<'_, 'src, X>,
     attributes: Vec<(Attribute<'src>, Written<'src>)>,
     numerator: &mut Numerator,
 ) -> Result<Item<'src>, ParseError<'src>>

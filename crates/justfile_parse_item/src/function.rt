@@ -14,7 +14,7 @@ use crate::attribute_checks::check_allowed;
 use justfile_attribute::Attribute;
 use justfile_item::{FunctionDefinition, Item};
 use justfile_parse_attribute::ParseError;
-use justfile_parse_expression::ExpressionParser;
+use justfile_parse_expression::TokenCursor;
 use justfile_parse_item_parts::parse_parameter_names;
 use justfile_token::{Expander, Name};
 use justfile_vocabulary::{ItemKind, Numerator, TokenKind};
@@ -24,7 +24,7 @@ use justfile_written::Written;
 /// `:=`, and an expression.
 #[tactic(auto, using(crate::proofs::CounterSteps::unmoved), unfolding(justfile_model::specs::Reader::function, justfile_parse_expression::specs::TableReader::leaves))]
 pub(crate) fn parse_function<'src, X: Expander>(
-    parser: &mut ExpressionParser<'_, 'src, X>,
+    parser: &mut TokenCursor<'_, 'src, X>,
     attributes: Vec<(Attribute<'src>, Written<'src>)>,
     numerator: &mut Numerator,
 ) -> Result<Item<'src>, ParseError<'src>>

@@ -22,7 +22,7 @@ ghost use Rattle.justfile_parse_expression.specs.View.{tokens_left, state_of};
 use crate::construct::parse_construct;
 use justfile_item::Item;
 use justfile_parse_attribute::ParseError;
-use justfile_parse_expression::{ExpressionError, ExpressionParser, SyntaxError};
+use justfile_parse_expression::{ExpressionError, SyntaxError, TokenCursor};
 use justfile_token::{Expander, Token};
 use justfile_vocabulary::{Numerator, TokenKind};
 use std::alloc::AllocError;
@@ -35,7 +35,7 @@ use std::alloc::AllocError;
 /// has reached its maximum and a number is needed, or if memory runs out.
 #[tactic(auto, using(crate::proofs::Loop::moved, crate::proofs::Loop::moved_on))]
 pub fn parse_items<'src, X: Expander>(
-    parser: &mut ExpressionParser<'_, 'src, X>,
+    parser: &mut TokenCursor<'_, 'src, X>,
     numerator: &mut Numerator,
 ) -> Result<Vec<Item<'src>>, ParseError<'src>>
     requires { (state_of X.answer parser.old).depth ≡ 0 }
@@ -58,7 +58,7 @@ pub fn parse_items<'src, X: Expander>(
 /// Refuses tokens after the end of the file.
 #[tactic(auto, unfolding(crate::specs::ItemTable::read_nothing, justfile_model::specs::ReaderState::refused))]
 fn expect_nothing<'src, X: Expander>(
-    parser: &ExpressionParser<'_, 'src, X>,
+    parser: &TokenCursor<'_, 'src, X>,
 ) -> Result<(), ExpressionError<'src>>
     ensures { Reads (λ nothing. nothing) result (state_of X.answer parser.now)
         (reader.read_nothing (state_of X.answer parser.now)) }
@@ -73,7 +73,7 @@ fn expect_nothing<'src, X: Expander>(
 /// is open.
 #[tactic(auto, using(crate::proofs::Lines::line_blank, crate::proofs::CounterSteps::unmoved, crate::proofs::DerivedItemFields::newline_fields))]
 fn parse_line<'src, X: Expander>(
-    parser: &mut ExpressionParser<'_, 'src, X>,
+    parser: &mut TokenCursor<'_, 'src, X>,
     items: &mut Vec<Item<'src>>,
     numerator: &mut Numerator,
 ) -> Result<(), ParseError<'src>>
@@ -99,7 +99,7 @@ fn parse_line<'src, X: Expander>(
 /// Parses an item that begins a line. Requires that no expression is open.
 #[tactic(auto, using(crate::proofs::CounterSteps::unmoved), unfolding(justfile_model::specs::Reader::any_item, justfile_parse_expression::specs::TableReader::leaves))]
 fn parse_item<'src, X: Expander>(
-    parser: &mut ExpressionParser<'_, 'src, X>,
+    parser: &mut TokenCursor<'_, 'src, X>,
     numerator: &mut Numerator,
 ) -> Result<Item<'src>, ParseError<'src>>
     requires { (state_of X.answer parser.old).depth ≡ 0 }
@@ -120,7 +120,7 @@ fn parse_item<'src, X: Expander>(
 /// already, so there the line end is added without a token.
 #[tactic(auto, using(crate::proofs::Lines::ended_body, crate::proofs::Lines::ended_after, crate::proofs::DerivedItemFields::newline_fields))]
 fn parse_item_end<'src, X: Expander>(
-    parser: &mut ExpressionParser<'_, 'src, X>,
+    parser: &mut TokenCursor<'_, 'src, X>,
     has_body: bool,
     items: &mut Vec<Item<'src>>,
 ) -> Result<(), ExpressionError<'src>>
@@ -140,7 +140,7 @@ fn parse_item_end<'src, X: Expander>(
 /// the line.
 #[tactic(auto, using(crate::proofs::Lines::after_comment, crate::proofs::Lines::after_bare))]
 fn parse_after_item<'src, X: Expander>(
-    parser: &mut ExpressionParser<'_, 'src, X>,
+    parser: &mut TokenCursor<'_, 'src, X>,
     items: &mut Vec<Item<'src>>,
 ) -> Result<(), ExpressionError<'src>>
     ensures reads { Parses X.answer (λ _. map item_tree items.new.items) result
@@ -161,7 +161,7 @@ fn parse_after_item<'src, X: Expander>(
 /// doesn't take.
 #[tactic(auto, using(crate::proofs::Lines::line_end_closes, crate::proofs::Lines::line_end_newline, crate::proofs::DerivedItemFields::newline_fields, crate::proofs::DerivedItemFields::same_fields))]
 fn parse_line_end<'src, X: Expander>(
-    parser: &mut ExpressionParser<'_, 'src, X>,
+    parser: &mut TokenCursor<'_, 'src, X>,
     items: &mut Vec<Item<'src>>,
 ) -> Result<(), ExpressionError<'src>>
     ensures reads { Parses X.answer (λ _. map item_tree items.new.items) result

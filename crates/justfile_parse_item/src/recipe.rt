@@ -22,7 +22,7 @@ use justfile_attribute_set::AttributeSet;
 use justfile_item::{UnresolvedRecipe, is_private_item};
 use justfile_line::Line;
 use justfile_parse_attribute::{ParseError, comment_text};
-use justfile_parse_expression::{ExpressionError, ExpressionParser};
+use justfile_parse_expression::{ExpressionError, TokenCursor};
 use justfile_parse_header::parse_header;
 use justfile_token::{Expander, Name};
 use justfile_vocabulary::{AttributeKind, Number, Numerator, TokenKind};
@@ -31,7 +31,7 @@ use justfile_written::Written;
 /// Parses a recipe after its attributes, with or without `@` before its name.
 #[tactic(auto, using(crate::proofs::Recipes::any_recipe_is))]
 pub(crate) fn parse_any_recipe<'src, X: Expander>(
-    parser: &mut ExpressionParser<'_, 'src, X>,
+    parser: &mut TokenCursor<'_, 'src, X>,
     attributes: Vec<(Attribute<'src>, Written<'src>)>,
     numerator: &mut Numerator,
 ) -> Result<UnresolvedRecipe<'src>, ParseError<'src>>
@@ -51,7 +51,7 @@ pub(crate) fn parse_any_recipe<'src, X: Expander>(
 /// comment before the body. The recipe gets its number after its body.
 #[tactic(auto, using(crate::proofs::CounterSteps::unmoved, crate::proofs::Constructs::set_fields))]
 fn parse_recipe<'src, X: Expander>(
-    parser: &mut ExpressionParser<'_, 'src, X>,
+    parser: &mut TokenCursor<'_, 'src, X>,
     attributes: Vec<(Attribute<'src>, Written<'src>)>,
     quiet: bool,
     numerator: &mut Numerator,

@@ -11,7 +11,7 @@ use crate::attribute_checks::check_allowed;
 use justfile_attribute::Attribute;
 use justfile_item::{Alias, Item, Set};
 use justfile_parse_attribute::ParseError;
-use justfile_parse_expression::ExpressionParser;
+use justfile_parse_expression::TokenCursor;
 use justfile_parse_header::parse_namepath;
 use justfile_parse_item_parts::{parse_setting_value, setting_keyword};
 use justfile_token::{Expander, Name};
@@ -21,7 +21,7 @@ use justfile_written::Written;
 /// Parses an alias after its attributes and `alias`: a name, `:=`, and the path of a recipe.
 #[tactic(auto, unfolding(crate::specs::MethodResults::ReadsUncounted, justfile_model::specs::Reader::alias, justfile_parse_expression::specs::TableReader::leaves))]
 pub(crate) fn parse_alias<'src, X: Expander>(
-    parser: &mut ExpressionParser<'_, 'src, X>,
+    parser: &mut TokenCursor<'_, 'src, X>,
     attributes: Vec<(Attribute<'src>, Written<'src>)>,
 ) -> Result<Item<'src>, ParseError<'src>>
     requires { HaveDerivedPairFields attributes.items }
@@ -45,7 +45,7 @@ pub(crate) fn parse_alias<'src, X: Expander>(
 /// Parses a setting after its attributes and `set`: its name and its value.
 #[tactic(auto, unfolding(crate::specs::MethodResults::ReadsUncounted, justfile_model::specs::Reader::setting, justfile_parse_expression::specs::TableReader::leaves))]
 pub(crate) fn parse_set<'src, X: Expander>(
-    parser: &mut ExpressionParser<'_, 'src, X>,
+    parser: &mut TokenCursor<'_, 'src, X>,
     attributes: Vec<(Attribute<'src>, Written<'src>)>,
 ) -> Result<Item<'src>, ParseError<'src>>
     requires { HaveDerivedPairFields attributes.items }
@@ -69,7 +69,7 @@ pub(crate) fn parse_set<'src, X: Expander>(
 /// Parses an `unexport` after its attributes and the keyword: a name.
 #[tactic(auto, unfolding(crate::specs::MethodResults::ReadsUncounted, justfile_model::specs::Reader::unexport, justfile_parse_expression::specs::TableReader::leaves))]
 pub(crate) fn parse_unexport<'src, X: Expander>(
-    parser: &mut ExpressionParser<'_, 'src, X>,
+    parser: &mut TokenCursor<'_, 'src, X>,
     attributes: Vec<(Attribute<'src>, Written<'src>)>,
 ) -> Result<Item<'src>, ParseError<'src>>
     requires { HaveDerivedPairFields attributes.items }

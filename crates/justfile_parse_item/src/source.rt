@@ -12,7 +12,7 @@ use crate::attribute_checks::check_allowed;
 use justfile_attribute::Attribute;
 use justfile_item::Item;
 use justfile_parse_attribute::ParseError;
-use justfile_parse_expression::ExpressionParser;
+use justfile_parse_expression::TokenCursor;
 use justfile_parse_item_parts::{parse_file_path, parse_optional_path};
 use justfile_token::{Expander, Name};
 use justfile_vocabulary::{ItemKind, TokenKind};
@@ -21,7 +21,7 @@ use justfile_written::Written;
 /// Parses an import after its attributes and `import`: `?` if it is optional, and a path.
 #[tactic(auto, unfolding(crate::specs::MethodResults::ReadsUncounted, justfile_model::specs::Reader::import))]
 pub(crate) fn parse_import<'src, X: Expander>(
-    parser: &mut ExpressionParser<'_, 'src, X>,
+    parser: &mut TokenCursor<'_, 'src, X>,
     attributes: Vec<(Attribute<'src>, Written<'src>)>,
 ) -> Result<Item<'src>, ParseError<'src>>
     requires { HaveDerivedPairFields attributes.items }
@@ -38,7 +38,7 @@ pub(crate) fn parse_import<'src, X: Expander>(
 /// Parses the path of an import.
 #[tactic(auto, unfolding(crate::specs::MethodResults::ReadsUncounted, justfile_model::specs::Reader::imported, justfile_parse_expression::specs::TableReader::leaves))]
 fn parse_imported<'src, X: Expander>(
-    parser: &mut ExpressionParser<'_, 'src, X>,
+    parser: &mut TokenCursor<'_, 'src, X>,
     optional: bool,
     attributes: Vec<(Attribute<'src>, Written<'src>)>,
 ) -> Result<Item<'src>, ParseError<'src>>
@@ -62,7 +62,7 @@ fn parse_imported<'src, X: Expander>(
 /// has one.
 #[tactic(auto, unfolding(crate::specs::MethodResults::ReadsUncounted, justfile_model::specs::Reader::any_module))]
 pub(crate) fn parse_module<'src, X: Expander>(
-    parser: &mut ExpressionParser<'_, 'src, X>,
+    parser: &mut TokenCursor<'_, 'src, X>,
     attributes: Vec<(Attribute<'src>, Written<'src>)>,
 ) -> Result<Item<'src>, ParseError<'src>>
     requires { HaveDerivedPairFields attributes.items }
@@ -79,7 +79,7 @@ pub(crate) fn parse_module<'src, X: Expander>(
 /// Parses the name of a module, and its path if it has one.
 #[tactic(auto, unfolding(crate::specs::MethodResults::ReadsUncounted, justfile_model::specs::Reader::named_module, justfile_parse_expression::specs::TableReader::leaves))]
 fn parse_named_module<'src, X: Expander>(
-    parser: &mut ExpressionParser<'_, 'src, X>,
+    parser: &mut TokenCursor<'_, 'src, X>,
     optional: bool,
     attributes: Vec<(Attribute<'src>, Written<'src>)>,
 ) -> Result<Item<'src>, ParseError<'src>>

@@ -12,7 +12,7 @@ ghost use Rattle.justfile_parse_item_parts.specs.Parts.{optional_path_tree, path
 use crate::errors::expected_keyword_error;
 use justfile_parse_attribute::{ParseError, rule_error};
 use justfile_parse_expression::significant::SignificantToken;
-use justfile_parse_expression::{ExpressionError, ExpressionParser, SyntaxError, is_word};
+use justfile_parse_expression::{ExpressionError, SyntaxError, TokenCursor, is_word};
 use justfile_token::{Expander, StringLiteral};
 use justfile_vocabulary::{Keyword, TokenKind};
 
@@ -23,7 +23,7 @@ use justfile_vocabulary::{Keyword, TokenKind};
 /// The tokens are refused, a literal has no text, or memory runs out.
 #[tactic(auto, using(justfile_parse_attribute::proofs::AttributeSteps::broken_first), unfolding(justfile_model::specs::PartReader::optional_path))]
 pub fn parse_optional_path<'src, X: Expander>(
-    parser: &mut ExpressionParser<'_, 'src, X>,
+    parser: &mut TokenCursor<'_, 'src, X>,
 ) -> Result<Option<StringLiteral<'src>>, ParseError<'src>>
     ensures reads { ParsesRuled X.answer optional_path_tree result parser.old parser.new
         reader.optional_path }
@@ -43,7 +43,7 @@ pub fn parse_optional_path<'src, X: Expander>(
 /// The tokens are refused, a literal has no text, or memory runs out.
 #[tactic(auto, using(justfile_parse_attribute::proofs::AttributeSteps::broken_first, crate::proofs::FilePaths::path_is))]
 pub fn parse_file_path<'src, X: Expander>(
-    parser: &mut ExpressionParser<'_, 'src, X>,
+    parser: &mut TokenCursor<'_, 'src, X>,
 ) -> Result<(SignificantToken<'src>, StringLiteral<'src>), ParseError<'src>>
     ensures reads { ParsesRuled X.answer path_tree result parser.old parser.new reader.file_path }
     ensures progress { OnOk result (tokens_left parser.new < tokens_left parser.old) }
@@ -55,7 +55,7 @@ pub fn parse_file_path<'src, X: Expander>(
 }
 
 /// Whether a path comes next, with or without a mark.
-fn begins_path<X: Expander>(parser: &ExpressionParser<'_, '_, X>) -> bool
+fn begins_path<X: Expander>(parser: &TokenCursor<'_, '_, X>) -> bool
     ensures { result ≡ reader.begins_path (state_of X.answer parser.now) }
 {
     parser.peek_kinds(&[TokenKind::StringToken])
@@ -66,7 +66,7 @@ fn begins_path<X: Expander>(parser: &ExpressionParser<'_, '_, X>) -> bool
 /// identifier.
 #[tactic(auto, using(crate::proofs::Refused::errs), unfolding(justfile_model::specs::PartReader::expansion_mark, justfile_parse_expression::specs::TableReader::leaves))]
 fn parse_mark<'src, X: Expander>(
-    parser: &mut ExpressionParser<'_, 'src, X>,
+    parser: &mut TokenCursor<'_, 'src, X>,
 ) -> Result<bool, ParseError<'src>>
     ensures reads { ParsesRuled X.answer (λ expand. expand) result parser.old parser.new
         reader.expansion_mark }
@@ -88,7 +88,7 @@ fn parse_mark<'src, X: Expander>(
 /// Takes the next token, which has to be a string.
 #[tactic(auto, unfolding(justfile_model::specs::ReaderState::expect))]
 fn expect_string<'run, 'src, X: Expander>(
-    parser: &mut ExpressionParser<'run, 'src, X>,
+    parser: &mut TokenCursor<'run, 'src, X>,
 ) -> Result<&'run SignificantToken<'src>, ExpressionError<'src>>
     ensures reads { Parses X.answer (λ entry. entry.now) result parser.old parser.new
         (table.expect kinds.StringToken) }

@@ -6,7 +6,7 @@ ghost use Rattle.justfile_parse_item_parts.specs.PartTable as reader;
 ghost use Rattle.justfile_parse_item_parts.specs.Parts.{numbered_leaves};
 
 use justfile_parse_attribute::{ParseError, parse_separator};
-use justfile_parse_expression::ExpressionParser;
+use justfile_parse_expression::TokenCursor;
 use justfile_parse_header::next_binding_number;
 use justfile_token::{Expander, Name};
 use justfile_vocabulary::{Number, Numerator, TokenKind};
@@ -17,7 +17,7 @@ use justfile_vocabulary::{Number, Numerator, TokenKind};
 ///
 /// The tokens are refused, or memory or numbers run out.
 pub fn parse_parameter_names<'src, X: Expander>(
-    parser: &mut ExpressionParser<'_, 'src, X>,
+    parser: &mut TokenCursor<'_, 'src, X>,
     numerator: &mut Numerator,
 ) -> Result<Vec<(Name<'src>, Number)>, ParseError<'src>>
     ensures reads { ParsesCounted X.answer (λ parameters. numbered_leaves parameters.items) result
@@ -39,7 +39,7 @@ pub fn parse_parameter_names<'src, X: Expander>(
 /// their end.
 #[tactic(auto, using(justfile_parse_attribute::proofs::AttributeSteps::broken_first), unfolding(crate::specs::PartTable::names_step))]
 fn parse_next_name<'src, X: Expander>(
-    parser: &mut ExpressionParser<'_, 'src, X>,
+    parser: &mut TokenCursor<'_, 'src, X>,
     numerator: &mut Numerator,
     parameters: &mut Vec<(Name<'src>, Number)>,
 ) -> Result<bool, ParseError<'src>>
@@ -62,7 +62,7 @@ fn parse_next_name<'src, X: Expander>(
 /// Parses a name, gives it a number, and appends it to `parameters`.
 #[tactic(auto, unfolding(crate::specs::PartTable::one_name, justfile_model::specs::PartReader::numbered_name))]
 fn parse_numbered_name<'src, X: Expander>(
-    parser: &mut ExpressionParser<'_, 'src, X>,
+    parser: &mut TokenCursor<'_, 'src, X>,
     numerator: &mut Numerator,
     parameters: &mut Vec<(Name<'src>, Number)>,
 ) -> Result<(), ParseError<'src>>

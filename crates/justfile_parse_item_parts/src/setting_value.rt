@@ -20,7 +20,7 @@ use justfile_attribute::Interpreter;
 use justfile_expression::Expression;
 use justfile_parse_attribute::{ParseError, rule_error};
 use justfile_parse_expression::significant::SignificantToken;
-use justfile_parse_expression::{ExpressionError, ExpressionParser, SyntaxError, is_word};
+use justfile_parse_expression::{ExpressionError, SyntaxError, TokenCursor, is_word};
 use justfile_setting::{Setting, SettingForm, setting_form};
 use justfile_token::Expander;
 use justfile_vocabulary::{Keyword, TokenKind};
@@ -50,7 +50,7 @@ pub fn setting_keyword<'src>(
 ///
 /// The tokens are refused, a literal has no text, the value breaks a rule, or memory runs out.
 pub fn parse_setting_value<'src, X: Expander>(
-    parser: &mut ExpressionParser<'_, 'src, X>,
+    parser: &mut TokenCursor<'_, 'src, X>,
     name: &SignificantToken<'src>,
     keyword: Keyword,
 ) -> Result<Setting<'src>, ParseError<'src>>
@@ -72,7 +72,7 @@ pub fn parse_setting_value<'src, X: Expander>(
 /// Parses a setting that takes a boolean.
 #[tactic(auto, using(justfile_parse_attribute::proofs::AttributeSteps::broken_first))]
 fn parse_truth_setting<'src, X: Expander>(
-    parser: &mut ExpressionParser<'_, 'src, X>,
+    parser: &mut TokenCursor<'_, 'src, X>,
     keyword: Keyword,
 ) -> Result<Setting<'src>, ParseError<'src>>
     requires { forms.setting_form keyword ≡ Some forms.TruthForm }
@@ -88,7 +88,7 @@ fn parse_truth_setting<'src, X: Expander>(
 /// Parses the value of a boolean setting: nothing, which means true, or `:=` and a boolean.
 #[tactic(auto, unfolding(justfile_model::specs::PartReader::truth))]
 fn parse_truth<'src, X: Expander>(
-    parser: &mut ExpressionParser<'_, 'src, X>,
+    parser: &mut TokenCursor<'_, 'src, X>,
 ) -> Result<bool, ParseError<'src>>
     ensures reads { ParsesRuled X.answer tree.Truth result parser.old parser.new reader.truth }
     ensures progress { OnOk result (tokens_left parser.new ≤ tokens_left parser.old) }
@@ -120,7 +120,7 @@ fn find_truth<'src>(alloc: Global, word: &SignificantToken<'src>) -> Result<bool
 /// Parses a setting that takes an expression.
 #[tactic(auto, unfolding(justfile_model::specs::PartReader::expression_value))]
 fn parse_expression_setting<'src, X: Expander>(
-    parser: &mut ExpressionParser<'_, 'src, X>,
+    parser: &mut TokenCursor<'_, 'src, X>,
     keyword: Keyword,
 ) -> Result<Setting<'src>, ParseError<'src>>
     requires { forms.setting_form keyword ≡ Some forms.ExpressionForm }
@@ -137,7 +137,7 @@ fn parse_expression_setting<'src, X: Expander>(
 
 /// Parses a setting that takes a command with its arguments.
 fn parse_interpreter_setting<'src, X: Expander>(
-    parser: &mut ExpressionParser<'_, 'src, X>,
+    parser: &mut TokenCursor<'_, 'src, X>,
     keyword: Keyword,
 ) -> Result<Setting<'src>, ParseError<'src>>
     requires { forms.setting_form keyword ≡ Some forms.InterpreterForm }
@@ -155,7 +155,7 @@ fn parse_interpreter_setting<'src, X: Expander>(
 /// Parses a command with its arguments, in brackets.
 #[tactic(auto, using(crate::proofs::SettingSteps::interpreter_is))]
 fn parse_interpreter<'src, X: Expander>(
-    parser: &mut ExpressionParser<'_, 'src, X>,
+    parser: &mut TokenCursor<'_, 'src, X>,
 ) -> Result<Box<Interpreter<Expression<'src>>>, ExpressionError<'src>>
     ensures reads { Parses X.answer interpreter_tree result parser.old parser.new
         reader.interpreter }
@@ -172,7 +172,7 @@ fn parse_interpreter<'src, X: Expander>(
 /// Parses a command with its arguments, after the opening bracket.
 #[tactic(auto, unfolding(crate::specs::PartTable::command_from))]
 fn parse_command<'src, X: Expander>(
-    parser: &mut ExpressionParser<'_, 'src, X>,
+    parser: &mut TokenCursor<'_, 'src, X>,
 ) -> Result<Box<Interpreter<Expression<'src>>>, ExpressionError<'src>>
     ensures reads { Parses X.answer interpreter_tree result parser.old parser.new
         reader.command_from }
@@ -202,7 +202,7 @@ fn make_interpreter<'src>(
 /// Parses a setting that takes a plain literal.
 #[tactic(auto, using(crate::proofs::SettingSteps::plain_is))]
 fn parse_plain_setting<'src, X: Expander>(
-    parser: &mut ExpressionParser<'_, 'src, X>,
+    parser: &mut TokenCursor<'_, 'src, X>,
     name: &SignificantToken<'src>,
     keyword: Keyword,
 ) -> Result<Setting<'src>, ParseError<'src>>
@@ -220,7 +220,7 @@ fn parse_plain_setting<'src, X: Expander>(
 
 /// Refuses a keyword that isn't the name of a setting, once `:=` is taken.
 fn refuse_setting<'src, X: Expander>(
-    parser: &mut ExpressionParser<'_, 'src, X>,
+    parser: &mut TokenCursor<'_, 'src, X>,
     name: &SignificantToken<'src>,
 ) -> Result<Setting<'src>, ParseError<'src>>
     ensures reads { ParsesRuled X.answer leaf_value_of result parser.old parser.new

@@ -101,9 +101,9 @@ fn push_library(answer: &mut Answer, source: &str, streams: &Streams<'_>) {
 
 /// Writes the run of a row, in which the input, a stream or nothing fails.
 pub(crate) fn runs(answer: &mut Answer, word: Word, fields: &[String]) {
-    let is_plain = word == Word::Run;
-    let name = if is_plain { "" } else { field_at(fields, 0) };
-    let arguments_place = if is_plain { 0 } else { 2 };
+    let is_run = word == Word::Run;
+    let name = if is_run { "" } else { field_at(fields, 0) };
+    let arguments_place = if is_run { 0 } else { 2 };
     let input = if name == "encoding" {
         b"\xff"
     } else {
@@ -113,7 +113,7 @@ pub(crate) fn runs(answer: &mut Answer, word: Word, fields: &[String]) {
     streams.fail(name, number_at(fields, 1), MOST_BYTES);
     let listed = field_at(fields, arguments_place);
     push_run(answer, listed, &mut streams);
-    if is_plain && listed.is_empty() {
+    if is_run && listed.is_empty() {
         push_library(answer, field_at(fields, 1), &streams);
     }
 }

@@ -127,11 +127,11 @@ impl Answer {
 
 /// Whether a field needs no quotes.
 fn is_word(field: &str) -> bool {
-    !field.is_empty() && field.chars().all(is_plain)
+    !field.is_empty() && field.chars().all(is_word_character)
 }
 
 /// Whether a character of a field needs neither quotes nor an escape.
-fn is_plain(character: char) -> bool {
+fn is_word_character(character: char) -> bool {
     !matches!(character, ' ' | '\t' | '\n' | '\r' | '\\') && !is_unseen(character)
 }
 

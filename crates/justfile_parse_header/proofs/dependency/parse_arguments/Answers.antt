@@ -4,7 +4,7 @@ use Rattle.justfile_vocabulary.specs.declared.token_kind.TokenKind.TheVariants a
 use Rattle.justfile_parse_attribute.specs.ParseErrors.{IsParseError}
 use Rattle.justfile_parse_expression.specs.TableReader.{accept}
 use Rattle.justfile_parse_expression.specs.View.{state_of}
-use Rattle.justfile_parse_expression.specs.declared.parser.ExpressionParser.{ExpressionParser}
+use Rattle.justfile_parse_expression.specs.declared.token_cursor.TokenCursor.{TokenCursor}
 use Rattle.justfile_parse_header.specs.HeaderTable.{dependency_argument, dependency_arguments}
 use Rattle.justfile_parse_header.specs.Tree.{read_argument}
 use Rattle.justfile_parse_header.specs.declared.dependency.ReadArgument.{ReadArgument}
@@ -20,8 +20,8 @@ returns-in_err-argument-clause-reads g c =
     let error = c.in_err-argument.field-0.0 in
     let left = state_of A c.parse_argument.new.parser in
     let p = err_from_is_err_and c.from_residual.result c.from_residual.ensures.1 in
-    let P : ExpressionParser _ → Type 0 = λ p. dependency_arguments (map read_argument done, state_of A p) ≡ dependency_arguments ([], s) in
-    let Q : ExpressionParser _ → Type 0 = λ p. accept kinds.ParenR (state_of A p) ≡ None in
+    let P : TokenCursor _ → Type 0 = λ p. dependency_arguments (map read_argument done, state_of A p) ≡ dependency_arguments ([], s) in
+    let Q : TokenCursor _ → Type 0 = λ p. accept kinds.ParenR (state_of A p) ≡ None in
     let R : List ReadArgument → Type 0 = λ l. IsParseError error left ⊥ (dependency_argument (map read_argument l) q) in
     let here = sym c.in_default.ensures.moves in
     rw (p.1, p.2)

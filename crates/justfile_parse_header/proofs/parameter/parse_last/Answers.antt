@@ -1,7 +1,7 @@
 use Rattle.std.proofs.Common.{subst}
 use Rattle.justfile_vocabulary.specs.declared.token_kind.TokenKind.TheVariants as kinds
 use Rattle.justfile_parse_expression.specs.View.{state_of}
-use Rattle.justfile_parse_expression.specs.declared.parser.ExpressionParser.{ExpressionParser}
+use Rattle.justfile_parse_expression.specs.declared.token_cursor.TokenCursor.{TokenCursor}
 use Rattle.justfile_parse_header.specs.Counting.{TookBindingNumbers, identifiers_left, identifiers_left_after}
 use Rattle.justfile_parse_header.specs.Tree.{rules_of}
 use Rattle.justfile_parse_header.proofs.BindingNumbers.{took_after_token}
@@ -19,7 +19,7 @@ returns-in-Some-accept-clause-numbers g c =
     let A = g.X.Expander.answer in
     let call = c.parse_variadic-in-Some-accept in
     let following = identifiers_left_after call.result (state_of A call.new.parser) in
-    let P : ExpressionParser _ → Type 0 = λ p. TookBindingNumbers c.args.numerator.now call.new.numerator (identifiers_left (state_of A p)) following in
+    let P : TokenCursor _ → Type 0 = λ p. TookBindingNumbers c.args.numerator.now call.new.numerator (identifiers_left (state_of A p)) following in
     subst P c.in_default.ensures.moves
     (took_after_token c.args.numerator.now call.new.numerator kinds.Asterisk (state_of A c.accept.new.self) (c.in-Some-accept._star.now, state_of A c.accept-2.new.self) following
     c.in-Some-accept.ensures.takes call.ensures.numbers)

@@ -1,7 +1,7 @@
 use Rattle.std.proofs.Common.{◌∙◌, false, ap, map, sym}
 use Rattle.justfile_vocabulary.specs.declared.token_kind.TokenKind.TheVariants as kinds
 use Rattle.justfile_parse_expression.specs.View.{state_of}
-use Rattle.justfile_parse_expression.specs.declared.parser.ExpressionParser.{ExpressionParser}
+use Rattle.justfile_parse_expression.specs.declared.token_cursor.TokenCursor.{TokenCursor}
 use Rattle.justfile_parse_header.specs.Counting.{counters_of, identifiers_left_after}
 use Rattle.justfile_parse_header.specs.HeaderTable as reader
 use Rattle.justfile_parse_header.specs.Tree.{parameter_tree, rules_of}
@@ -29,5 +29,5 @@ returns-in-None-clause-reads g c =
     let x : reader.Parameters = (map parameter_tree c.args.parameters.now.list.items, counters_of c.args.numerator.now) in
     let here =
     unexported rules c.args.kind x (state_of A c.args.parser.now) c.in-None.ensures.takes
-    ∙ ap (λ (p : ExpressionParser _). reader.named_parameter rules c.args.kind false x (state_of A p)) (sym c.in-None.ensures.moves) in
+    ∙ ap (λ (p : TokenCursor _). reader.named_parameter rules c.args.kind false x (state_of A p)) (sym c.in-None.ensures.moves) in
     rw here c.parse_named-in-None.ensures.reads

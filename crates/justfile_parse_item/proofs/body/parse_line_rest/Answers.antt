@@ -6,7 +6,7 @@ use Rattle.justfile_parse_expression.specs.TableReader.{accept}
 use Rattle.justfile_parse_item.specs.ItemTable.{line_rest}
 use Rattle.justfile_parse_item.specs.Tree.{fragment_tree}
 use Rattle.justfile_parse_expression.specs.View.{state_of}
-use Rattle.justfile_parse_expression.specs.declared.parser.ExpressionParser.{ExpressionParser}
+use Rattle.justfile_parse_expression.specs.declared.token_cursor.TokenCursor.{TokenCursor}
 use Rattle.justfile_parse_item.proofs.Bodies.{begins, line_stops}
 use Rattle.justfile_parse_item.proofs.body.parse_line_rest.Goals as goal
 
@@ -20,8 +20,8 @@ returns-in_err-fragment-clause-reads g c =
     let A = g.X.Expander.answer in
     let done = c.fragments.fragments.items in
     let p = err_from_is_err_and c.from_residual.result c.from_residual.ensures.1 in
-    let P : ExpressionParser _ → Type 0 = λ q. prepend (map fragment_tree done) (line_rest (state_of A q)) ≡ line_rest (state_of A c.args.parser.now) in
-    let Q : ExpressionParser _ → Type 0 = λ q. accept kinds.Eol (state_of A q) ≡ None in
+    let P : TokenCursor _ → Type 0 = λ q. prepend (map fragment_tree done) (line_rest (state_of A q)) ≡ line_rest (state_of A c.args.parser.now) in
+    let Q : TokenCursor _ → Type 0 = λ q. accept kinds.Eol (state_of A q) ≡ None in
     let here = sym c.in_default.ensures.moves in
     rw (p.1, p.2)
     (line_stops (state_of A c.args.parser.now) (state_of A c.accept.new.self) done (subst P here c.fragments.invariant.value) (subst Q here c.in_default.ensures.takes) (sym c.if-peek_kinds.ensures.is)

@@ -1,0 +1,16 @@
+use Rattle.std.proofs.Common.{◌≡◌, length}
+use Rattle.justfile_parse_expression.specs.Chains.{link_of, row_closed, row_tree}
+use Rattle.justfile_model.specs.ExpressionReader.{closed}
+use Rattle.justfile_expression.specs.LeafTree.{leaf_tree_of}
+use Rattle.justfile_parse_expression.specs.View.{tokens_left, state_of}
+use Rattle.justfile_parse_expression.proofs.token_cursor.TokenCursor.join_row.Given as goal
+
+abbrev pub invariant-loop-link : goal.invariant-loop-link
+invariant-loop-link g l = record {
+  tree : row_tree l.row.items (leaf_tree_of l.whole.value) ≡ row_tree l.fn.row.items (link_of l.fn.link (leaf_tree_of l.fn.last.value));
+  state : row_closed l.level l.row.items (state_of g.X.Expander.answer l.self) ≡ row_closed l.level l.fn.row.items (closed l.level (closed l.level (state_of g.X.Expander.answer l.fn.self)));
+  stays : tokens_left l.self ≡ tokens_left l.fn.self;
+}
+
+abbrev pub decreases-loop-link : goal.decreases-loop-link
+decreases-loop-link g l = length l.row.items

@@ -1,0 +1,451 @@
+//! The parser, and how it takes tokens.
+ghost use Rattle.std.specs.Option.{is_some};
+ghost use Rattle.std.specs.Prelude.{◌≡◌, ◌<◌, ◌≤◌, ◌+◌, ℕ, false, List, None, drop, length, map, IsTrue, IfOk, OnOk, OnSome, IfSome};
+ghost use Rattle.std.specs.List.{list_all};
+ghost use Rattle.justfile_vocabulary.specs.Keyword.{keyword_text};
+ghost use Rattle.justfile_vocabulary.specs.declared.token_kind.TokenKind.TheVariants as kinds;
+ghost use Rattle.justfile_model.specs.Expressions.{front};
+ghost use Rattle.justfile_parse_expression.specs.Conditions.{conditions_of};
+ghost use Rattle.justfile_parse_expression.specs.FormatStrings.{AreEnded, IsTable, prop_ended};
+ghost use Rattle.justfile_parse_expression.specs.Literal.{IsOf, is_sound};
+ghost use Rattle.justfile_parse_expression.specs.SimpleValues.{begins_simple_value, is_markable};
+ghost use Rattle.justfile_model.specs.ReaderState.{at, is_word, marks};
+ghost use Rattle.justfile_model.specs.Versions.{version_numbers};
+ghost use Rattle.justfile_parse_expression.specs.TableReader as reader;
+ghost use Rattle.justfile_parse_expression.specs.MethodResults.{Peeks, Reads, TakesEntry};
+ghost use Rattle.justfile_parse_expression.specs.Significant.{significant_of};
+
+use crate::expected_tokens::ExpectedTokens;
+use crate::expression_error::{ExpressionError, SyntaxError};
+use crate::significant::SignificantToken;
+use justfile_expression::ListFeature;
+use justfile_token::{Expander, Token};
+use justfile_vocabulary::{Keyword, TokenKind, Version};
+use std::alloc::Global;
+
+/// Reads a table of significant tokens from left to right.
+///
+/// The beginning of a method's name says what it does with the next tokens: `peek_` and `probe_`
+/// look at them and take none, `accept_` takes what the name says if it comes next, `expect_` takes
+/// it and refuses anything else, and `parse_` parses a construct, or returns why it can't.
+///
+/// If `peek_if`, `peek_kinds`, `accept` or `expect` don't find the kind of token that they look
+/// for, they add it to `expected_tokens`. `probe_if`, `probe_kinds` and `accept_unrecorded` add
+/// nothing, nor do the methods for keywords, marks and operators.
+#[derive(Drop)]
+pub struct TokenCursor<'run, 'src, X> {
+    pub alloc: Global,
+    /// The version of `just` that is running.
+    pub(crate) current: Version,
+    /// How many expressions are open: begun, and not yet ended.
+    pub(crate) depth: usize,
+    pub(crate) expander: &'run X,
+    /// How many imports and modules lie between the file and the root.
+    pub file_depth: u32,
+    /// The byte offsets of the imports that lead to this file, the outermost first.
+    pub import_offsets: &'run [usize],
+    /// How many expressions may be nested in one another.
+    pub(crate) limit: usize,
+    /// The uses of features that need the setting `lists`, each with its token, in order.
+    pub list_features: Vec<(ListFeature, Token<'src>)>,
+    /// The index of the next token.
+    pub(crate) next: usize,
+    pub tokens: &'run [SignificantToken<'src>],
+    /// The kinds that were looked for at the next token and not found.
+    pub expected_tokens: ExpectedTokens,
+    ghost within: { next ≤ length tokens.now },
+    ghost shallow: { depth ≤ limit },
+    ghost nonempty: { 0 < length tokens.now },
+    ghost sound: { IsTrue (list_all is_sound tokens.now) },
+    ghost ended: { AreEnded (map significant_of tokens.now) } by { prop_ended (map significant_of tokens.now) },
+}
+
+impl<'run, 'src, X: Expander> TokenCursor<'run, 'src, X> {
+    ghost use Rattle.justfile_parse_expression.specs.View.{Moves, tokens_left, state_from, state_of};
+
+    /// Returns a parser at the first token of a table, with no expression open, and up to `limit`
+    /// nested expressions allowed.
+    #[tactic(auto, using(crate::proofs::Rest::begin_is), unfolding(crate::specs::View::state_of))]
+    pub fn new(
+        alloc: Global,
+        current: Version,
+        expander: &'run X,
+        file_depth: u32,
+        import_offsets: &'run [usize],
+        tokens: &'run [SignificantToken<'src>],
+        limit: usize,
+    ) -> Self
+        requires { IsTable tokens.now }
+        ensures { state_of X.answer result ≡ reader.begin (record {
+          conditions = conditions_of X.answer expander.now current limit;
+          table = tokens.now;
+          file_depth = file_depth;
+          import_offsets = import_offsets.now;
+        }) }
+    {
+        TokenCursor {
+            alloc,
+            current,
+            depth: 0,
+            expander,
+            file_depth,
+            import_offsets,
+            limit,
+            list_features: Vec::new(alloc),
+            next: 0,
+            tokens,
+            expected_tokens: ExpectedTokens::new(),
+        }
+    }
+
+    /// Returns the version of `just` that is running.
+    #[tactic(auto, unfolding(crate::specs::View::state_at, crate::specs::View::state_of))]
+    pub fn current(&self) -> Version
+        ensures { (state_of X.answer self.now).run.conditions.current ≡ version_numbers result }
+    {
+        self.current
+    }
+
+    /// Returns the next token without taking it: `peek`, with a shorter contract for callers that
+    /// need only the token.
+    pub fn peek_front(&self) -> Option<SignificantToken<'src>>
+        ensures { result ≡ front (state_of X.answer self.now).left }
+    {
+        match self.peek() {
+            Some(entry) => Some(*entry),
+            None => None,
+        }
+    }
+
+    /// Returns the next token if it is of this kind, without taking it.
+    pub fn peek_if(&self, kind: TokenKind) -> Option<&'run SignificantToken<'src>>
+        ensures within { OnSome result (self.now.next < length self.now.tokens.now) }
+        ensures takes { TakesEntry result (state_from X.answer self.now (self.now.next + 1))
+            (reader.accept kind (state_of X.answer self.now)) }
+        ensures entry { IfSome result (λ entry. IsOf kind entry.now) }
+    {
+        let Some(entry) = self.probe_if(kind) else {
+            self.expected_tokens.add(kind);
+            return None;
+        };
+        Some(entry)
+    }
+
+    /// Takes the next token if it is this keyword.
+    #[tactic(auto, unfolding(crate::specs::TableReader::leaves, justfile_model::specs::ReaderState::accept_keyword, crate::specs::View::state_of, crate::specs::View::tokens_left))]
+    #[inline(always)]
+    pub fn accept_keyword(&mut self, keyword: Keyword) -> Option<&'run SignificantToken<'src>>
+        ensures takes { TakesEntry result (state_of X.answer self.new)
+            (reader.accept_keyword (keyword_text keyword) (state_of X.answer self.old)) }
+        ensures moves { Moves result self.old self.new }
+        ensures kind { IfSome result (λ entry. entry.now.0.kind ≡ kinds.Identifier) }
+    {
+        let entry = self.peek()?;
+        if is_word(entry, keyword.lexeme()) {
+            self.next += 1;
+            self.expected_tokens.clear();
+            Some(entry)
+        } else {
+            None
+        }
+    }
+
+    /// Whether the next token is this keyword.
+    #[tactic(auto, unfolding(crate::specs::TableReader::leaves, justfile_model::specs::ReaderState::accept_keyword))]
+    #[inline(always)]
+    pub fn peek_keyword(&self, keyword: Keyword) -> bool
+        ensures { result
+            ≡ is_some (reader.accept_keyword (keyword_text keyword) (state_of X.answer self.now)) }
+    {
+        match self.peek() {
+            Some(entry) => is_word(entry, keyword.lexeme()),
+            None => false,
+        }
+    }
+
+    /// Whether the next token begins a value that is neither a literal nor an assertion, and has no
+    /// `!` before it. It can be `false` for such a value.
+    #[tactic(auto, using(crate::proofs::SimpleValues::simple_value_at), unfolding(crate::specs::View::state_of))]
+    #[inline(always)]
+    pub(crate) fn is_simple_value(&self) -> bool
+        ensures { IsTrue result
+            → reader.value (state_of X.answer self.now) ≡ reader.name (state_of X.answer self.now) }
+    {
+        if self.tokens.len() - self.next < 2 {
+            return false;
+        }
+        let first = &self.tokens[self.next];
+        let second = &self.tokens[self.next + 1];
+        begins_simple_value(first, second.0.kind)
+    }
+
+    /// Takes the next token if it is this mark, together with the string of this kind that is glued
+    /// to it, and returns the string. Tests first whether the second token is a string, because it
+    /// rarely is.
+    #[tactic(auto, unfolding(crate::specs::View::state_of, crate::specs::View::tokens_left))]
+    #[inline(always)]
+    pub(crate) fn accept_marked(
+        &mut self,
+        mark: Keyword,
+        kind: TokenKind,
+    ) -> Option<&'run SignificantToken<'src>>
+        ensures takes { TakesEntry result (state_of X.answer self.new)
+            (reader.accept_marked (keyword_text mark) kind (state_of X.answer self.old)) }
+        ensures moves { Moves result self.old self.new }
+        ensures entry { IfSome result (λ entry. IsOf kind entry.now) }
+    {
+        if self.is_second(kind) {
+            return self.take_marked(mark, kind);
+        }
+        None
+    }
+
+    /// Whether the token after the next one is of this kind. If it isn't, no mark precedes such a
+    /// token here.
+    #[tactic(auto, using(crate::proofs::Lengths::unmarked, crate::proofs::Rest::marked_end), unfolding(crate::specs::View::state_of))]
+    #[inline(always)]
+    fn is_second(&self, kind: TokenKind) -> bool
+        ensures { result ≡ false → (word : List ℕ)
+            → reader.accept_marked word kind (state_of X.answer self.now) ≡ None }
+    {
+        if self.tokens.len() - self.next < 2 {
+            return false;
+        }
+        let entry = &self.tokens[self.next + 1];
+        entry.0.kind == kind
+    }
+
+    /// Takes the next token if it is this mark, together with the string of this kind that is glued
+    /// to it, and returns the string.
+    #[tactic(auto, using(crate::proofs::Rest::marked_here, crate::proofs::Rest::marked_end, crate::proofs::Rest::sound_at), unfolding(crate::specs::View::state_of, crate::specs::View::tokens_left))]
+    #[inline(never)]
+    fn take_marked(
+        &mut self,
+        mark: Keyword,
+        kind: TokenKind,
+    ) -> Option<&'run SignificantToken<'src>>
+        ensures takes { TakesEntry result (state_of X.answer self.new)
+            (reader.accept_marked (keyword_text mark) kind (state_of X.answer self.old)) }
+        ensures moves { Moves result self.old self.new }
+        ensures entry { IfSome result (λ entry. IsOf kind entry.now) }
+    {
+        if self.tokens.len() - self.next < 2 {
+            return None;
+        }
+        let first = &self.tokens[self.next];
+        let entry = &self.tokens[self.next + 1];
+        if is_marked(first, mark.lexeme(), entry, kind) {
+            self.next += 2;
+            self.expected_tokens.clear();
+            Some(entry)
+        } else {
+            None
+        }
+    }
+
+    /// Whether the next token is this mark, with a string of this kind glued to it.
+    #[tactic(auto, using(crate::proofs::Rest::marked_is, crate::proofs::Rest::marked_none), unfolding(crate::specs::View::state_of, crate::specs::View::tokens_left))]
+    pub fn peek_marked(&self, mark: Keyword, kind: TokenKind) -> bool
+        ensures { result
+            ≡ is_some (reader.accept_marked (keyword_text mark) kind (state_of X.answer self.now)) }
+    {
+        if self.tokens.len() - self.next < 2 {
+            return false;
+        }
+        let first = &self.tokens[self.next];
+        let entry = &self.tokens[self.next + 1];
+        is_marked(first, mark.lexeme(), entry, kind)
+    }
+
+    /// Takes the next token.
+    ///
+    /// # Errors
+    ///
+    /// The token is of another kind.
+    #[tactic(auto, unfolding(justfile_model::specs::ReaderState::expect))]
+    pub fn expect(
+        &mut self,
+        kind: TokenKind,
+    ) -> Result<&'run SignificantToken<'src>, ExpressionError<'src>>
+        ensures reads { Reads (λ entry. entry.now) result (state_of X.answer self.new)
+            (reader.expect kind (state_of X.answer self.old)) }
+        ensures progress { OnOk result (tokens_left self.new < tokens_left self.old) }
+        ensures kind { IfOk result (λ entry. entry.now.0.kind ≡ kind) }
+    {
+        match self.accept(kind) {
+            Some(entry) => Ok(entry),
+            None => Err(ExpressionError::Refused(SyntaxError::Unexpected)),
+        }
+    }
+
+    /// Takes the next token if it is of this kind.
+    pub fn accept(&mut self, kind: TokenKind) -> Option<&'run SignificantToken<'src>>
+        ensures takes { TakesEntry result (state_of X.answer self.new)
+            (reader.accept kind (state_of X.answer self.old)) }
+        ensures moves { Moves result self.old self.new }
+        ensures entry { IfSome result (λ entry. IsOf kind entry.now) }
+    {
+        let Some(entry) = self.accept_unrecorded(kind) else {
+            self.expected_tokens.add(kind);
+            return None;
+        };
+        Some(entry)
+    }
+
+    /// Takes the next token if it is of this kind. Doesn't add the kind to the expected tokens: the
+    /// caller looks for one of the kinds that a value begins with, and those are added all at once.
+    #[tactic(auto, unfolding(crate::specs::View::state_of, crate::specs::View::tokens_left))]
+    pub(crate) fn accept_unrecorded(
+        &mut self,
+        kind: TokenKind,
+    ) -> Option<&'run SignificantToken<'src>>
+        ensures takes { TakesEntry result (state_of X.answer self.new)
+            (reader.accept kind (state_of X.answer self.old)) }
+        ensures moves { Moves result self.old self.new }
+        ensures entry { IfSome result (λ entry. IsOf kind entry.now) }
+    {
+        let entry = self.probe_if(kind)?;
+        self.next += 1;
+        self.expected_tokens.clear();
+        Some(entry)
+    }
+
+    /// Returns the next token if it is of this kind, without taking it. Doesn't add the kind to the
+    /// expected tokens.
+    #[tactic(auto, unfolding(crate::specs::TableReader::leaves, justfile_model::specs::ReaderState::accept, justfile_model::specs::ReaderState::same_kind))]
+    pub fn probe_if(&self, kind: TokenKind) -> Option<&'run SignificantToken<'src>>
+        ensures within { OnSome result (self.now.next < length self.now.tokens.now) }
+        ensures takes { TakesEntry result (state_from X.answer self.now (self.now.next + 1))
+            (reader.accept kind (state_of X.answer self.now)) }
+        ensures entry { IfSome result (λ entry. IsOf kind entry.now) }
+    {
+        match self.peek() {
+            Some(entry) if entry.0.kind == kind => Some(entry),
+            _ => None,
+        }
+    }
+
+    /// Returns the next token without taking it, or `None` if no token is left.
+    #[tactic(auto, using(crate::proofs::Rest::peeked, crate::proofs::Rest::ended, crate::proofs::Rest::sound_at))]
+    pub(crate) fn peek(&self) -> Option<&'run SignificantToken<'src>>
+        ensures within { OnSome result (self.now.next < length self.now.tokens.now) }
+        ensures peeks { Peeks result (state_of X.answer self.now)
+            (state_from X.answer self.now (self.now.next + 1)) }
+        ensures sound { IfSome result (λ entry. IsTrue (is_sound entry.now)) }
+    {
+        if self.next < self.tokens.len() {
+            Some(&self.tokens[self.next])
+        } else {
+            None
+        }
+    }
+
+    /// Whether the next tokens are of these kinds; takes none. If they aren't, adds the first kind
+    /// to the expected tokens.
+    pub fn peek_kinds(&self, kinds: &[TokenKind]) -> bool
+        ensures is { result ≡ reader.next_are kinds.now (state_of X.answer self.now) }
+        ensures within { IsTrue result → length kinds.now ≤ tokens_left self.now }
+    {
+        if self.probe_kinds(kinds) {
+            return true;
+        }
+        self.add_first(kinds);
+        false
+    }
+
+    /// Adds the first of these kinds to the expected tokens.
+    fn add_first(&self, kinds: &[TokenKind]) {
+        if let Some(kind) = kinds.first() {
+            self.expected_tokens.add(*kind);
+        }
+    }
+
+    /// Whether the next tokens are of these kinds; takes none, and adds none to the expected
+    /// tokens.
+    pub fn probe_kinds(&self, kinds: &[TokenKind]) -> bool
+        ensures is { result ≡ reader.next_are kinds.now (state_of X.answer self.now) }
+        ensures within { IsTrue result → length kinds.now ≤ tokens_left self.now }
+    {
+        let mut next = self.next;
+        for kind in kinds {
+            match self.tokens.get(next) {
+                Some(entry) if entry.0.kind == *kind => next += 1,
+                _ => return false,
+            }
+        }
+        true
+    }
+
+    /// Returns how many tokens are left.
+    #[tactic(auto, unfolding(crate::specs::View::tokens_left))]
+    pub(crate) fn count_left(&self) -> usize
+        ensures { result ≡ tokens_left self.now }
+    {
+        self.tokens.len() - self.next
+    }
+
+    /// Takes `count` tokens.
+    #[tactic(auto, using(crate::proofs::NextKinds::state_skip), unfolding(crate::specs::View::state_of, crate::specs::View::tokens_left))]
+    pub fn skip(&mut self, count: usize)
+        requires { count ≤ tokens_left self.old }
+        ensures rest { state_of X.answer self.new
+            ≡ at (state_of X.answer self.old) (drop count (state_of X.answer self.old).left) }
+        ensures progress { tokens_left self.new ≤ tokens_left self.old }
+    {
+        self.next += count;
+        self.expected_tokens.clear();
+    }
+}
+
+/// Whether the token is a string of this kind that is glued to a mark with this word.
+#[tactic(auto, unfolding(justfile_model::specs::ReaderState::same_kind))]
+pub(crate) fn is_marked(
+    mark: &SignificantToken<'_>,
+    word: &str,
+    entry: &SignificantToken<'_>,
+    kind: TokenKind,
+) -> bool
+    ensures is { result
+        ≡ marks word.now kind (significant_of mark.now) (significant_of entry.now) }
+    ensures kind { IsTrue result → entry.now.0.kind ≡ kind }
+{
+    entry.0.kind == kind && entry.1 && is_word(mark, word)
+}
+
+/// Whether a token with one of this kind after it begins a value that is neither a literal nor an
+/// assertion, and has no `!` before it.
+#[tactic(auto, unfolding(crate::specs::SimpleValues::begins_simple_value, justfile_model::specs::ReaderState::same_kind))]
+#[inline(always)]
+fn begins_simple_value(entry: &SignificantToken<'_>, second: TokenKind) -> bool
+    ensures { result ≡ begins_simple_value entry.now second }
+{
+    let kind = entry.0.kind;
+    if kind == TokenKind::Identifier {
+        return !is_markable(second) && !is_word(entry, Keyword::Assert.lexeme());
+    }
+    kind == TokenKind::ParenL || kind == TokenKind::BracketL
+}
+
+/// Whether the token is this word. Compares the lengths first, because most names differ in length
+/// from the word.
+#[tactic(auto, using(crate::proofs::Lengths::unequal), unfolding(justfile_model::specs::ReaderState::is_word, justfile_model::specs::ReaderState::same_kind))]
+#[inline(always)]
+pub fn is_word(entry: &SignificantToken<'_>, word: &str) -> bool
+    ensures is { result ≡ is_word word.now (significant_of entry.now) }
+    ensures kind { IsTrue result → entry.now.0.kind ≡ kinds.Identifier }
+{
+    if entry.0.kind != TokenKind::Identifier {
+        return false;
+    }
+    let lexeme = entry.0.lexeme();
+    lexeme.len() == word.len() && lexeme == word
+}
+
+/// Whether a token of this kind may have a mark before it.
+#[tactic(auto, unfolding(justfile_model::specs::ReaderState::same_kind))]
+#[inline(always)]
+fn is_markable(kind: TokenKind) -> bool
+    ensures { result ≡ is_markable kind }
+{
+    kind == TokenKind::StringToken || kind == TokenKind::FormatStringStart
+}
