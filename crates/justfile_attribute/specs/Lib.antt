@@ -10,3 +10,4 @@ pub mod Expressions
 pub mod Interpreter
 pub mod InterpreterOrder
 pub mod Interpreters
+pub mod KeyedBounds

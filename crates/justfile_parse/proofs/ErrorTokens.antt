@@ -17,7 +17,7 @@ use Rattle.justfile_model.specs.Tok.{Tok}
 use Rattle.justfile_model.proofs.AlikeRules as alike
 use Rattle.justfile_model.proofs.AlikeRules.{AlikeRule}
 use Rattle.justfile_parse.specs.Errors.{IsUnexpected}
-use Rattle.justfile_parse_attribute.specs.ParseErrors.{IsAfterVariadic, IsExpectedKeyword, IsExtraneous, IsUnknownSetting}
+use Rattle.justfile_parse_base.specs.ParseErrors.{IsAfterVariadic, IsExpectedKeyword, IsExtraneous, IsUnknownSetting}
 use Rattle.justfile_vocabulary.specs.declared.keyword.Keyword.{Keyword}
 
 -- ---- kinds that hold none

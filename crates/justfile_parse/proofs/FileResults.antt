@@ -39,12 +39,12 @@ use Rattle.justfile_model.proofs.Related.{AlikeItems, AlikeNext, Each, ReadError
 use Rattle.justfile_model.proofs.Renumbered.{file_by, whole}
 use Rattle.justfile_token.specs.declared.compile_error_kind.CompileErrorKind.{CompileErrorKind}
 use Rattle.justfile_parse.specs.Errors.{IsAt, IsErrorOf}
-use Rattle.justfile_parse_attribute.specs.ParseErrors.{IsAfterVariadic, IsExpectedKeyword, IsExtraneous, IsUnknownSetting}
-use Rattle.justfile_parse_attribute.specs.ParseErrors.{IsParseError, IsErrorOfRead}
+use Rattle.justfile_parse_base.specs.ParseErrors.{IsAfterVariadic, IsExpectedKeyword, IsExtraneous, IsUnknownSetting}
+use Rattle.justfile_parse_base.specs.ParseErrors.{IsParseError, IsErrorOfRead}
 use Rattle.justfile_parse.specs.ErrorFaults.{IsFaultOfError}
 use Rattle.justfile_parse_item.specs.DerivedFields.{HaveDerivedFields}
-use Rattle.justfile_parse_attribute.specs.declared.parse_error.ParseError.{ParseError}
-use Rattle.justfile_parse_attribute.specs.declared.parse_error.ParseError.TheVariants as errors
+use Rattle.justfile_parse_base.specs.declared.parse_error.ParseError.{ParseError}
+use Rattle.justfile_parse_base.specs.declared.parse_error.ParseError.TheVariants as errors
 use Rattle.justfile_parse_item.specs.Filled.{IsInTable}
 use Rattle.justfile_parse_expression.specs.TableReader as table_reader
 use Rattle.justfile_parse_item.specs.ItemTable as reader
@@ -73,7 +73,7 @@ use Rattle.justfile_parse.proofs.SeenDocs.{items_seen}
 use Rattle.justfile_parse.proofs.SeenItems.{noted_seen}
 use Rattle.justfile_parse.proofs.SeenRules.{same_broken}
 use Rattle.justfile_parse.proofs.Wanting.{header_lacks, naming, recipe_lacks}
-use Rattle.justfile_parse_header.specs.Counting.{counters_of}
+use Rattle.justfile_parse_base.specs.Counting.{counters_of}
 use Rattle.justfile_parse_header.specs.Tree.{parameter_tree}
 
 -- a tree holds as many bindings and recipes whatever stands at its leaves

@@ -30,7 +30,7 @@ use Rattle.justfile_attribute_rules.specs.RuleErrors.{IsKindOfRule}
 use Rattle.justfile_model.specs.Rules as rules
 use Rattle.justfile_model.specs.Rules.{Rule}
 use Rattle.justfile_parse.specs.Errors.{IsErrorOf, IsUnexpected}
-use Rattle.justfile_parse_attribute.specs.ParseErrors.{IsAfterVariadic, IsExpectedKeyword, IsExtraneous, IsUnknownSetting}
+use Rattle.justfile_parse_base.specs.ParseErrors.{IsAfterVariadic, IsExpectedKeyword, IsExtraneous, IsUnknownSetting}
 use Rattle.justfile_model.specs.LexicalFault.{LexicalFault, NotLexical, LexicalError, Here, Unclosed, lexical_fault_of}
 use Rattle.justfile_model.specs.LiteralText.{raw_len}
 use Rattle.justfile_model.specs.Modes.{Mode, head_of, innermost, is_empty, mode, nested}

@@ -26,7 +26,8 @@ use Rattle.justfile_model.proofs.Related.{AlikeDependency, AlikeDependencyArgume
 use Rattle.justfile_parse_item.specs.Filled.{IsFilledArgument, IsFilledDependency, IsFilledName, IsFilledParameter}
 use Rattle.justfile_parse_expression.proofs.Seen as table
 use Rattle.justfile_parse_expression.proofs.Seen.{Relates}
-use Rattle.justfile_parse_header.specs.Tree.{argument_tree, dependency_tree, name_tree, parameter_name, parameter_tree}
+use Rattle.justfile_parse_header.specs.Tree.{argument_tree, dependency_tree, parameter_name, parameter_tree}
+use Rattle.justfile_parse_base.specs.Trees.{name_tree}
 use Rattle.justfile_expression.specs.LeafTree.{Leaf, Named}
 use Rattle.justfile_parse_item.proofs.Seen as seeing
 use Rattle.justfile_parse_item.proofs.SeenAttributes as attributes

@@ -46,8 +46,9 @@ use Rattle.justfile_attribute_set.specs.Pairs.{Pair}
 use Rattle.justfile_parse_item.specs.Filled.{AreFilledAttributes, IsFilledAttribute, IsFilledItem, IsFilledLine}
 use Rattle.justfile_parse_expression.specs.TableReader.{assigned_leaf, headed_leaf}
 use Rattle.justfile_attribute_rules.specs.Made.{quoted_leaf}
-use Rattle.justfile_parse_item.specs.Tree.{assignment_name, item_tree, line_tree, numbered_leaf, recipe_header, recipe_name}
-use Rattle.justfile_parse_header.specs.Tree.{name_tree, path_tree}
+use Rattle.justfile_parse_item.specs.Tree.{assignment_name, item_tree, numbered_leaf, recipe_header, recipe_name}
+use Rattle.justfile_parse_item_parts.specs.BodyTrees.{line_tree}
+use Rattle.justfile_parse_base.specs.Trees.{name_tree, path_tree}
 use Rattle.justfile_parse_item.specs.DerivedFields.{HasDerivedSetAttributes, HasDerivedItemFields}
 use Rattle.justfile_parse_attribute.specs.DerivedAttributeFields.{HaveDerivedAttributeFields}
 use Rattle.justfile_parse_expression.proofs.Seen as table

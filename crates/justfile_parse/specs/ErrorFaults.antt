@@ -4,8 +4,8 @@ use Rattle.justfile_token.specs.declared.fault.Fault.{Fault}
 use Rattle.justfile_token.specs.declared.fault.Fault.TheVariants as faults
 use Rattle.justfile_parse.specs.MethodResults.{IsFaultOfExpression}
 use Rattle.justfile_parse_expression.specs.Significant.{TableEntry}
-use Rattle.justfile_parse_attribute.specs.declared.parse_error.ParseError.{ParseError}
-use Rattle.justfile_parse_attribute.specs.declared.parse_error.ParseError.TheVariants as errors
+use Rattle.justfile_parse_base.specs.declared.parse_error.ParseError.{ParseError}
+use Rattle.justfile_parse_base.specs.declared.parse_error.ParseError.TheVariants as errors
 
 -- The fault is that of the parse error: at the next token, for a literal, or with the error of a broken rule.
 abbrev pub IsFaultOfError : List TableEntry → (next : Option TableEntry) → ParseError → Fault → Type 0

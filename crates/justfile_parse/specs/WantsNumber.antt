@@ -18,7 +18,7 @@ use Rattle.justfile_model.specs.Tree.{ArgumentRules, WrittenItem, WrittenTree}
 use Rattle.justfile_model.specs.TreeReader.{Read, State, Taken, start_state, token_attributes, token_leaves}
 use Rattle.justfile_model.specs.declared.parameter_kind.ParameterKind.{ParameterKind}
 use Rattle.justfile_model.specs.declared.parameter_kind.ParameterKind.TheVariants.{Plus, Singular, Star}
-use Rattle.justfile_parse_header.specs.Counting.{counters_of}
+use Rattle.justfile_parse_base.specs.Counting.{counters_of}
 
 -- the attributes before a construct
 abbrev pub attributes_at : State → Read (List ReadAttribute)

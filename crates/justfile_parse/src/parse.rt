@@ -21,7 +21,7 @@ ghost use Rattle.justfile_parse_expression.specs.Significant.{significant_of};
 ghost use Rattle.justfile_parse_item.specs.Tree.{item_tree};
 ghost use Rattle.justfile_parse_expression.specs.View.{state_of};
 ghost use Rattle.justfile_parse_expression.specs.declared.expression_error.SyntaxError.TheVariants.{Unexpected};
-ghost use Rattle.justfile_parse_header.specs.Counting.{counters_of, ParsesCounted};
+ghost use Rattle.justfile_parse_base.specs.Counting.{counters_of, ParsesCounted};
 
 use crate::docs::take_docs;
 use crate::unstable::with_unstable;
@@ -29,7 +29,7 @@ use justfile_ast::Ast;
 use justfile_expression::ListFeature;
 use justfile_item::Item;
 use justfile_lex::Lexer;
-use justfile_parse_attribute::ParseError;
+use justfile_parse_base::ParseError;
 use justfile_parse_expression::significant::{SignificantToken, significant};
 use justfile_parse_expression::{ExpectedTokens, ExpressionError, SyntaxError, TokenCursor};
 use justfile_parse_item::parse_items;

@@ -14,7 +14,8 @@ use Rattle.justfile_model.specs.Tree as tree
 use Rattle.justfile_model.specs.Tree.{Argument, Expr}
 use Rattle.justfile_attribute_rules.specs.Keys.{key_text}
 use Rattle.justfile_parse_attribute.specs.ArgumentKeys.{Given, are_distinct, are_keys_distinct}
-use Rattle.justfile_parse_attribute.specs.AttributeTable.{meaning_in, meaning_kept, view_of, some_key}
+use Rattle.justfile_parse_attribute.specs.AttributeTable.{meaning_in, meaning_kept, some_key}
+use Rattle.justfile_parse_base.specs.SharedTable.{view_of}
 use Rattle.justfile_parse_attribute.specs.Attributes.{arguments_of, keyed_of, positional_of}
 use Rattle.justfile_parse_attribute.specs.declared.arguments.Arguments.{Arguments}
 use Rattle.justfile_parse_expression.specs.TableReader.{leaves}

@@ -12,10 +12,10 @@ use Rattle.justfile_attribute_rules.specs.Keys.{key_text}
 use Rattle.justfile_model.specs.Meaning.{at_key, by_key}
 use Rattle.justfile_parse_attribute.specs.ArgumentKeys.{AreTexts, Given, are_keys_distinct}
 use Rattle.justfile_parse_attribute.specs.Attributes.{arguments_of}
-use Rattle.justfile_parse_attribute.specs.TextSets.{HaveSame, texts_in}
+use Rattle.justfile_parse_base.specs.TextSets.{HaveSame, texts_in}
 use Rattle.justfile_parse_attribute.specs.declared.arguments.Arguments.{Arguments}
 use Rattle.justfile_parse_attribute.proofs.ArgumentLists.{any_text, key_among}
-use Rattle.justfile_parse_attribute.proofs.TextSetLemmas.{same_more, same_then}
+use Rattle.justfile_parse_base.proofs.TextSetLemmas.{same_more, same_then}
 use Rattle.justfile_expression.specs.LeafViews.{views_leaves}
 
 abbrev Texts : Type 0

@@ -8,12 +8,13 @@ use Rattle.justfile_model.specs.ReaderState.{◌>>=◌, choose}
 use Rattle.justfile_model.specs.Tree.{Argument, Entry, commented_entry}
 use Rattle.justfile_model.proofs.AttributeReading as laws
 use Rattle.justfile_parse_attribute.specs.AttributeTable as r
-use Rattle.justfile_parse_attribute.specs.AttributeTable.{Arguments, meaning_in, meaning_kept, view_of, then_last}
-use Rattle.justfile_parse_attribute.specs.ParseErrors.{IsParseError}
+use Rattle.justfile_parse_attribute.specs.AttributeTable.{Arguments, meaning_in, meaning_kept, then_last}
+use Rattle.justfile_parse_base.specs.SharedTable.{view_of}
+use Rattle.justfile_parse_base.specs.ParseErrors.{IsParseError}
 use Rattle.justfile_parse_attribute.specs.AttributeTable.{Entries}
 use Rattle.justfile_parse_expression.specs.TableReader.{Read, State, accept, expect, leaves}
-use Rattle.justfile_parse_attribute.specs.declared.parse_error.ParseError.{ParseError}
-use Rattle.justfile_parse_attribute.specs.declared.parse_error.ParseError.TheVariants.{Expression, Compile}
+use Rattle.justfile_parse_base.specs.declared.parse_error.ParseError.{ParseError}
+use Rattle.justfile_parse_base.specs.declared.parse_error.ParseError.TheVariants.{Expression, Compile}
 use Rattle.justfile_parse_expression.specs.Significant.{TableEntry}
 use Rattle.justfile_parse_expression.specs.declared.expression_error.ExpressionError.TheVariants as causes
 use Rattle.justfile_parse_attribute.proofs.AttributeSteps.{broken_first}

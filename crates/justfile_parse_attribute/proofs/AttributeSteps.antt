@@ -2,7 +2,7 @@
 use Rattle.std.proofs.Common.{◌≡◌, ◌∙◌, ℕ, ◌<◌, Bool, true, false, cond, ◌&&◌, List, [], ◌∷◌, ◌++◌, map, length, Option, None, Result, Ok, Err, refl, sym, ap, arith}
 use Rattle.std.proofs.lemmas.List.{map-append}
 use Rattle.justfile_attribute.specs.declared.attribute.Attribute.{Attribute}
-use Rattle.justfile_attribute_rules.specs.Made.{IsFaultOfRule, IsRefusedBy}
+use Rattle.justfile_attribute_rules.specs.Made.{IsRefusedBy}
 use Rattle.justfile_vocabulary.specs.AttributeKind.{kind_named, takes_keys}
 use Rattle.justfile_vocabulary.specs.declared.attribute_kind.AttributeKind.{AttributeKind}
 use Rattle.justfile_token.specs.declared.compile_error.CompileError.{CompileError}
@@ -23,64 +23,27 @@ use Rattle.justfile_model.specs.Tree as tree
 use Rattle.justfile_model.specs.Tree.{Argument, Entry, bare_entry}
 use Rattle.justfile_model.proofs.AttributeReading as laws
 use Rattle.justfile_parse_attribute.specs.AttributeTable as r
-use Rattle.justfile_parse_attribute.specs.AttributeTable.{Arguments, meaning_in, meaning_kept, view_of, then_last}
+use Rattle.justfile_parse_attribute.specs.AttributeTable.{Arguments, meaning_in, meaning_kept, then_last}
+use Rattle.justfile_parse_base.specs.SharedTable.{view_of}
 use Rattle.justfile_parse_attribute.specs.AddedAttributes.{AddsEntry, ChecksLast, IsAdded}
 use Rattle.justfile_parse_attribute.specs.Attributes.{entry_of_pair}
-use Rattle.justfile_parse_attribute.specs.ParseErrors.{IsParseError, IsErrorOfFault, IsErrorOfRead}
+use Rattle.justfile_parse_base.specs.ParseErrors.{IsParseError, IsErrorOfFault, IsErrorOfRead}
 use Rattle.justfile_parse_expression.specs.MethodResults.{read_error_at}
 use Rattle.justfile_parse_attribute.specs.AttributeTable.{Entries}
 use Rattle.justfile_parse_expression.specs.TableReader.{Read, State, accept, expect, leaves}
 use Rattle.justfile_parse_expression.specs.View.{tokens_left, state_of}
-use Rattle.justfile_parse_attribute.specs.declared.parse_error.ParseError.{ParseError}
-use Rattle.justfile_parse_attribute.specs.declared.parse_error.ParseError.TheVariants.{Expression, Compile}
+use Rattle.justfile_parse_base.specs.declared.parse_error.ParseError.{ParseError}
+use Rattle.justfile_parse_base.specs.declared.parse_error.ParseError.TheVariants.{Expression, Compile}
 use Rattle.justfile_parse_expression.specs.declared.token_cursor.TokenCursor.{TokenCursor}
 use Rattle.justfile_parse_expression.specs.Significant.{TableEntry}
 use Rattle.justfile_parse_expression.specs.declared.expression_error.SyntaxError.TheVariants as refusals
 use Rattle.justfile_parse_expression.specs.declared.expression_error.ExpressionError.TheVariants as causes
 use Rattle.justfile_parse_expression.proofs.Rest.{left_is}
+use Rattle.justfile_parse_base.proofs.RuleSteps.{fails_first, fails_for}
 use Rattle.justfile_expression.specs.LeafViews.{views_leaves}
 use Rattle.justfile_expression.specs.LeafTree.{Leaf}
 use Rattle.justfile_written.specs.Written.{uncommented}
 use Rattle.justfile_written.specs.declared.written.Written.{Written}
-
--- a rule that is broken first is broken
-pub broken_first : {X Y : Type 0} (found : Read X) (next : X × State → Read Y) (e : CompileError) → IsErrorOfRead found e → IsErrorOfRead (found >>= next) e
-broken_first (Ok x) next e h = absurd h
-broken_first (Err (reading.Unexpected t)) next e h = absurd h
-broken_first (Err (reading.TooDeep t)) next e h = absurd h
-broken_first (Err (reading.NotCooked fault t)) next e h = absurd h
-broken_first (Err (reading.BreaksRule broken)) next e h = h
-broken_first (Err (reading.Extraneous count opener)) next e h = h
-broken_first (Err (reading.AfterVariadic name)) next e h = h
-broken_first (Err (reading.UnknownSetting name)) next e h = h
-broken_first (Err (reading.ExpectedKeyword expected t)) next e h = h
-broken_first (Err (reading.NoNumber counters)) next e h = absurd h
-
--- reading stops where its first part stops
-fails_first : {X Y : Type 0} (failure : ParseError) (s : State) (found : Read X) (next : X × State → Read Y) → IsParseError failure s ⊥ found → IsParseError failure s ⊥ (found >>= next)
-fails_first (Compile error) s found next h = broken_first found next error.value h
-fails_first (Expression (causes.Refused refusal)) s found next h = rw h refl
-fails_first (Expression (causes.Literal refused)) s found next h = rw h refl
-fails_first (Expression causes.Memory) s found next h = tt
-fails_first (Expression causes.Numbers) s found next h = absurd h
-
--- reading stops if a rule is broken
-pub fails_for : (Y : Type 0) (rule : Rule Token) (token : Token) (fault : Fault) (failure : ParseError) (s : State)
-    → IsErrorOfFault failure fault → IsFaultOfRule rule token fault
-    → IsParseError {Y = Y} failure s ⊥ (Err (reading.BreaksRule (record { rule = rule; token = token })))
-fails_for Y rule token (faults.Compile e) (Compile error) s h k = rw h k
-fails_for Y rule token faults.Memory (Compile error) s h k = absurd h
-fails_for Y rule token faults.Numbers (Compile error) s h k = absurd h
-fails_for Y rule token fault (Expression causes.Memory) s h k = tt
-fails_for Y rule token (faults.Compile e) (Expression causes.Numbers) s h k = absurd h
-fails_for Y rule token faults.Memory (Expression causes.Numbers) s h k = absurd h
-fails_for Y rule token faults.Numbers (Expression causes.Numbers) s h k = absurd k
-fails_for Y rule token (faults.Compile e) (Expression (causes.Refused r)) s h k = absurd h
-fails_for Y rule token faults.Memory (Expression (causes.Refused r)) s h k = absurd h
-fails_for Y rule token faults.Numbers (Expression (causes.Refused r)) s h k = absurd h
-fails_for Y rule token (faults.Compile e) (Expression (causes.Literal r)) s h k = absurd h
-fails_for Y rule token faults.Memory (Expression (causes.Literal r)) s h k = absurd h
-fails_for Y rule token faults.Numbers (Expression (causes.Literal r)) s h k = absurd h
 
 -- where nothing comes next no expression is read
 pub none_before : {X : Type 0} (answer : X → List ℕ → Result (List ℕ) (List ℕ)) (p q : TokenCursor X) (s : State) → front (state_of answer p).left ≡ None → tokens_left q < tokens_left p

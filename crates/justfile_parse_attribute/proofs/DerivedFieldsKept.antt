@@ -9,7 +9,7 @@ use Rattle.justfile_token.specs.declared.fault.Fault.{Fault}
 use Rattle.justfile_token.specs.declared.name.Name.{Name}
 use Rattle.justfile_written.specs.Written.{uncommented}
 use Rattle.justfile_written.specs.declared.written.Written.{Written}
-use Rattle.justfile_parse_attribute.specs.KeyedBounds.{AreKeyed, IsKeyed}
+use Rattle.justfile_attribute.specs.KeyedBounds.{AreKeyed, IsKeyed}
 use Rattle.justfile_parse_attribute.specs.DerivedAttributeFields.{HaveDerivedAttributeFields, HaveDerivedPairFields, KeepsDerivedPairFields}
 
 abbrev attribute_of : Attribute × Written → Attribute

@@ -7,4 +7,3 @@ pub mod KeysPut
 pub mod KnownLabels
 pub mod RepeatedAttributes
 pub mod DerivedFieldsKept
-pub mod TextSetLemmas

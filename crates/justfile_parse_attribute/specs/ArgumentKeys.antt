@@ -8,7 +8,7 @@ use Rattle.std.specs.Str.{bytes_eq}
 use denote.Ref.{Bor}
 use Rattle.justfile_attribute_rules.specs.Keys.{KeyMap, key_text}
 pub use Rattle.justfile_attribute_rules.specs.Keys.{Given}
-use Rattle.justfile_parse_attribute.specs.TextSets.{HaveSame, texts_in}
+use Rattle.justfile_parse_base.specs.TextSets.{HaveSame, texts_in}
 
 -- whether no text occurs twice
 abbrev pub are_distinct : List (List ℕ) → Bool

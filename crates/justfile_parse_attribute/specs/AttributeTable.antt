@@ -9,16 +9,13 @@ use Rattle.justfile_model.specs.Meaning.{by_key, by_position}
 use Rattle.justfile_model.specs.NewAttribute.{new_entry}
 use Rattle.justfile_model.specs.ReaderState as reading
 use Rattle.justfile_model.specs.ReaderState.{◌>>=◌, choose}
-use Rattle.justfile_model.specs.LeafView.{LeafView}
 use Rattle.justfile_model.specs.Tree.{Argument, Entry, Expr, WrittenAttribute, commented_entry}
+pub use Rattle.justfile_parse_base.specs.SharedTable.{comment_in, view_of}
+unfoldable pub use Rattle.justfile_parse_base.specs.SharedTable.{separator}
 use Rattle.justfile_parse_expression.specs.TableReader.{Read, Run, State, accept, expect, leaves}
 use Rattle.justfile_expression.specs.LeafViews.{views_leaves}
 use Rattle.justfile_expression.specs.LeafTree.{Leaf}
 use Rattle.justfile_parse_expression.specs.Significant.{TableEntry}
-
--- the view of leaves, which is the same for each file
-abbrev pub view_of : Run → LeafView Leaf Token
-view_of run = views_leaves
 
 -- what a tree holds of an attribute: its meaning
 abbrev pub meaning_kept : WrittenAttribute Leaf Token → Entry Leaf Token → Entry Leaf Token
@@ -79,15 +76,6 @@ single_argument s = do
   a ← placed s
   Ok (a.0 ∷ [], a.1)
 
--- what follows an element of a list: a comma, or the closing delimiter; whether the list is closed
-unfoldable pub separator : (closing : TokenKind) → State → Read Bool
-separator closing s =
-    choose (accept kinds.Comma s)
-    (do
-      closer ← expect closing s
-      Ok (true, closer.1))
-    (λ comma. Ok (false, comma.1))
-
 -- the closing parenthesis, or an argument and what follows it; whether the arguments are at their end
 unfoldable pub list_step : (name : TableEntry) (keys : Bool) (before : Arguments) → State → Read (Arguments × Bool)
 list_step name keys before s =
@@ -132,10 +120,6 @@ bracket_step before s = do
 
 abbrev pub bracketed : Entries × State → Read Entries
 bracketed = attributes.bracketed leaves view_of meaning_kept meaning_in
-
--- the text of a comment without the whitespace at its end
-abbrev pub comment_in : TableEntry → List ℕ
-comment_in = reading.comment_in leaves
 
 -- the end of a line, after its comment if it has one
 abbrev pub line_end_after : (comment : Option TableEntry) → State → Read (Option TableEntry)

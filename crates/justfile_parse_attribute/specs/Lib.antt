@@ -2,8 +2,5 @@ pub mod AddedAttributes
 pub mod ArgumentKeys
 pub mod AttributeTable
 pub mod Attributes
-pub mod ParseErrors
-pub mod KeyedBounds
 pub mod Labels
-pub mod TextSets
 pub mod DerivedAttributeFields

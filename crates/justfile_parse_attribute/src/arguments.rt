@@ -2,10 +2,10 @@
 ghost use Rattle.std.specs.Prelude.{◌≡◌, ◌∷◌, ◌++◌, [], IsTrue, OnErr, OnOk, length, take};
 ghost use Rattle.justfile_token.specs.Token.{lexeme_of};
 ghost use Rattle.justfile_parse_attribute.specs.ArgumentKeys.{AreTexts, are_keys_distinct, prop_texts};
-ghost use Rattle.justfile_parse_attribute.specs.TextSets.{HaveSame, texts_in};
+ghost use Rattle.justfile_parse_base.specs.TextSets.{HaveSame, texts_in};
 
-use crate::text_sets::{add_text, is_among};
 use justfile_expression::Expression;
+use justfile_parse_base::text_sets::{add_text, is_among};
 use justfile_parse_expression::ExpressionError;
 use justfile_token::{Name, Token};
 use std::alloc::{AllocError, Global};

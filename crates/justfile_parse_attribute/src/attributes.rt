@@ -6,7 +6,7 @@ ghost use Rattle.justfile_model.specs.NewAttribute as new;
 ghost use Rattle.justfile_model.specs.Rules.{AttributePositionalFollowsKeyword, DuplicateAttributeKey, UnknownAttribute};
 ghost use Rattle.justfile_model.specs.Tree as tree;
 ghost use Rattle.justfile_parse_attribute.specs.Attributes.{arguments_of, entry_of_pair};
-ghost use Rattle.justfile_parse_attribute.specs.ParseErrors.{ReadsRuled, ParsesRuled};
+ghost use Rattle.justfile_parse_base.specs.ParseErrors.{ReadsRuled, ParsesRuled};
 ghost use Rattle.justfile_parse_attribute.specs.DerivedAttributeFields.{HaveDerivedPairFields, KeepsDerivedPairFields};
 ghost use Rattle.justfile_parse_expression.specs.ParsedResults.{Parses};
 ghost use Rattle.justfile_parse_attribute.specs.AttributeTable as reader;
@@ -14,11 +14,10 @@ ghost use Rattle.justfile_expression.specs.LeafTree.{leaf_tree_of};
 ghost use Rattle.justfile_parse_expression.specs.View.{tokens_left, state_of};
 
 use crate::arguments::Arguments;
-use crate::comment::comment_text;
-use crate::parse_error::{ParseError, rule_error};
 use crate::read_attributes::ReadAttributes;
 use justfile_attribute::Attribute;
 use justfile_expression::Expression;
+use justfile_parse_base::{ParseError, comment_text, parse_separator, rule_error};
 use justfile_parse_expression::significant::SignificantToken;
 use justfile_parse_expression::{ExpressionError, SyntaxError, TokenCursor};
 use justfile_token::{CompileErrorKind, Expander, Fault, Name, Token};
@@ -50,7 +49,7 @@ pub fn parse_attributes<'src, X: Expander>(
 
 /// Parses a line of attributes if an opening bracket comes next, and appends them to `attributes`.
 /// Returns whether there are no more lines.
-#[tactic(auto, using(crate::proofs::AttributeSteps::broken_first, crate::proofs::DerivedFieldsKept::same_fields), unfolding(crate::specs::AttributeTable::line_step))]
+#[tactic(auto, using(justfile_parse_base::proofs::RuleSteps::broken_first, crate::proofs::DerivedFieldsKept::same_fields), unfolding(crate::specs::AttributeTable::line_step))]
 fn parse_next_line<'src, X: Expander>(
     parser: &mut TokenCursor<'_, 'src, X>,
     attributes: &mut ReadAttributes<'src>,
@@ -72,7 +71,7 @@ fn parse_next_line<'src, X: Expander>(
 }
 
 /// Parses a line of attributes after its opening bracket, and appends them to `attributes`.
-#[tactic(auto, using(crate::proofs::AttributeSteps::broken_first, crate::proofs::DerivedFieldsKept::both_fields), unfolding(crate::specs::AttributeTable::attribute_line))]
+#[tactic(auto, using(justfile_parse_base::proofs::RuleSteps::broken_first, crate::proofs::DerivedFieldsKept::both_fields), unfolding(crate::specs::AttributeTable::attribute_line))]
 fn parse_attribute_line<'src, X: Expander>(
     parser: &mut TokenCursor<'_, 'src, X>,
     attributes: &mut ReadAttributes<'src>,
@@ -125,7 +124,7 @@ fn parse_bracketed<'src, X: Expander>(
 
 /// Parses an attribute and what follows it, and appends it to `attributes`. Returns whether the
 /// bracket is closed.
-#[tactic(auto, using(crate::proofs::AttributeSteps::broken_first), unfolding(crate::specs::AttributeTable::bracket_step))]
+#[tactic(auto, using(justfile_parse_base::proofs::RuleSteps::broken_first), unfolding(crate::specs::AttributeTable::bracket_step))]
 fn parse_next_attribute<'src, X: Expander>(
     parser: &mut TokenCursor<'_, 'src, X>,
     attributes: &mut ReadAttributes<'src>,
@@ -187,7 +186,7 @@ fn add_expected_end<X: Expander>(parser: &TokenCursor<'_, '_, X>) {
 }
 
 /// Parses an attribute, and appends it to `attributes`.
-#[tactic(auto, using(crate::proofs::AttributeSteps::broken_first, crate::proofs::AttributeSteps::one_attribute_is))]
+#[tactic(auto, using(justfile_parse_base::proofs::RuleSteps::broken_first, crate::proofs::AttributeSteps::one_attribute_is))]
 fn parse_attribute<'src, X: Expander>(
     parser: &mut TokenCursor<'_, 'src, X>,
     attributes: &mut ReadAttributes<'src>,
@@ -216,7 +215,7 @@ fn parse_attribute<'src, X: Expander>(
 /// # Errors
 ///
 /// No attribute has this name, or memory runs out.
-#[tactic(auto, using(crate::proofs::AttributeSteps::fails_for, crate::proofs::AttributeSteps::kind_at_is), unfolding(justfile_parse_expression::specs::TableReader::leaves))]
+#[tactic(auto, using(justfile_parse_base::proofs::RuleSteps::fails_for, crate::proofs::AttributeSteps::kind_at_is), unfolding(justfile_parse_expression::specs::TableReader::leaves))]
 fn find_attribute_kind<'src, X: Expander>(
     parser: &TokenCursor<'_, 'src, X>,
     name: &SignificantToken<'src>,
@@ -310,7 +309,7 @@ fn parse_argument_list<'src, X: Expander>(
 
 /// Parses the closing parenthesis, or an argument and what follows it. Returns whether the
 /// arguments are at their end.
-#[tactic(auto, using(crate::proofs::AttributeSteps::broken_first), unfolding(crate::specs::AttributeTable::list_step))]
+#[tactic(auto, using(justfile_parse_base::proofs::RuleSteps::broken_first), unfolding(crate::specs::AttributeTable::list_step))]
 fn parse_next_argument<'src, X: Expander>(
     parser: &mut TokenCursor<'_, 'src, X>,
     name: &SignificantToken<'src>,
@@ -326,28 +325,6 @@ fn parse_next_argument<'src, X: Expander>(
     }
     parse_argument(parser, name, keys, arguments)?;
     Ok(parse_separator(parser, TokenKind::ParenR)?)
-}
-
-/// Parses what follows an element of a list: a comma, or the closing delimiter. Returns whether the
-/// list is closed.
-///
-/// # Errors
-///
-/// Another token comes next.
-#[tactic(auto, unfolding(crate::specs::AttributeTable::separator))]
-pub fn parse_separator<'src, X: Expander>(
-    parser: &mut TokenCursor<'_, 'src, X>,
-    closing: TokenKind,
-) -> Result<bool, ExpressionError<'src>>
-    ensures reads { Parses X.answer (λ is_last. is_last) result parser.old parser.new
-        (reader.separator closing) }
-    ensures progress { OnOk result (tokens_left parser.new < tokens_left parser.old) }
-{
-    if let Some(_comma) = parser.accept(TokenKind::Comma) {
-        return Ok(false);
-    }
-    parser.expect(closing)?;
-    Ok(true)
 }
 
 /// Parses an argument of the attribute with this name, and appends it to `arguments`.
@@ -369,7 +346,7 @@ fn parse_argument<'src, X: Expander>(
 }
 
 /// Parses a keyword argument, and appends it to `arguments`.
-#[tactic(auto, using(crate::proofs::AttributeSteps::fails_for), unfolding(justfile_parse_expression::specs::TableReader::leaves, crate::specs::AttributeTable::one_keyed, justfile_model::specs::AttributeReader::keyed))]
+#[tactic(auto, using(justfile_parse_base::proofs::RuleSteps::fails_for), unfolding(justfile_parse_expression::specs::TableReader::leaves, crate::specs::AttributeTable::one_keyed, justfile_model::specs::AttributeReader::keyed))]
 fn parse_keyed<'src, X: Expander>(
     parser: &mut TokenCursor<'_, 'src, X>,
     name: &SignificantToken<'src>,
@@ -404,7 +381,7 @@ fn parse_key_value<'src, X: Expander>(
 }
 
 /// Parses a positional argument, and appends it to `arguments`. It can't follow a keyword argument.
-#[tactic(auto, using(crate::proofs::AttributeSteps::fails_for), unfolding(crate::specs::AttributeTable::one_positional, justfile_model::specs::AttributeReader::positional))]
+#[tactic(auto, using(justfile_parse_base::proofs::RuleSteps::fails_for), unfolding(crate::specs::AttributeTable::one_positional, justfile_model::specs::AttributeReader::positional))]
 fn parse_positional<'src, X: Expander>(
     parser: &mut TokenCursor<'_, 'src, X>,
     arguments: &mut Arguments<'src>,

@@ -9,7 +9,7 @@ use Rattle.justfile_attribute_set.specs.Pairs.{Pair, leaf_entry_of}
 use Rattle.justfile_model.specs.AttributeRules.{arg_rules, rules_in}
 use Rattle.justfile_model.specs.Features.{rules_features}
 use Rattle.justfile_model.specs.ReaderState.{with}
-use Rattle.justfile_parse_attribute.specs.KeyedBounds.{AreKeyed, IsKeyed}
+use Rattle.justfile_attribute.specs.KeyedBounds.{AreKeyed, IsKeyed}
 use Rattle.justfile_parse_expression.proofs.Rest.{with_none}
 use Rattle.justfile_parse_expression.specs.TableReader.{State}
 use Rattle.justfile_parse_header.specs.Arguments.{is_of, is_rule_of, rules_named}

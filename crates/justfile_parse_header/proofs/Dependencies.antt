@@ -9,14 +9,16 @@ use Rattle.justfile_model.specs.ReaderState.{◌>>=◌, Unexpected, prepend, ref
 use Rattle.justfile_model.specs.Tree.{over_dependency_argument}
 use Rattle.justfile_model.proofs.HeaderReading as laws
 use Rattle.justfile_model.proofs.Prepended.{after_nothing}
-use Rattle.justfile_parse_attribute.specs.ParseErrors.{IsParseError}
-use Rattle.justfile_parse_attribute.specs.declared.parse_error.ParseError.{ParseError}
+use Rattle.justfile_parse_base.specs.ParseErrors.{IsParseError}
+use Rattle.justfile_parse_base.specs.declared.parse_error.ParseError.{ParseError}
 use Rattle.justfile_parse_expression.specs.TableReader.{Read, ReadError, State, accept, expect, leaves}
 use Rattle.justfile_parse_expression.specs.Significant.{TableEntry}
-use Rattle.justfile_parse_header.specs.HeaderTable.{LeafDependency, StarredArgument, begins_dependency, dependencies, dependency, dependency_argument, dependency_arguments, misplaced_star, parenthesized, path, subsequents}
-use Rattle.justfile_parse_header.specs.Tree.{argument_tree, dependency_tree, path_tree, read_argument}
+use Rattle.justfile_parse_header.specs.HeaderTable.{LeafDependency, StarredArgument, begins_dependency, dependencies, dependency, dependency_argument, dependency_arguments, misplaced_star, parenthesized, subsequents}
+use Rattle.justfile_parse_base.specs.SharedTable.{path}
+use Rattle.justfile_parse_header.specs.Tree.{argument_tree, dependency_tree, read_argument}
+use Rattle.justfile_parse_base.specs.Trees.{path_tree}
 use Rattle.justfile_parse_header.specs.declared.dependency.ReadArgument.{ReadArgument}
-use Rattle.justfile_parse_header.proofs.HeaderErrors.{failed}
+use Rattle.justfile_parse_base.proofs.HeaderErrors.{failed}
 use Rattle.justfile_expression.specs.LeafTree.{Leaf}
 use Rattle.justfile_parse_header.proofs.Stars.{kept_are, star_is}
 

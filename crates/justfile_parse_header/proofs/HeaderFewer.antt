@@ -12,10 +12,10 @@ use Rattle.justfile_model.proofs.ReadingSteps.{after_test}
 use Rattle.justfile_model.proofs.Turns.{recursive_keeps}
 use Rattle.justfile_parse_expression.specs.TableReader.{At, Read, State, expect, leaves, next_are, read, value}
 use Rattle.justfile_parse_expression.specs.Significant.{TableEntry}
-use Rattle.justfile_parse_header.specs.Counting.{identifiers_left}
+use Rattle.justfile_parse_base.specs.Counting.{identifiers_left}
 use Rattle.justfile_parse_header.specs.HeaderTable as reader
 use Rattle.justfile_parse_header.specs.HeaderTable.{LeafDependency, StarredArgument}
-use Rattle.justfile_parse_header.proofs.Fewer.{Fewer, after_fewer, either_fewer, expect_fewer, expression_fewer, fewer_at, then_fewer, value_fewer}
+use Rattle.justfile_parse_base.proofs.Fewer.{Fewer, after_fewer, either_fewer, expect_fewer, expression_fewer, fewer_at, then_fewer, value_fewer}
 use Rattle.justfile_expression.specs.LeafTree.{Leaf}
 
 abbrev Names : Type 0

@@ -1,17 +1,13 @@
 pub mod Dependencies
-pub mod Fewer
 pub mod Firsts
-pub mod HeaderErrors
 pub mod HeaderFewer
 pub mod Headers
 pub mod Least
 pub mod Notes
 pub mod Parameters
-pub mod Paths
 pub mod ReadNames
 pub mod SameOptions
 pub mod ArgAttributes
-pub mod BindingNumbers
 pub mod Stars
 pub mod Texts
 pub mod Undefined

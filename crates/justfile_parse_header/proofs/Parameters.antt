@@ -16,18 +16,18 @@ use Rattle.justfile_model.specs.RecipeRules.{rules_for}
 use Rattle.justfile_model.specs.Rules.{Broken}
 use Rattle.justfile_model.specs.declared.parameter_kind.ParameterKind.{ParameterKind}
 use Rattle.justfile_model.specs.declared.parameter_kind.ParameterKind.TheVariants.{Singular}
-use Rattle.justfile_parse_attribute.specs.AttributeTable.{view_of}
-use Rattle.justfile_parse_attribute.specs.ParseErrors.{IsParseError}
-use Rattle.justfile_parse_attribute.specs.declared.parse_error.ParseError.{ParseError}
+use Rattle.justfile_parse_base.specs.SharedTable.{view_of}
+use Rattle.justfile_parse_base.specs.ParseErrors.{IsParseError}
+use Rattle.justfile_parse_base.specs.declared.parse_error.ParseError.{ParseError}
 use Rattle.justfile_parse_expression.specs.TableReader.{Read, ReadError, State, accept, expect, leaves}
 use Rattle.justfile_parse_expression.specs.Significant.{TableEntry}
-use Rattle.justfile_parse_header.specs.Counting.{TookBindingNumbers, counters_of, identifiers_left}
+use Rattle.justfile_parse_base.specs.Counting.{TookBindingNumbers, counters_of, identifiers_left}
 use Rattle.justfile_parse_header.specs.HeaderTable as reader
 use Rattle.justfile_parse_header.specs.HeaderTable.{LeafParameter, Rules}
 use Rattle.justfile_parse_header.specs.ArgAttribute.{HaveDerivedFieldsAfter, HaveDerivedParameterFields, HasArgAttribute, HasDerivedParameterFields, KeepsDerivedParameterFields, arg_attribute_broken}
 use Rattle.justfile_parse_header.specs.Tree.{parameter_tree, value_tree}
-use Rattle.justfile_parse_header.proofs.BindingNumbers.{took_both, took_none}
-use Rattle.justfile_parse_header.proofs.HeaderErrors.{failed}
+use Rattle.justfile_parse_base.proofs.BindingNumbers.{took_both, took_none}
+use Rattle.justfile_parse_base.proofs.HeaderErrors.{failed}
 use Rattle.justfile_expression.specs.LeafViews.{views_leaves}
 use Rattle.justfile_expression.specs.LeafTree.{Named}
 use Rattle.justfile_expression.specs.declared.expression.Expression.{Expression}

@@ -8,8 +8,8 @@ use Rattle.std.specs.Str.{bytes_eq}
 use Rattle.justfile_token.specs.Token.{lexeme_of}
 use Rattle.justfile_token.specs.declared.token.Token.{Token}
 use Rattle.justfile_recipe_header.specs.declared.parameter.Parameter.{Parameter}
-use Rattle.justfile_parse_attribute.specs.TextSets.{HaveSame, texts_in}
-use Rattle.justfile_parse_attribute.proofs.TextSetLemmas.{same_more, same_then}
+use Rattle.justfile_parse_base.specs.TextSets.{HaveSame, texts_in}
+use Rattle.justfile_parse_base.proofs.TextSetLemmas.{same_more, same_then}
 use Rattle.justfile_parse_header.specs.Arguments.{AreNames}
 use Rattle.justfile_parse_header.specs.Tree.{parameter_tree}
 use Rattle.justfile_parse_header.proofs.Texts.{is_named, named_among, names_of}

@@ -17,16 +17,16 @@ use Rattle.justfile_model.specs.ReaderState.{◌>>=◌}
 use Rattle.justfile_model.specs.RecipeRules.{first_character, long_options, option_of, repeated_broken, short_options, with_text}
 use Rattle.justfile_model.specs.Rules.{Broken, DuplicateLongOption, DuplicateShortOption, Rule, broken_if}
 use Rattle.justfile_model.specs.Tree.{Quoted}
-use Rattle.justfile_parse_attribute.specs.ParseErrors.{IsParseError, IsErrorOfFault}
-use Rattle.justfile_parse_attribute.specs.TextSets.{HaveSame}
-use Rattle.justfile_parse_attribute.specs.declared.parse_error.ParseError.{ParseError}
-use Rattle.justfile_parse_attribute.proofs.AttributeSteps.{fails_for}
-use Rattle.justfile_parse_attribute.proofs.TextSetLemmas.{same_more, same_texts}
+use Rattle.justfile_parse_base.specs.ParseErrors.{IsParseError, IsErrorOfFault}
+use Rattle.justfile_parse_base.specs.TextSets.{HaveSame}
+use Rattle.justfile_parse_base.specs.declared.parse_error.ParseError.{ParseError}
+use Rattle.justfile_parse_base.proofs.RuleSteps.{fails_for}
+use Rattle.justfile_parse_base.proofs.TextSetLemmas.{same_more, same_texts}
 use Rattle.justfile_parse_expression.specs.TableReader.{Read, State}
 use Rattle.justfile_parse_header.specs.HeaderTable.{Rules}
 use Rattle.justfile_parse_header.specs.OptionRules.{long_step, longs_from, option_step, short_step, shorts_from, then_option}
 use Rattle.justfile_parse_header.specs.Options.{Meant, called, character_of, long_in, of_rules, short_in}
-use Rattle.justfile_parse_header.proofs.HeaderErrors.{first_errs}
+use Rattle.justfile_parse_base.proofs.HeaderErrors.{first_errs}
 use Rattle.justfile_parse_header.proofs.ArgAttributes.{rules_left, rules_kept}
 use Rattle.justfile_expression.specs.LeafViews.{views_leaves}
 use Rattle.justfile_expression.specs.LeafTree.{Leaf}

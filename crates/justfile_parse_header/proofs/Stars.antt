@@ -19,9 +19,9 @@ use Rattle.justfile_model.specs.Rules.{Rule, MappedDependencyMultipleStarredArgu
 use Rattle.justfile_model.specs.Tree as tree
 use Rattle.justfile_model.specs.Tree.{over_dependency_argument}
 use Rattle.justfile_model.proofs.Unchanged.{argument_kept, arguments_are}
-use Rattle.justfile_parse_attribute.specs.ParseErrors.{IsParseError, IsErrorOfFault}
-use Rattle.justfile_parse_attribute.specs.declared.parse_error.ParseError.{ParseError}
-use Rattle.justfile_parse_attribute.proofs.AttributeSteps.{fails_for}
+use Rattle.justfile_parse_base.specs.ParseErrors.{IsParseError, IsErrorOfFault}
+use Rattle.justfile_parse_base.specs.declared.parse_error.ParseError.{ParseError}
+use Rattle.justfile_parse_base.proofs.RuleSteps.{fails_for}
 use Rattle.justfile_parse_expression.specs.TableReader.{Read, State, leaves}
 use Rattle.justfile_parse_expression.specs.Significant.{TableEntry}
 use Rattle.justfile_parse_header.specs.HeaderTable.{second_from}

@@ -20,8 +20,8 @@ use Rattle.justfile_model.specs.Meaning.{first_of, text_of}
 use Rattle.justfile_model.specs.RecipeRules.{option_of, with_text}
 use Rattle.justfile_model.specs.LeafView.{or_empty}
 use Rattle.justfile_model.specs.Tree.{OptionName}
-use Rattle.justfile_parse_attribute.specs.TextSets.{HaveSame, texts_in}
-use Rattle.justfile_parse_attribute.proofs.TextSetLemmas.{same_more, same_then}
+use Rattle.justfile_parse_base.specs.TextSets.{HaveSame, texts_in}
+use Rattle.justfile_parse_base.proofs.TextSetLemmas.{same_more, same_then}
 use Rattle.justfile_parse_header.specs.Arguments.{AreNames}
 use Rattle.justfile_parse_header.specs.HeaderTable.{LeafParameter}
 use Rattle.justfile_parse_header.specs.Options.{character_of, option_in}

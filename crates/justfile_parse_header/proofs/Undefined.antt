@@ -11,9 +11,9 @@ use Rattle.justfile_model.specs.Meaning.{text_of}
 use Rattle.justfile_model.specs.ReaderState as reading
 use Rattle.justfile_model.specs.RecipeRules.{is_parameter}
 use Rattle.justfile_model.specs.Rules.{UndefinedArgAttribute}
-use Rattle.justfile_parse_attribute.specs.ParseErrors.{IsParseError, IsErrorOfFault}
-use Rattle.justfile_parse_attribute.specs.declared.parse_error.ParseError.{ParseError}
-use Rattle.justfile_parse_attribute.proofs.AttributeSteps.{fails_for}
+use Rattle.justfile_parse_base.specs.ParseErrors.{IsParseError, IsErrorOfFault}
+use Rattle.justfile_parse_base.specs.declared.parse_error.ParseError.{ParseError}
+use Rattle.justfile_parse_base.proofs.RuleSteps.{fails_for}
 use Rattle.justfile_parse_expression.specs.TableReader.{Read, State}
 use Rattle.justfile_parse_header.specs.Arguments.{least_undefined}
 use Rattle.justfile_parse_header.specs.HeaderTable.{LeafParameter, Rules, undefined}

@@ -6,9 +6,9 @@ use Rattle.justfile_token.specs.declared.token.Token.{Token}
 use Rattle.justfile_vocabulary.specs.declared.token_kind.TokenKind.TheVariants as kinds
 use Rattle.justfile_model.specs.HeaderReader as headers
 use Rattle.justfile_model.specs.ReaderState as reading
-use Rattle.justfile_parse_attribute.specs.ParseErrors.{IsParseError, IsErrorOfFault, IsAfterVariadicFault}
-use Rattle.justfile_parse_attribute.specs.declared.parse_error.ParseError.{ParseError}
-use Rattle.justfile_parse_attribute.specs.declared.parse_error.ParseError.TheVariants.{Expression, Compile}
+use Rattle.justfile_parse_base.specs.ParseErrors.{IsParseError, IsErrorOfFault, IsAfterVariadicFault}
+use Rattle.justfile_parse_base.specs.declared.parse_error.ParseError.{ParseError}
+use Rattle.justfile_parse_base.specs.declared.parse_error.ParseError.TheVariants.{Expression, Compile}
 use Rattle.justfile_parse_expression.specs.TableReader.{State, accept, leaves}
 use Rattle.justfile_parse_expression.specs.Significant.{TableEntry}
 use Rattle.justfile_parse_expression.specs.declared.expression_error.ExpressionError.TheVariants as causes

@@ -13,9 +13,9 @@ use Rattle.justfile_model.specs.AttributeRules.{least, lesser, rules_in}
 use Rattle.justfile_model.specs.Meaning.{text_of}
 use Rattle.justfile_model.specs.RecipeRules.{is_parameter}
 use Rattle.justfile_model.specs.Tree.{Attribute, Quoted}
-pub use Rattle.justfile_parse_attribute.specs.KeyedBounds.{IsKeyed}
-unfoldable pub use Rattle.justfile_parse_attribute.specs.KeyedBounds.{AreKeyed}
-use Rattle.justfile_parse_attribute.specs.TextSets.{texts_in}
+pub use Rattle.justfile_attribute.specs.KeyedBounds.{IsKeyed}
+unfoldable pub use Rattle.justfile_attribute.specs.KeyedBounds.{AreKeyed}
+use Rattle.justfile_parse_base.specs.TextSets.{texts_in}
 use Rattle.justfile_parse_header.specs.HeaderTable.{LeafParameter, Rules}
 use Rattle.justfile_parse_header.specs.Options.{of_rules}
 use Rattle.justfile_expression.specs.LeafViews.{views_leaves}

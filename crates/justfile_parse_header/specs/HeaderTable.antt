@@ -9,7 +9,8 @@ use Rattle.justfile_model.specs.Rules.{Broken}
 use Rattle.justfile_model.specs.Tree as tree
 use Rattle.justfile_model.specs.Tree.{ArgumentRules, Dependency, Expr, Parameter}
 use Rattle.justfile_model.specs.declared.parameter_kind.ParameterKind.{ParameterKind}
-use Rattle.justfile_parse_attribute.specs.AttributeTable.{view_of}
+use Rattle.justfile_parse_base.specs.SharedTable.{view_of}
+pub use Rattle.justfile_parse_base.specs.SharedTable.{next_binding_number, path, path_rest}
 use Rattle.justfile_parse_expression.specs.TableReader.{Read, State, leaves}
 use Rattle.justfile_parse_expression.specs.Significant.{TableEntry}
 use Rattle.justfile_expression.specs.LeafViews.{views_leaves}
@@ -30,19 +31,6 @@ StarredArgument = tree.DependencyArgument Leaf Token TableEntry
 
 abbrev pub LeafHeader : Type 0
 LeafHeader = headers.ReadHeader TableEntry Leaf Token (Unit {0})
-
--- ---- numbers
-
-abbrev pub next_binding_number : Counters → State → Read (ℕ × Counters)
-next_binding_number = headers.next_binding_number leaves
-
--- ---- paths
-
-abbrev pub path_rest : State → Read (List Leaf)
-path_rest = headers.path_rest leaves
-
-abbrev pub path : State → Read (List Leaf)
-path = headers.path leaves
 
 -- ---- dependencies
 

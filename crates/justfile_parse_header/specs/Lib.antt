@@ -1,5 +1,4 @@
 pub mod Arguments
-pub mod Counting
 pub mod HeaderTable
 pub mod OptionRules
 pub mod Options

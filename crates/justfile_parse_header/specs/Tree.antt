@@ -15,18 +15,11 @@ use Rattle.justfile_model.specs.AttributeRules.{arg_rules}
 use Rattle.justfile_model.specs.Tree as tree
 use Rattle.justfile_model.specs.Tree.{Expr}
 use Rattle.justfile_parse_header.specs.HeaderTable as reader
+use Rattle.justfile_parse_base.specs.Trees.{path_tree}
 use Rattle.justfile_parse_header.specs.declared.dependency.ReadArgument.{ReadArgument}
 use Rattle.justfile_parse_header.specs.declared.header.Header.{Header}
 use Rattle.justfile_expression.specs.LeafTree.{Leaf, Named, leaf_tree_of}
 use Rattle.justfile_expression.specs.declared.expression.Expression.{Expression}
-
--- a name of a path
-abbrev pub name_tree : Name → Leaf
-name_tree name = Named name.token None
-
--- the names of a path
-abbrev pub path_tree : Namepath → List Leaf
-path_tree path = map name_tree (names_in path)
 
 -- an expression that may be absent
 abbrev pub value_tree : Option (Box Expression) → Option (Expr Leaf Token)

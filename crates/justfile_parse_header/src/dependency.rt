@@ -4,16 +4,15 @@ ghost use Rattle.justfile_model.specs.Meaning.{first_of};
 ghost use Rattle.justfile_model.specs.ReaderState.{prepend};
 ghost use Rattle.justfile_model.specs.RecipeRules.{stars};
 ghost use Rattle.justfile_model.specs.Tree.{over_dependency_argument};
-ghost use Rattle.justfile_parse_attribute.specs.ParseErrors.{ParsesRuled, ChecksRules};
+ghost use Rattle.justfile_parse_base.specs.ParseErrors.{ParsesRuled, ChecksRules};
 ghost use Rattle.justfile_parse_expression.specs.ParsedResults.{Parses};
 ghost use Rattle.justfile_parse_expression.specs.TableReader.{leaves};
 ghost use Rattle.justfile_parse_expression.specs.View.{tokens_left, state_of};
 ghost use Rattle.justfile_parse_header.specs.HeaderTable as reader;
 ghost use Rattle.justfile_parse_header.specs.Tree.{argument_tree, dependency_tree, read_argument};
 
-use crate::namepath::parse_namepath;
 use justfile_expression::Expression;
-use justfile_parse_attribute::{ParseError, rule_error};
+use justfile_parse_base::{ParseError, parse_namepath, rule_error};
 use justfile_parse_expression::significant::SignificantToken;
 use justfile_parse_expression::{ExpressionError, SyntaxError, TokenCursor};
 use justfile_recipe_header::{DependencyArgument, UnresolvedDependency};
@@ -83,7 +82,7 @@ fn begins_dependency<X: Expander>(parser: &TokenCursor<'_, '_, X>) -> bool
 
 /// Parses a dependency: a path, or a path and its arguments in parentheses, which a star may
 /// precede.
-#[tactic(auto, using(justfile_parse_attribute::proofs::AttributeSteps::broken_first), unfolding(justfile_model::specs::HeaderReader::dependency))]
+#[tactic(auto, using(justfile_parse_base::proofs::RuleSteps::broken_first), unfolding(justfile_model::specs::HeaderReader::dependency))]
 fn parse_dependency<'src, X: Expander>(
     parser: &mut TokenCursor<'_, 'src, X>,
 ) -> Result<UnresolvedDependency<'src>, ParseError<'src>>
@@ -117,7 +116,7 @@ fn parse_bare<'src, X: Expander>(
 }
 
 /// Parses a path and its arguments in parentheses, after the star before them, if there is one.
-#[tactic(auto, using(justfile_parse_attribute::proofs::AttributeSteps::broken_first), unfolding(justfile_model::specs::HeaderReader::parenthesized))]
+#[tactic(auto, using(justfile_parse_base::proofs::RuleSteps::broken_first), unfolding(justfile_model::specs::HeaderReader::parenthesized))]
 fn parse_parenthesized<'src, X: Expander>(
     parser: &mut TokenCursor<'_, 'src, X>,
     star: Option<SignificantToken<'src>>,
@@ -183,7 +182,7 @@ fn parse_plain<'src, X: Expander>(
 }
 
 /// Parses an argument after its star. Refuses the star if it is the second.
-#[tactic(auto, using(justfile_parse_attribute::proofs::AttributeSteps::broken_first), unfolding(justfile_model::specs::HeaderReader::starred_argument))]
+#[tactic(auto, using(justfile_parse_base::proofs::RuleSteps::broken_first), unfolding(justfile_model::specs::HeaderReader::starred_argument))]
 fn parse_starred<'src, X: Expander>(
     parser: &mut TokenCursor<'_, 'src, X>,
     before: &[ReadArgument<'src>],

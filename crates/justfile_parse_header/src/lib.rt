@@ -7,12 +7,8 @@ mod arg_names;
 mod arguments;
 mod dependency;
 mod header;
-mod namepath;
-mod number;
 mod options;
 mod parameter;
 mod read_parameters;
 
 pub use crate::header::{Header, parse_header};
-pub use crate::namepath::parse_namepath;
-pub use crate::number::next_binding_number;

@@ -1,11 +1,11 @@
 //! The parameters of a recipe while they are parsed.
 ghost use Rattle.std.specs.Prelude.{◌≡◌, ◌∷◌, ◌++◌, [], OnErr, OnOk, length, map, take};
 ghost use Rattle.justfile_token.specs.Token.{lexeme_of};
-ghost use Rattle.justfile_parse_attribute.specs.TextSets.{HaveSame, texts_in};
+ghost use Rattle.justfile_parse_base.specs.TextSets.{HaveSame, texts_in};
 ghost use Rattle.justfile_parse_header.specs.Arguments.{AreNames, prop_names};
 ghost use Rattle.justfile_parse_header.specs.Tree.{parameter_tree};
 
-use justfile_parse_attribute::text_sets::add_text;
+use justfile_parse_base::text_sets::add_text;
 use justfile_recipe_header::Parameter;
 use std::alloc::{AllocError, Global};
 use std::collections::BTreeSet;

@@ -17,12 +17,12 @@ use Rattle.justfile_parse_item.specs.ConstructKeywords.{KeywordTaken, by_keyword
 use Rattle.justfile_parse_item.specs.declared.construct.ConstructKeyword.{ConstructKeyword}
 use Rattle.justfile_parse_item.specs.declared.construct.ConstructKeyword.TheVariants as words
 use Rattle.justfile_parse_attribute.specs.AttributeTable.{Entries}
-use Rattle.justfile_parse_attribute.specs.declared.parse_error.ParseError.{ParseError}
+use Rattle.justfile_parse_base.specs.declared.parse_error.ParseError.{ParseError}
 use Rattle.justfile_parse_expression.specs.TableReader.{State, leaves}
 use Rattle.justfile_parse_expression.specs.Significant.{TableEntry}
-use Rattle.justfile_parse_header.specs.Counting.{ReadsCounted, counters_of, identifiers_left}
-use Rattle.justfile_parse_header.proofs.Fewer.{fewer}
-use Rattle.justfile_parse_header.proofs.HeaderErrors.{failed}
+use Rattle.justfile_parse_base.specs.Counting.{ReadsCounted, counters_of, identifiers_left}
+use Rattle.justfile_parse_base.proofs.Fewer.{fewer}
+use Rattle.justfile_parse_base.proofs.HeaderErrors.{failed}
 use Rattle.justfile_parse_item_parts.specs.PartTable.{accept_keyword_before, peek_assignment, is_imported, is_module, is_set, line_is}
 use Rattle.justfile_expression.specs.LeafTree.{Leaf}
 

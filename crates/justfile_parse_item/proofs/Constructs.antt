@@ -39,10 +39,10 @@ use Rattle.justfile_written.specs.declared.written.Written.{Written}
 use Rattle.justfile_parse_item.specs.ItemTable.{in_content_order}
 use Rattle.justfile_parse_attribute.specs.AttributeTable.{Entries}
 use Rattle.justfile_parse_attribute.specs.Attributes.{entry_of_pair}
-use Rattle.justfile_parse_attribute.specs.ParseErrors.{IsParseError, IsErrorOfFault}
+use Rattle.justfile_parse_base.specs.ParseErrors.{IsParseError, IsErrorOfFault}
 use Rattle.justfile_parse_attribute.specs.DerivedAttributeFields.{HaveDerivedAttributeFields, HaveDerivedPairFields}
-use Rattle.justfile_parse_attribute.specs.declared.parse_error.ParseError.TheVariants as errors
-use Rattle.justfile_parse_attribute.specs.declared.parse_error.ParseError.{ParseError}
+use Rattle.justfile_parse_base.specs.declared.parse_error.ParseError.TheVariants as errors
+use Rattle.justfile_parse_base.specs.declared.parse_error.ParseError.{ParseError}
 use Rattle.justfile_parse_expression.specs.TableReader as tokens
 use Rattle.justfile_parse_expression.specs.TableReader.{Read, State, leaves}
 use Rattle.justfile_parse_expression.specs.Significant.{TableEntry}

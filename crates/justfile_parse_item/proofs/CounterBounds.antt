@@ -33,8 +33,8 @@ use Rattle.justfile_expression.specs.LeafTree.{Leaf}
 use Rattle.justfile_parse_item.proofs.Anywhere.{Keeps, agree, keeps, rel, state_alike}
 use Rattle.justfile_parse_expression.proofs.Anywhere.{entries_are, state_seen}
 use Rattle.justfile_parse_expression.proofs.FormatStrings.{IsNext, Taken, accepted}
-use Rattle.justfile_parse_header.specs.Counting.{identifiers_left}
-use Rattle.justfile_parse_header.proofs.Fewer.{Fewer, either_fewer, expect_fewer, fewer, fewer_at, then_fewer}
+use Rattle.justfile_parse_base.specs.Counting.{identifiers_left}
+use Rattle.justfile_parse_base.proofs.Fewer.{Fewer, either_fewer, expect_fewer, fewer, fewer_at, then_fewer}
 
 -- counters that move up by at most `before` less `following`, and constants that stay
 pub record MovesBy (n m : Counters) (before following : ℕ) : Type 0 where

@@ -9,10 +9,10 @@ use Rattle.justfile_parse_item.specs.ItemTable.{next_recipe_number}
 use Rattle.justfile_parse_item.specs.MethodResults.{CountersMoved}
 use Rattle.justfile_parse_expression.specs.TableReader.{Read, State, expect, leaves}
 use Rattle.justfile_parse_expression.specs.Significant.{TableEntry}
-use Rattle.justfile_parse_header.specs.Counting.{TookBindingNumbers, counters_of, identifiers_left}
-use Rattle.justfile_parse_header.specs.HeaderTable.{next_binding_number}
-use Rattle.justfile_parse_header.proofs.BindingNumbers.{took_one}
-use Rattle.justfile_parse_header.proofs.Fewer.{expect_fewer, fewer_at, name_fewer}
+use Rattle.justfile_parse_base.specs.Counting.{TookBindingNumbers, counters_of, identifiers_left}
+use Rattle.justfile_parse_base.specs.SharedTable.{next_binding_number}
+use Rattle.justfile_parse_base.proofs.BindingNumbers.{took_one}
+use Rattle.justfile_parse_base.proofs.Fewer.{expect_fewer, fewer_at, name_fewer}
 
 -- nothing is numbered
 pub unmoved : (old new : Numerator) (most : ℕ) → new ≡ old → CountersMoved old new most

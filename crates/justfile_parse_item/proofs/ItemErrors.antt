@@ -11,12 +11,12 @@ use Rattle.justfile_model.specs.Tree.{Expr, Quoted}
 use Rattle.justfile_model.specs.declared.level.Level.TheVariants as levels
 use Rattle.justfile_parse_item.specs.ItemTable as reader
 use Rattle.justfile_parse_attribute.specs.AttributeTable.{Entries}
-use Rattle.justfile_parse_attribute.specs.ParseErrors.{IsParseError}
-use Rattle.justfile_parse_attribute.specs.declared.parse_error.ParseError.{ParseError}
+use Rattle.justfile_parse_base.specs.ParseErrors.{IsParseError}
+use Rattle.justfile_parse_base.specs.declared.parse_error.ParseError.{ParseError}
 use Rattle.justfile_parse_expression.specs.TableReader.{At, ReadError, State, expect, read}
 use Rattle.justfile_parse_expression.specs.Significant.{TableEntry}
-use Rattle.justfile_parse_header.proofs.HeaderErrors.{failed}
-use Rattle.justfile_parse_header.specs.HeaderTable.{path}
+use Rattle.justfile_parse_base.proofs.HeaderErrors.{failed}
+use Rattle.justfile_parse_base.specs.SharedTable.{path}
 use Rattle.justfile_parse_item_parts.specs.PartTable.{file_path, setting_keyword, names, optional_path, setting_value}
 use Rattle.justfile_expression.specs.LeafTree.{Leaf}
 

@@ -1,5 +1,4 @@
 pub mod Anywhere
-pub mod Bodies
 pub mod Constructs
 pub mod Hashes
 pub mod ItemErrors
@@ -12,6 +11,5 @@ pub mod Recipes
 pub mod Seen
 pub mod SeenAttributes
 pub mod Shebangs
-pub mod Trims
 pub mod DerivedItemFields
 pub mod ConstructKeywords

@@ -17,15 +17,16 @@ use Rattle.justfile_model.specs.PartReader.{after_numbered}
 use Rattle.justfile_model.specs.ReaderState.{◌>>=◌, Counters, prepend}
 use Rattle.justfile_parse_expression.specs.TableReader.{Read, ReadError, State, accept, expect, leaves}
 use Rattle.justfile_parse_item.specs.ItemTable.{ReadItems, after_item, item_end, attribute_leaves, line, line_end, any_item}
-use Rattle.justfile_parse_attribute.specs.ParseErrors.{IsParseError}
+use Rattle.justfile_parse_base.specs.ParseErrors.{IsParseError}
 use Rattle.justfile_parse_expression.specs.MethodResults.{IsExpressionError, literal_read_error, read_error_at}
-use Rattle.justfile_parse_item.specs.Tree.{item_tree, line_tree}
+use Rattle.justfile_parse_item.specs.Tree.{item_tree}
+use Rattle.justfile_parse_item_parts.specs.BodyTrees.{line_tree}
 use Rattle.justfile_expression.specs.LeafTree.{Leaf}
-use Rattle.justfile_parse_attribute.specs.declared.parse_error.ParseError.{ParseError}
+use Rattle.justfile_parse_base.specs.declared.parse_error.ParseError.{ParseError}
 use Rattle.justfile_parse_expression.specs.Significant.{TableEntry}
 use Rattle.justfile_parse_expression.specs.declared.expression_error.ExpressionError.{ExpressionError}
 use Rattle.justfile_parse_expression.specs.declared.expression_error.ExpressionError.TheVariants.{Refused, Literal, Memory, Numbers}
-use Rattle.justfile_parse_header.proofs.HeaderErrors.{failed}
+use Rattle.justfile_parse_base.proofs.HeaderErrors.{failed}
 
 abbrev Items : Type 0
 Items = List (OrderedItem Leaf Token ℕ)

@@ -14,18 +14,20 @@ use Rattle.justfile_model.specs.RecipeRules.{exclusions_broken}
 use Rattle.justfile_model.specs.Tree as tree
 use Rattle.justfile_model.specs.Tree.{BodyLine, OrderedItem, bare_recipe}
 use Rattle.justfile_parse_item.specs.ItemTable as reader
-use Rattle.justfile_parse_item.specs.ItemTable.{CommentedBody, ReadItem, next_recipe_number, in_content_order, optional_body}
-use Rattle.justfile_parse_attribute.specs.AttributeTable.{Entries, comment_in}
-use Rattle.justfile_parse_attribute.specs.ParseErrors.{IsParseError}
-use Rattle.justfile_parse_attribute.specs.declared.parse_error.ParseError.{ParseError}
+use Rattle.justfile_parse_item.specs.ItemTable.{ReadItem, next_recipe_number, in_content_order}
+use Rattle.justfile_parse_item_parts.specs.BodyTable.{CommentedBody, optional_body}
+use Rattle.justfile_parse_attribute.specs.AttributeTable.{Entries}
+use Rattle.justfile_parse_base.specs.SharedTable.{comment_in}
+use Rattle.justfile_parse_base.specs.ParseErrors.{IsParseError}
+use Rattle.justfile_parse_base.specs.declared.parse_error.ParseError.{ParseError}
 use Rattle.justfile_parse_expression.specs.MethodResults.{IsExpressionError}
 use Rattle.justfile_parse_expression.specs.TableReader.{Read, ReadError, State, accept, leaves}
 use Rattle.justfile_parse_expression.specs.Significant.{TableEntry}
 use Rattle.justfile_parse_expression.specs.declared.expression_error.ExpressionError.{ExpressionError}
 use Rattle.justfile_parse_header.specs.HeaderTable.{LeafHeader, header}
-use Rattle.justfile_parse_header.specs.Counting.{identifiers_left}
-use Rattle.justfile_parse_header.proofs.Fewer.{accept_fewer}
-use Rattle.justfile_parse_header.proofs.HeaderErrors.{failed, first_errs, first_stops, stopped}
+use Rattle.justfile_parse_base.specs.Counting.{identifiers_left}
+use Rattle.justfile_parse_base.proofs.Fewer.{accept_fewer}
+use Rattle.justfile_parse_base.proofs.HeaderErrors.{failed, first_errs, first_stops, stopped}
 use Rattle.justfile_expression.specs.LeafViews.{views_leaves}
 use Rattle.justfile_expression.specs.LeafTree.{Headed, Leaf, RecipeName}
 

@@ -33,7 +33,7 @@ use Rattle.justfile_expression.specs.Expression.{expr_of, exprs_of_row, literal_
 use Rattle.justfile_expression.specs.declared.expression.Expression.{Expression, And', Assert', Backtick, Call', Comparison', Concatenation', Conditional', FormatString', Group', Join', List', ListConcatenation', Not', Or', StringLiteral, Variable, None', Some', Row_of-Expression as ExpressionRow, end_of-Expression as row_end, more_of-Expression as row_more, Row_of-Expression-FormatString-1-2 as FormatRow, end_of-Expression-FormatString-1-2 as format_row_end, more_of-Expression-FormatString-1-2 as format_row_more}
 use Rattle.justfile_parse_item.specs.Filled.{IsFilledAttribute, IsFilledFragment, IsFilledLine, AreFilledExpressions, AreFilledParts, IsFilledCommand, IsFilledExpression, IsFilledLiteral, IsFilledPart, first_part, later_part}
 use Rattle.justfile_parse_expression.specs.TableReader.{leaves, literal_leaf}
-use Rattle.justfile_parse_item.specs.Tree.{fragment_tree, line_tree}
+use Rattle.justfile_parse_item_parts.specs.BodyTrees.{fragment_tree, line_tree}
 use Rattle.justfile_expression.specs.LeafTree.{Leaf, LiteralText, Named, Literal, Command, Text, format_row_tree, literal_of, parts_row_tree, leaf_tree_of, trees_of_row}
 use Rattle.justfile_parse_expression.proofs.Seen as table
 use Rattle.justfile_parse_expression.proofs.Seen.{Relates}

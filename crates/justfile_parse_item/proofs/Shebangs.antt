@@ -17,7 +17,7 @@ use Rattle.justfile_item.specs.declared.recipe.UnresolvedRecipe.{UnresolvedRecip
 use Rattle.justfile_model.specs.Tree as tree
 use Rattle.justfile_parse_item.specs.ItemTable.{has_shebang, is_shebang}
 use Rattle.justfile_parse_item.specs.Filled.{HasShebang}
-use Rattle.justfile_parse_item.specs.Tree.{fragment_tree, line_tree}
+use Rattle.justfile_parse_item_parts.specs.BodyTrees.{fragment_tree, line_tree}
 
 -- tests of the same
 alike : (a b : Bool) (P : Type 0) → IsTrue a ↔ P → IsTrue b ↔ P → a ≡ b

@@ -12,7 +12,7 @@ use Rattle.justfile_item.specs.declared.item.Item.TheVariants.{Alias, Assignment
 use Rattle.justfile_item.specs.declared.recipe.UnresolvedRecipe.{UnresolvedRecipe}
 use Rattle.justfile_item.specs.declared.set.Set.{Set}
 use Rattle.justfile_parse_item.specs.ItemTable.{has_shebang}
-use Rattle.justfile_parse_item.specs.Tree.{line_tree}
+use Rattle.justfile_parse_item_parts.specs.BodyTrees.{line_tree}
 use Rattle.justfile_parse_attribute.specs.DerivedAttributeFields.{HaveDerivedAttributeFields}
 pub use Rattle.justfile_parse_attribute.specs.DerivedAttributeFields.{HaveDerivedPairFields}
 use Rattle.justfile_parse_header.specs.ArgAttribute.{HaveDerivedParameterFields}

@@ -18,6 +18,7 @@ use Rattle.justfile_expression.specs.LeafViews.{views_leaves}
 use Rattle.justfile_expression.specs.LeafTree.{Leaf, Text}
 use Rattle.justfile_parse_expression.specs.Significant.{TableEntry}
 use Rattle.justfile_parse_attribute.specs.AttributeTable.{Entries}
+pub use Rattle.justfile_parse_item_parts.specs.BodyTable.{CommentedBody, body, body_after, body_line, fragment, line_rest, lines, optional_body}
 use Rattle.justfile_parse_expression.specs.TableReader.{Read, Run, State, leaves}
 
 -- whether the line begins with a text that begins with `#!`
@@ -42,31 +43,6 @@ attribute_leaves = record {
 
 abbrev pub next_recipe_number : Counters → State → Read (ℕ × Counters)
 next_recipe_number = files.next_recipe_number leaves
-
-abbrev pub fragment : State → Read (Fragment Leaf Token)
-fragment = files.fragment leaves
-
-abbrev pub line_rest : State → Read (List (Fragment Leaf Token))
-line_rest = files.line_rest leaves
-
-abbrev pub body_line : State → Read (BodyLine Leaf Token ℕ)
-body_line = files.body_line leaves
-
-abbrev pub lines : State → Read (List (BodyLine Leaf Token ℕ))
-lines = files.lines leaves
-
-abbrev pub body : State → Read (List (BodyLine Leaf Token ℕ))
-body = files.body leaves
-
--- the comment before a body, if there is one, and the body
-abbrev pub CommentedBody : Type 0
-CommentedBody = files.CommentedBody leaves
-
-abbrev pub body_after : (comment : Option TableEntry) → State → Read CommentedBody
-body_after = files.body_after leaves
-
-abbrev pub optional_body : State → Read CommentedBody
-optional_body = files.optional_body leaves
 
 -- an item, and the counters after it
 abbrev pub ReadItem : Type 0

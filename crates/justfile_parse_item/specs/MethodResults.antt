@@ -6,8 +6,8 @@ use Rattle.justfile_token.specs.declared.token.Token.{Token}
 use Rattle.justfile_model.specs.Tree.{OrderedItem}
 use Rattle.justfile_model.specs.ReaderState.{Counters}
 use Rattle.justfile_parse_item.specs.ItemTable.{ReadItem}
-use Rattle.justfile_parse_attribute.specs.ParseErrors.{ReadsRuled}
-use Rattle.justfile_parse_attribute.specs.declared.parse_error.ParseError.{ParseError}
+use Rattle.justfile_parse_base.specs.ParseErrors.{ReadsRuled}
+use Rattle.justfile_parse_base.specs.declared.parse_error.ParseError.{ParseError}
 use Rattle.justfile_parse_expression.specs.TableReader.{State}
 use Rattle.justfile_expression.specs.LeafTree.{Leaf}
 

@@ -7,9 +7,6 @@ use Rattle.justfile_token.specs.declared.namepath.Namepath.{Namepath}
 use Rattle.justfile_vocabulary.specs.declared.number.Number.{Number}
 use Rattle.justfile_token.specs.declared.string_literal.StringLiteral as literals
 use Rattle.justfile_attribute_set.specs.AttributeSet.{AttributeSet}
-use Rattle.justfile_line.specs.declared.fragment.Fragment as fragment
-use Rattle.justfile_line.specs.declared.fragment.Fragment.TheVariants as fragments
-use Rattle.justfile_line.specs.declared.line.Line as line
 use Rattle.justfile_item.specs.declared.alias.Alias.{Alias}
 use Rattle.justfile_item.specs.declared.binding.Binding.{Binding}
 use Rattle.justfile_item.specs.declared.function_definition.FunctionDefinition.{FunctionDefinition}
@@ -19,21 +16,16 @@ use Rattle.justfile_item.specs.declared.recipe.UnresolvedRecipe.{UnresolvedRecip
 use Rattle.justfile_item.specs.declared.set.Set.{Set}
 use Rattle.justfile_token.specs.declared.token.Token.{Token}
 use Rattle.justfile_model.specs.Tree as tree
-use Rattle.justfile_model.specs.Tree.{Fragment, BodyLine, OrderedItem, Quoted, assignment_of}
+use Rattle.justfile_model.specs.Tree.{OrderedItem, Quoted, assignment_of}
 use Rattle.justfile_attribute_rules.specs.Made.{quoted_leaf}
+use Rattle.justfile_parse_item_parts.specs.BodyTrees.{line_tree}
 pub use Rattle.justfile_parse_item_parts.specs.Parts.{numbered_leaf}
-use Rattle.justfile_parse_header.specs.Tree.{dependency_tree, name_tree, parameter_tree, path_tree}
+use Rattle.justfile_parse_header.specs.Tree.{dependency_tree, parameter_tree}
+use Rattle.justfile_parse_base.specs.Trees.{name_tree, path_tree}
 use Rattle.justfile_setting.specs.LeafSetting.{leaf_value_of}
 use Rattle.justfile_setting.specs.Setting.{keyword_of}
-use Rattle.justfile_expression.specs.LeafTree.{AssignmentName, RecipeName, Leaf, Assigned, Headed, Literal, Named, Text, leaf_tree_of, literal_of}
+use Rattle.justfile_expression.specs.LeafTree.{AssignmentName, RecipeName, Leaf, Assigned, Headed, Literal, Named, leaf_tree_of, literal_of}
 use Rattle.justfile_expression.specs.declared.expression.Expression.{Expression}
-
-abbrev pub fragment_tree : fragment.Fragment → Fragment Leaf Token
-fragment_tree (fragments.Interpolation expression) = tree.Interpolation (leaf_tree_of expression)
-fragment_tree (fragments.Text token) = tree.Text (Text token)
-
-abbrev pub line_tree : line.Line → BodyLine Leaf Token ℕ
-line_tree line = tree.Line line.number (map fragment_tree line.fragments.items)
 
 abbrev pub assignment_name : Binding Expression → AssignmentName
 assignment_name a = record { file_depth = a.file_depth; name = a.name.token; number = a.number; prelude = a.prelude }

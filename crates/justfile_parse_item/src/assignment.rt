@@ -8,14 +8,13 @@ ghost use Rattle.justfile_parse_item.specs.DerivedFields.{HaveDerivedPairFields,
 ghost use Rattle.justfile_parse_attribute.specs.Attributes.{entry_of_pair};
 ghost use Rattle.justfile_parse_expression.specs.Significant.{significant_of};
 ghost use Rattle.justfile_parse_expression.specs.View.{tokens_left, state_of};
-ghost use Rattle.justfile_parse_header.specs.Counting.{counters_of, ParsesCounted};
+ghost use Rattle.justfile_parse_base.specs.Counting.{counters_of, ParsesCounted};
 
 use crate::attribute_checks::check_allowed;
 use justfile_attribute::Attribute;
 use justfile_item::{Binding, Item, is_private_item};
-use justfile_parse_attribute::ParseError;
+use justfile_parse_base::{ParseError, next_binding_number};
 use justfile_parse_expression::TokenCursor;
-use justfile_parse_header::next_binding_number;
 use justfile_token::{Expander, Name};
 use justfile_vocabulary::{ItemKind, Numerator, TokenKind};
 use justfile_written::Written;

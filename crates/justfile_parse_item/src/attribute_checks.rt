@@ -8,13 +8,13 @@ ghost use Rattle.justfile_parse_item.specs.ExtraneousFault.{IsExtraneousFault};
 ghost use Rattle.justfile_parse_item.specs.ItemTable as reader;
 ghost use Rattle.justfile_parse_item.specs.DerivedFields.{HaveDerivedPairFields, HasDerivedSetAttributes};
 ghost use Rattle.justfile_parse_attribute.specs.Attributes.{entry_of_pair};
-ghost use Rattle.justfile_parse_attribute.specs.ParseErrors.{ReadsRuled, ChecksRules};
+ghost use Rattle.justfile_parse_base.specs.ParseErrors.{ReadsRuled, ChecksRules};
 ghost use Rattle.justfile_parse_expression.specs.TableReader.{State};
 ghost use Rattle.justfile_expression.specs.LeafViews.{views_leaves};
 
 use justfile_attribute::Attribute;
 use justfile_attribute_set::AttributeSet;
-use justfile_parse_attribute::{ParseError, rule_error};
+use justfile_parse_base::{ParseError, rule_error};
 use justfile_parse_expression::significant::SignificantToken;
 use justfile_token::{CompileErrorKind, Fault, Token};
 use justfile_vocabulary::{AttributeKind, ItemKind};

@@ -8,12 +8,12 @@ ghost use Rattle.justfile_parse_item.specs.DerivedFields.{HaveDerivedPairFields,
 ghost use Rattle.justfile_parse_attribute.specs.Attributes.{entry_of_pair};
 ghost use Rattle.justfile_parse_expression.specs.Significant.{significant_of};
 ghost use Rattle.justfile_parse_expression.specs.View.{tokens_left, state_of};
-ghost use Rattle.justfile_parse_header.specs.Counting.{counters_of, ParsesCounted};
+ghost use Rattle.justfile_parse_base.specs.Counting.{counters_of, ParsesCounted};
 
 use crate::attribute_checks::check_allowed;
 use justfile_attribute::Attribute;
 use justfile_item::{FunctionDefinition, Item};
-use justfile_parse_attribute::ParseError;
+use justfile_parse_base::ParseError;
 use justfile_parse_expression::TokenCursor;
 use justfile_parse_item_parts::parse_parameter_names;
 use justfile_token::{Expander, Name};

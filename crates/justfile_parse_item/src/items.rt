@@ -5,7 +5,7 @@ ghost use Rattle.std.specs.Str.{trim_end};
 ghost use Rattle.justfile_token.specs.Token.{lexeme_of};
 ghost use Rattle.justfile_model.specs.SignificantTokens.{identifiers};
 ghost use Rattle.justfile_model.specs.Tree as tree;
-ghost use Rattle.justfile_parse_header.specs.Counting.{counters_of, ParsesCounted};
+ghost use Rattle.justfile_parse_base.specs.Counting.{counters_of, ParsesCounted};
 ghost use Rattle.justfile_model.specs.Reader.{has_body};
 ghost use Rattle.justfile_model.specs.ReaderState.{prepend};
 ghost use Rattle.justfile_model.specs.PartReader.{after_numbered};
@@ -21,7 +21,7 @@ ghost use Rattle.justfile_parse_expression.specs.View.{tokens_left, state_of};
 
 use crate::construct::parse_construct;
 use justfile_item::Item;
-use justfile_parse_attribute::ParseError;
+use justfile_parse_base::ParseError;
 use justfile_parse_expression::{ExpressionError, SyntaxError, TokenCursor};
 use justfile_token::{Expander, Token};
 use justfile_vocabulary::{Numerator, TokenKind};

@@ -4,7 +4,6 @@
 mod accept;
 mod assignment;
 mod attribute_checks;
-mod body;
 mod construct;
 mod function;
 mod items;

@@ -11,7 +11,7 @@ use crate::accept::accept_kind;
 use crate::attribute_checks::check_allowed;
 use justfile_attribute::Attribute;
 use justfile_item::Item;
-use justfile_parse_attribute::ParseError;
+use justfile_parse_base::ParseError;
 use justfile_parse_expression::TokenCursor;
 use justfile_parse_item_parts::{parse_file_path, parse_optional_path};
 use justfile_token::{Expander, Name};

@@ -12,9 +12,9 @@ use Rattle.justfile_parse_expression.specs.Significant.{TableEntry}
 use Rattle.justfile_parse_expression.proofs.Rules.{bind_alike, then_made}
 use Rattle.justfile_parse_item_parts.specs.PartTable.{expansion_mark, file_path}
 use Rattle.justfile_expression.specs.LeafTree.{Leaf}
-use Rattle.justfile_parse_attribute.specs.ParseErrors.{IsParseError}
-use Rattle.justfile_parse_attribute.specs.declared.parse_error.ParseError.{ParseError}
-use Rattle.justfile_parse_header.proofs.HeaderErrors.{first_errs}
+use Rattle.justfile_parse_base.specs.ParseErrors.{IsParseError}
+use Rattle.justfile_parse_base.specs.declared.parse_error.ParseError.{ParseError}
+use Rattle.justfile_parse_base.proofs.HeaderErrors.{first_errs}
 
 abbrev Path : Type 0
 Path = TableEntry × Quoted Leaf

@@ -4,3 +4,5 @@ pub mod NumberedNames
 pub mod Refused
 pub mod PlainValues
 pub mod SettingSteps
+pub mod Bodies
+pub mod Trims

@@ -11,16 +11,16 @@ use Rattle.justfile_model.specs.PartReader as parts
 use Rattle.justfile_model.specs.PartReader.{after_numbered}
 use Rattle.justfile_model.specs.ReaderState.{◌>>=◌, Counters, choose}
 use Rattle.justfile_model.proofs.PartReading.{names_is}
-use Rattle.justfile_parse_attribute.specs.AttributeTable.{separator}
-use Rattle.justfile_parse_attribute.specs.ParseErrors.{IsParseError}
-use Rattle.justfile_parse_attribute.specs.declared.parse_error.ParseError.{ParseError}
+use Rattle.justfile_parse_base.specs.SharedTable.{separator}
+use Rattle.justfile_parse_base.specs.ParseErrors.{IsParseError}
+use Rattle.justfile_parse_base.specs.declared.parse_error.ParseError.{ParseError}
 use Rattle.justfile_parse_expression.specs.TableReader.{Read, ReadError, State, accept, expect, leaves}
 use Rattle.justfile_parse_expression.specs.Significant.{TableEntry}
-use Rattle.justfile_parse_header.specs.Counting.{TookBindingNumbers, counters_of, identifiers_left}
-use Rattle.justfile_parse_header.specs.HeaderTable.{next_binding_number}
-use Rattle.justfile_parse_header.proofs.BindingNumbers.{took_both, took_none}
-use Rattle.justfile_parse_header.proofs.Fewer.{Fewer, either_fewer, expect_fewer, then_fewer}
-use Rattle.justfile_parse_header.proofs.HeaderErrors.{failed}
+use Rattle.justfile_parse_base.specs.Counting.{TookBindingNumbers, counters_of, identifiers_left}
+use Rattle.justfile_parse_base.specs.SharedTable.{next_binding_number}
+use Rattle.justfile_parse_base.proofs.BindingNumbers.{took_both, took_none}
+use Rattle.justfile_parse_base.proofs.Fewer.{Fewer, either_fewer, expect_fewer, then_fewer}
+use Rattle.justfile_parse_base.proofs.HeaderErrors.{failed}
 use Rattle.justfile_parse_item_parts.specs.PartTable as reader
 use Rattle.justfile_parse_item_parts.specs.PartTable.{names_step, numbered_name, one_name}
 use Rattle.justfile_parse_item_parts.specs.Parts.{numbered_leaf, numbered_leaves}

@@ -27,8 +27,8 @@ use Rattle.justfile_parse_item_parts.specs.PartTable.{LeafValue}
 use Rattle.justfile_expression.specs.LeafViews.{views_leaves}
 use Rattle.justfile_expression.specs.LeafTree.{Leaf}
 use Rattle.justfile_token.specs.declared.fault.Fault.{Fault}
-use Rattle.justfile_parse_attribute.specs.ParseErrors.{IsParseError, IsErrorOfFault, IsFaultOf}
-use Rattle.justfile_parse_attribute.specs.declared.parse_error.ParseError.{ParseError}
+use Rattle.justfile_parse_base.specs.ParseErrors.{IsParseError, IsErrorOfFault, IsFaultOf}
+use Rattle.justfile_parse_base.specs.declared.parse_error.ParseError.{ParseError}
 use Rattle.justfile_parse_item_parts.proofs.Refused.{errs}
 
 -- ---- keywords

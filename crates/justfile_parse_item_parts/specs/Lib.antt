@@ -1,2 +1,4 @@
 pub mod PartTable
 pub mod Parts
+pub mod BodyTable
+pub mod BodyTrees

@@ -14,7 +14,7 @@ use Rattle.justfile_model.specs.SettingRules as rules
 use Rattle.justfile_model.specs.Settings.{SettingForm}
 use Rattle.justfile_model.specs.Tree as tree
 use Rattle.justfile_model.specs.Tree.{Expr, Quoted, SettingValue}
-use Rattle.justfile_parse_attribute.specs.AttributeTable.{separator, view_of}
+use Rattle.justfile_parse_base.specs.SharedTable.{separator, view_of}
 use Rattle.justfile_parse_expression.specs.TableReader.{Read, Sequence, State, accept, element, expect, leaves, next_are, read}
 use Rattle.justfile_parse_expression.specs.Significant.{TableEntry}
 use Rattle.justfile_parse_item_parts.specs.declared.lookahead.Lookahead.{Lookahead}

@@ -2,7 +2,7 @@
 ghost use Rattle.std.specs.Prelude.{[], ◌∷◌};
 ghost use Rattle.justfile_vocabulary.specs.declared.keyword.Keyword.TheVariants as words;
 ghost use Rattle.justfile_model.specs.ReaderState.{ExpectedKeyword, UnknownSetting};
-ghost use Rattle.justfile_parse_attribute.specs.ParseErrors.{IsFaultOf};
+ghost use Rattle.justfile_parse_base.specs.ParseErrors.{IsFaultOf};
 
 use justfile_token::{CompileErrorKind, Fault, Token};
 use justfile_vocabulary::Keyword;

@@ -1,7 +1,7 @@
 //! Paths of files.
 ghost use Rattle.std.specs.Prelude.{◌≡◌, ◌<◌, ◌≤◌, IfOk, OnOk};
 ghost use Rattle.justfile_vocabulary.specs.declared.token_kind.TokenKind.TheVariants as kinds;
-ghost use Rattle.justfile_parse_attribute.specs.ParseErrors.{ParsesRuled};
+ghost use Rattle.justfile_parse_base.specs.ParseErrors.{ParsesRuled};
 ghost use Rattle.justfile_parse_expression.specs.Literal.{IsOf};
 ghost use Rattle.justfile_parse_expression.specs.ParsedResults.{Parses};
 ghost use Rattle.justfile_parse_expression.specs.TableReader as table;
@@ -10,7 +10,7 @@ ghost use Rattle.justfile_parse_item_parts.specs.PartTable as reader;
 ghost use Rattle.justfile_parse_item_parts.specs.Parts.{optional_path_tree, path_tree};
 
 use crate::errors::expected_keyword_error;
-use justfile_parse_attribute::{ParseError, rule_error};
+use justfile_parse_base::{ParseError, rule_error};
 use justfile_parse_expression::significant::SignificantToken;
 use justfile_parse_expression::{ExpressionError, SyntaxError, TokenCursor, is_word};
 use justfile_token::{Expander, StringLiteral};
@@ -21,7 +21,7 @@ use justfile_vocabulary::{Keyword, TokenKind};
 /// # Errors
 ///
 /// The tokens are refused, a literal has no text, or memory runs out.
-#[tactic(auto, using(justfile_parse_attribute::proofs::AttributeSteps::broken_first), unfolding(justfile_model::specs::PartReader::optional_path))]
+#[tactic(auto, using(justfile_parse_base::proofs::RuleSteps::broken_first), unfolding(justfile_model::specs::PartReader::optional_path))]
 pub fn parse_optional_path<'src, X: Expander>(
     parser: &mut TokenCursor<'_, 'src, X>,
 ) -> Result<Option<StringLiteral<'src>>, ParseError<'src>>
@@ -41,7 +41,7 @@ pub fn parse_optional_path<'src, X: Expander>(
 /// # Errors
 ///
 /// The tokens are refused, a literal has no text, or memory runs out.
-#[tactic(auto, using(justfile_parse_attribute::proofs::AttributeSteps::broken_first, crate::proofs::FilePaths::path_is))]
+#[tactic(auto, using(justfile_parse_base::proofs::RuleSteps::broken_first, crate::proofs::FilePaths::path_is))]
 pub fn parse_file_path<'src, X: Expander>(
     parser: &mut TokenCursor<'_, 'src, X>,
 ) -> Result<(SignificantToken<'src>, StringLiteral<'src>), ParseError<'src>>

@@ -1,13 +1,12 @@
 //! The parameters of functions.
 ghost use Rattle.std.specs.Prelude.{◌≡◌, ◌<◌, ◌≤◌, false, IfOk, OnOk};
 ghost use Rattle.justfile_parse_expression.specs.View.{tokens_left, state_of};
-ghost use Rattle.justfile_parse_header.specs.Counting.{TookBindingNumbers, counters_of, identifiers_left, identifiers_left_after, ParsesCounted};
+ghost use Rattle.justfile_parse_base.specs.Counting.{TookBindingNumbers, counters_of, identifiers_left, identifiers_left_after, ParsesCounted};
 ghost use Rattle.justfile_parse_item_parts.specs.PartTable as reader;
 ghost use Rattle.justfile_parse_item_parts.specs.Parts.{numbered_leaves};
 
-use justfile_parse_attribute::{ParseError, parse_separator};
+use justfile_parse_base::{ParseError, next_binding_number, parse_separator};
 use justfile_parse_expression::TokenCursor;
-use justfile_parse_header::next_binding_number;
 use justfile_token::{Expander, Name};
 use justfile_vocabulary::{Number, Numerator, TokenKind};
 
@@ -37,7 +36,7 @@ pub fn parse_parameter_names<'src, X: Expander>(
 
 /// Parses the closing parenthesis, or a name and what follows it. Returns whether the names are at
 /// their end.
-#[tactic(auto, using(justfile_parse_attribute::proofs::AttributeSteps::broken_first), unfolding(crate::specs::PartTable::names_step))]
+#[tactic(auto, using(justfile_parse_base::proofs::RuleSteps::broken_first), unfolding(crate::specs::PartTable::names_step))]
 fn parse_next_name<'src, X: Expander>(
     parser: &mut TokenCursor<'_, 'src, X>,
     numerator: &mut Numerator,

@@ -10,7 +10,7 @@ ghost use Rattle.justfile_model.specs.Rules as rules;
 ghost use Rattle.justfile_model.specs.Settings as forms;
 ghost use Rattle.justfile_model.specs.Tree as tree;
 ghost use Rattle.justfile_model.specs.Versions.{version_numbers};
-ghost use Rattle.justfile_parse_attribute.specs.ParseErrors.{IsFaultOf, ReadsRuled};
+ghost use Rattle.justfile_parse_base.specs.ParseErrors.{IsFaultOf, ReadsRuled};
 ghost use Rattle.justfile_parse_expression.specs.TableReader.{State};
 ghost use Rattle.justfile_parse_item_parts.specs.PartTable as reader;
 ghost use Rattle.justfile_setting.specs.LeafSetting.{leaf_value_of};
@@ -18,7 +18,7 @@ ghost use Rattle.justfile_setting.specs.Setting.{HasDerivedSettingFields, keywor
 ghost use Rattle.justfile_expression.specs.LeafTree.{Literal, leaf_tree_of, literal_of};
 
 use justfile_expression::Expression;
-use justfile_parse_attribute::{ParseError, rule_error};
+use justfile_parse_base::{ParseError, rule_error};
 use justfile_setting::Setting;
 use justfile_token::{CompileErrorKind, Fault, StringKind, StringLiteral, Token};
 use justfile_vocabulary::{Indentation, Keyword, Version};

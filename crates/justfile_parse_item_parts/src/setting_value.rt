@@ -3,7 +3,7 @@ ghost use Rattle.std.specs.Prelude.{◌≡◌, ◌<◌, ◌≤◌, IfOk, OnOk, S
 ghost use Rattle.justfile_vocabulary.specs.declared.token_kind.TokenKind.TheVariants as kinds;
 ghost use Rattle.justfile_model.specs.Settings as forms;
 ghost use Rattle.justfile_model.specs.Tree as tree;
-ghost use Rattle.justfile_parse_attribute.specs.ParseErrors.{ReadsRuled, ParsesRuled};
+ghost use Rattle.justfile_parse_base.specs.ParseErrors.{ReadsRuled, ParsesRuled};
 ghost use Rattle.justfile_parse_expression.specs.MethodResults.{UnlessMemory};
 ghost use Rattle.justfile_parse_expression.specs.ParsedResults.{Parses};
 ghost use Rattle.justfile_parse_expression.specs.TableReader.{State};
@@ -18,7 +18,7 @@ use crate::errors::{expected_keyword_error, unknown_setting_error};
 use crate::plain::make_plain;
 use justfile_attribute::Interpreter;
 use justfile_expression::Expression;
-use justfile_parse_attribute::{ParseError, rule_error};
+use justfile_parse_base::{ParseError, rule_error};
 use justfile_parse_expression::significant::SignificantToken;
 use justfile_parse_expression::{ExpressionError, SyntaxError, TokenCursor, is_word};
 use justfile_setting::{Setting, SettingForm, setting_form};
@@ -70,7 +70,7 @@ pub fn parse_setting_value<'src, X: Expander>(
 }
 
 /// Parses a setting that takes a boolean.
-#[tactic(auto, using(justfile_parse_attribute::proofs::AttributeSteps::broken_first))]
+#[tactic(auto, using(justfile_parse_base::proofs::RuleSteps::broken_first))]
 fn parse_truth_setting<'src, X: Expander>(
     parser: &mut TokenCursor<'_, 'src, X>,
     keyword: Keyword,

@@ -3,7 +3,7 @@ use Rattle.justfile_model.specs.ReaderState.{NoNumber}
 use Rattle.justfile_parse_expression.specs.Conditions.{conditions_of}
 use Rattle.justfile_parse_item.specs.ItemTable as reader
 use Rattle.justfile_parse_expression.specs.TableReader.{Run, State}
-use Rattle.justfile_parse_attribute.specs.ParseErrors.{IsParseError}
+use Rattle.justfile_parse_base.specs.ParseErrors.{IsParseError}
 use Rattle.justfile_parse.specs.ErrorFaults.{IsFaultOfError}
 use Rattle.justfile_parse_item.specs.Tree.{item_tree}
 use Rattle.justfile_parse_expression.specs.View.{state_of}
@@ -11,7 +11,7 @@ use Rattle.justfile_parse_expression.specs.Significant.{TableEntry}
 use Rattle.justfile_parse_expression.proofs.Rest.{noted_is}
 use Rattle.justfile_parse.proofs.FileResults.{read_of, unread}
 use Rattle.justfile_parse.proofs.parse.parse_table.Goals as goal
-use Rattle.justfile_parse_header.specs.Counting.{counters_of}
+use Rattle.justfile_parse_base.specs.Counting.{counters_of}
 
 pub returns-in-Ok-clause-ok : goal.returns-in-Ok-clause-ok
 returns-in-Ok-clause-ok g c =

@@ -1,5 +1,5 @@
 use Rattle.std.proofs.Common.{take}
-use Rattle.justfile_parse_attribute.specs.TextSets.{HaveSame, texts_in}
+use Rattle.justfile_parse_base.specs.TextSets.{HaveSame, texts_in}
 use Rattle.justfile_parse_header.proofs.Texts.{names_of}
 use Rattle.justfile_parse_header.proofs.arguments.parameter_names.Given as goal
 

@@ -2,7 +2,7 @@ use Rattle.std.proofs.Common.{◌≡◌, subst, List, Option, map, Some, None}
 use Rattle.justfile_token.specs.declared.fault.Fault.TheVariants as faults
 use Rattle.justfile_model.specs.Meaning.{first_of}
 use Rattle.justfile_model.specs.RecipeRules.{stars}
-use Rattle.justfile_parse_attribute.specs.ParseErrors.{IsParseError}
+use Rattle.justfile_parse_base.specs.ParseErrors.{IsParseError}
 use Rattle.justfile_parse_expression.specs.Significant.{TableEntry}
 use Rattle.justfile_parse_header.specs.Tree.{read_argument}
 use Rattle.justfile_parse_header.proofs.Stars.{missing_fails, outside_fails, place_checked, refuses_missing, refuses_outside}

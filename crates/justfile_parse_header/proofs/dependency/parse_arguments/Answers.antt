@@ -1,7 +1,7 @@
 use Rattle.std.proofs.Common.{◌≡◌, sym, subst, List, [], map, None}
 use Rattle.std.proofs.lemmas.Result.{err_from_is_err_and}
 use Rattle.justfile_vocabulary.specs.declared.token_kind.TokenKind.TheVariants as kinds
-use Rattle.justfile_parse_attribute.specs.ParseErrors.{IsParseError}
+use Rattle.justfile_parse_base.specs.ParseErrors.{IsParseError}
 use Rattle.justfile_parse_expression.specs.TableReader.{accept}
 use Rattle.justfile_parse_expression.specs.View.{state_of}
 use Rattle.justfile_parse_expression.specs.declared.token_cursor.TokenCursor.{TokenCursor}

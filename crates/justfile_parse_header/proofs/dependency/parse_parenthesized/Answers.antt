@@ -1,11 +1,12 @@
 use Rattle.std.proofs.Common.{◌≡◌, List, subst, map, Ok}
 use Rattle.std.proofs.lemmas.Result.{err_from_is_err_and}
 use Rattle.justfile_model.specs.HeaderReader.{obeying}
-use Rattle.justfile_parse_attribute.specs.ParseErrors.{IsParseError}
+use Rattle.justfile_parse_base.specs.ParseErrors.{IsParseError}
 use Rattle.justfile_parse_expression.specs.TableReader.{Read}
 use Rattle.justfile_parse_expression.specs.View.{state_of}
 use Rattle.justfile_parse_header.specs.HeaderTable.{misplaced_star}
-use Rattle.justfile_parse_header.specs.Tree.{path_tree, read_argument}
+use Rattle.justfile_parse_header.specs.Tree.{read_argument}
+use Rattle.justfile_parse_base.specs.Trees.{path_tree}
 use Rattle.justfile_parse_header.specs.declared.dependency.ReadArgument.{ReadArgument}
 use Rattle.justfile_parse_header.proofs.Dependencies.{parenthesized_read, stars_fail}
 use Rattle.justfile_parse_header.proofs.dependency.parse_parenthesized.Goals as goal

@@ -5,15 +5,15 @@ use Rattle.justfile_recipe_header.specs.declared.parameter.Parameter.{Parameter}
 use Rattle.justfile_recipe_header.specs.declared.unresolved_dependency.UnresolvedDependency.{UnresolvedDependency}
 use Rattle.justfile_model.specs.HeaderReader.{obeying}
 use Rattle.justfile_model.specs.ReaderState.{NoNumber, prepend}
-use Rattle.justfile_parse_attribute.specs.ParseErrors.{IsParseError}
+use Rattle.justfile_parse_base.specs.ParseErrors.{IsParseError}
 use Rattle.justfile_parse_expression.specs.TableReader.{Read, State, expect}
 use Rattle.justfile_parse_expression.specs.View.{state_of}
-use Rattle.justfile_parse_header.specs.Counting.{TookBindingNumbers, counters_of, identifiers_left}
+use Rattle.justfile_parse_base.specs.Counting.{TookBindingNumbers, counters_of, identifiers_left}
 use Rattle.justfile_parse_header.specs.HeaderTable as reader
 use Rattle.justfile_parse_header.specs.Tree.{dependency_tree, parameter_tree, rules_of}
-use Rattle.justfile_parse_header.proofs.BindingNumbers.{took_in_header, took_none, within}
-use Rattle.justfile_parse_header.proofs.Fewer.{name_fewer, noted_names}
-use Rattle.justfile_parse_header.proofs.HeaderErrors.{failed, stopped}
+use Rattle.justfile_parse_base.proofs.BindingNumbers.{took_in_header, took_none, within}
+use Rattle.justfile_parse_base.proofs.Fewer.{name_fewer, noted_names}
+use Rattle.justfile_parse_base.proofs.HeaderErrors.{failed, stopped}
 use Rattle.justfile_parse_header.proofs.HeaderFewer.{others_fewer, priors_fewer}
 use Rattle.justfile_parse_header.proofs.Headers.{Dependencies, header_read, name_fails, options_fail, others_fail, parameters_fail, priors_fail, priors_within, read_after, ruled, undefined_fail}
 use Rattle.justfile_parse_header.proofs.header.parse_header.Given.{Over}

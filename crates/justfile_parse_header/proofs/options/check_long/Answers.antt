@@ -1,6 +1,6 @@
 use Rattle.std.proofs.Common.{◌∙◌, sym}
 use Rattle.justfile_attribute.specs.Attribute.{leaf_attribute_of}
-use Rattle.justfile_parse_attribute.specs.TextSets.{texts_in}
+use Rattle.justfile_parse_base.specs.TextSets.{texts_in}
 use Rattle.justfile_parse_header.specs.Options.{long_in}
 use Rattle.justfile_parse_header.proofs.SameOptions.{long_added, long_same, then_some}
 use Rattle.justfile_parse_header.proofs.options.check_long.Goals as goal

@@ -3,7 +3,7 @@ use Rattle.std.proofs.lemmas.Result.{err_from_is_err_and}
 use Rattle.justfile_attribute.specs.Attribute.{leaf_attribute_of}
 use Rattle.justfile_attribute_set.specs.AttributeSet.{written_of}
 use Rattle.justfile_attribute_set.specs.Keys.{keys_left}
-use Rattle.justfile_parse_attribute.specs.TextSets.{texts_in}
+use Rattle.justfile_parse_base.specs.TextSets.{texts_in}
 use Rattle.justfile_parse_header.specs.OptionRules.{then_option}
 use Rattle.justfile_parse_header.specs.Options.{long_in}
 use Rattle.justfile_parse_header.specs.Tree.{rules_of}

@@ -1,6 +1,6 @@
 use Rattle.std.proofs.Common.{length}
 use Rattle.justfile_attribute_set.specs.Keys.{keys_left}
-use Rattle.justfile_parse_attribute.specs.TextSets.{texts_in}
+use Rattle.justfile_parse_base.specs.TextSets.{texts_in}
 use Rattle.justfile_parse_header.specs.Tree.{rules_of}
 use Rattle.justfile_parse_header.proofs.SameOptions.{LongsAhead}
 use Rattle.justfile_parse_header.proofs.options.check_longs.Given as goal

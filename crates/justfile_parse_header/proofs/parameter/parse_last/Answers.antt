@@ -2,9 +2,9 @@ use Rattle.std.proofs.Common.{subst}
 use Rattle.justfile_vocabulary.specs.declared.token_kind.TokenKind.TheVariants as kinds
 use Rattle.justfile_parse_expression.specs.View.{state_of}
 use Rattle.justfile_parse_expression.specs.declared.token_cursor.TokenCursor.{TokenCursor}
-use Rattle.justfile_parse_header.specs.Counting.{TookBindingNumbers, identifiers_left, identifiers_left_after}
+use Rattle.justfile_parse_base.specs.Counting.{TookBindingNumbers, identifiers_left, identifiers_left_after}
 use Rattle.justfile_parse_header.specs.Tree.{rules_of}
-use Rattle.justfile_parse_header.proofs.BindingNumbers.{took_after_token}
+use Rattle.justfile_parse_base.proofs.BindingNumbers.{took_after_token}
 use Rattle.justfile_parse_header.proofs.Parameters.{same_fields}
 use Rattle.justfile_parse_header.proofs.parameter.parse_last.Goals as goal
 

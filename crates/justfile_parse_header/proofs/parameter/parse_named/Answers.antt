@@ -6,13 +6,13 @@ use Rattle.justfile_model.specs.ReaderState.{NoNumber}
 use Rattle.justfile_parse_expression.specs.TableReader.{expect}
 use Rattle.justfile_parse_expression.specs.View.{state_of}
 use Rattle.justfile_parse_header.specs.Arguments.{rules_by}
-use Rattle.justfile_parse_header.specs.Counting.{TookBindingNumbers, counters_of, identifiers_left}
+use Rattle.justfile_parse_base.specs.Counting.{TookBindingNumbers, counters_of, identifiers_left}
 use Rattle.justfile_parse_header.specs.HeaderTable as reader
 use Rattle.justfile_parse_header.specs.ArgAttribute.{arg_attribute_broken}
 use Rattle.justfile_parse_header.specs.Tree.{parameter_tree, rules_of, value_tree}
-use Rattle.justfile_parse_header.proofs.BindingNumbers.{took_for_name, took_none, unmoved}
-use Rattle.justfile_parse_header.proofs.Fewer.{fewer_at, name_fewer}
-use Rattle.justfile_parse_header.proofs.HeaderErrors.{failed, stopped}
+use Rattle.justfile_parse_base.proofs.BindingNumbers.{took_for_name, took_none, unmoved}
+use Rattle.justfile_parse_base.proofs.Fewer.{fewer_at, name_fewer}
+use Rattle.justfile_parse_base.proofs.HeaderErrors.{failed, stopped}
 use Rattle.justfile_parse_header.proofs.HeaderFewer.{default_fewer}
 use Rattle.justfile_parse_header.proofs.Parameters.{default_fails, name_fails, named_fields, number_fails, parameter_read, pushed_fields, arg_attribute_fails}
 use Rattle.justfile_parse_header.proofs.parameter.parse_named.Given.{Over}

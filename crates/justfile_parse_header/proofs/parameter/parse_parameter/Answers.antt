@@ -2,10 +2,10 @@ use Rattle.std.proofs.Common.{◌∙◌, false, ap, map, sym}
 use Rattle.justfile_vocabulary.specs.declared.token_kind.TokenKind.TheVariants as kinds
 use Rattle.justfile_parse_expression.specs.View.{state_of}
 use Rattle.justfile_parse_expression.specs.declared.token_cursor.TokenCursor.{TokenCursor}
-use Rattle.justfile_parse_header.specs.Counting.{counters_of, identifiers_left_after}
+use Rattle.justfile_parse_base.specs.Counting.{counters_of, identifiers_left_after}
 use Rattle.justfile_parse_header.specs.HeaderTable as reader
 use Rattle.justfile_parse_header.specs.Tree.{parameter_tree, rules_of}
-use Rattle.justfile_parse_header.proofs.BindingNumbers.{took_after_token}
+use Rattle.justfile_parse_base.proofs.BindingNumbers.{took_after_token}
 use Rattle.justfile_parse_header.proofs.Parameters.{exported, unexported}
 use Rattle.justfile_parse_header.proofs.parameter.parse_parameter.Goals as goal
 

@@ -4,12 +4,12 @@ use Rattle.justfile_vocabulary.specs.declared.token_kind.TokenKind.TheVariants a
 use Rattle.justfile_recipe_header.specs.declared.parameter.Parameter.{Parameter}
 use Rattle.justfile_model.specs.ReaderState.{NoNumber}
 use Rattle.justfile_parse_expression.specs.View.{state_of}
-use Rattle.justfile_parse_header.specs.Counting.{counters_of, identifiers_left}
+use Rattle.justfile_parse_base.specs.Counting.{counters_of, identifiers_left}
 use Rattle.justfile_parse_header.specs.HeaderTable as reader
 use Rattle.justfile_parse_header.specs.ArgAttribute.{HaveDerivedParameterFields, KeepsDerivedParameterFields}
 use Rattle.justfile_parse_header.specs.Tree.{parameter_tree, rules_of}
-use Rattle.justfile_parse_header.proofs.BindingNumbers.{took_both, took_before_token, took_none}
-use Rattle.justfile_parse_header.proofs.HeaderErrors.{failed}
+use Rattle.justfile_parse_base.proofs.BindingNumbers.{took_both, took_before_token, took_none}
+use Rattle.justfile_parse_base.proofs.HeaderErrors.{failed}
 use Rattle.justfile_parse_header.proofs.Parameters.{both_fields, last_fails, none_fields, then_fields}
 use Rattle.justfile_parse_header.proofs.parameter.parse_parameters.Goals as goal
 

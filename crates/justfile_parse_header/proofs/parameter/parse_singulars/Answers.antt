@@ -2,7 +2,7 @@ use Rattle.std.proofs.Common.{◌∙◌, sym, arith}
 use Rattle.std.proofs.lemmas.Result.{err_from_is_err_and}
 use Rattle.justfile_model.specs.ReaderState.{NoNumber}
 use Rattle.justfile_parse_expression.specs.View.{state_of}
-use Rattle.justfile_parse_header.specs.Counting.{counters_of}
+use Rattle.justfile_parse_base.specs.Counting.{counters_of}
 use Rattle.justfile_parse_header.specs.Tree.{rules_of}
 use Rattle.justfile_parse_header.proofs.Parameters.{begins, ends, goes_on, errs}
 use Rattle.justfile_parse_header.proofs.parameter.parse_singulars.Goals as goal

@@ -1,6 +1,6 @@
 use Rattle.std.proofs.Common.{◌∙◌, ℕ, List, [], ◌∷◌, ◌++◌, OnOk, ap, subst}
 use Rattle.justfile_token.specs.Token.{lexeme_of}
-use Rattle.justfile_parse_attribute.specs.TextSets.{HaveSame, texts_in}
+use Rattle.justfile_parse_base.specs.TextSets.{HaveSame, texts_in}
 use Rattle.justfile_parse_header.proofs.read_parameters.push_named.Goals as goal
 
 pub returns-clause-named : goal.returns-clause-named

@@ -2,7 +2,7 @@ use Rattle.std.proofs.Common.{map}
 use Rattle.std.proofs.lemmas.Result.{err_from_is_err_and}
 use Rattle.justfile_parse_attribute.specs.Attributes.{entry_of_pair}
 use Rattle.justfile_parse_expression.specs.View.{state_of}
-use Rattle.justfile_parse_header.specs.Counting.{counters_of}
+use Rattle.justfile_parse_base.specs.Counting.{counters_of}
 use Rattle.justfile_parse_item.proofs.ItemErrors.{assignment_errs}
 use Rattle.justfile_parse_item.proofs.CounterSteps.{binding_moved}
 use Rattle.justfile_parse_item.proofs.assignment.parse_assignment.Goals as goal

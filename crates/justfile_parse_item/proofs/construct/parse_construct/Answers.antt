@@ -3,7 +3,7 @@ use Rattle.justfile_parse_attribute.specs.Attributes.{entry_of_pair}
 use Rattle.justfile_parse_expression.specs.View.{state_of}
 use Rattle.justfile_parse_item.proofs.CounterSteps.{more_moved}
 use Rattle.justfile_parse_item.proofs.CounterBounds.{attributes_fewer}
-use Rattle.justfile_parse_header.specs.Counting.{identifiers_left}
+use Rattle.justfile_parse_base.specs.Counting.{identifiers_left}
 use Rattle.justfile_parse_item.proofs.construct.parse_construct.Goals as goal
 
 pub returns-clause-moved : goal.returns-clause-moved

@@ -1,5 +1,5 @@
 use Rattle.justfile_parse_expression.specs.View.{state_of}
-use Rattle.justfile_parse_header.specs.Counting.{identifiers_left}
+use Rattle.justfile_parse_base.specs.Counting.{identifiers_left}
 use Rattle.justfile_parse_item.proofs.CounterSteps.{more_moved}
 use Rattle.justfile_parse_item.proofs.ConstructKeywords.{keyword_fewer}
 use Rattle.justfile_parse_item.proofs.construct.parse_content.Goals as goal

@@ -3,7 +3,7 @@ use Rattle.std.proofs.lemmas.Result.{err_from_is_err_and}
 use Rattle.justfile_model.specs.ReaderState as reading
 use Rattle.justfile_parse_attribute.specs.Attributes.{entry_of_pair}
 use Rattle.justfile_parse_expression.specs.View.{state_of}
-use Rattle.justfile_parse_header.specs.Counting.{counters_of, identifiers_left}
+use Rattle.justfile_parse_base.specs.Counting.{counters_of, identifiers_left}
 use Rattle.justfile_parse_item.proofs.ItemErrors.{function_attributes_fail, function_errs}
 use Rattle.justfile_parse_item.proofs.CounterSteps.{function_moved}
 use Rattle.justfile_parse_item.proofs.function.parse_function.Goals as goal

@@ -7,7 +7,7 @@ use Rattle.justfile_parse_expression.specs.View.{state_of}
 use Rattle.justfile_parse_expression.specs.declared.token_cursor.TokenCursor.{TokenCursor}
 use Rattle.justfile_parse_item.proofs.Loop.{IsReadTo, begins, ends, goes_on, goes_past, errs}
 use Rattle.justfile_parse_item.proofs.items.parse_items.Goals as goal
-use Rattle.justfile_parse_header.specs.Counting.{counters_of}
+use Rattle.justfile_parse_base.specs.Counting.{counters_of}
 
 pub lines-init : goal.lines-init
 lines-init g c = rw c.new-items.ensures.items (begins (state_of g.X.Expander.answer c.args.parser.now) c.args.numerator.now c.requires)

@@ -7,7 +7,7 @@ use Rattle.justfile_model.specs.ReaderState as reading
 use Rattle.justfile_model.specs.ReaderState.{prepend}
 use Rattle.justfile_parse_expression.specs.TableReader.{Read}
 use Rattle.justfile_parse_item.specs.ItemTable.{item_end, any_item}
-use Rattle.justfile_parse_attribute.specs.ParseErrors.{IsParseError}
+use Rattle.justfile_parse_base.specs.ParseErrors.{IsParseError}
 use Rattle.justfile_parse_item.specs.Tree.{item_tree}
 use Rattle.justfile_expression.specs.LeafTree.{Leaf}
 use Rattle.justfile_parse_expression.specs.View.{state_of}
@@ -16,7 +16,7 @@ use Rattle.justfile_parse_item.proofs.Lines.{end_stops, line_goes_on, line_errs}
 use Rattle.justfile_parse_item.proofs.DerivedItemFields.{both_fields, pushed_fields}
 use Rattle.justfile_parse_item.proofs.items.parse_line.Goals as goal
 use Rattle.justfile_parse_item.specs.MethodResults.{CountersMoved}
-use Rattle.justfile_parse_header.specs.Counting.{counters_of, identifiers_left}
+use Rattle.justfile_parse_base.specs.Counting.{counters_of, identifiers_left}
 
 pub parse_item-requires : goal.parse_item-requires
 parse_item-requires g c =

@@ -2,7 +2,7 @@ use Rattle.std.proofs.Common.{◌≤◌, Bool, subst, sym}
 use Rattle.justfile_vocabulary.specs.declared.token_kind.TokenKind.TheVariants as kinds
 use Rattle.justfile_parse_expression.specs.TableReader.{State}
 use Rattle.justfile_parse_expression.specs.View.{state_of}
-use Rattle.justfile_parse_header.specs.Counting.{identifiers_left}
+use Rattle.justfile_parse_base.specs.Counting.{identifiers_left}
 use Rattle.justfile_parse_item.proofs.CounterSteps.{more_moved}
 use Rattle.justfile_parse_item.proofs.Recipes.{accepted_fewer}
 use Rattle.justfile_parse_item.proofs.recipe.parse_any_recipe.Goals as goal

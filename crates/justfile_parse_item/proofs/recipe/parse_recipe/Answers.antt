@@ -9,13 +9,13 @@ use Rattle.justfile_vocabulary.specs.declared.numerator.Numerator.{Numerator}
 use Rattle.justfile_model.specs.ReaderState as reading
 use Rattle.justfile_parse_item.specs.ItemTable.{has_shebang}
 use Rattle.justfile_parse_item.specs.MethodResults.{CountersMoved}
-use Rattle.justfile_parse_item.specs.Tree.{line_tree}
+use Rattle.justfile_parse_item_parts.specs.BodyTrees.{line_tree}
 use Rattle.justfile_parse_item.specs.DerivedFields.{is_private_item}
 use Rattle.justfile_parse_attribute.specs.Attributes.{entry_of_pair}
 use Rattle.justfile_parse_attribute.proofs.DerivedFieldsKept.{all_keyed}
 use Rattle.justfile_parse_expression.specs.View.{state_of}
 use Rattle.justfile_parse_expression.proofs.Rest.{file_depth_is, import_offsets_are}
-use Rattle.justfile_parse_header.specs.Counting.{counters_of, identifiers_left}
+use Rattle.justfile_parse_base.specs.Counting.{counters_of, identifiers_left}
 use Rattle.justfile_parse_header.specs.Tree.{header_tree}
 use Rattle.justfile_parse_item.proofs.Constructs.{set_fields, pair_fields}
 use Rattle.justfile_parse_item.proofs.CounterSteps.{took_moved, recipe_moved}

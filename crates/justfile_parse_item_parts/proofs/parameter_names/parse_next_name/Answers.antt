@@ -1,11 +1,11 @@
 use Rattle.std.proofs.Common.{subst, arith}
 use Rattle.justfile_vocabulary.specs.declared.token_kind.TokenKind.TheVariants as kinds
-use Rattle.justfile_parse_attribute.specs.AttributeTable.{separator}
+use Rattle.justfile_parse_base.specs.SharedTable.{separator}
 use Rattle.justfile_parse_expression.specs.View.{state_of}
 use Rattle.justfile_parse_expression.specs.declared.token_cursor.TokenCursor.{TokenCursor}
-use Rattle.justfile_parse_header.specs.Counting.{TookBindingNumbers, identifiers_left}
-use Rattle.justfile_parse_header.proofs.BindingNumbers.{took_none, within}
-use Rattle.justfile_parse_header.proofs.Fewer.{accept_fewer, fewer_at}
+use Rattle.justfile_parse_base.specs.Counting.{TookBindingNumbers, identifiers_left}
+use Rattle.justfile_parse_base.proofs.BindingNumbers.{took_none, within}
+use Rattle.justfile_parse_base.proofs.Fewer.{accept_fewer, fewer_at}
 use Rattle.justfile_parse_item_parts.proofs.NumberedNames.{separator_fewer}
 use Rattle.justfile_parse_item_parts.proofs.parameter_names.parse_next_name.Goals as goal
 

@@ -1,8 +1,8 @@
 use Rattle.std.proofs.Common.{arith}
 use Rattle.std.proofs.lemmas.Result.{err_from_is_err_and}
 use Rattle.justfile_parse_expression.specs.View.{state_of}
-use Rattle.justfile_parse_header.proofs.BindingNumbers.{took_for_name}
-use Rattle.justfile_parse_header.proofs.Fewer.{name_fewer}
+use Rattle.justfile_parse_base.proofs.BindingNumbers.{took_for_name}
+use Rattle.justfile_parse_base.proofs.Fewer.{name_fewer}
 use Rattle.justfile_parse_item_parts.proofs.NumberedNames.{name_read}
 use Rattle.justfile_parse_item_parts.proofs.parameter_names.parse_numbered_name.Goals as goal
 

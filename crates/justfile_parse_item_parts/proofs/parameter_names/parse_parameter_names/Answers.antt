@@ -4,7 +4,7 @@ use Rattle.justfile_token.specs.declared.name.Name.{Name}
 use Rattle.justfile_vocabulary.specs.declared.number.Number.{Number}
 use Rattle.justfile_model.specs.ReaderState.{NoNumber}
 use Rattle.justfile_parse_expression.specs.View.{state_of}
-use Rattle.justfile_parse_header.specs.Counting.{counters_of}
+use Rattle.justfile_parse_base.specs.Counting.{counters_of}
 use Rattle.justfile_parse_item_parts.proofs.NumberedNames.{IsReadTo, begins, ends, goes_on, errs}
 use Rattle.justfile_parse_item_parts.proofs.parameter_names.parse_parameter_names.Goals as goal
 

@@ -1,6 +1,6 @@
 use Rattle.std.proofs.Common.{sym, subst}
 use Rattle.justfile_model.specs.Versions.{version_numbers}
-use Rattle.justfile_parse_attribute.specs.ParseErrors.{ReadsRuled}
+use Rattle.justfile_parse_base.specs.ParseErrors.{ReadsRuled}
 use Rattle.justfile_parse_expression.specs.TableReader.{Read}
 use Rattle.justfile_parse_expression.specs.View.{state_of}
 use Rattle.justfile_parse_item_parts.specs.PartTable.{LeafValue}

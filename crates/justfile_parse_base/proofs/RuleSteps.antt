@@ -1,0 +1,54 @@
+-- Where reading stops because a rule is broken.
+use Rattle.std.proofs.Common.{◌≡◌, Ok, Err, refl}
+use Rattle.justfile_attribute_rules.specs.Made.{IsFaultOfRule}
+use Rattle.justfile_token.specs.declared.compile_error.CompileError.{CompileError}
+use Rattle.justfile_token.specs.declared.fault.Fault.{Fault}
+use Rattle.justfile_token.specs.declared.fault.Fault.TheVariants as faults
+use Rattle.justfile_token.specs.declared.token.Token.{Token}
+use Rattle.justfile_model.specs.ReaderState as reading
+use Rattle.justfile_model.specs.ReaderState.{◌>>=◌}
+use Rattle.justfile_model.specs.Rules.{Rule}
+use Rattle.justfile_parse_base.specs.ParseErrors.{IsParseError, IsErrorOfFault, IsErrorOfRead}
+use Rattle.justfile_parse_base.specs.declared.parse_error.ParseError.{ParseError}
+use Rattle.justfile_parse_base.specs.declared.parse_error.ParseError.TheVariants.{Expression, Compile}
+use Rattle.justfile_parse_expression.specs.TableReader.{Read, State}
+use Rattle.justfile_parse_expression.specs.declared.expression_error.ExpressionError.TheVariants as causes
+
+-- a rule that is broken first is broken
+pub broken_first : {X Y : Type 0} (found : Read X) (next : X × State → Read Y) (e : CompileError) → IsErrorOfRead found e → IsErrorOfRead (found >>= next) e
+broken_first (Ok x) next e h = absurd h
+broken_first (Err (reading.Unexpected t)) next e h = absurd h
+broken_first (Err (reading.TooDeep t)) next e h = absurd h
+broken_first (Err (reading.NotCooked fault t)) next e h = absurd h
+broken_first (Err (reading.BreaksRule broken)) next e h = h
+broken_first (Err (reading.Extraneous count opener)) next e h = h
+broken_first (Err (reading.AfterVariadic name)) next e h = h
+broken_first (Err (reading.UnknownSetting name)) next e h = h
+broken_first (Err (reading.ExpectedKeyword expected t)) next e h = h
+broken_first (Err (reading.NoNumber counters)) next e h = absurd h
+
+-- reading stops where its first part stops
+pub fails_first : {X Y : Type 0} (failure : ParseError) (s : State) (found : Read X) (next : X × State → Read Y) → IsParseError failure s ⊥ found → IsParseError failure s ⊥ (found >>= next)
+fails_first (Compile error) s found next h = broken_first found next error.value h
+fails_first (Expression (causes.Refused refusal)) s found next h = rw h refl
+fails_first (Expression (causes.Literal refused)) s found next h = rw h refl
+fails_first (Expression causes.Memory) s found next h = tt
+fails_first (Expression causes.Numbers) s found next h = absurd h
+
+-- reading stops if a rule is broken
+pub fails_for : (Y : Type 0) (rule : Rule Token) (token : Token) (fault : Fault) (failure : ParseError) (s : State)
+    → IsErrorOfFault failure fault → IsFaultOfRule rule token fault
+    → IsParseError {Y = Y} failure s ⊥ (Err (reading.BreaksRule (record { rule = rule; token = token })))
+fails_for Y rule token (faults.Compile e) (Compile error) s h k = rw h k
+fails_for Y rule token faults.Memory (Compile error) s h k = absurd h
+fails_for Y rule token faults.Numbers (Compile error) s h k = absurd h
+fails_for Y rule token fault (Expression causes.Memory) s h k = tt
+fails_for Y rule token (faults.Compile e) (Expression causes.Numbers) s h k = absurd h
+fails_for Y rule token faults.Memory (Expression causes.Numbers) s h k = absurd h
+fails_for Y rule token faults.Numbers (Expression causes.Numbers) s h k = absurd k
+fails_for Y rule token (faults.Compile e) (Expression (causes.Refused r)) s h k = absurd h
+fails_for Y rule token faults.Memory (Expression (causes.Refused r)) s h k = absurd h
+fails_for Y rule token faults.Numbers (Expression (causes.Refused r)) s h k = absurd h
+fails_for Y rule token (faults.Compile e) (Expression (causes.Literal r)) s h k = absurd h
+fails_for Y rule token faults.Memory (Expression (causes.Literal r)) s h k = absurd h
+fails_for Y rule token faults.Numbers (Expression (causes.Literal r)) s h k = absurd h

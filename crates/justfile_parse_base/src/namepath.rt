@@ -1,0 +1,33 @@
+//! Paths of names.
+ghost use Rattle.std.specs.Prelude.{◌<◌, OnOk};
+ghost use Rattle.justfile_parse_expression.specs.ParsedResults.{Parses};
+ghost use Rattle.justfile_parse_expression.specs.View.{tokens_left};
+ghost use Rattle.justfile_parse_base.specs.SharedTable as reader;
+ghost use Rattle.justfile_parse_base.specs.Trees.{path_tree};
+
+use justfile_parse_expression::{ExpressionError, TokenCursor};
+use justfile_token::{Expander, Name, Namepath};
+use justfile_vocabulary::TokenKind;
+
+/// Parses names separated by `::`.
+///
+/// # Errors
+///
+/// The tokens are refused, or memory runs out.
+#[tactic(auto, using(crate::proofs::Paths::path_begins, crate::proofs::Paths::path_ends, crate::proofs::Paths::path_goes_on))]
+pub fn parse_namepath<'src, X: Expander>(
+    parser: &mut TokenCursor<'_, 'src, X>,
+) -> Result<Namepath<'src>, ExpressionError<'src>>
+    ensures reads { Parses X.answer path_tree result parser.old parser.new reader.path }
+    ensures progress { OnOk result (tokens_left parser.new < tokens_left parser.old) }
+{
+    let first = parser.expect(TokenKind::Identifier)?;
+    let mut path = Namepath::from_name(parser.alloc, Name::from_identifier(first.0))?;
+    'names: loop {
+        let Some(_colons) = parser.accept(TokenKind::ColonColon) else {
+            return Ok(path);
+        };
+        let name = parser.expect(TokenKind::Identifier)?;
+        path.push(Name::from_identifier(name.0))?;
+    }
+}
