@@ -17,7 +17,7 @@ use Rattle.justfile_parse_base.specs.declared.parse_error.ParseError.{ParseError
 use Rattle.justfile_parse_base.specs.declared.parse_error.ParseError.TheVariants.{Expression, Compile}
 use Rattle.justfile_parse_expression.specs.Significant.{TableEntry}
 use Rattle.justfile_parse_expression.specs.declared.expression_error.ExpressionError.TheVariants as causes
-use Rattle.justfile_parse_attribute.proofs.AttributeSteps.{broken_first}
+use Rattle.justfile_parse_base.proofs.RuleSteps.{broken_first}
 use Rattle.justfile_expression.specs.LeafTree.{Leaf}
 
 abbrev Taken : Type 0

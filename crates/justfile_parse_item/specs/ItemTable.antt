@@ -156,7 +156,3 @@ nothing_by s (t ∷ ts) = Err (refused reading.Unexpected s)
 
 unfoldable pub read_nothing : State → Read (Unit {0})
 read_nothing s = nothing_by s s.left
-
--- the line that the next entry begins on
-abbrev pub line_at : List TableEntry → ℕ
-line_at = files.line_at leaves

@@ -31,3 +31,7 @@ body_after = files.body_after leaves
 
 abbrev pub optional_body : State → Read CommentedBody
 optional_body = files.optional_body leaves
+
+-- the line that the next entry begins on
+abbrev pub line_at : List TableEntry → ℕ
+line_at = files.line_at leaves
