@@ -29,3 +29,6 @@ arguments_of a = map positional_of a.positional.items ++ map keyed_of a.keyed.it
 -- an attribute at its name, with the text of its comment
 abbrev pub entry_of_pair : Attribute × Written → Entry Leaf Token
 entry_of_pair p = record { name = p.1.name.token; attribute = leaf_attribute_of p.0; comment = option_copied p.1.comment }
+
+abbrev pub entries_of : List (Attribute × Written) → List (Entry Leaf Token)
+entries_of = map entry_of_pair

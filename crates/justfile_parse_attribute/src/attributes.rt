@@ -1,11 +1,11 @@
 //! How the lines of attributes before a construct are parsed.
-ghost use Rattle.std.specs.Prelude.{◌≡◌, ◌<◌, ◌≤◌, [], false, IfOk, OnOk, map};
+ghost use Rattle.std.specs.Prelude.{◌≡◌, ◌<◌, ◌≤◌, [], false, IfOk, OnOk};
 ghost use Rattle.std.specs.Option.{option_map};
 ghost use Rattle.justfile_attribute_rules.specs.Made.{IsFaultOfRule};
 ghost use Rattle.justfile_model.specs.NewAttribute as new;
 ghost use Rattle.justfile_model.specs.Rules.{AttributePositionalFollowsKeyword, DuplicateAttributeKey, UnknownAttribute};
 ghost use Rattle.justfile_model.specs.Tree as tree;
-ghost use Rattle.justfile_parse_attribute.specs.Attributes.{arguments_of, entry_of_pair};
+ghost use Rattle.justfile_parse_attribute.specs.Attributes.{arguments_of, entries_of};
 ghost use Rattle.justfile_parse_base.specs.ParseErrors.{ReadsRuled, ParsesRuled};
 ghost use Rattle.justfile_parse_attribute.specs.DerivedAttributeFields.{HaveDerivedPairFields, KeepsDerivedPairFields};
 ghost use Rattle.justfile_parse_expression.specs.ParsedResults.{Parses};
@@ -34,7 +34,7 @@ use justfile_written::Written;
 pub fn parse_attributes<'src, X: Expander>(
     parser: &mut TokenCursor<'_, 'src, X>,
 ) -> Result<Vec<(Attribute<'src>, Written<'src>)>, ParseError<'src>>
-    ensures reads { ParsesRuled X.answer (λ pairs. map entry_of_pair pairs.items) result
+    ensures reads { ParsesRuled X.answer (λ pairs. entries_of pairs.items) result
         parser.old parser.new reader.attribute_lines }
     ensures fields { IfOk result (λ pairs. HaveDerivedPairFields pairs.items) }
     ensures progress { OnOk result (tokens_left parser.new ≤ tokens_left parser.old) }
@@ -55,8 +55,8 @@ fn parse_next_line<'src, X: Expander>(
     attributes: &mut ReadAttributes<'src>,
 ) -> Result<bool, ParseError<'src>>
     ensures reads { ParsesRuled X.answer
-        (λ is_last. (map entry_of_pair attributes.new.pairs.items, is_last)) result
-        parser.old parser.new (reader.line_step (map entry_of_pair attributes.old.pairs.items)) }
+        (λ is_last. (entries_of attributes.new.pairs.items, is_last)) result
+        parser.old parser.new (reader.line_step (entries_of attributes.old.pairs.items)) }
     ensures fields { OnOk result
         (KeepsDerivedPairFields attributes.old.pairs.items attributes.new.pairs.items) }
     ensures progress { OnOk result (tokens_left parser.new ≤ tokens_left parser.old) }
@@ -77,8 +77,8 @@ fn parse_attribute_line<'src, X: Expander>(
     attributes: &mut ReadAttributes<'src>,
 ) -> Result<(), ParseError<'src>>
     ensures reads { ParsesRuled X.answer
-        (λ _. map entry_of_pair attributes.new.pairs.items) result parser.old parser.new
-        (reader.attribute_line (map entry_of_pair attributes.old.pairs.items)) }
+        (λ _. entries_of attributes.new.pairs.items) result parser.old parser.new
+        (reader.attribute_line (entries_of attributes.old.pairs.items)) }
     ensures fields { OnOk result
         (KeepsDerivedPairFields attributes.old.pairs.items attributes.new.pairs.items) }
     ensures progress { OnOk result (tokens_left parser.new < tokens_left parser.old) }
@@ -95,8 +95,8 @@ fn attach_comment<'src>(
     attributes: &mut ReadAttributes<'src>,
     comment: Option<SignificantToken<'src>>,
 )
-    ensures entries { map entry_of_pair attributes.new.pairs.items
-        ≡ reader.commented_by comment.entry (map entry_of_pair attributes.old.pairs.items) }
+    ensures entries { entries_of attributes.new.pairs.items
+        ≡ reader.commented_by comment.entry (entries_of attributes.old.pairs.items) }
     ensures fields { KeepsDerivedPairFields attributes.old.pairs.items attributes.new.pairs.items }
 {
     attributes.attach_comment(comment_text(comment));
@@ -109,8 +109,8 @@ fn parse_bracketed<'src, X: Expander>(
     attributes: &mut ReadAttributes<'src>,
 ) -> Result<(), ParseError<'src>>
     ensures reads { ParsesRuled X.answer
-        (λ _. map entry_of_pair attributes.new.pairs.items) result parser.old parser.new
-        (λ s. reader.bracketed (map entry_of_pair attributes.old.pairs.items, s)) }
+        (λ _. entries_of attributes.new.pairs.items) result parser.old parser.new
+        (λ s. reader.bracketed (entries_of attributes.old.pairs.items, s)) }
     ensures fields { OnOk result
         (KeepsDerivedPairFields attributes.old.pairs.items attributes.new.pairs.items) }
     ensures progress { OnOk result (tokens_left parser.new < tokens_left parser.old) }
@@ -130,8 +130,8 @@ fn parse_next_attribute<'src, X: Expander>(
     attributes: &mut ReadAttributes<'src>,
 ) -> Result<bool, ParseError<'src>>
     ensures reads { ParsesRuled X.answer
-        (λ is_last. (map entry_of_pair attributes.new.pairs.items, is_last)) result
-        parser.old parser.new (reader.bracket_step (map entry_of_pair attributes.old.pairs.items)) }
+        (λ is_last. (entries_of attributes.new.pairs.items, is_last)) result
+        parser.old parser.new (reader.bracket_step (entries_of attributes.old.pairs.items)) }
     ensures fields { OnOk result
         (KeepsDerivedPairFields attributes.old.pairs.items attributes.new.pairs.items) }
     ensures progress { OnOk result (tokens_left parser.new < tokens_left parser.old) }
@@ -192,8 +192,8 @@ fn parse_attribute<'src, X: Expander>(
     attributes: &mut ReadAttributes<'src>,
 ) -> Result<(), ParseError<'src>>
     ensures reads { ParsesRuled X.answer
-        (λ _. map entry_of_pair attributes.new.pairs.items) result parser.old parser.new
-        (reader.one_attribute (map entry_of_pair attributes.old.pairs.items)) }
+        (λ _. entries_of attributes.new.pairs.items) result parser.old parser.new
+        (reader.one_attribute (entries_of attributes.old.pairs.items)) }
     ensures fields { OnOk result
         (KeepsDerivedPairFields attributes.old.pairs.items attributes.new.pairs.items) }
     ensures progress { OnOk result (tokens_left parser.new < tokens_left parser.old) }
@@ -239,9 +239,9 @@ fn push_attribute<'src, X: Expander>(
     kind: AttributeKind,
     arguments: Arguments<'src>,
 ) -> Result<(), ParseError<'src>>
-    ensures reads { ReadsRuled (λ _. map entry_of_pair attributes.new.pairs.items)
+    ensures reads { ReadsRuled (λ _. entries_of attributes.new.pairs.items)
         result (state_of X.answer parser.now)
-        (reader.one_made (map entry_of_pair attributes.old.pairs.items) name.entry.token kind
+        (reader.one_made (entries_of attributes.old.pairs.items) name.entry.token kind
         (arguments_of arguments.entry) (state_of X.answer parser.now)) }
     ensures fields { OnOk result
         (KeepsDerivedPairFields attributes.old.pairs.items attributes.new.pairs.items) }

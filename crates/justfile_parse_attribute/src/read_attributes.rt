@@ -1,9 +1,9 @@
 //! The attributes of an item while they are parsed.
-ghost use Rattle.std.specs.Prelude.{◌≡◌, OnErr, OnOk, length, map, take};
+ghost use Rattle.std.specs.Prelude.{◌≡◌, OnErr, OnOk, length, take};
 ghost use Rattle.justfile_model.specs.Meaning.{by_key, by_position};
 ghost use Rattle.justfile_model.specs.NewAttribute.{new_entry};
 ghost use Rattle.justfile_parse_attribute.specs.AddedAttributes.{AddsEntry};
-ghost use Rattle.justfile_parse_attribute.specs.Attributes.{arguments_of, entry_of_pair};
+ghost use Rattle.justfile_parse_attribute.specs.Attributes.{arguments_of, entries_of};
 ghost use Rattle.justfile_parse_attribute.specs.Labels.{AreKnown, AreSame, prop_known};
 ghost use Rattle.justfile_parse_attribute.specs.DerivedAttributeFields.{KeepsDerivedPairFields};
 ghost use Rattle.justfile_expression.specs.LeafViews.{views_leaves};
@@ -26,15 +26,15 @@ pub(crate) struct ReadAttributes<'src> {
     /// The attributes, each with its name and its comment.
     pub(crate) pairs: Vec<(Attribute<'src>, Written<'src>)>,
     pub(crate) labels: Labels,
-    ghost known: { AreKnown labels (map entry_of_pair pairs.items) } by { prop_known labels (map entry_of_pair pairs.items) },
+    ghost known: { AreKnown labels (entries_of pairs.items) } by { prop_known labels (entries_of pairs.items) },
 }
 
 impl<'src> ReadAttributes<'src> {
-    ghost use Rattle.std.specs.Prelude.{◌≡◌, [], OnOk, map};
+    ghost use Rattle.std.specs.Prelude.{◌≡◌, [], OnOk};
     ghost use Rattle.justfile_model.specs.Meaning.{by_key, by_position};
     ghost use Rattle.justfile_model.specs.NewAttribute.{new_entry};
     ghost use Rattle.justfile_parse_attribute.specs.AddedAttributes.{AddsEntry};
-    ghost use Rattle.justfile_parse_attribute.specs.Attributes.{arguments_of, entry_of_pair};
+    ghost use Rattle.justfile_parse_attribute.specs.Attributes.{arguments_of, entries_of};
     ghost use Rattle.justfile_parse_attribute.specs.DerivedAttributeFields.{KeepsDerivedPairFields};
     ghost use Rattle.justfile_expression.specs.LeafViews.{views_leaves};
     ghost use Rattle.justfile_written.specs.Written.{line_commented};
@@ -64,7 +64,7 @@ impl<'src> ReadAttributes<'src> {
         arguments: Arguments<'src>,
     ) -> CompileResult<'src>
         ensures added { AddsEntry result
-            (new_entry views_leaves (map entry_of_pair self.old.pairs.items) name.entry.token kind
+            (new_entry views_leaves (entries_of self.old.pairs.items) name.entry.token kind
             (by_position (arguments_of arguments.entry)) (by_key (arguments_of arguments.entry)))
             name.entry self.old.pairs.items self.new.pairs.items }
         ensures fields { OnOk result
@@ -118,12 +118,12 @@ fn push_checked<'src>(
     kind: AttributeKind,
     arguments: Arguments<'src>,
 ) -> CompileResult<'src>
-    requires { AreKnown labels.old (map entry_of_pair pairs.old.items) }
-    ensures added { AddsEntry result (new_entry views_leaves (map entry_of_pair pairs.old.items)
+    requires { AreKnown labels.old (entries_of pairs.old.items) }
+    ensures added { AddsEntry result (new_entry views_leaves (entries_of pairs.old.items)
         name.entry.token kind (by_position (arguments_of arguments.entry))
         (by_key (arguments_of arguments.entry))) name.entry pairs.old.items pairs.new.items }
     ensures fields { OnOk result (KeepsDerivedPairFields pairs.old.items pairs.new.items) }
-    ensures known { OnOk result (AreKnown labels.new (map entry_of_pair pairs.new.items)) }
+    ensures known { OnOk result (AreKnown labels.new (entries_of pairs.new.items)) }
     ensures kept { OnErr result (AreSame labels.old labels.new) }
     ensures begins { take (length pairs.old.items) pairs.new.items ≡ pairs.old.items }
 {

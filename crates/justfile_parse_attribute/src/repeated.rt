@@ -1,5 +1,5 @@
 //! Whether an attribute is allowed after the others of its item.
-ghost use Rattle.std.specs.Prelude.{◌≡◌, ◌∷◌, ◌++◌, [], false, None, OnErr, OnOk, map, string_bytes};
+ghost use Rattle.std.specs.Prelude.{◌≡◌, ◌∷◌, ◌++◌, [], false, None, OnErr, OnOk, string_bytes};
 ghost use Rattle.justfile_attribute.specs.Attribute.{leaf_attribute_of};
 ghost use Rattle.justfile_attribute_rules.specs.Made.{IsFaultOfRule, Makes};
 ghost use Rattle.justfile_token.specs.declared.token.Token.{Token};
@@ -10,7 +10,7 @@ ghost use Rattle.justfile_model.specs.ContentLeaf.{literal_value};
 ghost use Rattle.justfile_model.specs.NewAttribute.{check_repeated};
 ghost use Rattle.justfile_model.specs.Rules.{DuplicateArgAttribute, DuplicateAttribute, DuplicateGroupAttribute};
 ghost use Rattle.justfile_parse_attribute.specs.AddedAttributes.{ChecksLast};
-ghost use Rattle.justfile_parse_attribute.specs.Attributes.{entry_of_pair};
+ghost use Rattle.justfile_parse_attribute.specs.Attributes.{entries_of, entry_of_pair};
 ghost use Rattle.justfile_parse_attribute.specs.Labels.{AreKnown, AreKnownBefore, AreSame, ChecksLabel, IsLabelNoted, label_rule};
 ghost use Rattle.justfile_expression.specs.Content.{literal_content};
 ghost use Rattle.justfile_expression.specs.LeafViews.{views_leaves};
@@ -37,7 +37,7 @@ pub(crate) fn check_last<'src>(
 ) -> CompileResult<'src>
     requires { AreKnownBefore labels.old attributes.now }
     ensures checks { ChecksLast result attributes.now }
-    ensures known { OnOk result (AreKnown labels.new (map entry_of_pair attributes.now)) }
+    ensures known { OnOk result (AreKnown labels.new (entries_of attributes.now)) }
     ensures kept { OnErr result (AreSame labels.old labels.new) }
 {
     match attributes.split_last() {
@@ -60,10 +60,10 @@ fn check_next<'src>(
     attribute: &Attribute<'src>,
     written: Written<'src>,
 ) -> CompileResult<'src>
-    requires { AreKnown labels.old (map entry_of_pair before.now) }
+    requires { AreKnown labels.old (entries_of before.now) }
     ensures checks { Makes (λ _. tt) result (check_repeated views_leaves
-        (map entry_of_pair before.now) (entry_of_pair (attribute.now, written.entry))) }
-    ensures known { OnOk result (AreKnown labels.new (map entry_of_pair before.now
+        (entries_of before.now) (entry_of_pair (attribute.now, written.entry))) }
+    ensures known { OnOk result (AreKnown labels.new (entries_of before.now
         ++ entry_of_pair (attribute.now, written.entry) ∷ [])) }
     ensures kept { OnErr result (AreSame labels.old labels.new) }
 {
@@ -203,7 +203,7 @@ fn check_kind<'src>(
     written: Written<'src>,
 ) -> CompileResult<'src>
     requires { label_of views_leaves (leaf_attribute_of attribute.now) ≡ None }
-    ensures { Makes (λ _. tt) result (check_repeated views_leaves (map entry_of_pair before.now)
+    ensures { Makes (λ _. tt) result (check_repeated views_leaves (entries_of before.now)
         (entry_of_pair (attribute.now, written.entry))) }
 {
     if attribute.repeatable() {
@@ -225,7 +225,7 @@ fn check_once<'src>(
 ) -> CompileResult<'src>
     requires unlabelled { label_of views_leaves (leaf_attribute_of attribute.now) ≡ None }
     requires once { is_repeatable (kind_of_attribute (leaf_attribute_of attribute.now)) ≡ false }
-    ensures { Makes (λ _. tt) result (check_repeated views_leaves (map entry_of_pair before.now)
+    ensures { Makes (λ _. tt) result (check_repeated views_leaves (entries_of before.now)
         (entry_of_pair (attribute.now, written.entry))) }
 {
     for earlier in before {

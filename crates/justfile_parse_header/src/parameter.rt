@@ -1,9 +1,8 @@
 //! The parameters of a recipe.
-ghost use Rattle.std.specs.Prelude.{◌≡◌, ◌<◌, ◌≤◌, ◌∷◌, ◌++◌, [], OnOk, IfOk, map};
+ghost use Rattle.std.specs.Prelude.{◌≡◌, ◌<◌, ◌≤◌, OnOk, IfOk, map};
 ghost use Rattle.std.specs.Option.{is_some};
 ghost use Rattle.justfile_attribute_rules.specs.Made.{IsFaultOfRule};
 ghost use Rattle.justfile_attribute_set.specs.AttributeSet.{attributes_of};
-ghost use Rattle.justfile_token.specs.Token.{lexeme_of};
 ghost use Rattle.justfile_model.specs.NewAttribute as new;
 ghost use Rattle.justfile_model.specs.Rules.{ArgAttributeRequiresMultipleOrVariadic, FlagWithDefault};
 ghost use Rattle.justfile_parse_base.specs.ParseErrors.{IsAfterVariadicFault, ReadsRuled, ChecksRules};

@@ -1,11 +1,11 @@
 //! Assignments.
-ghost use Rattle.std.specs.Prelude.{◌≡◌, ◌<◌, IfOk, OnOk, map};
+ghost use Rattle.std.specs.Prelude.{◌<◌, IfOk, OnOk, map};
 ghost use Rattle.justfile_model.specs.SignificantTokens.{identifiers};
 ghost use Rattle.justfile_parse_item.specs.ItemTable as reader;
 ghost use Rattle.justfile_parse_item.specs.MethodResults.{CountersMoved};
 ghost use Rattle.justfile_parse_item.specs.Tree.{item_tree};
 ghost use Rattle.justfile_parse_item.specs.DerivedFields.{HaveDerivedPairFields, HasDerivedItemFields};
-ghost use Rattle.justfile_parse_attribute.specs.Attributes.{entry_of_pair};
+ghost use Rattle.justfile_parse_attribute.specs.Attributes.{entries_of};
 ghost use Rattle.justfile_parse_expression.specs.Significant.{significant_of};
 ghost use Rattle.justfile_parse_expression.specs.View.{tokens_left, state_of};
 ghost use Rattle.justfile_parse_base.specs.Counting.{counters_of, ParsesCounted};
@@ -31,7 +31,7 @@ pub(crate) fn parse_assignment<'src, X: Expander>(
 ) -> Result<Item<'src>, ParseError<'src>>
     requires { HaveDerivedPairFields attributes.items }
     ensures reads { ParsesCounted X.answer item_tree result numerator.new parser.old parser.new
-        (reader.assignment eager export (map entry_of_pair attributes.entry.items)
+        (reader.assignment eager export (entries_of attributes.entry.items)
         (counters_of numerator.old)) }
     ensures fields { IfOk result HasDerivedItemFields }
     ensures progress { OnOk result (tokens_left parser.new < tokens_left parser.old) }

@@ -1,5 +1,5 @@
 //! Checks of a construct's attributes, made once its kind is known.
-ghost use Rattle.std.specs.Prelude.{◌≡◌, ◌&&◌, IfOk, map};
+ghost use Rattle.std.specs.Prelude.{◌≡◌, ◌&&◌, IfOk};
 ghost use Rattle.justfile_attribute_set.specs.AttributeSet.{IsConstruct, leaf_entries_of};
 ghost use Rattle.justfile_model.specs.ContentKeys.{has_attribute};
 ghost use Rattle.justfile_model.specs.RecipeRules.{exclusions_broken};
@@ -7,7 +7,7 @@ ghost use Rattle.justfile_parse_item.specs.Exclusions.{IsExclusion};
 ghost use Rattle.justfile_parse_item.specs.ExtraneousFault.{IsExtraneousFault};
 ghost use Rattle.justfile_parse_item.specs.ItemTable as reader;
 ghost use Rattle.justfile_parse_item.specs.DerivedFields.{HaveDerivedPairFields, HasDerivedSetAttributes};
-ghost use Rattle.justfile_parse_attribute.specs.Attributes.{entry_of_pair};
+ghost use Rattle.justfile_parse_attribute.specs.Attributes.{entries_of};
 ghost use Rattle.justfile_parse_base.specs.ParseErrors.{ReadsRuled, ChecksRules};
 ghost use Rattle.justfile_parse_expression.specs.TableReader.{State};
 ghost use Rattle.justfile_expression.specs.LeafViews.{views_leaves};
@@ -33,9 +33,9 @@ pub(crate) fn check_allowed<'src>(
     requires construct { IsConstruct item }
     requires fields { HaveDerivedPairFields attributes.items }
     ensures reads { (s : State) → ReadsRuled (λ _. tt) result s
-        (reader.check_allowed item (map entry_of_pair attributes.entry.items) name.now s) }
+        (reader.check_allowed item (entries_of attributes.entry.items) name.now s) }
     ensures entries { IfOk result (λ set. leaf_entries_of set
-        ≡ reader.in_content_order (map entry_of_pair attributes.entry.items)) }
+        ≡ reader.in_content_order (entries_of attributes.entry.items)) }
     ensures fields { IfOk result HasDerivedSetAttributes }
 {
     let set = AttributeSet::from_parsed(attributes)?;

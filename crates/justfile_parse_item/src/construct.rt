@@ -6,7 +6,7 @@ ghost use Rattle.justfile_parse_item.specs.MethodResults.{CountersMoved};
 ghost use Rattle.justfile_parse_item.specs.Tree.{item_tree};
 ghost use Rattle.justfile_parse_item.specs.DerivedFields.{HaveDerivedPairFields, HasDerivedItemFields};
 ghost use Rattle.justfile_parse_item.specs.ConstructKeywords.{keyword_taken, after_keyword};
-ghost use Rattle.justfile_parse_attribute.specs.Attributes.{entry_of_pair};
+ghost use Rattle.justfile_parse_attribute.specs.Attributes.{entries_of};
 ghost use Rattle.justfile_parse_base.specs.ParseErrors.{ParsesRuled};
 ghost use Rattle.justfile_parse_expression.specs.MethodResults.{Takes};
 ghost use Rattle.justfile_parse_expression.specs.Significant.{significant_of};
@@ -64,7 +64,7 @@ pub(crate) fn parse_construct<'src, X: Expander>(
 fn parse_item_attributes<'src, X: Expander>(
     parser: &mut TokenCursor<'_, 'src, X>,
 ) -> Result<Vec<(Attribute<'src>, Written<'src>)>, ParseError<'src>>
-    ensures reads { ParsesRuled X.answer (λ pairs. map entry_of_pair pairs.items) result
+    ensures reads { ParsesRuled X.answer (λ pairs. entries_of pairs.items) result
         parser.old parser.new reader.item_attributes }
     ensures fields { IfOk result (λ pairs. HaveDerivedPairFields pairs.items) }
     ensures progress { OnOk result (tokens_left parser.new ≤ tokens_left parser.old) }
@@ -95,7 +95,7 @@ fn parse_content<'src, X: Expander>(
 ) -> Result<Item<'src>, ParseError<'src>>
     requires { HaveDerivedPairFields attributes.items }
     ensures reads { ParsesCounted X.answer item_tree result numerator.new parser.old parser.new
-        (reader.content (map entry_of_pair attributes.entry.items) (counters_of numerator.old)) }
+        (reader.content (entries_of attributes.entry.items) (counters_of numerator.old)) }
     ensures fields { IfOk result HasDerivedItemFields }
     ensures progress { OnOk result (tokens_left parser.new < tokens_left parser.old) }
     ensures moved { CountersMoved numerator.old numerator.new
@@ -148,7 +148,7 @@ fn parse_after_keyword<'src, X: Expander>(
 ) -> Result<Item<'src>, ParseError<'src>>
     requires { HaveDerivedPairFields attributes.items }
     ensures reads { ParsesCounted X.answer item_tree result numerator.new parser.old parser.new
-        (after_keyword keyword (map entry_of_pair attributes.entry.items)
+        (after_keyword keyword (entries_of attributes.entry.items)
         (counters_of numerator.old)) }
     ensures fields { IfOk result HasDerivedItemFields }
     ensures progress { OnOk result (tokens_left parser.new < tokens_left parser.old) }
@@ -175,7 +175,7 @@ fn parse_without_keyword<'src, X: Expander>(
 ) -> Result<Item<'src>, ParseError<'src>>
     requires { HaveDerivedPairFields attributes.items }
     ensures reads { ParsesCounted X.answer item_tree result numerator.new parser.old parser.new
-        (reader.without_keyword (map entry_of_pair attributes.entry.items)
+        (reader.without_keyword (entries_of attributes.entry.items)
         (counters_of numerator.old)) }
     ensures fields { IfOk result HasDerivedItemFields }
     ensures progress { OnOk result (tokens_left parser.new < tokens_left parser.old) }

@@ -9,7 +9,7 @@ ghost use Rattle.justfile_parse_item.specs.MethodResults.{CountersMoved};
 ghost use Rattle.justfile_parse_item.specs.Tree.{recipe_tree};
 ghost use Rattle.justfile_parse_item_parts.specs.BodyTrees.{line_tree};
 ghost use Rattle.justfile_parse_item.specs.DerivedFields.{HaveDerivedPairFields, HasDerivedRecipeFields};
-ghost use Rattle.justfile_parse_attribute.specs.Attributes.{entry_of_pair};
+ghost use Rattle.justfile_parse_attribute.specs.Attributes.{entries_of};
 ghost use Rattle.justfile_parse_expression.specs.Significant.{significant_of};
 ghost use Rattle.justfile_parse_expression.specs.TableReader.{State};
 ghost use Rattle.justfile_parse_expression.specs.View.{tokens_left, state_of};
@@ -38,7 +38,7 @@ pub(crate) fn parse_any_recipe<'src, X: Expander>(
 ) -> Result<UnresolvedRecipe<'src>, ParseError<'src>>
     requires { HaveDerivedPairFields attributes.items }
     ensures reads { ParsesCounted X.answer recipe_tree result numerator.new parser.old parser.new
-        (reader.any_recipe (map entry_of_pair attributes.entry.items) (counters_of numerator.old)) }
+        (reader.any_recipe (entries_of attributes.entry.items) (counters_of numerator.old)) }
     ensures fields { IfOk result HasDerivedRecipeFields }
     ensures progress { OnOk result (tokens_left parser.new < tokens_left parser.old) }
     ensures moved { CountersMoved numerator.old numerator.new
@@ -59,7 +59,7 @@ fn parse_recipe<'src, X: Expander>(
 ) -> Result<UnresolvedRecipe<'src>, ParseError<'src>>
     requires { HaveDerivedPairFields attributes.items }
     ensures reads { ParsesCounted X.answer recipe_tree result numerator.new parser.old parser.new
-        (reader.recipe quiet (map entry_of_pair attributes.entry.items)
+        (reader.recipe quiet (entries_of attributes.entry.items)
         (counters_of numerator.old)) }
     ensures fields { IfOk result HasDerivedRecipeFields }
     ensures progress { OnOk result (tokens_left parser.new < tokens_left parser.old) }

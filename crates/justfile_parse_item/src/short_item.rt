@@ -1,10 +1,10 @@
 //! Aliases, settings and `unexport`s: a keyword, a name, and at most a target or a value.
-ghost use Rattle.std.specs.Prelude.{◌<◌, IfOk, OnOk, map};
+ghost use Rattle.std.specs.Prelude.{◌<◌, IfOk, OnOk};
 ghost use Rattle.justfile_parse_item.specs.ItemTable as reader;
 ghost use Rattle.justfile_parse_item.specs.MethodResults.{ReadsUncounted};
 ghost use Rattle.justfile_parse_item.specs.Tree.{item_tree};
 ghost use Rattle.justfile_parse_item.specs.DerivedFields.{HaveDerivedPairFields, HasDerivedItemFields};
-ghost use Rattle.justfile_parse_attribute.specs.Attributes.{entry_of_pair};
+ghost use Rattle.justfile_parse_attribute.specs.Attributes.{entries_of};
 ghost use Rattle.justfile_parse_expression.specs.View.{tokens_left, state_of};
 
 use crate::attribute_checks::check_allowed;
@@ -25,7 +25,7 @@ pub(crate) fn parse_alias<'src, X: Expander>(
 ) -> Result<Item<'src>, ParseError<'src>>
     requires { HaveDerivedPairFields attributes.items }
     ensures reads { ReadsUncounted item_tree result (state_of X.answer parser.new)
-        (λ n. reader.alias (map entry_of_pair attributes.entry.items) n
+        (λ n. reader.alias (entries_of attributes.entry.items) n
         (state_of X.answer parser.old)) }
     ensures fields { IfOk result HasDerivedItemFields }
     ensures progress { OnOk result (tokens_left parser.new < tokens_left parser.old) }
@@ -49,7 +49,7 @@ pub(crate) fn parse_set<'src, X: Expander>(
 ) -> Result<Item<'src>, ParseError<'src>>
     requires { HaveDerivedPairFields attributes.items }
     ensures reads { ReadsUncounted item_tree result (state_of X.answer parser.new)
-        (λ n. reader.setting (map entry_of_pair attributes.entry.items) n
+        (λ n. reader.setting (entries_of attributes.entry.items) n
         (state_of X.answer parser.old)) }
     ensures fields { IfOk result HasDerivedItemFields }
     ensures progress { OnOk result (tokens_left parser.new < tokens_left parser.old) }
@@ -73,7 +73,7 @@ pub(crate) fn parse_unexport<'src, X: Expander>(
 ) -> Result<Item<'src>, ParseError<'src>>
     requires { HaveDerivedPairFields attributes.items }
     ensures reads { ReadsUncounted item_tree result (state_of X.answer parser.new)
-        (λ n. reader.unexport (map entry_of_pair attributes.entry.items) n
+        (λ n. reader.unexport (entries_of attributes.entry.items) n
         (state_of X.answer parser.old)) }
     ensures fields { IfOk result HasDerivedItemFields }
     ensures progress { OnOk result (tokens_left parser.new < tokens_left parser.old) }

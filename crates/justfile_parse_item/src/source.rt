@@ -1,10 +1,10 @@
 //! Imports and modules: the items that name another file.
-ghost use Rattle.std.specs.Prelude.{◌<◌, IfOk, OnOk, map};
+ghost use Rattle.std.specs.Prelude.{◌<◌, IfOk, OnOk};
 ghost use Rattle.justfile_parse_item.specs.ItemTable as reader;
 ghost use Rattle.justfile_parse_item.specs.MethodResults.{ReadsUncounted};
 ghost use Rattle.justfile_parse_item.specs.Tree.{item_tree};
 ghost use Rattle.justfile_parse_item.specs.DerivedFields.{HaveDerivedPairFields, HasDerivedItemFields};
-ghost use Rattle.justfile_parse_attribute.specs.Attributes.{entry_of_pair};
+ghost use Rattle.justfile_parse_attribute.specs.Attributes.{entries_of};
 ghost use Rattle.justfile_parse_expression.specs.View.{tokens_left, state_of};
 
 use crate::accept::accept_kind;
@@ -26,7 +26,7 @@ pub(crate) fn parse_import<'src, X: Expander>(
 ) -> Result<Item<'src>, ParseError<'src>>
     requires { HaveDerivedPairFields attributes.items }
     ensures reads { ReadsUncounted item_tree result (state_of X.answer parser.new)
-        (λ n. reader.import (map entry_of_pair attributes.entry.items) n
+        (λ n. reader.import (entries_of attributes.entry.items) n
         (state_of X.answer parser.old)) }
     ensures fields { IfOk result HasDerivedItemFields }
     ensures progress { OnOk result (tokens_left parser.new < tokens_left parser.old) }
@@ -44,7 +44,7 @@ fn parse_imported<'src, X: Expander>(
 ) -> Result<Item<'src>, ParseError<'src>>
     requires { HaveDerivedPairFields attributes.items }
     ensures reads { ReadsUncounted item_tree result (state_of X.answer parser.new)
-        (λ n. reader.imported optional (map entry_of_pair attributes.entry.items) n
+        (λ n. reader.imported optional (entries_of attributes.entry.items) n
         (state_of X.answer parser.old)) }
     ensures fields { IfOk result HasDerivedItemFields }
     ensures progress { OnOk result (tokens_left parser.new < tokens_left parser.old) }
@@ -67,7 +67,7 @@ pub(crate) fn parse_module<'src, X: Expander>(
 ) -> Result<Item<'src>, ParseError<'src>>
     requires { HaveDerivedPairFields attributes.items }
     ensures reads { ReadsUncounted item_tree result (state_of X.answer parser.new)
-        (λ n. reader.any_module (map entry_of_pair attributes.entry.items) n
+        (λ n. reader.any_module (entries_of attributes.entry.items) n
         (state_of X.answer parser.old)) }
     ensures fields { IfOk result HasDerivedItemFields }
     ensures progress { OnOk result (tokens_left parser.new < tokens_left parser.old) }
@@ -85,7 +85,7 @@ fn parse_named_module<'src, X: Expander>(
 ) -> Result<Item<'src>, ParseError<'src>>
     requires { HaveDerivedPairFields attributes.items }
     ensures reads { ReadsUncounted item_tree result (state_of X.answer parser.new)
-        (λ n. reader.named_module optional (map entry_of_pair attributes.entry.items) n
+        (λ n. reader.named_module optional (entries_of attributes.entry.items) n
         (state_of X.answer parser.old)) }
     ensures fields { IfOk result HasDerivedItemFields }
     ensures progress { OnOk result (tokens_left parser.new < tokens_left parser.old) }

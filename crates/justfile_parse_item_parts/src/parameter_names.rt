@@ -1,5 +1,5 @@
 //! The parameters of functions.
-ghost use Rattle.std.specs.Prelude.{◌≡◌, ◌<◌, ◌≤◌, false, IfOk, OnOk};
+ghost use Rattle.std.specs.Prelude.{◌<◌, OnOk};
 ghost use Rattle.justfile_parse_expression.specs.View.{tokens_left, state_of};
 ghost use Rattle.justfile_parse_base.specs.Counting.{TookBindingNumbers, counters_of, identifiers_left, identifiers_left_after, ParsesCounted};
 ghost use Rattle.justfile_parse_item_parts.specs.PartTable as reader;
