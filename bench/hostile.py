@@ -43,7 +43,26 @@ PARTS = {
     "literals": "a := 'b'\n",
     "recipes": "a:\n",
     "bodies": "a:\n    b {{c}}\n",
+    "dependencies": "a b: c d\n    e\n",
+    "settings": "set shell := ['a']\n",
+    "calls": "a := b(c)\n",
+    "aliases": "alias a := b\n",
+    "functions": "a(b) := b\n",
     "blank lines": "\n",
+}
+
+# Texts of one construct with many parts: the text before them, the part, and the text after them.
+LONG = {
+    "lines of one body": ("a:\n", "    b {{c}}\n", ""),
+    "dependencies of one recipe": ("a:", " b", "\n"),
+    "elements of one list": ("a := [", "b, ", "]\n"),
+    "arguments of one call": ("a := b(", "c, ", ")\n"),
+}
+
+# Texts that are refused, after a long part that is read over.
+REFUSED = {
+    "blanks before an error": ("a := ", " ", "]\n"),
+    "digits of a number": ("[arg('b', max='", "1", "')]\na *b:\n"),
 }
 
 
@@ -82,6 +101,10 @@ def attribute_texts():
 def part_texts():
     for name, part in PARTS.items():
         yield name, BYTES // len(part), lambda n: part * n
+    for name, (before, part, after) in LONG.items():
+        yield name, BYTES // len(part), lambda n: before + part * n + after
+    for name, (before, part, after) in REFUSED.items():
+        yield name, 10 * BYTES, lambda n: before + part * n + after
 
 
 def run(program, path):

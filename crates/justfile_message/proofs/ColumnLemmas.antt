@@ -1,7 +1,9 @@
 -- Invariants of the loops over the characters of a line.
-use Rattle.std.proofs.Common.{◌≡◌, ℕ, zero, suc, ◌+◌, ◌<◌, ◌≤◌, ◌^◌, ◌/◌, ◌%◌, max, if◌then◌else◌, Bool, true, List, [], ◌∷◌, ◌++◌, IsUtf8, length, take, drop, get_or, sym, ap, subst, ◌∙◌, arith, append_assoc, append-nil, length-append, zero-add, suc-add}
-use Rattle.std.specs.Prelude.{chars, filter, sum_by}
-use Rattle.std.specs.List.{repeat}
+use Rattle.std.proofs.Common.{◌≡◌, ℕ, zero, suc, ◌+◌, ◌<◌, ◌≤◌, ◌^◌, ◌/◌, ◌%◌, max, if◌then◌else◌, Bool, true, false, ◌||◌, cond, List, [], ◌∷◌, ◌++◌, IsUtf8, length, take, drop, get_or, sym, ap, subst, ◌∙◌, arith, append_assoc, append-nil, length-append, zero-add, suc-add}
+use Rattle.std.specs.Prelude.{chars, codes, encode_utf8, filter, sum_by}
+use Rattle.std.proofs.Common.{refl}
+use lib.Utf8.{encodes}
+use Rattle.std.specs.List.{flat_map, list_any, repeat}
 use Rattle.std.specs.Fmt.{IsDefaultSpec, IsPlainFormatter, HasWritten, HasWrittenStyled, decimal}
 use Rattle.std.specs.Str.Iter.{char_indices_rest, char_indices_offset, char_indices_steps}
 use Rattle.std.specs.declared.fmt.Formatter.{Formatter}
@@ -11,8 +13,8 @@ use Rattle.std.proofs.lemmas.Iterator.Splits.{YieldsList-from_shown_while}
 use Rattle.std.proofs.lemmas.List.{nil_from_length, take-append-drop, take_more}
 use Rattle.std.proofs.lemmas.List.Elements.{filter-append}
 use Rattle.std.proofs.lemmas.List.Sums.{sum_by-append}
-use Rattle.std.proofs.lemmas.Str.{IsUtf8-past_char, chars_past_char, chars-nil}
-use Rattle.justfile_message.specs.Columns.{is_among, placed_from, width_among, width_of}
+use Rattle.std.proofs.lemmas.Str.{IsUtf8-past_char, chars_past_char, chars-nil, encodes-chars}
+use Rattle.justfile_message.specs.Columns.{is_among, is_tab, placed_from, shown_character, width_among, width_of}
 
 -- the characters of a line come with their places
 pub YieldsList-from_char_indices : {s : _} (line : List ℕ) → IsUtf8 line → char_indices_rest s ≡ line → char_indices_offset s ≡ 0
@@ -77,3 +79,17 @@ module _ {W : Type 0} (took : W → List ℕ → W → Type 0) where
     wrote = written.wrote;
     plain = record { bare = subst IsDefaultSpec (sym written.spec) plain.bare; flush = written.flush };
   }
+
+-- a line without a tab shows as it is
+plain_characters : (cs : List ℕ) → list_any is_tab cs ≡ false → flat_map shown_character cs ≡ encodes cs
+plain_characters [] h = refl
+plain_characters (c ∷ cs) h = go (is_tab c) refl (plain_characters cs)
+  where
+    go : (b : Bool) → is_tab c ≡ b → (list_any is_tab cs ≡ false → flat_map shown_character cs ≡ encodes cs) → flat_map shown_character (c ∷ cs) ≡ encodes (c ∷ cs)
+    go true e rest = let k : (true || list_any is_tab cs) ≡ false = ap (λ t. t || list_any is_tab cs) (sym e) ∙ h in absurd cc
+    go false e rest =
+        let k : (false || list_any is_tab cs) ≡ false = ap (λ t. t || list_any is_tab cs) (sym e) ∙ h in
+        ap (λ t. cond t (codes "    ") (encode_utf8 c) ++ flat_map shown_character cs) e ∙ ap (λ l. encode_utf8 c ++ l) (rest k)
+
+pub shown_plain : (line : List ℕ) → IsUtf8 line → list_any is_tab (chars line) ≡ false → flat_map shown_character (chars line) ≡ line
+shown_plain line utf8 h = plain_characters (chars line) h ∙ encodes-chars line utf8

@@ -8,6 +8,9 @@ use Rattle.justfile_vocabulary.specs.ByteNames as byte
 abbrev pub line_at : List ℕ → ℕ → List ℕ
 line_at text number = unwrap_or (slice_get (lines text) number) []
 
+abbrev pub is_tab : ℕ → Bool
+is_tab c = c == byte.tab
+
 -- a character as messages show it: a tab shows as four spaces
 abbrev pub shown_character : ℕ → List ℕ
 shown_character c = if c == byte.tab then codes "    " else encode_utf8 c

@@ -1,10 +1,10 @@
 //! Lines of a text as messages show them, and the screen columns of their characters.
-ghost use Rattle.std.specs.Prelude.{◌≡◌, ◌+◌, ◌<◌, ◌↔◌, IsTrue, Some, codes, length, max};
+ghost use Rattle.std.specs.Prelude.{◌≡◌, ◌+◌, ◌<◌, ◌↔◌, IsTrue, Some, chars, codes, length, max};
 ghost use Rattle.std.specs.Fmt.{DisplaysOnOk, decimal};
-ghost use Rattle.std.specs.List.{repeat, slice_get};
+ghost use Rattle.std.specs.List.{list_any, repeat, slice_get};
 ghost use Rattle.std.specs.Option.{option_map};
 ghost use Rattle.std.specs.Str.Lines.{lines};
-ghost use Rattle.justfile_message.specs.Columns.{is_among, line_at, shown_line, width_in, width_of};
+ghost use Rattle.justfile_message.specs.Columns.{is_among, is_tab, line_at, shown_line, width_in, width_of};
 
 use std::fmt;
 use unicode_width::UnicodeWidthChar;
@@ -97,10 +97,20 @@ pub fn write_columns<W: fmt::Write>(
     Ok(())
 }
 
+/// Whether a line has a tab.
+fn has_tab(line: &str) -> bool
+    ensures { result ≡ list_any is_tab (chars line.now) }
+{
+    line.chars().any(|character| character == '\t')
+}
+
 /// Writes a line, with four spaces for each tab.
 pub fn write_line<W: fmt::Write>(line: &str, f: &mut fmt::Formatter<W>) -> fmt::Result
     ensures { DisplaysOnOk W.write_str_gives f.old result (Some (shown_line line.now)) f.new }
 {
+    if !has_tab(line) {
+        return f.write_str(line);
+    }
     for character in line.chars() {
         if character == '\t' {
             f.write_str("    ")?;

@@ -21,7 +21,7 @@ impl<'src> Namepath<'src> {
     pub fn from_name(alloc: Global, name: Name<'src>) -> Result<Self, AllocError>
         ensures { IfOk result (λ path. names_in path ≡ name.entry ∷ []) }
     {
-        let mut names = Vec::new(alloc);
+        let mut names = Vec::with_capacity(alloc, 1)?;
         names.push(name)?;
         Ok(Namepath { names })
     }
