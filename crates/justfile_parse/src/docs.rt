@@ -51,9 +51,9 @@ fn set_docs(alloc: Global, items: &mut Vec<Item<'_>>) -> Result<(), AllocError>
     Ok(())
 }
 
-/// Moves the item at `place` to the end of the first `kept` items, which are done, or to the place
-/// of the last of these, if that is a comment which becomes the item's doc. Returns how many items
-/// are done now. A line end has no fields, so it isn't moved but made at its new place.
+/// Adds the item at `place` to the items that are done, which are the first `kept` ones. If the
+/// last two of these are a comment and a line end that become its doc, it replaces them. Returns
+/// how many items are done now. A line end has no fields, so it is made anew and not moved.
 fn keep_item(
     alloc: Global,
     items: &mut Vec<Item<'_>>,
@@ -76,7 +76,7 @@ fn keep_item(
     move_item(alloc, items, kept, place)
 }
 
-/// Turns an item into a line end. Most are line ends already, and any other has to be dropped.
+/// Replaces an item by a line end, unless it is one already, as most are.
 fn make_newline(item: &mut Item<'_>)
     ensures { item.new ≡ variants.Newline }
 {
@@ -86,7 +86,8 @@ fn make_newline(item: &mut Item<'_>)
     }
 }
 
-/// Moves the item at `place` as `keep_item` does, by swapping it with the item at its new place.
+/// Does what `keep_item` does for an item that isn't a line end: swaps it with the item at its new
+/// place.
 fn move_item(
     alloc: Global,
     items: &mut Vec<Item<'_>>,
