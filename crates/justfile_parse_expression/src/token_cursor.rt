@@ -346,7 +346,7 @@ impl<'run, 'src, X: Expander> TokenCursor<'run, 'src, X> {
     /// Whether the next tokens are of these kinds; takes none. If they aren't, adds the first kind
     /// to the expected tokens.
     pub fn peek_kinds(&self, kinds: &[TokenKind]) -> bool
-        ensures is { result ≡ reader.next_are kinds.now (state_of X.answer self.now) }
+        ensures next { result ≡ reader.next_are kinds.now (state_of X.answer self.now) }
         ensures within { IsTrue result → length kinds.now ≤ tokens_left self.now }
     {
         if self.probe_kinds(kinds) {
@@ -366,7 +366,7 @@ impl<'run, 'src, X: Expander> TokenCursor<'run, 'src, X> {
     /// Whether the next tokens are of these kinds; takes none, and adds none to the expected
     /// tokens.
     pub fn probe_kinds(&self, kinds: &[TokenKind]) -> bool
-        ensures is { result ≡ reader.next_are kinds.now (state_of X.answer self.now) }
+        ensures next { result ≡ reader.next_are kinds.now (state_of X.answer self.now) }
         ensures within { IsTrue result → length kinds.now ≤ tokens_left self.now }
     {
         let mut next = self.next;
@@ -408,7 +408,7 @@ pub(crate) fn is_marked(
     entry: &SignificantToken<'_>,
     kind: TokenKind,
 ) -> bool
-    ensures is { result
+    ensures marked { result
         ≡ marks word.now kind (significant_of mark.now) (significant_of entry.now) }
     ensures kind { IsTrue result → entry.now.0.kind ≡ kind }
 {
@@ -434,7 +434,7 @@ fn begins_simple_value(entry: &SignificantToken<'_>, second: TokenKind) -> bool
 #[tactic(auto, using(crate::proofs::Lengths::unequal), unfolding(justfile_model::specs::ReaderState::is_word, justfile_model::specs::ReaderState::same_kind))]
 #[inline(always)]
 pub fn is_word(entry: &SignificantToken<'_>, word: &str) -> bool
-    ensures is { result ≡ is_word word.now (significant_of entry.now) }
+    ensures word { result ≡ is_word word.now (significant_of entry.now) }
     ensures kind { IsTrue result → entry.now.0.kind ≡ kinds.Identifier }
 {
     if entry.0.kind != TokenKind::Identifier {
