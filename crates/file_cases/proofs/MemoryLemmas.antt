@@ -5,7 +5,7 @@ use Rattle.std.proofs.lemmas.List.{get_or_default}
 use Rattle.std.proofs.lemmas.Slice.Eq.{bytes_eq-Decides}
 use Rattle.std.specs.Str.{bytes_eq}
 use Rattle.justfile_files.specs.Folder.{Replaces}
-use Rattle.file_cases.specs.Memory.{IsPlace, bytes_in}
+use Rattle.file_cases.specs.Memory.{IsIndex, bytes_in}
 use Rattle.file_cases.specs.declared.folder.MemoryFile.{MemoryFile}
 
 same_name : (x y : List ℕ) → x ≡ y → bytes_eq x y ≡ true
@@ -14,7 +14,7 @@ same_name x y = (bytes_eq-Decides x y).1
 other_name : (x y : List ℕ) → x ≢ y → bytes_eq x y ≡ false
 other_name x y apart = false_from_ne_true (bytes_eq x y) (λ e. apart ((bytes_eq-Decides x y).0 e))
 
--- whether the file at a place has the name
+-- whether the file at an index has the name
 pub here : (files : List MemoryFile) (i : ℕ) (file : MemoryFile) (name : List ℕ) (same : Bool) → i < length files
     → same ≡ bytes_eq (get_or files i file).name.now name → same ≡ true → (d : MemoryFile) → (get_or files i d).name.now ≡ name
 here files i file name same l s t d =
@@ -25,10 +25,10 @@ pub not_here : (files : List MemoryFile) (i : ℕ) (file : MemoryFile) (name : L
 not_here files i file name same l s t d h =
     true≢false (sym (same_name (get_or files i file).name.now name (ap (λ (f : MemoryFile). f.name.now) (get_or_default files i file d l) ∙ h)) ∙ sym s ∙ t)
 
-later : (x : MemoryFile) (xs : List MemoryFile) (name : List ℕ) (i : ℕ) → IsPlace (x ∷ xs) name (suc i) → IsPlace xs name i
+later : (x : MemoryFile) (xs : List MemoryFile) (name : List ℕ) (i : ℕ) → IsIndex (x ∷ xs) name (suc i) → IsIndex xs name i
 later x xs name i p = record { within = omega (arith, p.within); named = p.named; first = λ k l. p.first (suc k) (omega (arith, l)) }
 
-pub found : (files : List MemoryFile) (name : List ℕ) (i : ℕ) (file : MemoryFile) → IsPlace files name i → file ≡ get_or files i file
+pub found : (files : List MemoryFile) (name : List ℕ) (i : ℕ) (file : MemoryFile) → IsIndex files name i → file ≡ get_or files i file
     → bytes_in files name ≡ Some file.bytes.items
 found [] name i file p e = absurd (omega (arith, p.within))
 found (x ∷ xs) name zero file p e =
@@ -36,7 +36,7 @@ found (x ∷ xs) name zero file p e =
 found (x ∷ xs) name (suc i) file p e =
     rw (other_name x.name.now name (p.first 0 (omega arith) x)) (found xs name i file (later x xs name i p) e)
 
-replaced : (files : List MemoryFile) (name : List ℕ) (i : ℕ) (new : MemoryFile) → IsPlace files name i → new.name.now ≡ name
+replaced : (files : List MemoryFile) (name : List ℕ) (i : ℕ) (new : MemoryFile) → IsIndex files name i → new.name.now ≡ name
     → bytes_in (set files i new) name ≡ Some new.bytes.items
 replaced [] name i new p e = absurd (omega (arith, p.within))
 replaced (x ∷ xs) name zero new p e = rw (same_name new.name.now name e) refl
@@ -44,7 +44,7 @@ replaced (x ∷ xs) name (suc i) new p e =
     rw (other_name x.name.now name (p.first 0 (omega arith) x)) (replaced xs name i new (later x xs name i p) e)
 
 -- another file is as it was
-others : (files : List MemoryFile) (name other : List ℕ) (i : ℕ) (new : MemoryFile) → IsPlace files name i → new.name.now ≡ name → other ≢ name
+others : (files : List MemoryFile) (name other : List ℕ) (i : ℕ) (new : MemoryFile) → IsIndex files name i → new.name.now ≡ name → other ≢ name
     → bytes_in (set files i new) other ≡ bytes_in files other
 others [] name other i new p e apart = absurd (omega (arith, p.within))
 others (x ∷ xs) name other zero new p e apart =
@@ -59,8 +59,8 @@ same_or_not x y = go (bytes_eq x y) refl
     go true e = inl ((bytes_eq-Decides x y).0 (sym e))
     go false e = inr (λ h. cc (e, same_name x y h))
 
--- the folder after the file at a place was replaced by one with the same name and with this text
-pub replaces : (files : List MemoryFile) (name text : List ℕ) (i : ℕ) (old new : MemoryFile) → IsPlace files name i → old ≡ get_or files i old → new.name.now ≡ name
+-- the folder after the file at an index was replaced by one with the same name and with this text
+pub replaces : (files : List MemoryFile) (name text : List ℕ) (i : ℕ) (old new : MemoryFile) → IsIndex files name i → old ≡ get_or files i old → new.name.now ≡ name
     → new.bytes.items ≡ text → Replaces (bytes_in files) (bytes_in (set files i new)) name text
 replaces files name text i old new p e n t = record {
   replaced = subst (λ (o : Option (List ℕ)). IfSome o (λ _. bytes_in (set files i new) name ≡ Some text)) (sym (found files name i old p e)) put;
@@ -76,7 +76,7 @@ replaces files name text i old new p e n t = record {
     by_name other (inl same) = inr (old.bytes.items, found files name i old p e, ap (bytes_in files) same ∙ found files name i old p e, ap (bytes_in (set files i new)) same ∙ put)
     by_name other (inr apart) = inl (others files name other i new p n apart)
 
-pub reads : (files : List MemoryFile) (name bytes : List ℕ) (i : ℕ) (file : MemoryFile) → IsPlace files name i → bytes ≡ (get_or files i file).bytes.items
+pub reads : (files : List MemoryFile) (name bytes : List ℕ) (i : ℕ) (file : MemoryFile) → IsIndex files name i → bytes ≡ (get_or files i file).bytes.items
     → IfSome (bytes_in files name) (λ known. bytes ≡ known)
 reads files name bytes i file p b =
     subst (λ (o : Option (List ℕ)). IfSome o (λ known. bytes ≡ known)) (sym (found files name i (get_or files i file) p (get_or_default files i file (get_or files i file) p.within))) b

@@ -12,8 +12,8 @@ bytes_in (file ∷ files) name = if bytes_eq file.name.now name then Some file.b
 abbrev pub contents_of : MemoryFolder → (name : List ℕ) → Option (List ℕ)
 contents_of folder name = bytes_in folder.files.items name
 
--- The first file with this name is at this place.
-pub record IsPlace (files : List MemoryFile) (name : List ℕ) (place : ℕ) : Type 0 where
-  pub within : place < length files
-  pub named : (d : MemoryFile) → (get_or files place d).name.now ≡ name
-  pub first : (k : ℕ) → k < place → (d : MemoryFile) → (get_or files k d).name.now ≢ name
+-- The first file with this name is at this index.
+pub record IsIndex (files : List MemoryFile) (name : List ℕ) (index : ℕ) : Type 0 where
+  pub within : index < length files
+  pub named : (d : MemoryFile) → (get_or files index d).name.now ≡ name
+  pub first : (k : ℕ) → k < index → (d : MemoryFile) → (get_or files k d).name.now ≢ name

@@ -1,7 +1,7 @@
 //! A folder in memory.
 ghost use Rattle.std.specs.Prelude.{◌≡◌, IfOk, IfSome, OnErr, OnOk};
 ghost use Rattle.justfile_files.specs.Folder.{KeepsFiles, Replaces};
-ghost use Rattle.file_cases.specs.Memory.{IsPlace, bytes_in};
+ghost use Rattle.file_cases.specs.Memory.{IsIndex, bytes_in};
 
 use crate::Faults;
 use justfile_files::folder::Folder;
@@ -62,16 +62,16 @@ impl MemoryFolder {
     }
 }
 
-/// Returns the place of the first file with a name.
-fn place_of(files: &[MemoryFile], name: &str) -> Option<usize>
-    ensures { IfSome result (IsPlace files.now name.now) }
+/// Returns the index of the first file with a name.
+fn index_of(files: &[MemoryFile], name: &str) -> Option<usize>
+    ensures { IfSome result (IsIndex files.now name.now) }
 {
-    let mut place = 0;
-    'files: while place < files.len() {
-        if files[place].name == name {
-            return Some(place);
+    let mut index = 0;
+    'files: while index < files.len() {
+        if files[index].name == name {
+            return Some(index);
         }
-        place += 1;
+        index += 1;
     }
     None
 }
@@ -81,11 +81,11 @@ fn copy_of(alloc: Global, files: &[MemoryFile], name: &str) -> io::Result<Vec<u8
     ensures { IfOk result (λ bytes. IfSome (bytes_in files.now name.now)
         (λ known. bytes.items ≡ known)) }
 {
-    let Some(place) = place_of(files, name) else {
+    let Some(index) = index_of(files, name) else {
         return Err(Error::from(ErrorKind::NotFound));
     };
     let mut bytes = Vec::new(alloc);
-    bytes.extend_from_slice(&files[place].bytes)?;
+    bytes.extend_from_slice(&files[index].bytes)?;
     Ok(bytes)
 }
 
@@ -95,13 +95,13 @@ fn put(alloc: Global, files: &mut Vec<MemoryFile>, name: &str, text: &str) -> io
         name.now text.now) }
     ensures err { OnErr result (KeepsFiles (bytes_in files.old.items) (bytes_in files.new.items)) }
 {
-    let Some(place) = place_of(files, name) else {
+    let Some(index) = index_of(files, name) else {
         return Err(Error::from(ErrorKind::NotFound));
     };
     let mut bytes = Vec::new(alloc);
     bytes.extend_from_slice(text.as_bytes())?;
-    let name = files[place].name;
-    files[place] = MemoryFile { name, bytes };
+    let name = files[index].name;
+    files[index] = MemoryFile { name, bytes };
     Ok(())
 }
 

@@ -20,7 +20,7 @@ ghost use Rattle.justfile_ast.specs.Written.{AppendsPart};
 ghost use Rattle.justfile_ast.specs.declared.separator.Separator.TheVariants.{Start};
 
 use crate::push::push_made;
-use crate::separator::{Separator, write_after};
+use crate::separator::{Separator, write_separated};
 use crate::write_fault::WriteFault;
 use crate::writer::WriterSink;
 use justfile_expression::ListFeature;
@@ -195,7 +195,7 @@ fn write_items<S: Sink>(
 {
     let mut separator = Separator::Start;
     for item in items {
-        separator = write_after(item, indentation, separator, sink)?;
+        separator = write_separated(item, indentation, separator, sink)?;
     }
     Ok(())
 }

@@ -49,7 +49,7 @@ impl Separator {
 /// Writes an item, with the separator before it, and returns the separator after it. For a line end
 /// it writes nothing: that becomes part of the separator before the next item.
 #[tactic(auto, using(crate::proofs::Separators::separator_at_end, crate::proofs::Separators::text_at_end, crate::proofs::Separators::separator_past, crate::proofs::Separators::text_past))]
-pub(crate) fn write_after<S: Sink>(
+pub(crate) fn write_separated<S: Sink>(
     item: &Item<'_>,
     indentation: Indentation,
     separator: Separator,

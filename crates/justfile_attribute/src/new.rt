@@ -31,7 +31,7 @@ use std::alloc::{AllocError, Global};
 
 impl<'src> Attribute<'src> {
     /// Returns the attribute of this kind with these arguments. Each positional argument comes with
-    /// its first token. The name is only that of errors.
+    /// its first token. Only errors use the name.
     ///
     /// # Errors
     ///

@@ -103,10 +103,10 @@ impl<'src> PairSet<Attribute<'src>, Written<'src>> {
     }
 
     /// Returns the set of all these attributes in the order of their content. The sort is stable.
-    /// Nothing is removed, unlike by `from_pairs` and `from_entries`: it is for pairs of which no
-    /// two are equal, as a parser's, whose positions differ, and those of a set (`into_written`).
-    /// If the derived fields of the attributes are right, as `Attribute::new` makes them, the set
-    /// is in the order of what the attributes mean.
+    /// Unlike `from_pairs` and `from_entries` it removes nothing, so it is for attributes of which
+    /// no two are equal: those of a parser, whose positions differ, or those of a set
+    /// (`into_written`). If the derived fields of the attributes are right, as `Attribute::new`
+    /// makes them, the set is in the order of what the attributes mean.
     ///
     /// # Errors
     ///

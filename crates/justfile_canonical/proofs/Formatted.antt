@@ -109,24 +109,24 @@ same_indentation source other canonical twin f g e =
     (sym (indentation_shape f.tree) ∙ sym (indentation_normal (shape_of f.tree)) ∙ ap indentation_of e ∙ indentation_normal (shape_of g.tree) ∙ indentation_shape g.tree)
     f.is_indented g.is_indented
 
-pub apart : (source other canonical : List ℕ) (f : IsFormatted source canonical) (g : IsFormatted other canonical)
+pub same_shape : (source other canonical : List ℕ) (f : IsFormatted source canonical) (g : IsFormatted other canonical)
     → (normal (shape_of f.tree) ≡ normal (shape_of g.tree)) × (f.indentation ≡ g.indentation)
-apart source other canonical f g =
+same_shape source other canonical f g =
     let x = reads source canonical f in
     let y = reads other canonical g in
     let one = one_text conditions canonical x.tree y.tree x.found y.found x.derives y.derives in
     let same = sym x.same_shape ∙ ap shape_of one ∙ y.same_shape in
     (same, same_indentation source other canonical canonical f g same)
 
-pub alike : (source other canonical twin : List ℕ) (f : IsFormatted source canonical) (g : IsFormatted other twin)
+pub same_text : (source other canonical twin : List ℕ) (f : IsFormatted source canonical) (g : IsFormatted other twin)
     → normal (shape_of f.tree) ≡ normal (shape_of g.tree) → canonical ≡ twin
-alike source other canonical twin f g e =
+same_text source other canonical twin f g e =
     let i = same_indentation source other canonical twin f g e in
     f.is ∙ (λ k. text (e k) (i k)) ∙ sym g.is
 
 pub one : (source canonical other : List ℕ) → IsFormatted source canonical → IsFormatted source other → canonical ≡ other
 one source canonical other f g =
-    alike source source canonical other f g (ap (λ (t : Tree). normal (shape_of t)) (one_text conditions source f.tree g.tree f.features g.features f.derives g.derives))
+    same_text source source canonical other f g (ap (λ (t : Tree). normal (shape_of t)) (one_text conditions source f.tree g.tree f.features g.features f.derives g.derives))
 
 pub never_both : (source canonical : List ℕ) → IsFormatted source canonical → HasNone source → ⊥
 never_both source canonical f (rejected r) = r.derives_none f.tree f.features f.derives

@@ -10,7 +10,7 @@ use std::fmt;
 #[derive(Debug, Drop)]
 pub enum FormatFault {
     /// The text isn't a justfile. The lines tell why: `error: ` and the message of the error, and
-    /// the excerpt of the line that it is on. Each of them ends in a newline.
+    /// the excerpt of the line that it is on. Each of them ends in a line feed.
     Rejected(String),
     /// A body line ends in a carriage return, so the printed text wouldn't read back.
     NotPrintable,
@@ -21,7 +21,7 @@ pub enum FormatFault {
 }
 
 impl FormatFault {
-    /// Returns the lines that tell a user about it. Each ends in a newline.
+    /// Returns the lines that tell a user about it. Each ends in a line feed.
     pub fn lines(&self) -> &str
         ensures { result.now ≡ fault_text self.now }
     {
@@ -34,8 +34,8 @@ impl FormatFault {
     }
 }
 
-/// Writes its lines, which `justfmt` writes to standard error: with `error: ` before the message, and
-/// with a newline at the end.
+/// Writes its lines, which `justfmt` writes to standard error: with `error: ` before the message,
+/// and with a line feed at the end.
 impl fmt::Display for FormatFault {
     ghost use Rattle.std.specs.Prelude.{Some};
 

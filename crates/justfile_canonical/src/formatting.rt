@@ -77,8 +77,9 @@ fn rejected_fault(alloc: Global, error: &CompileError<'_>) -> FormatFault
     }
 }
 
-/// Returns the canonical text of a file. It is passed as `&mut` because the check of a caller that
-/// holds the file can't tell of a shared reference.
+/// Returns the canonical text of a file. It is passed as `&mut`, since the checker reaches its
+/// limit where a caller that holds a file passes a shared reference (`docs/TOOLCHAIN.md`, "could
+/// not tell").
 fn print(ast: &mut Ast<'_>, alloc: Global) -> Result<String, FormatFault>
     requires { IsIndented ast.old }
     ensures ok { IfOk result (λ text. IsPrinted ast.old (string_bytes text)) }
@@ -88,7 +89,7 @@ fn print(ast: &mut Ast<'_>, alloc: Global) -> Result<String, FormatFault>
     Ok(ast.print(alloc, indentation)?)
 }
 
-/// Returns the indentation of body lines that the canonical text has.
+/// Returns the `own_indentation` of a file that can be printed.
 ///
 /// # Errors
 ///

@@ -23,10 +23,10 @@ pub fn formatted_texts()
         → IsFormatted source canonical → HasNone source → ⊥ }
     ensures settled { (source canonical : List ℕ)
         → IsFormatted source canonical → IsFormatted canonical canonical }
-    ensures apart { (source other canonical : List ℕ)
+    ensures same_shape { (source other canonical : List ℕ)
         (f : IsFormatted source canonical) (g : IsFormatted other canonical)
         → (normal (shape_of f.tree) ≡ normal (shape_of g.tree)) × (f.indentation ≡ g.indentation) }
-    ensures alike { (source other canonical twin : List ℕ)
+    ensures same_text { (source other canonical twin : List ℕ)
         (f : IsFormatted source canonical) (g : IsFormatted other twin)
         → normal (shape_of f.tree) ≡ normal (shape_of g.tree) → canonical ≡ twin }
 {}

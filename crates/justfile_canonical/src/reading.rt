@@ -1,4 +1,4 @@
-//! A file that is parsed, lent and freed here, so that it never stands in a caller's frame.
+//! Calls that parse a file, lend it and free it again, so that a caller never holds an `Ast`.
 ghost use Rattle.std.specs.Prelude.{◌≡◌, IfErr, IfOk, OnErr, OnOk, map};
 ghost use Rattle.justfile_ast.specs.declared.ast.Ast.{Ast};
 ghost use Rattle.justfile_outline.specs.Shown.{shown};

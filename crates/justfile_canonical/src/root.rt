@@ -59,7 +59,7 @@ pub fn parse_root_with<'src>(
         → numerator.new ≡ numerator.old }
     ensures constants { constants_of numerator.new ≡ constants_of numerator.old }
 {
-    let place = Source {
+    let origin = Source {
         file_depth: 0,
         import_offsets: &[],
         namepath: None,
@@ -69,7 +69,7 @@ pub fn parse_root_with<'src>(
         alloc,
         numerator,
         path,
-        &place,
+        &origin,
         source,
         &Unchanged,
         Version::CURRENT,

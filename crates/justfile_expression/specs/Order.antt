@@ -1,4 +1,5 @@
--- The keys of expressions: the index of the case in declared order, and then the keys of the fields in declared order.
+-- The keys of expressions: the label of the case, and then the keys of the fields in declared order. The label is the index of the case in
+-- declared order, as `case_index` in `src/order.rt` lists them.
 use Rattle.std.specs.Prelude.{Option, Some, None, string_bytes}
 use Rattle.std.specs.Global.{Box}
 use Rattle.std.specs.declared.cmp.Ordering.{Ordering}

@@ -1,4 +1,4 @@
--- How two expressions compare along their right sides: what is compared before these, and what after them.
+-- How two expressions compare along their right sides: what is compared before these, and what after them. The labels are those of `key`.
 use Rattle.std.specs.Prelude.{Option, None, Some}
 use Rattle.std.specs.Global.{Box}
 use Rattle.std.specs.declared.cmp.Ordering.{Ordering}

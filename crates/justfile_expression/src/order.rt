@@ -1,5 +1,7 @@
 //! The orders of expressions: by the declared order of the cases, and within a case by its fields
 //! in declared order. Tokens compare with or without their positions.
+//!
+//! The numbers from 0 to 15 are the labels of the cases, which `case_index` lists.
 ghost use Rattle.std.specs.Prelude.{◌≡◌, Some, string_bytes};
 ghost use Rattle.std.proofs.Common.{refl};
 ghost use Rattle.std.specs.Cmp.{eq_by_cmp_equiv, on_total, partial_equiv_from_equiv, partial_order_from_total};
@@ -595,7 +597,8 @@ fn compare_variable<'src>(
     }
 }
 
-/// Returns the index of an expression's case in the declared order, counted from 0.
+/// Returns the label of an expression's case: its index in the declared order, counted from 0.
+/// `key` in `specs/Order.antt` and `expr_key` of the model have the same labels.
 fn case_index(expression: &Expression<'_>) -> u8
     ensures { result ≡ label (left_key expression.now) }
 {

@@ -62,7 +62,7 @@ enum Start<'a, 'src> {
 
 /// Returns what an expression begins with, without the signs that the tree doesn't keep.
 fn start_of<'a, 'src>(expression: &'a Expression<'src>) -> Start<'a, 'src>
-    ensures is { token_of result ≡ first_token expression.now }
+    ensures token { token_of result ≡ first_token expression.now }
     ensures smaller { IsWithin expression.now result }
 {
     match expression {

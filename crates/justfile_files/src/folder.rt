@@ -5,7 +5,7 @@ ghost use Rattle.justfile_files.specs.Folder.{KeepsFiles, Replaces};
 use std::alloc::Global;
 use std::io;
 
-/// A folder of files with names. What a file system is to the program, and a map to a test.
+/// A folder of files with names: for the program the file system, for a test a folder in memory.
 pub trait Folder {
     /// The bytes of the file with a name, if there is one and they are known.
     ghost contents: { Self → List ℕ → Option (List ℕ) };

@@ -14,8 +14,8 @@ use std::io::Write;
 pub const USAGE: &str = "usage: justfiles [--check | --diff] FILE..\n";
 
 /// Does what the arguments ask for with the files of a folder: formats them in place, or writes the
-/// name of each that isn't formatted (`--check`), or a diff to its formatted text (`--diff`). Writes
-/// errors for the others, and goes on with the next file.
+/// name of each that isn't formatted (`--check`), or a diff to its formatted text (`--diff`). If it
+/// fails for a file, it writes an error and goes on with the next one.
 ///
 /// Returns the greatest status of a file: 0 if it is formatted, or is now; 1 if it isn't; 2 if its
 /// text can't be formatted; 3 for any other failure, or if the arguments have another form.

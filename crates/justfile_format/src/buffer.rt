@@ -125,12 +125,12 @@ fn write_front<W: Write>(room: &mut [u8], end: usize, writer: &mut W) -> usize
     write_up_to(&room[..end], writer)
 }
 
-/// Puts bytes at a place of the room.
+/// Puts bytes into the room, from `start` on.
 #[inline(always)]
-fn put(room: &mut [u8], place: usize, bytes: &[u8])
-    requires { place + length bytes.now ≤ length room.old }
+fn put(room: &mut [u8], start: usize, bytes: &[u8])
+    requires { start + length bytes.now ≤ length room.old }
     ensures length { length room.new ≡ length room.old }
-    ensures front { take (place + length bytes.now) room.new ≡ take place room.old ++ bytes.now }
+    ensures front { take (start + length bytes.now) room.new ≡ take start room.old ++ bytes.now }
 {
-    room[place..place + bytes.len()].copy_from_slice(bytes);
+    room[start..start + bytes.len()].copy_from_slice(bytes);
 }

@@ -107,7 +107,7 @@ impl Failure {
 #[tactic(auto, using(crate::proofs::Outcomes::front))]
 pub fn report<E: Write>(failure: &Failure, errors: &mut E) -> u8
     ensures status { result ≡ status_of failure.now }
-    ensures told { AppendsBeginning (E.contents errors.old) (E.contents errors.new)
+    ensures written { AppendsBeginning (E.contents errors.old) (E.contents errors.new)
         (failure_text failure.now) }
 {
     let _ = write_up_to(failure.message().as_bytes(), errors);

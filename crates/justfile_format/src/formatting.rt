@@ -24,8 +24,8 @@ use std::mem;
 /// How many bytes of the canonical text are written at once.
 const CAPACITY: usize = 8 * 1024;
 
-/// Writes the canonical text of a justfile, without flushing it. Takes no memory for the text. Doesn't
-/// free the tree, because the program ends soon.
+/// Writes the canonical text of a justfile, without flushing it. Takes no memory for the text.
+/// Doesn't free the tree, because the program ends soon.
 ///
 /// # Errors
 ///
@@ -51,8 +51,9 @@ pub fn format_to<W: Write>(alloc: Global, source: &str, writer: &mut W) -> Resul
     }
 }
 
-/// Writes the canonical text of a file. It is passed as `&mut` because the check of a caller that
-/// holds the file can't tell of a shared reference.
+/// Writes the canonical text of a file. It is passed as `&mut`, since the checker reaches its limit
+/// where a caller that holds a file passes a shared reference (`docs/TOOLCHAIN.md`, "could not
+/// tell").
 #[tactic(auto, using(crate::proofs::Files::printed, crate::proofs::Files::printed_beginning))]
 fn write_file<W: Write>(ast: &mut Ast<'_>, writer: &mut W) -> Result<(), Failure>
     requires { IsIndented ast.old }
@@ -70,8 +71,8 @@ fn write_file<W: Write>(ast: &mut Ast<'_>, writer: &mut W) -> Result<(), Failure
     Ok(())
 }
 
-/// Writes the printed text of a file through a buffer, because it consists of many small pieces, and
-/// writing a piece takes longer than copying it.
+/// Writes the printed text of a file through a buffer, because it consists of many small pieces,
+/// and writing a piece takes longer than copying it.
 fn print_buffered<W: Write>(
     ast: &Ast<'_>,
     indentation: Indentation,

@@ -78,7 +78,7 @@ none_left [] (suc i) h = refl
 none_left (y ∷ ys) zero h = absurd cc
 none_left (y ∷ ys) (suc i) h = none_left ys i h
 
--- what is left of an expression from its part at a place on
+-- what is left of an expression from its part at an index on
 abbrev left : Bor Expression × ℕ → List Expression
 left s = flat_map with_inner (drop s.1 (parts_of s.0.now))
 
@@ -89,22 +89,22 @@ left_along path = flat_map left (reverse path)
 longer : (path : List (Bor Expression × ℕ)) (s : Bor Expression × ℕ) → left_along (path ++ s ∷ []) ≡ left s ++ left_along path
 longer path s = ap (flat_map left) (reverse-append path (s ∷ []))
 
-module _ (old path : List (Bor Expression × ℕ)) (e : Bor Expression) (place : ℕ) (is : old ≡ path ++ (e, place) ∷ []) where
+module _ (old path : List (Bor Expression × ℕ)) (e : Bor Expression) (index : ℕ) (is : old ≡ path ++ (e, index) ∷ []) where
   -- the next part is taken
-  pub deeper : (new : List (Bor Expression × ℕ)) (part : Bor Expression) → Some part.now ≡ slice_get (parts_of e.now) place
-      → new ≡ (path ++ (e, place + 1) ∷ []) ++ (part, 0) ∷ [] → left_along old ≡ part.now ∷ left_along new
+  pub deeper : (new : List (Bor Expression × ℕ)) (part : Bor Expression) → Some part.now ≡ slice_get (parts_of e.now) index
+      → new ≡ (path ++ (e, index + 1) ∷ []) ++ (part, 0) ∷ [] → left_along old ≡ part.now ∷ left_along new
   deeper new part at pushed =
-      ap left_along is ∙ longer path (e, place)
-      ∙ ap (λ es. flat_map with_inner es ++ left_along path) (dropped (parts_of e.now) place part.now at)
+      ap left_along is ∙ longer path (e, index)
+      ∙ ap (λ es. flat_map with_inner es ++ left_along path) (dropped (parts_of e.now) index part.now at)
       ∙ ap (λ es. part.now ∷ es)
-      (append_assoc (inner part.now) (left (e, place + 1)) (left_along path)
-      ∙ ap (λ es. es ++ (left (e, place + 1) ++ left_along path)) (by_parts part.now)
-      ∙ ap (λ es. left (part, 0) ++ es) (sym (longer path (e, place + 1)))
-      ∙ sym (longer (path ++ (e, place + 1) ∷ []) (part, 0)) ∙ ap left_along (sym pushed))
+      (append_assoc (inner part.now) (left (e, index + 1)) (left_along path)
+      ∙ ap (λ es. es ++ (left (e, index + 1) ++ left_along path)) (by_parts part.now)
+      ∙ ap (λ es. left (part, 0) ++ es) (sym (longer path (e, index + 1)))
+      ∙ sym (longer (path ++ (e, index + 1) ∷ []) (part, 0)) ∙ ap left_along (sym pushed))
 
   -- no part is left
-  pub back : None ≡ slice_get (parts_of e.now) place → left_along old ≡ left_along path
-  back at = ap left_along is ∙ longer path (e, place) ∙ ap (λ es. flat_map with_inner es ++ left_along path) (none_left (parts_of e.now) place at)
+  pub back : None ≡ slice_get (parts_of e.now) index → left_along old ≡ left_along path
+  back at = ap left_along is ∙ longer path (e, index) ∙ ap (λ es. flat_map with_inner es ++ left_along path) (none_left (parts_of e.now) index at)
 
 -- what is left, and how long the path is: this gets less at each step
 abbrev pub steps_left : List (Bor Expression × ℕ) → ℕ
@@ -113,18 +113,18 @@ steps_left path = 2 * length (left_along path) + length path
 one_more : {X : Type 0} (xs : List X) (x : X) → length (xs ++ x ∷ []) ≡ length xs + 1
 one_more xs x = length-append xs (x ∷ [])
 
-module _ (old path : List (Bor Expression × ℕ)) (e : Bor Expression) (place : ℕ) (is : old ≡ path ++ (e, place) ∷ []) where
-  pub deeper_falls : (new : List (Bor Expression × ℕ)) (part : Bor Expression) → Some part.now ≡ slice_get (parts_of e.now) place
-      → new ≡ (path ++ (e, place + 1) ∷ []) ++ (part, 0) ∷ [] → steps_left new < steps_left old
+module _ (old path : List (Bor Expression × ℕ)) (e : Bor Expression) (index : ℕ) (is : old ≡ path ++ (e, index) ∷ []) where
+  pub deeper_falls : (new : List (Bor Expression × ℕ)) (part : Bor Expression) → Some part.now ≡ slice_get (parts_of e.now) index
+      → new ≡ (path ++ (e, index + 1) ∷ []) ++ (part, 0) ∷ [] → steps_left new < steps_left old
   deeper_falls new part at pushed =
       omega (
         arith,
-        ap length (deeper old path e place is new part at pushed),
+        ap length (deeper old path e index is new part at pushed),
         ap length is,
-        one_more path (e, place),
+        one_more path (e, index),
         ap length pushed,
-        one_more (path ++ (e, place + 1) ∷ []) (part, 0),
-        one_more path (e, place + 1),
+        one_more (path ++ (e, index + 1) ∷ []) (part, 0),
+        one_more path (e, index + 1),
       )
 
 module _ (whole : List Expression) (found more : List (Bor Expression)) (part : Bor Expression) (old new : List Expression) where

@@ -20,8 +20,8 @@ impl<'src> Item<'src> {
     {
         let direct = self.expressions(alloc)?;
         let mut found = Vec::new(alloc);
-        for place in 0..direct.len() {
-            push_with_inner(direct[place], alloc, &mut found)?;
+        for index in 0..direct.len() {
+            push_with_inner(direct[index], alloc, &mut found)?;
         }
         Ok(found)
     }
@@ -40,10 +40,10 @@ fn push_with_inner<'a, 'src>(
     let mut path = Vec::new(alloc);
     found.push(expression)?;
     path.push((expression, 0))?;
-    while let Some((whole, place)) = path.pop() {
-        if let Some(part) = whole.child(place) {
+    while let Some((whole, index)) = path.pop() {
+        if let Some(part) = whole.child(index) {
             found.push(part)?;
-            path.push((whole, place + 1))?;
+            path.push((whole, index + 1))?;
             path.push((part, 0))?;
         }
     }

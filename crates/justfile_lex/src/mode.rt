@@ -203,14 +203,14 @@ fn is_letter_f(text: &[u8]) -> bool
     text.len() == 1 && text[0] == b'f'
 }
 
-/// Returns the number of newlines.
+/// Returns the number of line feeds.
 fn count_newlines(bytes: &[u8]) -> usize
     ensures { result ≡ count_by is_newline bytes.now }
 {
     bytes.iter().filter(|b| **b == b'\n').count()
 }
 
-/// Whether the last byte is a newline.
+/// Whether the last byte is a line feed.
 fn ends_in_newline(bytes: &[u8]) -> bool
     ensures { result ≡ ends_in_newline bytes.now }
 {

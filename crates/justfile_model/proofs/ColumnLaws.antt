@@ -15,12 +15,12 @@ use Rattle.justfile_model.specs.Lexed.{Begins, end_of}
 use Rattle.justfile_model.proofs.NextLaws.{EndsAt, ends_line, token_cut}
 use Rattle.justfile_model.proofs.LexedLaws.{end_cuts}
 
--- the start of the text, or a place right after a newline
+-- the start of the text, or an offset right after a line feed
 abbrev starts_line : List ℕ → ℕ → Bool
 starts_line text zero = true
 starts_line text (suc n) = eqb (get_or text n 0) 10
 
--- The column of a place is the length of the run before it that has no newline.
+-- The column of an offset is the length of the run before it that has no line feed.
 run : List ℕ → ℕ
 run bs = prefix_len (λ b. not (is_newline b)) (reverse bs)
 

@@ -247,9 +247,9 @@ raw_cuts s rest =
     (λ whole. let e : length rest ≡ raw_len s rest = omega (arith, ends'.within) in subst (IsCharBoundary rest) e (IsCharBoundary-end rest))
     (cases_lt (raw_len s rest) (length rest))
 
--- ---- comments and body text have no newline
+-- ---- comments and body text have no line feed
 
--- if these bytes have no newline, neither do those up to the end of the pieces
+-- if these bytes have no line feed, neither do those up to the end of the pieces
 abbrev pub NoNewline : (List ℕ → ℕ) → (List ℕ → Bool) → List ℕ → ℕ → Type 0
 NoNewline hide end bs n = ((i : ℕ) → i < n → eqb (get_or bs i 0) 10 ≡ false) → (i : ℕ) → i < pieces_len hide end n bs → eqb (get_or bs i 0) 10 ≡ false
 

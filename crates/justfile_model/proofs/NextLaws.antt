@@ -34,11 +34,11 @@ use Rattle.justfile_model.proofs.CutLemmas.{class_fact, after_byte, run_cuts, ru
 abbrev pub Moves : Mode → TokenKind → ℕ → Type 0
 Moves m k n = (0 < n) ⊎ ((k ≡ Eof) ⊎ ((k ≡ Dedent) × (0 < length m.levels)))
 
--- the last byte of a token is a newline
+-- the last byte of a token is a line feed
 abbrev pub ends_line : List ℕ → ℕ → Bool
 ends_line rest n = eqb (get_or rest (n - 1) 0) 10
 
--- Eof comes only where the text ends, a dedent has no bytes, a line end ends in a newline, and besides it only whitespace may
+-- Eof comes only where the text ends, a dedent has no bytes, a line end ends in a line feed, and besides it only whitespace may
 abbrev pub EndsAt : List ℕ → TokenKind → ℕ → Type 0
 EndsAt rest Eof n = (length rest ≡ 0) × (n ≡ 0)
 EndsAt rest Dedent n = n ≡ 0

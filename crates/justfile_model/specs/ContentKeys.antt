@@ -44,6 +44,8 @@ module _ {A B : Type 0} (view : LeafView A B) where
   abbrev pub literal_key : Literal A → Key ContentLeaf
   literal_key l = leaf (literal (view.literal_content l))
 
+  -- The label of a case is its index among the cases of the code's expressions in declared order, as `case_index` in `order.rt` of
+  -- `justfile_expression` lists them: there an assertion with a message and one without are one case, for example.
   abbrev mutual
     pub expr_key : Expr A B → Key ContentLeaf
     expr_key (tree.And l r) = node 0 (next (expr_key l) (next (expr_key r) end))

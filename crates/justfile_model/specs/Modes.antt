@@ -44,7 +44,7 @@ abbrev pub is_empty : {A : Type 0} → List A → Bool
 is_empty [] = true
 is_empty (x ∷ xs) = false
 
--- the last byte is a newline
+-- the last byte is a line feed
 abbrev pub ends_in_newline : List ℕ → Bool
 ends_in_newline bs = slice_index bs (length bs - 1) == byte.line_feed
 

@@ -83,7 +83,7 @@ abbrev pub line_text : (indentation : List ℕ) → BodyLine (List ℕ) (Unit {0
 line_text indentation (Line number []) = []
 line_text indentation (Line number fragments) = indentation ++ flat_map fragment_text fragments
 
--- the lines of a body, each after a newline
+-- the lines of a body, each after a line feed
 abbrev pub body_text : (indentation : List ℕ) → List (BodyLine (List ℕ) (Unit {0}) (Unit {0})) → List ℕ
 body_text indentation = flat_map (λ line. fixed_text (codes "\n") ++ line_text indentation line)
 
@@ -273,7 +273,7 @@ item_text Newline indentation = []
 item_text (Comment text) indentation = text
 item_text (Construct entries content) indentation = if_some doc_line (shown_doc entries content) ++ entries_text entries ++ content_text content indentation
 
--- the text after an item: a newline after a line end, nothing before one or at the end of the file, and otherwise a space
+-- the text after an item: a line feed after a line end, nothing before one or at the end of the file, and otherwise a space
 abbrev pub item_end : {A B C S D : Type 0} → Item A B C S D → List (Item A B C S D) → List ℕ
 item_end Newline items = fixed_text (codes "\n")
 item_end i [] = []

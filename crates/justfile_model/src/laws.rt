@@ -24,8 +24,8 @@ pub fn tiling()
         → flat_map (λ t. t.lexeme) ts ≡ text }
 {}
 
-/// If each token of a list is the next one after those before it, the list has the tokens of the
-/// text.
+/// If each token of a list is the one that the text has after the tokens before it, these are the
+/// tokens of the text.
 pub fn in_order()
     ensures { (text : List ℕ) (ts : List Tok) → Follows text [] ts → Lexed text ts }
 {}

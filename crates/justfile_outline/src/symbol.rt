@@ -14,7 +14,7 @@ use std::alloc::{AllocError, Global};
 pub struct Symbol<'src> {
     /// What the item is.
     pub kind: ItemKind,
-    /// Its name. Its token has the place.
+    /// Its name, whose token has the position in the text.
     pub name: Name<'src>,
     /// The parameters of a recipe or a function as they are printed, each after a space.
     pub parameters: String,

@@ -22,7 +22,7 @@ use Rattle.justfile_model.specs.ContentKeys.{kind_of_attribute}
 use Rattle.justfile_model.specs.Docs.{LineEnd, doc_in}
 use Rattle.justfile_model.specs.Files.{sets_doc}
 use Rattle.justfile_model.specs.Tree as tree
-use Rattle.justfile_parse.specs.Docs.{LeafItem, comment_of, doc_before, doc_first, is_newline}
+use Rattle.justfile_parse.specs.Docs.{LeafItem, comment_of, doc_before, doc_first, is_line_end}
 use Rattle.justfile_parse_item.specs.Tree.{item_tree}
 use Rattle.justfile_parse_item.specs.DerivedFields.{HaveDerivedFields, HasDerivedItemFields}
 
@@ -60,7 +60,7 @@ comment_begins xs n x h e fields text is = go x (item_fields xs n x h e fields) 
 
 -- ---- the doc that ends them
 
-pub line_end : (i : LeafItem) → is_newline i ≡ true → i ≡ tree.Newline
+pub line_end : (i : LeafItem) → is_line_end i ≡ true → i ≡ tree.Newline
 line_end tree.Newline h = refl
 line_end (tree.Comment text) h = cc
 line_end (tree.Construct entries content) h = cc
@@ -70,14 +70,14 @@ comment_is tree.Newline text h = cc
 comment_is (tree.Comment other) text h = ap (λ (t : List ℕ). tree.Comment t) (some_is other text h)
 comment_is (tree.Construct entries content) text h = cc
 
-no_start : (i : LeafItem) (others : List LeafItem) (text : List ℕ) → is_newline i ≡ false → doc_first (tree.Newline ∷ tree.Comment text ∷ i ∷ others) ≡ None
+no_start : (i : LeafItem) (others : List LeafItem) (text : List ℕ) → is_line_end i ≡ false → doc_first (tree.Newline ∷ tree.Comment text ∷ i ∷ others) ≡ None
 no_start tree.Newline others text h = cc
 no_start (tree.Comment other) others text h = refl
 no_start (tree.Construct entries content) others text h = refl
 
 -- the last item ends a line, and the one before it is a comment
 module _ (xs : List Item) (k m n : ℕ) (last : k + 1 ≡ length xs) (second : m + 1 ≡ k) (third : n + 1 ≡ m) (x y z : Item) (x_is : x ≡ get_or xs k x) (y_is : y ≡ get_or xs m y)
-    (z_is : z ≡ get_or xs n z) (text : List ℕ) (ends : is_newline (item_tree x) ≡ true) (comment : comment_of (item_tree y) ≡ Some text) where
+    (z_is : z ≡ get_or xs n z) (text : List ℕ) (ends : is_line_end (item_tree x) ≡ true) (comment : comment_of (item_tree y) ≡ Some text) where
   abbrev others : List LeafItem
   others = reverse (map item_tree (take n xs))
 
@@ -93,11 +93,11 @@ module _ (xs : List Item) (k m n : ℕ) (last : k + 1 ≡ length xs) (second : m
       ∙ ap (λ (i : LeafItem). doc_first (tree.Newline ∷ i ∷ item_tree z ∷ others)) (comment_is (item_tree y) text comment)
 
   -- a line ends before the comment
-  pub after_line : is_newline (item_tree z) ≡ true → doc_before (map item_tree xs) ≡ doc_in LineEnd text
+  pub after_line : is_line_end (item_tree z) ≡ true → doc_before (map item_tree xs) ≡ doc_in LineEnd text
   after_line h = doc_of_three ∙ ap (λ (i : LeafItem). doc_first (tree.Newline ∷ tree.Comment text ∷ i ∷ others)) (line_end (item_tree z) h)
 
   -- something else stands before it on its line
-  pub after_other : is_newline (item_tree z) ≡ false → doc_before (map item_tree xs) ≡ None
+  pub after_other : is_line_end (item_tree z) ≡ false → doc_before (map item_tree xs) ≡ None
   after_other h = doc_of_three ∙ no_start (item_tree z) others text h
 
 -- ---- an item that can take a doc

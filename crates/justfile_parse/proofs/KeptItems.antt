@@ -12,7 +12,7 @@ use Rattle.justfile_item.specs.declared.item.Item.TheVariants as items
 use Rattle.justfile_model.specs.Docs.{Nothing, documented, item_with_doc, redocumented}
 use Rattle.justfile_model.specs.Files.{sets_doc}
 use Rattle.justfile_model.specs.Tree as tree
-use Rattle.justfile_parse.specs.Docs.{LeafItem, doc_before, doc_first, doc_taken, is_newline, item_can_take_doc, taken_docs, with_doc, with_item, with_items}
+use Rattle.justfile_parse.specs.Docs.{LeafItem, doc_before, doc_first, doc_taken, is_line_end, item_can_take_doc, taken_docs, with_doc, with_item, with_items}
 use Rattle.justfile_parse.proofs.DocSteps.{line_end}
 use Rattle.justfile_parse.proofs.TakenDocs.{from_first}
 use Rattle.justfile_parse_item.specs.Tree.{item_tree}
@@ -39,7 +39,7 @@ module _ {X : Type 0} (xs ys : List X) (k p : ℕ) (d : X) (order : k ≤ p) (wi
           ∙ ap (λ (n : ℕ). take k xs ++ get_or xs n d ∷ []) same
       by (inr less) = take-set-le (k + 1) first_set p (get_or xs k d) (omega (arith, less)) ∙ take_more_set xs k (get_or xs p d) (omega (arith, order, within))
 
-  -- those after its old place are as before
+  -- those after its old index are as before
   moved_rest : drop (p + 1) ys ≡ drop (p + 1) xs
   moved_rest =
       ap (drop (p + 1)) as_sets ∙ drop-set-lt (p + 1) first_set p (get_or xs k d) (omega arith)
@@ -70,55 +70,55 @@ takes_no_doc tree.Newline (Some doc) h = refl
 takes_no_doc (tree.Comment text) (Some doc) h = refl
 takes_no_doc (tree.Construct entries content) (Some doc) h = ap (λ (b : Bool). cond b (Some (tree.Construct entries (redocumented (Some doc) content))) None) h
 
-module _ (xs : List Item) (kept place : ℕ) (x : Item) (order : kept ≤ place) (within : place < length xs) (x_is : x ≡ get_or xs place x) where
+module _ (xs : List Item) (kept index : ℕ) (x : Item) (order : kept ≤ index) (within : index < length xs) (x_is : x ≡ get_or xs index x) where
   abbrev before : List LeafItem
   before = map item_tree (take kept xs)
 
-  -- the item at the place is the next of those that are left
-  next_taken : taken_docs kept place xs ≡ with_items (with_item before (item_tree x)) (map item_tree (drop (place + 1) xs))
+  -- the item at the index is the next of those that are left
+  next_taken : taken_docs kept index xs ≡ with_items (with_item before (item_tree x)) (map item_tree (drop (index + 1) xs))
   next_taken =
       ap (λ (l : List Item). with_items before (map item_tree l))
-      (drop_more xs place x within ∙ ap (λ (y : Item). y ∷ drop (place + 1) xs) (sym x_is))
+      (drop_more xs index x within ∙ ap (λ (y : Item). y ∷ drop (index + 1) xs) (sym x_is))
 
   -- as it is
-  pub kept_plain : (ys : List Item) → ys ≡ swap xs kept place → doc_taken (item_tree x) (doc_before before) ≡ None → taken_docs (kept + 1) (place + 1) ys ≡ taken_docs kept place xs
+  pub kept_plain : (ys : List Item) → ys ≡ swap xs kept index → doc_taken (item_tree x) (doc_before before) ≡ None → taken_docs (kept + 1) (index + 1) ys ≡ taken_docs kept index xs
   kept_plain ys e none =
-      ap (λ (l : List Item). with_items (map item_tree l) (map item_tree (drop (place + 1) ys)))
-      (moved_front xs ys kept place x order within e ∙ ap (λ (y : Item). take kept xs ++ y ∷ []) (sym x_is))
-      ∙ ap (λ (l : List Item). with_items (map item_tree (take kept xs ++ x ∷ [])) (map item_tree l)) (moved_rest xs ys kept place x order within e)
-      ∙ ap (λ (l : List LeafItem). with_items l (map item_tree (drop (place + 1) xs)))
+      ap (λ (l : List Item). with_items (map item_tree l) (map item_tree (drop (index + 1) ys)))
+      (moved_front xs ys kept index x order within e ∙ ap (λ (y : Item). take kept xs ++ y ∷ []) (sym x_is))
+      ∙ ap (λ (l : List Item). with_items (map item_tree (take kept xs ++ x ∷ [])) (map item_tree l)) (moved_rest xs ys kept index x order within e)
+      ∙ ap (λ (l : List LeafItem). with_items l (map item_tree (drop (index + 1) xs)))
       (map-append item_tree (take kept xs) (x ∷ []) ∙ sym (ap (with_doc before (item_tree x)) none))
       ∙ sym next_taken
 
   -- as the end of a line, which is made anew
-  pub kept_newline : (ys : List Item) → ys ≡ set xs kept items.Newline → is_newline (item_tree x) ≡ true → taken_docs (kept + 1) (place + 1) ys ≡ taken_docs kept place xs
+  pub kept_newline : (ys : List Item) → ys ≡ set xs kept items.Newline → is_line_end (item_tree x) ≡ true → taken_docs (kept + 1) (index + 1) ys ≡ taken_docs kept index xs
   kept_newline ys e newline =
-      ap (λ (l : List Item). with_items (map item_tree l) (map item_tree (drop (place + 1) ys)))
+      ap (λ (l : List Item). with_items (map item_tree l) (map item_tree (drop (index + 1) ys)))
       (ap (take (kept + 1)) e ∙ take_more_set xs kept items.Newline (omega (arith, order, within)))
       ∙ ap (λ (l : List Item). with_items (map item_tree (take kept xs ++ items.Newline ∷ [])) (map item_tree l))
-      (ap (drop (place + 1)) e ∙ drop-set-lt (place + 1) xs kept items.Newline (omega (arith, order)))
-      ∙ ap (λ (l : List LeafItem). with_items l (map item_tree (drop (place + 1) xs)))
+      (ap (drop (index + 1)) e ∙ drop-set-lt (index + 1) xs kept items.Newline (omega (arith, order)))
+      ∙ ap (λ (l : List LeafItem). with_items l (map item_tree (drop (index + 1) xs)))
       (map-append item_tree (take kept xs) (items.Newline ∷ [])
       ∙ sym (ap (with_doc before tree.Newline) (takes_no_doc tree.Newline (doc_before before) refl))
       ∙ ap (with_item before) (sym (line_end (item_tree x) newline)))
       ∙ sym next_taken
 
-  -- with a doc, in the place of the last two
-  module _ (n m : ℕ) (two : n + 2 ≡ kept) (one : m ≡ n + 1) (y : Item) (zs ys : List Item) (zs_are : zs ≡ set xs place y) (e : ys ≡ swap zs n place) where
-    in_zs : place < length zs
-    in_zs = omega (arith, within, ap length zs_are, length-set xs place y)
+  -- with a doc, instead of the last two
+  module _ (n m : ℕ) (two : n + 2 ≡ kept) (one : m ≡ n + 1) (y : Item) (zs ys : List Item) (zs_are : zs ≡ set xs index y) (e : ys ≡ swap zs n index) where
+    in_zs : index < length zs
+    in_zs = omega (arith, within, ap length zs_are, length-set xs index y)
 
     front : take (n + 1) ys ≡ take n xs ++ y ∷ []
     front =
-        moved_front zs ys n place y (omega (arith, two, order)) in_zs e
-        ∙ ap (λ (l : List Item). take n l ++ get_or l place y ∷ []) zs_are
-        ∙ ap (λ (l : List Item). l ++ get_or (set xs place y) place y ∷ []) (take-set-le n xs place y (omega (arith, two, order)))
-        ∙ ap (λ (i : Item). take n xs ++ i ∷ []) (get_or-set_same xs place y y within)
+        moved_front zs ys n index y (omega (arith, two, order)) in_zs e
+        ∙ ap (λ (l : List Item). take n l ++ get_or l index y ∷ []) zs_are
+        ∙ ap (λ (l : List Item). l ++ get_or (set xs index y) index y ∷ []) (take-set-le n xs index y (omega (arith, two, order)))
+        ∙ ap (λ (i : Item). take n xs ++ i ∷ []) (get_or-set_same xs index y y within)
 
-    rest : drop (place + 1) ys ≡ drop (place + 1) xs
+    rest : drop (index + 1) ys ≡ drop (index + 1) xs
     rest =
-        moved_rest zs ys n place y (omega (arith, two, order)) in_zs e
-        ∙ ap (λ (l : List Item). drop (place + 1) l) zs_are ∙ drop-set-lt (place + 1) xs place y (omega arith)
+        moved_rest zs ys n index y (omega (arith, two, order)) in_zs e
+        ∙ ap (λ (l : List Item). drop (index + 1) l) zs_are ∙ drop-set-lt (index + 1) xs index y (omega arith)
 
     kept_count : length (take kept xs) ≡ n + 2
     kept_count = length-take-le kept xs (omega (arith, order, within)) ∙ sym two
@@ -130,14 +130,14 @@ module _ (xs : List Item) (kept place : ℕ) (x : Item) (order : kept ≤ place)
         ∙ ap (map item_tree) (take_of_take n kept xs (omega (arith, kept_count)))
 
     pub documented_fields : HasDerivedItemFields y → HaveDerivedFields xs → HaveDerivedFields ys
-    documented_fields h fields = swapped_fields zs ys n place (omega (arith, two, order, in_zs)) in_zs e (set_fields xs zs place y zs_are h fields)
+    documented_fields h fields = swapped_fields zs ys n index (omega (arith, two, order, in_zs)) in_zs e (set_fields xs zs index y zs_are h fields)
 
-    pub kept_documented : doc_taken (item_tree x) (doc_before before) ≡ Some (item_tree y) → taken_docs m (place + 1) ys ≡ taken_docs kept place xs
+    pub kept_documented : doc_taken (item_tree x) (doc_before before) ≡ Some (item_tree y) → taken_docs m (index + 1) ys ≡ taken_docs kept index xs
     kept_documented taken =
-        ap (λ (i : ℕ). taken_docs i (place + 1) ys) one
-        ∙ ap (λ (l : List Item). with_items (map item_tree l) (map item_tree (drop (place + 1) ys))) front
+        ap (λ (i : ℕ). taken_docs i (index + 1) ys) one
+        ∙ ap (λ (l : List Item). with_items (map item_tree l) (map item_tree (drop (index + 1) ys))) front
         ∙ ap (λ (l : List Item). with_items (map item_tree (take n xs ++ y ∷ [])) (map item_tree l)) rest
-        ∙ ap (λ (l : List LeafItem). with_items l (map item_tree (drop (place + 1) xs)))
+        ∙ ap (λ (l : List LeafItem). with_items l (map item_tree (drop (index + 1) xs)))
         (map-append item_tree (take n xs) (y ∷ []) ∙ ap (λ (l : List LeafItem). l ++ item_tree y ∷ []) (sym all_but_two)
         ∙ sym (ap (with_doc before (item_tree x)) taken))
         ∙ sym next_taken

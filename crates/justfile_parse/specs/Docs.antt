@@ -12,9 +12,9 @@ use Rattle.justfile_expression.specs.LeafTree.{Leaf}
 abbrev pub LeafItem : Type 0
 LeafItem = OrderedItem Leaf Token ℕ
 
-abbrev pub is_newline : LeafItem → Bool
-is_newline tree.Newline = true
-is_newline i = false
+abbrev pub is_line_end : LeafItem → Bool
+is_line_end tree.Newline = true
+is_line_end i = false
 
 abbrev pub comment_of : LeafItem → Option (List ℕ)
 comment_of (tree.Comment text) = Some text
@@ -35,7 +35,7 @@ doc_first others = None
 abbrev pub doc_before : List LeafItem → Option (List ℕ)
 doc_before before = doc_first (reverse before)
 
--- appends an item, which takes the place of the comment before it if that is its doc
+-- appends an item, which replaces the comment before it if that is its doc
 abbrev pub with_doc : List LeafItem → LeafItem → Option LeafItem → List LeafItem
 with_doc before i None = before ++ i ∷ []
 with_doc before i (Some documented) = take (length before - 2) before ++ documented ∷ []
@@ -52,7 +52,7 @@ abbrev pub with_items : (before items : List LeafItem) → List LeafItem
 with_items before [] = before
 with_items before (i ∷ items) = with_items (with_item before i) items
 
--- The items that result if the first `kept` are done and those from `place` on aren't yet. The ones between them have been moved or
+-- The items that result if the first `kept` are done and those from `index` on aren't yet. The ones between them have been moved or
 -- dropped.
-abbrev pub taken_docs : (kept place : ℕ) → List Item → List LeafItem
-taken_docs kept place items = with_items (map item_tree (take kept items)) (map item_tree (drop place items))
+abbrev pub taken_docs : (kept index : ℕ) → List Item → List LeafItem
+taken_docs kept index items = with_items (map item_tree (take kept items)) (map item_tree (drop index items))

@@ -9,7 +9,7 @@ ghost use Rattle.justfile_model.specs.Docs.{doc_in, documented, item_with_doc};
 ghost use Rattle.justfile_model.specs.Docs as before;
 ghost use Rattle.justfile_model.specs.Files.{sets_doc};
 ghost use Rattle.justfile_item.specs.declared.item.Item.TheVariants as variants;
-ghost use Rattle.justfile_parse.specs.Docs.{comment_of, doc_before, is_newline, item_can_take_doc, taken_docs};
+ghost use Rattle.justfile_parse.specs.Docs.{comment_of, doc_before, is_line_end, item_can_take_doc, taken_docs};
 ghost use Rattle.justfile_parse_item.specs.Tree.{item_tree};
 ghost use Rattle.justfile_parse_item.specs.DerivedFields.{HaveDerivedFields, HasDerivedItemFields};
 
@@ -44,40 +44,40 @@ fn set_docs(alloc: Global, items: &mut Vec<Item<'_>>) -> Result<(), AllocError>
     ensures fields { OnOk result (HaveDerivedFields items.new.items) }
 {
     let mut kept = 0;
-    for place in 0..items.len() {
-        kept = keep_item(alloc, items, kept, place)?;
+    for index in 0..items.len() {
+        kept = keep_item(alloc, items, kept, index)?;
     }
     items.truncate(kept);
     Ok(())
 }
 
-/// Moves the item at `place` to the end of the first `kept` items, which are done, or to the place
-/// of the last of these, if that is a comment which becomes the item's doc. Returns how many items
-/// are done now. A line end has no fields, so it isn't moved but made at its new place.
+/// Adds the item at `index` to the items that are done, which are the first `kept` ones. If the
+/// last two of these are a comment and a line end that become its doc, it replaces them. Returns
+/// how many items are done now. A line end has no fields, so it is made anew and not moved.
 fn keep_item(
     alloc: Global,
     items: &mut Vec<Item<'_>>,
     kept: usize,
-    place: usize,
+    index: usize,
 ) -> Result<usize, AllocError>
-    requires order { kept ≤ place }
-    requires within { place < vec_len items.old }
+    requires order { kept ≤ index }
+    requires within { index < vec_len items.old }
     requires fields { HaveDerivedFields items.old.items }
-    ensures trees { IfOk result (λ count. taken_docs count (place + 1) items.new.items
-        ≡ taken_docs kept place items.old.items) }
-    ensures order { IfOk result (λ count. count ≤ place + 1) }
+    ensures trees { IfOk result (λ count. taken_docs count (index + 1) items.new.items
+        ≡ taken_docs kept index items.old.items) }
+    ensures order { IfOk result (λ count. count ≤ index + 1) }
     ensures len { vec_len items.new ≡ vec_len items.old }
     ensures fields { HaveDerivedFields items.new.items }
 {
-    if is_newline(&items[place]) {
-        make_newline(&mut items[kept]);
+    if is_line_end(&items[index]) {
+        make_line_end(&mut items[kept]);
         return Ok(kept + 1);
     }
-    move_item(alloc, items, kept, place)
+    move_item(alloc, items, kept, index)
 }
 
-/// Turns an item into a line end. Most are line ends already, and any other has to be dropped.
-fn make_newline(item: &mut Item<'_>)
+/// Replaces an item by a line end, unless it is one already, as most are.
+fn make_line_end(item: &mut Item<'_>)
     ensures { item.new ≡ variants.Newline }
 {
     match item {
@@ -86,31 +86,32 @@ fn make_newline(item: &mut Item<'_>)
     }
 }
 
-/// Moves the item at `place` as `keep_item` does, by swapping it with the item at its new place.
+/// Does what `keep_item` does for an item that isn't a line end: swaps it with the item at its new
+/// index.
 fn move_item(
     alloc: Global,
     items: &mut Vec<Item<'_>>,
     kept: usize,
-    place: usize,
+    index: usize,
 ) -> Result<usize, AllocError>
-    requires order { kept ≤ place }
-    requires within { place < vec_len items.old }
+    requires order { kept ≤ index }
+    requires within { index < vec_len items.old }
     requires fields { HaveDerivedFields items.old.items }
-    ensures trees { IfOk result (λ count. taken_docs count (place + 1) items.new.items
-        ≡ taken_docs kept place items.old.items) }
-    ensures order { IfOk result (λ count. count ≤ place + 1) }
+    ensures trees { IfOk result (λ count. taken_docs count (index + 1) items.new.items
+        ≡ taken_docs kept index items.old.items) }
+    ensures order { IfOk result (λ count. count ≤ index + 1) }
     ensures len { vec_len items.new ≡ vec_len items.old }
     ensures fields { HaveDerivedFields items.new.items }
 {
-    if can_take_doc(&items[place]) {
+    if can_take_doc(&items[index]) {
         if let Some(doc) = find_doc(&items[..kept]) {
             let text = doc.to_string(alloc)?;
-            set_doc(&mut items[place], text);
-            items.swap(kept - 2, place);
+            set_doc(&mut items[index], text);
+            items.swap(kept - 2, index);
             return Ok(kept - 1);
         }
     }
-    items.swap(kept, place);
+    items.swap(kept, index);
     Ok(kept + 1)
 }
 
@@ -159,14 +160,14 @@ fn find_doc<'src>(items: &[Item<'src>]) -> Option<&'src str>
     ensures { option_map (λ doc. doc.now) result ≡ doc_before (map item_tree items.now) }
 {
     let count = items.len();
-    if count < 2 || !is_newline(&items[count - 1]) {
+    if count < 2 || !is_line_end(&items[count - 1]) {
         return None;
     }
     let comment = find_comment(&items[count - 2])?;
     if count == 2 {
         return find_first_doc(comment);
     }
-    if is_newline(&items[count - 3]) {
+    if is_line_end(&items[count - 3]) {
         find_text(comment)
     } else {
         None
@@ -174,8 +175,8 @@ fn find_doc<'src>(items: &[Item<'src>]) -> Option<&'src str>
 }
 
 /// Whether the item is a line end.
-fn is_newline(item: &Item<'_>) -> bool
-    ensures { result ≡ is_newline (item_tree item.now) }
+fn is_line_end(item: &Item<'_>) -> bool
+    ensures { result ≡ is_line_end (item_tree item.now) }
 {
     matches!(item, Item::Newline)
 }

@@ -29,7 +29,7 @@ use std::alloc::{AllocError, Global};
 ///
 /// `Compile` if a rule is broken; `Memory` if memory runs out.
 #[tactic(auto, using(crate::proofs::RepeatedAttributes::made_added))]
-pub(crate) fn push_made<'src>(
+pub(crate) fn add_attribute<'src>(
     alloc: Global,
     attributes: &mut Vec<(Attribute<'src>, Written<'src>)>,
     name: Name<'src>,

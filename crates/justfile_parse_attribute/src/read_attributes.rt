@@ -11,7 +11,7 @@ ghost use Rattle.justfile_written.specs.Written.{line_commented};
 
 use crate::arguments::Arguments;
 use crate::labels::Labels;
-use crate::new_attribute::push_made;
+use crate::new_attribute::add_attribute;
 use crate::repeated::check_last;
 use justfile_attribute::Attribute;
 use justfile_token::{CompileResult, Name};
@@ -127,7 +127,7 @@ fn push_checked<'src>(
     ensures kept { OnErr result (AreSame labels.old labels.new) }
     ensures begins { take (length pairs.old.items) pairs.new.items ≡ pairs.old.items }
 {
-    match push_made(alloc, pairs, name, kind, arguments) {
+    match add_attribute(alloc, pairs, name, kind, arguments) {
         Ok(()) => check_last(alloc, labels, pairs.as_slice()),
         Err(fault) => Err(fault),
     }

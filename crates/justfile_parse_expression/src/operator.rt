@@ -12,7 +12,7 @@ use justfile_vocabulary::TokenKind;
 /// Returns the level of the left operands of this level's operators.
 pub(crate) fn find_left_level(level: Level) -> Level
     requires { IsTrue (is_binary level) }
-    ensures is { result ≡ operators.operand level }
+    ensures level { result ≡ operators.operand level }
     ensures tighter { rank result < rank level }
 {
     match level {

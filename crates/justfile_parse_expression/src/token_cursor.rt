@@ -1,4 +1,4 @@
-//! The parser, and how it takes tokens.
+//! The cursor: how the parser takes tokens from the table of significant tokens.
 ghost use Rattle.std.specs.Option.{is_some};
 ghost use Rattle.std.specs.Prelude.{◌≡◌, ◌<◌, ◌≤◌, ◌+◌, ℕ, false, List, None, drop, length, map, IsTrue, IfOk, OnOk, OnSome, IfSome};
 ghost use Rattle.std.specs.List.{list_all};
@@ -34,11 +34,13 @@ use std::alloc::Global;
 /// nothing, nor do the methods for keywords, marks and operators.
 #[derive(Drop)]
 pub struct TokenCursor<'run, 'src, X> {
+    /// Where what is parsed takes its memory.
     pub alloc: Global,
     /// The version of `just` that is running.
     pub(crate) current: Version,
     /// How many expressions are open: begun, and not yet ended.
     pub(crate) depth: usize,
+    /// What expands the texts of literals with the mark `x`.
     pub(crate) expander: &'run X,
     /// How many imports and modules lie between the file and the root.
     pub file_depth: u32,
@@ -50,6 +52,7 @@ pub struct TokenCursor<'run, 'src, X> {
     pub list_features: Vec<(ListFeature, Token<'src>)>,
     /// The index of the next token.
     pub(crate) next: usize,
+    /// The table.
     pub tokens: &'run [SignificantToken<'src>],
     /// The kinds that were looked for at the next token and not found.
     pub expected_tokens: ExpectedTokens,
@@ -63,7 +66,7 @@ pub struct TokenCursor<'run, 'src, X> {
 impl<'run, 'src, X: Expander> TokenCursor<'run, 'src, X> {
     ghost use Rattle.justfile_parse_expression.specs.View.{Moves, tokens_left, state_from, state_of};
 
-    /// Returns a parser at the first token of a table, with no expression open, and up to `limit`
+    /// Returns a cursor at the first token of a table, with no expression open, and up to `limit`
     /// nested expressions allowed.
     #[tactic(auto, using(crate::proofs::Rest::begin_is), unfolding(crate::specs::View::state_of))]
     pub fn new(
@@ -257,11 +260,11 @@ impl<'run, 'src, X: Expander> TokenCursor<'run, 'src, X> {
         is_marked(first, mark.lexeme(), entry, kind)
     }
 
-    /// Takes the next token.
+    /// Takes the next token, which has to be of this kind.
     ///
     /// # Errors
     ///
-    /// The token is of another kind.
+    /// It is of another kind.
     #[tactic(auto, unfolding(justfile_model::specs::ReaderState::expect))]
     pub fn expect(
         &mut self,
@@ -343,7 +346,7 @@ impl<'run, 'src, X: Expander> TokenCursor<'run, 'src, X> {
     /// Whether the next tokens are of these kinds; takes none. If they aren't, adds the first kind
     /// to the expected tokens.
     pub fn peek_kinds(&self, kinds: &[TokenKind]) -> bool
-        ensures is { result ≡ reader.next_are kinds.now (state_of X.answer self.now) }
+        ensures next { result ≡ reader.next_are kinds.now (state_of X.answer self.now) }
         ensures within { IsTrue result → length kinds.now ≤ tokens_left self.now }
     {
         if self.probe_kinds(kinds) {
@@ -363,7 +366,7 @@ impl<'run, 'src, X: Expander> TokenCursor<'run, 'src, X> {
     /// Whether the next tokens are of these kinds; takes none, and adds none to the expected
     /// tokens.
     pub fn probe_kinds(&self, kinds: &[TokenKind]) -> bool
-        ensures is { result ≡ reader.next_are kinds.now (state_of X.answer self.now) }
+        ensures next { result ≡ reader.next_are kinds.now (state_of X.answer self.now) }
         ensures within { IsTrue result → length kinds.now ≤ tokens_left self.now }
     {
         let mut next = self.next;
@@ -405,7 +408,7 @@ pub(crate) fn is_marked(
     entry: &SignificantToken<'_>,
     kind: TokenKind,
 ) -> bool
-    ensures is { result
+    ensures marked { result
         ≡ marks word.now kind (significant_of mark.now) (significant_of entry.now) }
     ensures kind { IsTrue result → entry.now.0.kind ≡ kind }
 {
@@ -431,7 +434,7 @@ fn begins_simple_value(entry: &SignificantToken<'_>, second: TokenKind) -> bool
 #[tactic(auto, using(crate::proofs::Lengths::unequal), unfolding(justfile_model::specs::ReaderState::is_word, justfile_model::specs::ReaderState::same_kind))]
 #[inline(always)]
 pub fn is_word(entry: &SignificantToken<'_>, word: &str) -> bool
-    ensures is { result ≡ is_word word.now (significant_of entry.now) }
+    ensures word { result ≡ is_word word.now (significant_of entry.now) }
     ensures kind { IsTrue result → entry.now.0.kind ≡ kinds.Identifier }
 {
     if entry.0.kind != TokenKind::Identifier {

@@ -87,7 +87,7 @@ fn parse_line<'src, X: Expander>(
         (identifiers (map significant_of (state_of X.answer parser.old).left)) }
 {
     if let Some(_newline) = parser.accept(TokenKind::Eol) {
-        push_newline(items)?;
+        push_line_end(items)?;
         return Ok(());
     }
     let item = parse_item(parser, numerator)?;
@@ -130,7 +130,7 @@ fn parse_item_end<'src, X: Expander>(
     ensures progress { OnOk result (tokens_left parser.new ≤ tokens_left parser.old) }
 {
     if has_body {
-        push_newline(items)?;
+        push_line_end(items)?;
         return Ok(());
     }
     parse_after_item(parser, items)
@@ -173,7 +173,7 @@ fn parse_line_end<'src, X: Expander>(
         return Ok(());
     }
     parser.expect(TokenKind::Eol)?;
-    push_newline(items)?;
+    push_line_end(items)?;
     Ok(())
 }
 
@@ -243,7 +243,7 @@ fn push_item<'src>(items: &mut Vec<Item<'src>>, item: Item<'src>) -> Result<(), 
 }
 
 /// Appends a line end. It is an item without fields, so this copies no item.
-fn push_newline(items: &mut Vec<Item<'_>>) -> Result<(), AllocError>
+fn push_line_end(items: &mut Vec<Item<'_>>) -> Result<(), AllocError>
     ensures trees { OnOk result (map item_tree items.new.items
         ≡ map item_tree items.old.items ++ tree.Newline ∷ []) }
     ensures pushed { OnOk result (items.new.items ≡ items.old.items ++ variants.Newline ∷ []) }

@@ -54,16 +54,16 @@ fn follows_keyword<X: Expander>(parser: &TokenCursor<'_, '_, X>, lookahead: Look
     ensures { result ≡ reader.follows_past lookahead (state_of X.answer parser.now) }
 {
     match lookahead {
-        Lookahead::Assignment => is_assigned_past(parser),
-        Lookahead::Import => is_imported_past(parser),
-        Lookahead::Line => peek_name_ends_line(parser),
-        Lookahead::Module => is_module_past(parser),
-        Lookahead::Set => is_assigned_past(parser) || peek_name_ends_line(parser),
+        Lookahead::Assignment => peek_assignment_past(parser),
+        Lookahead::Import => peek_import_past(parser),
+        Lookahead::Line => peek_line_past(parser),
+        Lookahead::Module => peek_module_past(parser),
+        Lookahead::Set => peek_assignment_past(parser) || peek_line_past(parser),
     }
 }
 
 /// Whether a name and `:=` follow a keyword.
-fn is_assigned_past<X: Expander>(parser: &TokenCursor<'_, '_, X>) -> bool
+fn peek_assignment_past<X: Expander>(parser: &TokenCursor<'_, '_, X>) -> bool
     ensures { result ≡ reader.assigned_past (state_of X.answer parser.now) }
 {
     let keyword = TokenKind::Identifier;
@@ -72,15 +72,15 @@ fn is_assigned_past<X: Expander>(parser: &TokenCursor<'_, '_, X>) -> bool
 }
 
 /// Whether `?` or a path follows a keyword.
-fn is_imported_past<X: Expander>(parser: &TokenCursor<'_, '_, X>) -> bool
+fn peek_import_past<X: Expander>(parser: &TokenCursor<'_, '_, X>) -> bool
     ensures { result ≡ reader.imported_past (state_of X.answer parser.now) }
 {
     let keyword = TokenKind::Identifier;
-    parser.peek_kinds(&[keyword, TokenKind::QuestionMark]) || is_path_past(parser)
+    parser.peek_kinds(&[keyword, TokenKind::QuestionMark]) || peek_path_past(parser)
 }
 
 /// Whether a path, with or without a mark, follows a keyword.
-fn is_path_past<X: Expander>(parser: &TokenCursor<'_, '_, X>) -> bool
+fn peek_path_past<X: Expander>(parser: &TokenCursor<'_, '_, X>) -> bool
     ensures { result ≡ reader.path_past (state_of X.answer parser.now) }
 {
     let keyword = TokenKind::Identifier;
@@ -90,20 +90,20 @@ fn is_path_past<X: Expander>(parser: &TokenCursor<'_, '_, X>) -> bool
 }
 
 /// Whether `?`, or a name that is alone on its line or before a path, follows a keyword.
-fn is_module_past<X: Expander>(parser: &TokenCursor<'_, '_, X>) -> bool
+fn peek_module_past<X: Expander>(parser: &TokenCursor<'_, '_, X>) -> bool
     ensures { result ≡ reader.module_past (state_of X.answer parser.now) }
 {
     let keyword = TokenKind::Identifier;
     let name = TokenKind::Identifier;
     let mark = TokenKind::Identifier;
     parser.peek_kinds(&[keyword, TokenKind::QuestionMark])
-        || peek_name_ends_line(parser)
+        || peek_line_past(parser)
         || parser.peek_kinds(&[keyword, name, TokenKind::StringToken])
         || parser.peek_kinds(&[keyword, name, mark, TokenKind::StringToken])
 }
 
 /// Whether a name alone on its line follows a keyword.
-fn peek_name_ends_line<X: Expander>(parser: &TokenCursor<'_, '_, X>) -> bool
+fn peek_line_past<X: Expander>(parser: &TokenCursor<'_, '_, X>) -> bool
     ensures { result ≡ reader.line_past (state_of X.answer parser.now) }
 {
     let keyword = TokenKind::Identifier;

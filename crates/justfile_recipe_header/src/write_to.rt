@@ -27,13 +27,13 @@ pub(crate) fn write_each<P: WriteTo, S: Sink>(
         (flat_map (λ p. fixed_text before.now ++ P.piece_text p) pieces.now) sink.new }
 {
     for piece in pieces {
-        write_after(before, piece, sink)?;
+        write_one(before, piece, sink)?;
     }
     Ok(())
 }
 
 /// Writes the text `before`, and then a value.
-fn write_after<P: WriteTo, S: Sink>(before: &str, piece: &P, sink: &mut S) -> Result<(), S::Fault>
+fn write_one<P: WriteTo, S: Sink>(before: &str, piece: &P, sink: &mut S) -> Result<(), S::Fault>
     ensures { Puts S.took S.failed sink.old result
         (fixed_text before.now ++ P.piece_text piece.now) sink.new }
 {

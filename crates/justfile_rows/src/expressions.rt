@@ -38,8 +38,8 @@ fn push_of_attributes(item: &Item<'_>, answer: &mut Answer) {
 fn push_attribute(attribute: &Attribute<'_>, answer: &mut Answer) -> Result<(), AllocError> {
     let found = attribute.expressions(answer.alloc())?;
     let mut shown = Text::new(answer.alloc());
-    for place in 0..found.len() {
-        put_expression_of(found[place], &mut shown);
+    for index in 0..found.len() {
+        put_expression_of(found[index], &mut shown);
     }
     push_unless_empty(answer, attribute.kind().name(), shown);
     Ok(())
@@ -49,8 +49,8 @@ fn push_attribute(attribute: &Attribute<'_>, answer: &mut Answer) -> Result<(), 
 fn push_set(attributes: &AttributeSet<'_>, answer: &mut Answer) -> Result<(), AllocError> {
     let found = attributes.expressions(answer.alloc())?;
     let mut shown = Text::new(answer.alloc());
-    for place in 0..found.len() {
-        put_expression_of(found[place], &mut shown);
+    for index in 0..found.len() {
+        put_expression_of(found[index], &mut shown);
     }
     push_unless_empty(answer, "attributes", shown);
     Ok(())
@@ -69,8 +69,8 @@ fn push_of_setting(item: &Item<'_>, answer: &mut Answer) {
 fn push_value(setting: &Setting<'_>, answer: &mut Answer) -> Result<(), AllocError> {
     let found = setting.expressions(answer.alloc())?;
     let mut shown = Text::new(answer.alloc());
-    for place in 0..found.len() {
-        put_expression_of(found[place], &mut shown);
+    for index in 0..found.len() {
+        put_expression_of(found[index], &mut shown);
     }
     push_unless_empty(answer, "value", shown);
     Ok(())
@@ -80,8 +80,8 @@ fn push_value(setting: &Setting<'_>, answer: &mut Answer) -> Result<(), AllocErr
 fn push_all(item: &Item<'_>, answer: &mut Answer) -> Result<(), AllocError> {
     let found = item.all_expressions(answer.alloc())?;
     let mut shown = Text::new(answer.alloc());
-    for place in 0..found.len() {
-        put_expression_of(found[place], &mut shown);
+    for index in 0..found.len() {
+        put_expression_of(found[index], &mut shown);
     }
     push_unless_empty(answer, "all", shown);
     Ok(())

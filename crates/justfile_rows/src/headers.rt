@@ -35,8 +35,8 @@ pub(crate) fn put_dependencies(
     priors: usize,
 ) {
     put_if(shown, " :", !dependencies.is_empty());
-    for (place, dependency) in dependencies.iter().enumerate() {
-        shown.put(if place == priors { " && " } else { " " });
+    for (index, dependency) in dependencies.iter().enumerate() {
+        shown.put(if index == priors { " && " } else { " " });
         shown.put_made(dependency.to_string(shown.alloc()));
     }
 }

@@ -27,8 +27,8 @@ pub(crate) enum Outcome {
 /// `canonical` its input, and `canonical_under` its input without the limit.
 fn expected(alloc: Global, word: Word, least: usize, fields: &[String]) -> Answer {
     let mut answer = Answer::new(alloc);
-    for (place, field) in fields.iter().enumerate() {
-        if is_expected(word, least, place) {
+    for (index, field) in fields.iter().enumerate() {
+        if is_expected(word, least, index) {
             answer.push(field.as_str());
         }
     }
@@ -36,12 +36,12 @@ fn expected(alloc: Global, word: Word, least: usize, fields: &[String]) -> Answe
 }
 
 /// Whether the field at an index is expected.
-fn is_expected(word: Word, least: usize, place: usize) -> bool {
+fn is_expected(word: Word, least: usize, index: usize) -> bool {
     match word {
-        Word::Beginnings => place == 0,
+        Word::Beginnings => index == 0,
         Word::Canonical => true,
-        Word::CanonicalUnder => place >= 1,
-        _ => place >= least,
+        Word::CanonicalUnder => index >= 1,
+        _ => index >= least,
     }
 }
 

@@ -77,8 +77,8 @@ fn put_truth(item: &Item<'_>, shown: &mut Text) {
 /// Writes the expressions of an item.
 fn put_expressions(item: &Item<'_>, shown: &mut Text) -> Result<(), AllocError> {
     let expressions = item.expressions(shown.alloc())?;
-    for place in 0..expressions.len() {
-        put_expression_of(expressions[place], shown);
+    for index in 0..expressions.len() {
+        put_expression_of(expressions[index], shown);
     }
     Ok(())
 }

@@ -9,8 +9,8 @@ use justfile_syntax::token_kind::TokenKind;
 use row_notation::Answer;
 use std::alloc::{AllocError, Global};
 
-/// Returns the line and the column after `before`, a beginning of the text. A newline at the end of
-/// a text doesn't begin a line.
+/// Returns the line and the column after `before`, a beginning of the text. A line feed at the end
+/// of a text doesn't begin a line.
 pub(crate) fn place_after(text: &str, before: &str) -> (usize, usize) {
     let counted = if before.len() == text.len() {
         before.strip_suffix('\n').unwrap_or(before)

@@ -159,14 +159,14 @@ fn has_keys<K: ContentOrder + PartialEq + Drop, V: Drop>(
     set: PairSet<K, V>,
     pairs: &[(K, V)],
 ) -> bool {
-    let mut place: usize = 0;
+    let mut index: usize = 0;
     for key in set {
-        match pairs.get(place) {
-            Some(pair) if pair.0 == key => place = place.saturating_add(1),
+        match pairs.get(index) {
+            Some(pair) if pair.0 == key => index = index.saturating_add(1),
             _ => return false,
         }
     }
-    place == pairs.len()
+    index == pairs.len()
 }
 
 /// Makes a set from the attributes and names of a set, and then of an equal one in which each

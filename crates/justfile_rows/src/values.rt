@@ -146,8 +146,8 @@ fn push_format_string(
 
 /// Writes the texts of the expressions in this one.
 fn push_children(expression: &Expression<'_>, answer: &mut Answer) {
-    for place in 0..usize::MAX {
-        match child(expression, place) {
+    for index in 0..usize::MAX {
+        match child(expression, index) {
             Some((part, _)) => push_expression(part, answer),
             None => return,
         }

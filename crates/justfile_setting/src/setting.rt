@@ -101,7 +101,7 @@ impl<'src> Setting<'src> {
         }
     }
 
-    /// Whether the value is the one that a setting has if it is left out: `true`.
+    /// Whether the value is `true`, which need not be written.
     pub fn is_default(&self) -> bool
         ensures { result ≡ is_default (value_of self.now) }
     {
@@ -111,7 +111,7 @@ impl<'src> Setting<'src> {
         }
     }
 
-    /// Whether the setting is on, if its value is `true` or `false`, and `None` if it is another.
+    /// Returns the value if it is `true` or `false`, and otherwise `None`.
     pub fn truth(&self) -> Option<bool>
         ensures { result ≡ truth_of (value_of self.now) }
     {

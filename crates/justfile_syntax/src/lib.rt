@@ -332,7 +332,7 @@ pub mod switch {
 }
 
 pub mod token {
-    //! Tokens: parts of a text, with their places.
+    //! Tokens: parts of a text, with their kinds and positions.
 
     pub use justfile_token::Token;
 }

@@ -9,8 +9,8 @@ use justfile_vocabulary::TokenKind;
 use std::fmt;
 
 /// A part of a source text, with its kind and its position. Lines and columns count from 0, and
-/// columns count bytes. The newline at the end of a text begins no line: a token after it is on the
-/// line that the newline ends.
+/// columns count bytes. A line feed at the end of a text begins no line: a token after it is on the
+/// line that it ends.
 #[derive(Clone, Copy, PartialEq, Eq, PartialOrd, Ord)]
 pub struct Token<'src> {
     /// The number of bytes on the token's line before the token.

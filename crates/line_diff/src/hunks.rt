@@ -7,23 +7,23 @@ use crate::edits::{Change, Edit};
 /// How many kept lines are written before and after a change.
 const CONTEXT: usize = 3;
 
-/// Returns the place of the next change from a place on.
+/// Returns the index of the next change from an index on.
 fn next_change(edits: &[Edit<'_>], from: usize) -> Option<usize>
     ensures none { IfNone result (All IsKept (drop from edits.now)) }
     ensures before { IfSome result (λ at. All IsKept (take (at - from) (drop from edits.now))) }
     ensures bounds { IfSome result (λ at. (from ≤ at) × (at < length edits.now)) }
 {
-    let mut place = from;
-    'places: while place < edits.len() {
-        if edits[place].change != Change::Keep {
-            return Some(place);
+    let mut index = from;
+    'changes: while index < edits.len() {
+        if edits[index].change != Change::Keep {
+            return Some(index);
         }
-        place += 1;
+        index += 1;
     }
     None
 }
 
-/// Returns the place of the last change of the hunk that has a change at a place. The next hunk is
+/// Returns the index of the last change of the hunk that has a change at an index. The next hunk is
 /// so far away that the lines around the two don't meet.
 fn last_change(edits: &[Edit<'_>], first: usize) -> usize
     requires { first < length edits.now }
@@ -40,7 +40,7 @@ fn last_change(edits: &[Edit<'_>], first: usize) -> usize
     last
 }
 
-/// Returns where the next hunk from a place on begins, and where it ends.
+/// Returns where the next hunk from an index on begins, and where it ends.
 pub(crate) fn next_hunk(edits: &[Edit<'_>], from: usize) -> Option<(usize, usize)>
     ensures none { IfNone result (All IsKept (drop from edits.now)) }
     ensures before { IfSome result (λ p. All IsKept (take (p.0 - from) (drop from edits.now))) }

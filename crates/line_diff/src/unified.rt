@@ -11,9 +11,9 @@ use crate::label::file_label;
 use crate::lines::lines_of;
 use std::alloc::{AllocError, Global};
 
-/// Returns the unified diff that leads from the old text of the file with a name to its new text,
-/// with three lines of context: a line with the name before and one after, and the hunks. It is
-/// empty if the texts are equal.
+/// Returns the unified diff of the old and the new text of the file with this name: a line with the
+/// name for each of the two, and the hunks, with three lines of context. It is empty if the texts
+/// are equal.
 ///
 /// # Errors
 ///

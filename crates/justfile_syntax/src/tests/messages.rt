@@ -196,8 +196,8 @@ const THIRD: Token<'static> = Token {
 };
 
 /// Returns an error for repeated definitions.
-fn repeated_error(place: usize) -> CompileErrorKind<'static> {
-    match place {
+fn repeated_error(index: usize) -> CompileErrorKind<'static> {
+    match index {
         0 => CompileErrorKind::Redefinition {
             first: 0,
             first_type: ItemKind::Recipe,
@@ -236,14 +236,14 @@ static REPEATED: &[&str] = &[
 
 #[test]
 fn definitions_that_are_repeated(rt: HostRuntime) {
-    for (place, text) in REPEATED.iter().enumerate() {
-        says(&rt, rt.alloc(), &THIRD, repeated_error(place), text);
+    for (index, text) in REPEATED.iter().enumerate() {
+        says(&rt, rt.alloc(), &THIRD, repeated_error(index), text);
     }
 }
 
 /// Returns an error for parameters, recipes and names.
-fn named(place: usize) -> CompileErrorKind<'static> {
-    match place {
+fn named(index: usize) -> CompileErrorKind<'static> {
+    match index {
         0 => CompileErrorKind::DuplicateParameter {
             recipe: "a",
             parameter: "b",
@@ -278,27 +278,27 @@ static NAMED: &[&str] = &[
 
 #[test]
 fn parameters_recipes_and_names(rt: HostRuntime) {
-    for (place, text) in NAMED.iter().enumerate() {
-        says(&rt, rt.alloc(), &NAME, named(place), text);
+    for (index, text) in NAMED.iter().enumerate() {
+        says(&rt, rt.alloc(), &NAME, named(index), text);
     }
 }
 
 /// Whether two of these errors are equal.
-fn are_equal(place: usize, another: usize) -> bool {
-    NAME.error(named(place)) == NAME.error(named(another))
+fn are_equal(index: usize, another: usize) -> bool {
+    NAME.error(named(index)) == NAME.error(named(another))
 }
 
 #[test]
 fn errors_are_equal_if_their_kinds_are(rt: HostRuntime) {
-    for (place, text) in NAMED.iter().enumerate() {
-        holds(&rt, text, are_equal(place, place));
+    for (index, text) in NAMED.iter().enumerate() {
+        holds(&rt, text, are_equal(index, index));
     }
     holds(&rt, "another kind", !are_equal(0, 1));
 }
 
 /// Returns an error for lines or for features that need the setting `lists`, or an internal error.
-fn other(place: usize) -> CompileErrorKind<'static> {
-    match place {
+fn other(index: usize) -> CompileErrorKind<'static> {
+    match index {
         0 => CompileErrorKind::GuardAndInfallibleSigil,
         1 => CompileErrorKind::ExtraLeadingWhitespace,
         2 => CompileErrorKind::ListFeature(ListFeature::ListLiteral),
@@ -318,8 +318,8 @@ static OTHER: &[&str] = &[
 
 #[test]
 fn lists_and_the_rest(rt: HostRuntime) {
-    for (place, text) in OTHER.iter().enumerate() {
-        says(&rt, rt.alloc(), &NAME, other(place), text);
+    for (index, text) in OTHER.iter().enumerate() {
+        says(&rt, rt.alloc(), &NAME, other(index), text);
     }
 }
 

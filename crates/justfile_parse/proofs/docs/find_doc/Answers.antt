@@ -12,15 +12,15 @@ find_text-requires c =
     comment_begins c.args.items.now (length c.args.items.now - 2) c.index-items-count-2.result (omega arith) c.index-items-count-2.is c.requires c.in_ok-comment.comment.now
     (sym c.in_ok-comment.ensures)
 
-pub returns-then-is_newline : goal.returns-then-is_newline
-returns-then-is_newline c =
+pub returns-then-is_line_end : goal.returns-then-is_line_end
+returns-then-is_line_end c =
     c.find_text.ensures
     ∙ sym (after_line c.args.items.now (length c.args.items.now - 1) (length c.args.items.now - 2) _ (omega arith) (omega arith) (omega arith)
     c.index-items-count.result c.index-items-count-2.result c.index-items-count-3.result c.index-items-count.is c.index-items-count-2.is c.index-items-count-3.is
-    c.in_ok-comment.comment.now (sym c.is_newline.ensures ∙ c.if-not-is_newline.false) (sym c.in_ok-comment.ensures) (sym c.is_newline-2.ensures ∙ c.if-is_newline.true))
+    c.in_ok-comment.comment.now (sym c.is_line_end.ensures ∙ c.if-not-is_line_end.false) (sym c.in_ok-comment.ensures) (sym c.is_line_end-2.ensures ∙ c.if-is_line_end.true))
 
-pub returns-else-is_newline : goal.returns-else-is_newline
-returns-else-is_newline c =
+pub returns-else-is_line_end : goal.returns-else-is_line_end
+returns-else-is_line_end c =
     sym (after_other c.args.items.now (length c.args.items.now - 1) (length c.args.items.now - 2) _ (omega arith) (omega arith) (omega arith)
     c.index-items-count.result c.index-items-count-2.result c.index-items-count-3.result c.index-items-count.is c.index-items-count-2.is c.index-items-count-3.is
-    c.in_ok-comment.comment.now (sym c.is_newline.ensures ∙ c.if-not-is_newline.false) (sym c.in_ok-comment.ensures) (sym c.is_newline-2.ensures ∙ c.if-is_newline.false))
+    c.in_ok-comment.comment.now (sym c.is_line_end.ensures ∙ c.if-not-is_line_end.false) (sym c.in_ok-comment.ensures) (sym c.is_line_end-2.ensures ∙ c.if-is_line_end.false))

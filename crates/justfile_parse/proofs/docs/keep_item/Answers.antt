@@ -3,13 +3,13 @@ use Rattle.justfile_item.specs.declared.item.Item.{Item}
 use Rattle.justfile_parse.proofs.KeptItems.{kept_newline, set_fields}
 use Rattle.justfile_parse.proofs.docs.keep_item.Goals as goal
 
-pub returns-then-is_newline-clause-trees : goal.returns-then-is_newline-clause-trees
-returns-then-is_newline-clause-trees c =
+pub returns-then-is_line_end-clause-trees : goal.returns-then-is_line_end-clause-trees
+returns-then-is_line_end-clause-trees c =
     let xs = c.args.items.now.items in
-    kept_newline xs c.args.kept c.args.place c.index.result.now c.requires.order (omega (arith, c.requires.within, c.args.items.now.ok.0)) c.index.ensures
-    _ (ap (λ (i : Item). set xs c.args.kept i) c.make_newline.ensures) (sym c.is_newline.ensures ∙ c.if-is_newline.true)
+    kept_newline xs c.args.kept c.args.index c.index.result.now c.requires.order (omega (arith, c.requires.within, c.args.items.now.ok.0)) c.index.ensures
+    _ (ap (λ (i : Item). set xs c.args.kept i) c.make_line_end.ensures) (sym c.is_line_end.ensures ∙ c.if-is_line_end.true)
 
-pub returns-then-is_newline-clause-fields : goal.returns-then-is_newline-clause-fields
-returns-then-is_newline-clause-fields c =
+pub returns-then-is_line_end-clause-fields : goal.returns-then-is_line_end-clause-fields
+returns-then-is_line_end-clause-fields c =
     let xs = c.args.items.now.items in
-    set_fields xs _ c.args.kept _ (ap (λ (i : Item). set xs c.args.kept i) c.make_newline.ensures) tt c.requires.fields
+    set_fields xs _ c.args.kept _ (ap (λ (i : Item). set xs c.args.kept i) c.make_line_end.ensures) tt c.requires.fields

@@ -12,7 +12,7 @@ pub find_doc-requires : goal.find_doc-requires
 find_doc-requires c = cut_fields c.args.items.now.items _ c.args.kept (ap (λ (l : List Item). take c.args.kept l) c.deref.ensures.value) c.requires.fields
 
 pub set_doc-requires-clause-fields : goal.set_doc-requires-clause-fields
-set_doc-requires-clause-fields c = item_fields c.args.items.now.items c.args.place c.index_mut.result.now (omega (arith, c.requires.within, c.args.items.now.ok.0)) c.index_mut.ensures.value c.requires.fields
+set_doc-requires-clause-fields c = item_fields c.args.items.now.items c.args.index c.index_mut.result.now (omega (arith, c.requires.within, c.args.items.now.ok.0)) c.index_mut.ensures.value c.requires.fields
 
 pub returns-in-Some-clause-trees : goal.returns-in-Some-clause-trees
 returns-in-Some-clause-trees c =
@@ -20,7 +20,7 @@ returns-in-Some-clause-trees c =
     let kept = c.args.kept in
     let found = ap (λ (l : List Item). doc_before (map item_tree (take kept l))) (sym c.deref.ensures.value) ∙ sym c.find_doc.ensures ∙ ap (option_map _) c.in-Some.is in
     let two = two_kept xs kept _ found in
-    kept_documented xs kept c.args.place c.index_mut.result.now c.requires.order (omega (arith, c.requires.within, c.args.items.now.ok.0)) c.index_mut.ensures.value (kept - 2) (kept - 1) (omega (arith, two)) (omega (arith, two))
+    kept_documented xs kept c.args.index c.index_mut.result.now c.requires.order (omega (arith, c.requires.within, c.args.items.now.ok.0)) c.index_mut.ensures.value (kept - 2) (kept - 1) (omega (arith, two)) (omega (arith, two))
     c.set_doc.new.item _ c.swap.new.self.items refl c.swap.ensures.items
     (found_taken _ _ _ c.in-Some.doc.now _ found c.in_ok-text.ensures.ok c.set_doc.ensures.tree)
 
@@ -30,12 +30,12 @@ returns-in-Some-clause-fields c =
     let kept = c.args.kept in
     let found = ap (λ (l : List Item). doc_before (map item_tree (take kept l))) (sym c.deref.ensures.value) ∙ sym c.find_doc.ensures ∙ ap (option_map _) c.in-Some.is in
     let two = two_kept xs kept _ found in
-    documented_fields xs kept c.args.place c.index_mut.result.now c.requires.order (omega (arith, c.requires.within, c.args.items.now.ok.0)) c.index_mut.ensures.value (kept - 2) (kept - 1) (omega (arith, two)) (omega (arith, two))
+    documented_fields xs kept c.args.index c.index_mut.result.now c.requires.order (omega (arith, c.requires.within, c.args.items.now.ok.0)) c.index_mut.ensures.value (kept - 2) (kept - 1) (omega (arith, two)) (omega (arith, two))
     c.set_doc.new.item _ c.swap.new.self.items refl c.swap.ensures.items c.set_doc.ensures.fields c.requires.fields
 
 pub returns-clause-trees : goal.returns-clause-trees
 returns-clause-trees c =
-    kept_plain c.args.items.now.items c.args.kept c.args.place c.index.result.now c.requires.order (omega (arith, c.requires.within, c.args.items.now.ok.0)) c.index.ensures c.swap-2.new.self.items c.swap-2.ensures.items
+    kept_plain c.args.items.now.items c.args.kept c.args.index c.index.result.now c.requires.order (omega (arith, c.requires.within, c.args.items.now.ok.0)) c.index.ensures c.swap-2.new.self.items c.swap-2.ensures.items
     (elim c.if-can_take_doc.branch [
       | then-can_take_doc+in_default w ↦ none_taken _ _ (ap (λ (l : List Item). doc_before (map item_tree (take c.args.kept l))) (sym w.deref.ensures.value) ∙ sym w.find_doc.ensures ∙ ap (option_map _) w.in_default.is)
       | else-can_take_doc w ↦ takes_no_doc _ _ (sym c.can_take_doc.ensures ∙ w.if-can_take_doc.false)
@@ -43,4 +43,4 @@ returns-clause-trees c =
 
 pub returns-clause-fields : goal.returns-clause-fields
 returns-clause-fields c =
-    swapped_fields c.args.items.now.items c.swap-2.new.self.items c.args.kept c.args.place (omega (arith, c.requires.order, c.requires.within, c.args.items.now.ok.0)) (omega (arith, c.requires.within, c.args.items.now.ok.0)) c.swap-2.ensures.items c.requires.fields
+    swapped_fields c.args.items.now.items c.swap-2.new.self.items c.args.kept c.args.index (omega (arith, c.requires.order, c.requires.within, c.args.items.now.ok.0)) (omega (arith, c.requires.within, c.args.items.now.ok.0)) c.swap-2.ensures.items c.requires.fields

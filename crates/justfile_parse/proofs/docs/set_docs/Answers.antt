@@ -6,7 +6,7 @@ use Rattle.justfile_parse.proofs.docs.set_docs.Goals as goal
 pub returns-clause-trees : goal.returns-clause-trees
 returns-clause-trees c =
     ap (map item_tree) c.truncate.ensures.items
-    ∙ all_taken c.args.items.now.items c.loop-place.items.items c.loop-place.kept c.loop-place.place (omega arith) c.loop-place.invariant.trees
+    ∙ all_taken c.args.items.now.items c.loop-index.items.items c.loop-index.kept c.loop-index.index (omega arith) c.loop-index.invariant.trees
 
 pub returns-clause-fields : goal.returns-clause-fields
-returns-clause-fields c = cut_fields c.loop-place.items.items _ _ c.truncate.ensures.items c.loop-place.invariant.fields
+returns-clause-fields c = cut_fields c.loop-index.items.items _ _ c.truncate.ensures.items c.loop-index.invariant.fields

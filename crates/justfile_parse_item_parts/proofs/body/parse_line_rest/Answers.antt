@@ -24,5 +24,5 @@ returns-in_err-fragment-clause-reads g c =
     let Q : TokenCursor _ → Type 0 = λ q. accept kinds.Eol (state_of A q) ≡ None in
     let here = sym c.in_default.ensures.moves in
     rw (p.1, p.2)
-    (line_stops (state_of A c.args.parser.now) (state_of A c.accept.new.self) done (subst P here c.fragments.invariant.value) (subst Q here c.in_default.ensures.takes) (sym c.if-peek_kinds.ensures.is)
+    (line_stops (state_of A c.args.parser.now) (state_of A c.accept.new.self) done (subst P here c.fragments.invariant.value) (subst Q here c.in_default.ensures.takes) (sym c.if-peek_kinds.ensures.next)
     c.in_err-fragment.field-0.0 (state_of A c.parse_fragment.new.parser) c.in_err-fragment.ensures.reads)

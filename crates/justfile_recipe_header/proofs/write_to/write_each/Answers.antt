@@ -9,10 +9,10 @@ pub loop-piece-preserved : goal.loop-piece-preserved
 loop-piece-preserved g c =
     let s = g.met.S.Sink in
     took_next g.S.Sink.took g.S.Sink.failed s.took_more s.failed_later s.failed_before (flat_map (λ p. fixed_text c.args.before.now ++ g.P.WriteTo.piece_text p)) _ (λ ps. refl)
-    c.args.pieces.now c.loop-piece.piece-index c.piece-item.result (omega arith) c.piece-item.is _ _ _ c.loop-piece.invariant c.in_ok-write_after.ensures
+    c.args.pieces.now c.loop-piece.piece-index c.piece-item.result (omega arith) c.piece-item.is _ _ _ c.loop-piece.invariant c.in_ok-write_one.ensures
 
-pub returns-in_err-write_after : goal.returns-in_err-write_after
-returns-in_err-write_after g c =
+pub returns-in_err-write_one : goal.returns-in_err-write_one
+returns-in_err-write_one g c =
     let s = g.met.S.Sink in
     failed_at g.S.Sink.took g.S.Sink.failed _ c.from_residual.ensures.0 (failed_next g.S.Sink.took g.S.Sink.failed s.took_more s.failed_later s.failed_before (flat_map (λ p. fixed_text c.args.before.now ++ g.P.WriteTo.piece_text p)) _ (λ ps. refl)
-    c.args.pieces.now c.loop-piece.piece-index c.piece-item.result (omega arith) c.piece-item.is _ _ _ c.loop-piece.invariant c.in_err-write_after.ensures)
+    c.args.pieces.now c.loop-piece.piece-index c.piece-item.result (omega arith) c.piece-item.is _ _ _ c.loop-piece.invariant c.in_err-write_one.ensures)

@@ -7,4 +7,4 @@ pub loop-start-smaller : goal.loop-start-smaller
 loop-start-smaller c = start_falls c.in-Expression.expression c.loop-start.start _ c.in-Expression.is c.start_of-start-in-Expression.ensures.smaller
 
 pub loop-start-preserved : goal.loop-start-preserved
-loop-start-preserved c = c.start_of-start-in-Expression.ensures.is ∙ sym (ap token_of c.in-Expression.is) ∙ c.loop-start.invariant
+loop-start-preserved c = c.start_of-start-in-Expression.ensures.token ∙ sym (ap token_of c.in-Expression.is) ∙ c.loop-start.invariant

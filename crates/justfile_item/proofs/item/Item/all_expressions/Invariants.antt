@@ -4,5 +4,5 @@ use Rattle.justfile_expression.specs.Pushed.{referents}
 use Rattle.justfile_item.specs.AllExpressions.{with_inner}
 use Rattle.justfile_item.proofs.item.Item.all_expressions.Given as goal
 
-abbrev pub invariant-loop-place : goal.invariant-loop-place
-invariant-loop-place l = referents l.found.items ≡ flat_map with_inner (referents (take l.place l.direct.items))
+abbrev pub invariant-loop-index : goal.invariant-loop-index
+invariant-loop-index l = referents l.found.items ≡ flat_map with_inner (referents (take l.index l.direct.items))

@@ -10,4 +10,4 @@ returns g c =
     let s = c.args.self.now in
     let P : List ℕ → Type 0 = λ word. c.is_marked.result ≡ is_some (accept_marked word c.args.kind (state_from g.X.Expander.answer s s.next)) in
     subst P c.lexeme.ensures
-    (c.is_marked.ensures.is ∙ marked_is (run_of g.X.Expander.answer s) s.depth s.next s.list_features.items c.lexeme.result.now c.args.kind c.index-self-self.result c.index-self-self-2.result (omega arith))
+    (c.is_marked.ensures.marked ∙ marked_is (run_of g.X.Expander.answer s) s.depth s.next s.list_features.items c.lexeme.result.now c.args.kind c.index-self-self.result c.index-self-self-2.result (omega arith))
