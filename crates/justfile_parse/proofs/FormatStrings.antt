@@ -5,7 +5,7 @@ use Rattle.justfile_vocabulary.specs.declared.format_string_part.FormatStringPar
 use Rattle.justfile_token.specs.declared.string_kind.StringKind.{StringKind}
 use Rattle.justfile_token.specs.declared.token.Token.{Token}
 use Rattle.justfile_vocabulary.specs.declared.token_kind.TokenKind.TheVariants as kinds
-use Rattle.justfile_round_trip.proofs.FormatParts.{AreInFormat, InFormat, continue_inside, end_inside, expression_inside, lexed_inside}
+use Rattle.justfile_round_trip.proofs.LiteralTexts.FormatParts.{AreInFormat, InFormat, continue_inside, end_inside, expression_inside, lexed_inside}
 use Rattle.justfile_literal.specs.Literal.{is_part}
 use Rattle.justfile_model.specs.Expressions as grammar
 use Rattle.justfile_model.specs.Expressions.{AnyDepth, IsKind, Tokens}

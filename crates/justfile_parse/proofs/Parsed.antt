@@ -25,7 +25,7 @@ use Rattle.justfile_vocabulary.specs.declared.token_kind.TokenKind.{TokenKind}
 use Rattle.justfile_vocabulary.specs.declared.token_kind.TokenKind.TheVariants as kinds
 use Rattle.std.specs.Str.{IsUtf8}
 use Rattle.justfile_round_trip.specs.RoundTrip.{TextDerives}
-use Rattle.justfile_round_trip.proofs.Quoted.{AreFramed, AreQuoted, IsFramed, IsQuoted, lexed_framed, lexed_quoted}
+use Rattle.justfile_round_trip.proofs.LiteralTexts.Quoted.{AreFramed, AreQuoted, IsFramed, IsQuoted, lexed_framed, lexed_quoted}
 use Rattle.justfile_line.specs.Body.{fragment_of, fragment_cooked, body_line_of, line_cooked}
 use Rattle.justfile_item.specs.Item.{header_cooked, header_of, item_of, item_cooked, priors_of, subsequents_of}
 use Rattle.justfile_recipe_header.specs.Header.{argument_cooked, boxed_of, dependency_argument_of, dependency_cooked, dependency_of, default_cooked, parameter_cooked, parameter_of}

@@ -13,7 +13,7 @@ use Rattle.justfile_model.specs.Features.{Noted, uncompared}
 use Rattle.justfile_model.specs.Expressions as g
 use Rattle.justfile_model.specs.Expressions.{Tokens, BelowLimit, ends_open, NotNext, IsWord, NotWord, IsMarked, NotMarked, Unmarked, NotCompared, NotJoined, Expression, Disjunct, Compared, Conjunct, Condition, Braced, Conditional, Value, Sequence, FormatParts}
 use Rattle.justfile_model.specs.Printing.{is_conditional}
-use Rattle.justfile_round_trip.proofs.LexedModes.{Mark, mark, placed}
+use Rattle.justfile_round_trip.proofs.LiteralTexts.LexedModes.{Mark, mark, placed}
 use Rattle.justfile_round_trip.proofs.Canon as canon
 use Rattle.justfile_round_trip.proofs.Canon.{Shown, Values, Pieces, space, word, brace_left, brace_right, paren_right, expr_marks, exprs_marks, others_marks, parts_marks}
 use Rattle.justfile_round_trip.proofs.Good.{significant, closes, ends_value}

@@ -9,7 +9,7 @@ use Rattle.justfile_model.specs.Tree.{Expr, Or, And, Comparison, Concatenation, 
 use Rattle.justfile_model.specs.Features.{Noted}
 use Rattle.justfile_model.specs.Expressions.{operator_kind}
 use Rattle.justfile_model.specs.Printing.{fixed_text, is_conditional, other_text, expr_text, exprs_text, parts_text, fragment_text, line_text, body_text}
-use Rattle.justfile_round_trip.proofs.LexedModes.{Mark, mark}
+use Rattle.justfile_round_trip.proofs.LiteralTexts.LexedModes.{Mark, mark}
 
 -- What a shape is made of: expressions, fragments, lines of bodies, and items with their contents.
 abbrev pub Value : Type 0

@@ -10,8 +10,8 @@ use Rattle.justfile_model.specs.Printing.{ends_in_return}
 use Rattle.justfile_model.proofs.CommentEnds.{ends_before_feed, no_feeds, no_return}
 use Rattle.justfile_model.proofs.TrimLaws.{dropped_once, kept, kept_scalars}
 use Rattle.justfile_round_trip.proofs.Good.{GoodComment}
-use Rattle.justfile_round_trip.proofs.Literals.{front_byte}
-use Rattle.justfile_round_trip.proofs.TokenFacts.{LexedComment}
+use Rattle.justfile_round_trip.proofs.LiteralTexts.Literals.{front_byte}
+use Rattle.justfile_round_trip.proofs.Values.TokenFacts.{LexedComment}
 
 module _ (l : List ℕ) (u : IsUtf8 l) (c : LexedComment l) where
   ds : List ℕ

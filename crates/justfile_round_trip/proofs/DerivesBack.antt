@@ -15,23 +15,23 @@ use Rattle.justfile_model.specs.Files.{to_lexemes}
 use Rattle.justfile_model.specs.Grammar.{Items, LineEnd, Block, NotEmpty}
 use Rattle.justfile_model.specs.ItemParts.{EndsLine, at_comment, at_line_end}
 use Rattle.justfile_model.specs.PrintedAttributes.{rewritten_entries, rewritten_item}
-use Rattle.justfile_round_trip.proofs.LexedModes.{Mark, mark}
-use Rattle.justfile_round_trip.proofs.AttributesUtf8.{comment_utf8, entries_utf8}
-use Rattle.justfile_round_trip.proofs.BackAttributes.{glued_after, entries_back}
-use Rattle.justfile_round_trip.proofs.BackContents.{content_back, content_no_bracket, content_utf8, header_no_bracket}
+use Rattle.justfile_round_trip.proofs.LiteralTexts.LexedModes.{Mark, mark}
+use Rattle.justfile_round_trip.proofs.Attributes.AttributesUtf8.{comment_utf8, entries_utf8}
+use Rattle.justfile_round_trip.proofs.Attributes.BackAttributes.{glued_after, entries_back}
+use Rattle.justfile_round_trip.proofs.Items.BackContents.{content_back, content_no_bracket, content_utf8, header_no_bracket}
 use Rattle.justfile_round_trip.proofs.Canon.{Shown, Row, ShapeContent, ShapeItem, space, newline, body_marks}
-use Rattle.justfile_round_trip.proofs.CanonAttributes.{ShapeEntry, comment_marks, entries_marks}
-use Rattle.justfile_round_trip.proofs.CanonHeaders.{ShapeHeader, header_rest_marks, header_marks}
-use Rattle.justfile_round_trip.proofs.CanonItems.{content_marks, item_marks, end_on, end_marks, text_on, marks_from, marks}
+use Rattle.justfile_round_trip.proofs.Attributes.CanonAttributes.{ShapeEntry, comment_marks, entries_marks}
+use Rattle.justfile_round_trip.proofs.Headers.CanonHeaders.{ShapeHeader, header_rest_marks, header_marks}
+use Rattle.justfile_round_trip.proofs.Items.CanonItems.{content_marks, item_marks, end_on, end_marks, text_on, marks_from, marks}
 use Rattle.justfile_round_trip.proofs.Good.{significant, GoodComment, GoodOptionalComment, EndedBody}
-use Rattle.justfile_round_trip.proofs.GoodAttributes.{GoodEntries}
-use Rattle.justfile_round_trip.proofs.GoodContents.{GoodContent, content_no_body}
-use Rattle.justfile_round_trip.proofs.GoodHeaders.{GoodHeader}
-use Rattle.justfile_round_trip.proofs.GoodItems as good
-use Rattle.justfile_round_trip.proofs.GoodItems.{AtStart, ItemRest, AtEnd}
-use Rattle.justfile_round_trip.proofs.BodyLines.{IsLevel}
-use Rattle.justfile_round_trip.proofs.BodyDerives.{body_back}
-use Rattle.justfile_round_trip.proofs.BodyUtf8.{newline_utf8, body_utf8}
+use Rattle.justfile_round_trip.proofs.Attributes.GoodAttributes.{GoodEntries}
+use Rattle.justfile_round_trip.proofs.Items.GoodContents.{GoodContent, content_no_body}
+use Rattle.justfile_round_trip.proofs.Headers.GoodHeaders.{GoodHeader}
+use Rattle.justfile_round_trip.proofs.Items.GoodItems as good
+use Rattle.justfile_round_trip.proofs.Items.GoodItems.{AtStart, ItemRest, AtEnd}
+use Rattle.justfile_round_trip.proofs.RecipeBodies.BodyLines.{IsLevel}
+use Rattle.justfile_round_trip.proofs.RecipeBodies.BodyDerives.{body_back}
+use Rattle.justfile_round_trip.proofs.RecipeBodies.BodyUtf8.{newline_utf8, body_utf8}
 
 -- ---- derivations
 

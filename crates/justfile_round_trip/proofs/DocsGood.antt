@@ -14,12 +14,12 @@ use Rattle.justfile_model.proofs.PlainFiles.{InComment, IsPlain}
 use Rattle.justfile_model.proofs.PrintedDocs.{Utf8Comment}
 use Rattle.justfile_model.proofs.TrimLaws.{doc_comment_trimmed, doc_comment_utf8, doc_of_comment, past_hash}
 use Rattle.justfile_round_trip.proofs.Canon.{ShapeContent, ShapeItem}
-use Rattle.justfile_round_trip.proofs.CanonAttributes.{ShapeEntry}
+use Rattle.justfile_round_trip.proofs.Attributes.CanonAttributes.{ShapeEntry}
 use Rattle.justfile_round_trip.proofs.DocsNormal.{Begun, begun_comment, comment, construct}
 use Rattle.justfile_round_trip.proofs.Good.{GoodComment}
-use Rattle.justfile_round_trip.proofs.GoodContents.{content_no_doc, content_undocumented}
-use Rattle.justfile_round_trip.proofs.GoodItems as good
-use Rattle.justfile_round_trip.proofs.GoodItems.{AtStart, ItemRest, blank_only, follows_body}
+use Rattle.justfile_round_trip.proofs.Items.GoodContents.{content_no_doc, content_undocumented}
+use Rattle.justfile_round_trip.proofs.Items.GoodItems as good
+use Rattle.justfile_round_trip.proofs.Items.GoodItems.{AtStart, ItemRest, blank_only, follows_body}
 
 -- the comment that a doc is printed as, which was taken of a good one
 good_doc : (before : Before) (t doc : List ℕ) → GoodComment t → doc_in before t ≡ Some doc → GoodComment (doc_comment doc)

@@ -5,7 +5,7 @@ use Rattle.justfile_model.specs.Files.{sets_doc}
 use Rattle.justfile_model.specs.NormalShape.{after_newline, normal, normal_rest}
 use Rattle.justfile_model.specs.Tree.{Comment, Construct, Newline, Shape}
 use Rattle.justfile_round_trip.proofs.Canon.{ShapeContent, ShapeItem}
-use Rattle.justfile_round_trip.proofs.CanonAttributes.{ShapeEntry}
+use Rattle.justfile_round_trip.proofs.Attributes.CanonAttributes.{ShapeEntry}
 
 -- ---- shapes that don't begin with a line end
 

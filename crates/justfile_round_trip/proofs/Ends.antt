@@ -6,7 +6,7 @@ use Rattle.justfile_model.specs.Tree as tree
 use Rattle.justfile_model.specs.Tree.{Expr, lexeme, nothing}
 use Rattle.justfile_model.specs.Expressions as g
 use Rattle.justfile_model.specs.Expressions.{Tokens, ends_open, NotNext, IsWord, NotWord, NotJoined, Expression, Disjunct, Compared, Conjunct, Conditional, Value}
-use Rattle.justfile_round_trip.proofs.LexedModes.{Mark}
+use Rattle.justfile_round_trip.proofs.LiteralTexts.LexedModes.{Mark}
 use Rattle.justfile_round_trip.proofs.Canon as canon
 use Rattle.justfile_round_trip.proofs.Canon.{Shown, expr_marks}
 use Rattle.justfile_round_trip.proofs.Good.{significant}

@@ -26,12 +26,12 @@ use Rattle.justfile_model.specs.Tok.{Tok}
 use Rattle.justfile_model.specs.Modes.{Mode, is_empty, head_of, innermost, nested}
 use Rattle.justfile_model.specs.Next.{NextToken, format_kind, doubled_token, fixed_token, opening, literal_part, literal_token, is_backtick, is_same, closing_delimiter, brace_by, closing, line_end_token, escaped_line_end, token_by_class, token_outside_text, text_or, body_token, at_end_by, Region, InText, InInterpolation, OutsideText, token_in_region, token_within_line, blanks_or, tested_blanks, is_level, layout, begins_blank_line, next_by, next}
 use Rattle.justfile_model.proofs.CutLemmas.{raw_stops, raw_within}
-use Rattle.justfile_round_trip.proofs.LexedModes.{drop_front}
-use Rattle.justfile_round_trip.proofs.Inline.{Each, IsName, IsPart, delimiter_of, delimiter_length, assoc3, length3, literal_again, quote_is}
+use Rattle.justfile_round_trip.proofs.LiteralTexts.LexedModes.{drop_front}
+use Rattle.justfile_round_trip.proofs.LiteralTexts.Inline.{Each, IsName, IsPart, delimiter_of, delimiter_length, assoc3, length3, literal_again, quote_is}
 use Rattle.justfile_round_trip.proofs.Good.{IsDelimited, IsString, IsCommand, IsFormatLiteral, IsFormatStart, IsPartOf, IsPartOfOpen}
-use Rattle.justfile_round_trip.proofs.FormatScans.{braces_front, closers_front, same_front, stable_closing, part_cut, start_opens}
-use Rattle.justfile_round_trip.proofs.LiteralModes.{whole_ends}
-use Rattle.justfile_round_trip.proofs.Literals.{delimiter_front, delimiter_there, stable, same_opening}
+use Rattle.justfile_round_trip.proofs.LiteralTexts.FormatScans.{braces_front, closers_front, same_front, stable_closing, part_cut, start_opens}
+use Rattle.justfile_round_trip.proofs.LiteralTexts.LiteralModes.{whole_ends}
+use Rattle.justfile_round_trip.proofs.LiteralTexts.Literals.{delimiter_front, delimiter_there, stable, same_opening}
 
 -- a comment, up to the end of its line
 pub record WasComment (l following : List ℕ) : Type 0 where

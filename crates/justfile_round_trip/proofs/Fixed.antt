@@ -9,8 +9,8 @@ use Rattle.justfile_model.specs.declared.open_delimiter.OpenDelimiter.{OpenDelim
 use Rattle.justfile_model.specs.Tok.{Tok}
 use Rattle.justfile_model.specs.Modes.{is_empty, opener, mode_after}
 use Rattle.justfile_model.specs.Next.{fixed_token, token_by_class}
-use Rattle.justfile_round_trip.proofs.LexedModes.{Mark, mark, LexesTo, step}
-use Rattle.justfile_round_trip.proofs.Inline.{amid, amid_next, and_false, and_no}
+use Rattle.justfile_round_trip.proofs.LiteralTexts.LexedModes.{Mark, mark, LexesTo, step}
+use Rattle.justfile_round_trip.proofs.LiteralTexts.Inline.{amid, amid_next, and_false, and_no}
 
 module _ {os : List OpenDelimiter} {ls : List (List ℕ)} {c : Bool} {i : Option Tok} {f : Bool} where
   -- a token that keeps the mode, before a byte that doesn't lengthen it

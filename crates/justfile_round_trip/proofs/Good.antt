@@ -18,10 +18,10 @@ use Rattle.justfile_model.specs.SignificantTokens.{SignificantToken, significant
 use Rattle.justfile_model.specs.Tree as tree
 use Rattle.justfile_model.specs.Tree.{Or, And, Comparison, Concatenation, ListConcatenation, Join, Root, If, IfElse, Not, StringLiteral, FormatLiteral, FormatString, Backtick, Assert, AssertMessage, Variable, Call, Group, ListOf, Last, Continue, Text, Interpolation, Line, lexeme, nothing, trimmed}
 use Rattle.justfile_model.specs.Expressions.{BelowLimit, Expression}
-use Rattle.justfile_round_trip.proofs.LexedModes.{Mark, mark, placed}
-use Rattle.justfile_round_trip.proofs.Inline.{head_is, IsName, IsLiteral, IsPart, delimiter_of}
-use Rattle.justfile_round_trip.proofs.Lines.{IsComment}
-use Rattle.justfile_round_trip.proofs.BodyLines.{IsRaw}
+use Rattle.justfile_round_trip.proofs.LiteralTexts.LexedModes.{Mark, mark, placed}
+use Rattle.justfile_round_trip.proofs.LiteralTexts.Inline.{head_is, IsName, IsLiteral, IsPart, delimiter_of}
+use Rattle.justfile_round_trip.proofs.RecipeBodies.Lines.{IsComment}
+use Rattle.justfile_round_trip.proofs.RecipeBodies.BodyLines.{IsRaw}
 use Rattle.justfile_round_trip.proofs.Canon.{Shown, Value, Values, Pieces, Fragment, Row, expr_on, expr_marks}
 
 -- the printer's tokens without places, and what the parser reads of them

@@ -4,24 +4,24 @@ use Rattle.justfile_vocabulary.specs.ByteClass.{class_of}
 use Rattle.justfile_model.specs.Tree as tree
 use Rattle.justfile_model.specs.Tree.{Shape}
 use Rattle.justfile_model.specs.Next.{next}
-use Rattle.justfile_round_trip.proofs.LexedModes.{LexesTo, end}
-use Rattle.justfile_round_trip.proofs.Lines.{at_item, item_comment, blank_line, line_end}
+use Rattle.justfile_round_trip.proofs.LiteralTexts.LexedModes.{LexesTo, end}
+use Rattle.justfile_round_trip.proofs.RecipeBodies.Lines.{at_item, item_comment, blank_line, line_end}
 use Rattle.justfile_round_trip.proofs.Canon.{Row, ShapeContent}
-use Rattle.justfile_round_trip.proofs.CanonAttributes.{ShapeEntry}
-use Rattle.justfile_round_trip.proofs.CanonHeaders.{ShapeHeader}
-use Rattle.justfile_round_trip.proofs.CanonItems.{recipe_item, item_marks, end_marks, text_on, marks_from, marks}
+use Rattle.justfile_round_trip.proofs.Attributes.CanonAttributes.{ShapeEntry}
+use Rattle.justfile_round_trip.proofs.Headers.CanonHeaders.{ShapeHeader}
+use Rattle.justfile_round_trip.proofs.Items.CanonItems.{recipe_item, item_marks, end_marks, text_on, marks_from, marks}
 use Rattle.justfile_round_trip.proofs.Good.{GoodComment, GoodOptionalComment, EndedBody}
-use Rattle.justfile_round_trip.proofs.GoodAttributes.{GoodEntries}
-use Rattle.justfile_round_trip.proofs.GoodContents.{GoodContent, content_no_body}
-use Rattle.justfile_round_trip.proofs.GoodHeaders.{GoodHeader}
-use Rattle.justfile_round_trip.proofs.GoodItems as good
-use Rattle.justfile_round_trip.proofs.GoodItems.{AtStart, ItemRest, AtEnd, AfterBody}
-use Rattle.justfile_round_trip.proofs.LexesAttributes.{lex_entries, trailing}
-use Rattle.justfile_round_trip.proofs.LexesParts.{lex_content}
-use Rattle.justfile_round_trip.proofs.LexesHeaders.{lex_header}
-use Rattle.justfile_round_trip.proofs.BodyLines.{IsLevel}
-use Rattle.justfile_round_trip.proofs.Bodies.{lex_after_comment, lex_after_header}
-use Rattle.justfile_round_trip.proofs.BodyFollows.{text_follows}
+use Rattle.justfile_round_trip.proofs.Attributes.GoodAttributes.{GoodEntries}
+use Rattle.justfile_round_trip.proofs.Items.GoodContents.{GoodContent, content_no_body}
+use Rattle.justfile_round_trip.proofs.Headers.GoodHeaders.{GoodHeader}
+use Rattle.justfile_round_trip.proofs.Items.GoodItems as good
+use Rattle.justfile_round_trip.proofs.Items.GoodItems.{AtStart, ItemRest, AtEnd, AfterBody}
+use Rattle.justfile_round_trip.proofs.Attributes.LexesAttributes.{lex_entries, trailing}
+use Rattle.justfile_round_trip.proofs.Items.LexesParts.{lex_content}
+use Rattle.justfile_round_trip.proofs.Headers.LexesHeaders.{lex_header}
+use Rattle.justfile_round_trip.proofs.RecipeBodies.BodyLines.{IsLevel}
+use Rattle.justfile_round_trip.proofs.RecipeBodies.Bodies.{lex_after_comment, lex_after_header}
+use Rattle.justfile_round_trip.proofs.RecipeBodies.BodyFollows.{text_follows}
 
 at_end : (c : Bool) → LexesTo (at_item c) [] []
 unfolding next

@@ -10,8 +10,8 @@ use Rattle.justfile_model.specs.Tree.{Construct, WrittenItem, WrittenShape, Shap
 use Rattle.justfile_model.proofs.Binds.{some_back}
 use Rattle.justfile_model.proofs.Ordered.{construct_meant, meanings_of}
 use Rattle.justfile_round_trip.proofs.Canon.{ShapeContent, ShapeItem}
-use Rattle.justfile_round_trip.proofs.CanonHeaders.{ShapeArgument, ShapeDependency}
-use Rattle.justfile_round_trip.proofs.CanonAttributes.{ShapeEntry}
+use Rattle.justfile_round_trip.proofs.Headers.CanonHeaders.{ShapeArgument, ShapeDependency}
+use Rattle.justfile_round_trip.proofs.Attributes.CanonAttributes.{ShapeEntry}
 
 -- an item as it is written
 abbrev pub ShapeWritten : Type 0

@@ -35,25 +35,25 @@ use Rattle.justfile_model.proofs.LexedLaws.{one_list}
 use Rattle.justfile_model.proofs.Needs.{relimited}
 use Rattle.justfile_model.proofs.Normal.{normal_twice, normal_literals, normal_bindings, normal_recipes}
 use Rattle.justfile_round_trip.specs.RoundTrip.{TextDerives, times, ReadsBack, printed}
-use Rattle.justfile_round_trip.proofs.LexedModes.{Mark, placed, tok_at, toks, lexed}
+use Rattle.justfile_round_trip.proofs.LiteralTexts.LexedModes.{Mark, placed, tok_at, toks, lexed}
 use Rattle.justfile_model.proofs.PrintedItems.{AllPrintAgain, normal_again, rewritten_means, rewritten_texts, rewritten_unbroken, rewritten_undocumented, shape_again}
 use Rattle.justfile_model.proofs.PrintedLiterals.{texts_are_there, texts_of, texts_cook}
 use Rattle.justfile_model.proofs.Spelled.{lexed_spelled}
 use Rattle.justfile_round_trip.proofs.Canon.{Shown}
-use Rattle.justfile_round_trip.proofs.CanonItems.{text_on, marks, text_is}
-use Rattle.justfile_round_trip.proofs.CountedItems.{documented_weight, normal_weight, shape_weight, undocumented_times, written_docs_weight}
+use Rattle.justfile_round_trip.proofs.Items.CanonItems.{text_on, marks, text_is}
+use Rattle.justfile_round_trip.proofs.Items.CountedItems.{documented_weight, normal_weight, shape_weight, undocumented_times, written_docs_weight}
 use Rattle.justfile_round_trip.proofs.DocsGood.{docs_good, start_comments, start_plain}
 use Rattle.justfile_round_trip.proofs.DocsNormal.{normal_documented}
 use Rattle.justfile_round_trip.proofs.Good.{unplaced, significant}
-use Rattle.justfile_round_trip.proofs.GoodItems.{AtStart, start_no_doc}
+use Rattle.justfile_round_trip.proofs.Items.GoodItems.{AtStart, start_no_doc}
 use Rattle.justfile_round_trip.proofs.Means.{docs_meant, meant}
 use Rattle.justfile_round_trip.proofs.LexesBack.{lex_start}
-use Rattle.justfile_round_trip.proofs.TokenFacts.{lexed_sound}
-use Rattle.justfile_round_trip.proofs.BodyLines.{IsLevel, level_is}
-use Rattle.justfile_round_trip.proofs.BodyFacts.{lexed_bodies}
+use Rattle.justfile_round_trip.proofs.Values.TokenFacts.{lexed_sound}
+use Rattle.justfile_round_trip.proofs.RecipeBodies.BodyLines.{IsLevel, level_is}
+use Rattle.justfile_round_trip.proofs.RecipeBodies.BodyFacts.{lexed_bodies}
 use Rattle.justfile_round_trip.proofs.Written.{file_good}
 use Rattle.justfile_round_trip.proofs.DerivesBack.{derive_start, start_utf8}
-use Rattle.justfile_round_trip.proofs.DeterminedItems.{of_file}
+use Rattle.justfile_round_trip.proofs.Items.DeterminedItems.{of_file}
 
 -- ---- places
 

@@ -25,28 +25,28 @@ use Rattle.justfile_model.specs.NormalShape.{after_newline, normal_rest, normal}
 use Rattle.justfile_model.specs.Printing.{printable_body, printable_content, printable}
 use Rattle.justfile_model.proofs.Binds.{nothing_in}
 use Rattle.justfile_round_trip.proofs.Canon.{Shown, Value, Fragment, Row, ShapeContent}
-use Rattle.justfile_round_trip.proofs.CanonAttributes.{Written, ShapeEntry}
-use Rattle.justfile_round_trip.proofs.CanonHeaders.{ShapeHeader}
-use Rattle.justfile_round_trip.proofs.CanonItems.{recipe_item}
+use Rattle.justfile_round_trip.proofs.Attributes.CanonAttributes.{Written, ShapeEntry}
+use Rattle.justfile_round_trip.proofs.Headers.CanonHeaders.{ShapeHeader}
+use Rattle.justfile_round_trip.proofs.Items.CanonItems.{recipe_item}
 use Rattle.justfile_round_trip.proofs.Good.{EndedBody, GoodOptionalComment, pale_after}
-use Rattle.justfile_round_trip.proofs.GoodAttributes.{GoodEntries}
-use Rattle.justfile_round_trip.proofs.GoodHeaders.{GoodHeader}
-use Rattle.justfile_round_trip.proofs.GoodContents as contents
-use Rattle.justfile_round_trip.proofs.GoodContents.{GoodContent}
-use Rattle.justfile_round_trip.proofs.GoodItems as good
-use Rattle.justfile_round_trip.proofs.GoodItems.{follows_body, AtStart, AtEnd, After, AfterBody, past_newline}
+use Rattle.justfile_round_trip.proofs.Attributes.GoodAttributes.{GoodEntries}
+use Rattle.justfile_round_trip.proofs.Headers.GoodHeaders.{GoodHeader}
+use Rattle.justfile_round_trip.proofs.Items.GoodContents as contents
+use Rattle.justfile_round_trip.proofs.Items.GoodContents.{GoodContent}
+use Rattle.justfile_round_trip.proofs.Items.GoodItems as good
+use Rattle.justfile_round_trip.proofs.Items.GoodItems.{follows_body, AtStart, AtEnd, After, AfterBody, past_newline}
 use Rattle.justfile_round_trip.proofs.Means.{ShapeWritten, entries_or_none, meant}
-use Rattle.justfile_round_trip.proofs.WrittenAttributes.{attributes_good}
-use Rattle.justfile_round_trip.proofs.TokenFacts.{Around, around, outside, Known, Sound}
-use Rattle.justfile_round_trip.proofs.BodyTokens.{First}
-use Rattle.justfile_round_trip.proofs.BodyFacts.{outline_after, no_body, NextIs, BodySound}
-use Rattle.justfile_round_trip.proofs.BodyGood.{LineOf, LinesOf, PartsGood, AllPartsGood, inner, outside_first, indent_leads, Walked, body_read}
-use Rattle.justfile_round_trip.proofs.WalksHeaders.{IsHeader, header_after, outside_header, past_walked, walk_header}
-use Rattle.justfile_round_trip.proofs.WrittenHeaders.{header_at}
-use Rattle.justfile_round_trip.proofs.WrittenParts.{Ahead, Passed, file_path_good, lexed_comment, lexed_name, names_good, past_token, path_good, setting_value_good, value_good}
-use Rattle.justfile_round_trip.proofs.Trimmed.{trimmed_twice, trimmed_printable}
-use Rattle.justfile_round_trip.proofs.BodyFollows.{following, newline_follows}
-use Rattle.justfile_round_trip.proofs.WrittenValues.{past, value_at, good_expression}
+use Rattle.justfile_round_trip.proofs.Attributes.WrittenAttributes.{attributes_good}
+use Rattle.justfile_round_trip.proofs.Values.TokenFacts.{Around, around, outside, Known, Sound}
+use Rattle.justfile_round_trip.proofs.RecipeBodies.BodyTokens.{First}
+use Rattle.justfile_round_trip.proofs.RecipeBodies.BodyFacts.{outline_after, no_body, NextIs, BodySound}
+use Rattle.justfile_round_trip.proofs.RecipeBodies.BodyGood.{LineOf, LinesOf, PartsGood, AllPartsGood, inner, outside_first, indent_leads, Walked, body_read}
+use Rattle.justfile_round_trip.proofs.Headers.WalksHeaders.{IsHeader, header_after, outside_header, past_walked, walk_header}
+use Rattle.justfile_round_trip.proofs.Headers.WrittenHeaders.{header_at}
+use Rattle.justfile_round_trip.proofs.Items.WrittenParts.{Ahead, Passed, file_path_good, lexed_comment, lexed_name, names_good, past_token, path_good, setting_value_good, value_good}
+use Rattle.justfile_round_trip.proofs.RecipeBodies.Trimmed.{trimmed_twice, trimmed_printable}
+use Rattle.justfile_round_trip.proofs.RecipeBodies.BodyFollows.{following, newline_follows}
+use Rattle.justfile_round_trip.proofs.Values.WrittenValues.{past, value_at, good_expression}
 
 -- ---- bodies
 

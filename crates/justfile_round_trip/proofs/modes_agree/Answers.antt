@@ -1,4 +1,4 @@
-use Rattle.justfile_round_trip.proofs.LiteralModes.{first_end, whole_ends, part_ends, plain_ends}
+use Rattle.justfile_round_trip.proofs.LiteralTexts.LiteralModes.{first_end, whole_ends, part_ends, plain_ends}
 use Rattle.justfile_round_trip.proofs.Facts.{string_again}
 use Rattle.justfile_round_trip.proofs.modes_agree.Goals as goal
 

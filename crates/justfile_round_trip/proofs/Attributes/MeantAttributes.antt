@@ -1,0 +1,448 @@
+-- The printed form of attributes is good, if their values are.
+use Rattle.std.proofs.Common.{◌≡◌, ℕ, ◌<◌, ◌^◌, Bool, true, false, cond, ltb, List, [], ◌∷◌, ◌++◌, map, Option, Some, None, refl, sym, ap, ◌∙◌, subst, arith, codes}
+use Rattle.std.specs.Prelude.{◌&&◌}
+use Rattle.std.specs.List.{find}
+use Rattle.std.specs.Ordering.{is_gt}
+use Rattle.std.specs.declared.cmp.Ordering.{Ordering}
+use Rattle.std.specs.Str.{IsUtf8}
+use Rattle.std.specs.Str.Parse.{digits_value}
+use Rattle.std.proofs.lemmas.Bool.{and_parts}
+use Rattle.std.proofs.lemmas.Bool.Decides.{nat_tests}
+use Rattle.std.proofs.lemmas.Str.{IsUtf8-nil}
+use Rattle.std.proofs.lemmas.List.{append-nil}
+use Rattle.justfile_vocabulary.specs.ByteClass.{class_of}
+use Rattle.justfile_vocabulary.specs.AttributeKind.{attribute_name, kind_named, takes_keys}
+use Rattle.justfile_vocabulary.specs.declared.attribute_kind.AttributeKind.{AttributeKind}
+use Rattle.justfile_vocabulary.specs.declared.attribute_kind.AttributeKind.TheVariants as attributes
+use Rattle.justfile_vocabulary.specs.declared.byte_class.ByteClass.{ByteClass}
+use Rattle.justfile_vocabulary.specs.declared.byte_class.ByteClass.TheVariants as classes
+use Rattle.justfile_vocabulary.specs.declared.signal.Signal.{Signal}
+use Rattle.justfile_vocabulary.proofs.AttributeKindLaws.{named}
+use Rattle.justfile_model.specs.AttributeKinds.{named_takes_keys, name_takes_keys, takes_expressions}
+use Rattle.justfile_model.specs.Bytes.{in_word}
+use Rattle.justfile_model.specs.ContentKeys.{kind_of_attribute, entry_cmp}
+use Rattle.justfile_model.specs.Meaning as meaning
+use Rattle.justfile_model.specs.Meaning.{◌>>=◌, all_of, of_given, first_of, quoted, Placed, KeyArgument, by_position, by_key, count_of, signal_set, text_of, at_key, property_of, value_of, bare_of, option_named, option_at, bound_of, rules_of, single_of, texts_of, env_of, signal_of, of_expressions, of_literals, by_takes, attribute_of, entry_of, entries_of}
+use Rattle.justfile_model.specs.Order.{placed, in_order}
+use Rattle.justfile_model.specs.Printing.{fixed_text, quoted_argument, signal_argument, keyed_if, bare_if, option_argument, number_literal, rules_arguments, attribute_arguments}
+use Rattle.justfile_model.specs.LeafView.{LeafView}
+use Rattle.justfile_model.specs.Tree as tree
+use Rattle.justfile_model.specs.Tree.{Quoted, Property, Bound, OptionName, ArgumentRules, Attribute}
+use Rattle.justfile_round_trip.proofs.LiteralTexts.Inline.{Each, IsName}
+use Rattle.justfile_round_trip.proofs.Canon.{Value}
+use Rattle.justfile_round_trip.proofs.Attributes.CanonAttributes.{Argument, Written, ShapeEntry}
+use Rattle.justfile_round_trip.proofs.Good.{GoodName, GoodExpression, GoodOptionalComment}
+use Rattle.justfile_round_trip.proofs.Attributes.GoodAttributes.{GoodArguments, GoodEntry, GoodEntries}
+use Rattle.justfile_round_trip.proofs.LiteralTexts.PlainLiterals.{some_limit, number_good, signal_good}
+use Rattle.justfile_round_trip.proofs.Values.WrittenValues.{all_ascii, plain}
+
+-- ---- names of kinds and of keys
+
+abbrev all_word : List ℕ → Bool
+all_word [] = true
+all_word (b ∷ bs) = in_word (class_of b) && all_word bs
+
+each_word : (bs : List ℕ) → all_word bs ≡ true → Each in_word bs
+each_word [] h = tt
+each_word (b ∷ bs) h = let p = and_parts (in_word (class_of b)) (all_word bs) h in (p.0, each_word bs p.1)
+
+abbrev starts : ByteClass → Bool
+starts classes.IdentifierStart = true
+starts _ = false
+
+starts_name : (c : ByteClass) → starts c ≡ true → c ≡ classes.IdentifierStart
+starts_name classes.IdentifierStart h = refl
+starts_name _ h = cc
+
+-- a fixed word that is a name
+abbrev is_word : List ℕ → Bool
+is_word [] = false
+is_word (b ∷ bs) = starts (class_of b) && all_word bs
+
+word_name : (w : List ℕ) → is_word w ≡ true → IsName w
+word_name [] h = cc
+word_name (b ∷ bs) h = let p = and_parts (starts (class_of b)) (all_word bs) h in (starts_name (class_of b) p.0, each_word bs p.1)
+
+word_good : (w : List ℕ) → is_word w ≡ true → all_ascii w ≡ true → GoodName (fixed_text w)
+unfolding fixed_text
+word_good w h ascii = record { is_name = word_name w h; utf8 = subst IsUtf8 (append-nil w) (plain w [] ascii IsUtf8-nil) }
+
+kind_good : (k : AttributeKind) → GoodName (fixed_text (attribute_name k))
+unfolding class_of
+kind_good attributes.Android = word_good (attribute_name attributes.Android) refl refl
+kind_good attributes.Arg = word_good (attribute_name attributes.Arg) refl refl
+kind_good attributes.Cache = word_good (attribute_name attributes.Cache) refl refl
+kind_good attributes.Confirm = word_good (attribute_name attributes.Confirm) refl refl
+kind_good attributes.Continue = word_good (attribute_name attributes.Continue) refl refl
+kind_good attributes.Default = word_good (attribute_name attributes.Default) refl refl
+kind_good attributes.Doc = word_good (attribute_name attributes.Doc) refl refl
+kind_good attributes.Dragonfly = word_good (attribute_name attributes.Dragonfly) refl refl
+kind_good attributes.Env = word_good (attribute_name attributes.Env) refl refl
+kind_good attributes.ExitMessage = word_good (attribute_name attributes.ExitMessage) refl refl
+kind_good attributes.Extension = word_good (attribute_name attributes.Extension) refl refl
+kind_good attributes.Freebsd = word_good (attribute_name attributes.Freebsd) refl refl
+kind_good attributes.Group = word_good (attribute_name attributes.Group) refl refl
+kind_good attributes.Linux = word_good (attribute_name attributes.Linux) refl refl
+kind_good attributes.Macos = word_good (attribute_name attributes.Macos) refl refl
+kind_good attributes.Metadata = word_good (attribute_name attributes.Metadata) refl refl
+kind_good attributes.Netbsd = word_good (attribute_name attributes.Netbsd) refl refl
+kind_good attributes.NoCd = word_good (attribute_name attributes.NoCd) refl refl
+kind_good attributes.NoExitMessage = word_good (attribute_name attributes.NoExitMessage) refl refl
+kind_good attributes.NoQuiet = word_good (attribute_name attributes.NoQuiet) refl refl
+kind_good attributes.Openbsd = word_good (attribute_name attributes.Openbsd) refl refl
+kind_good attributes.Parallel = word_good (attribute_name attributes.Parallel) refl refl
+kind_good attributes.PositionalArguments = word_good (attribute_name attributes.PositionalArguments) refl refl
+kind_good attributes.Private = word_good (attribute_name attributes.Private) refl refl
+kind_good attributes.Script = word_good (attribute_name attributes.Script) refl refl
+kind_good attributes.Shell = word_good (attribute_name attributes.Shell) refl refl
+kind_good attributes.Timestamp = word_good (attribute_name attributes.Timestamp) refl refl
+kind_good attributes.Unix = word_good (attribute_name attributes.Unix) refl refl
+kind_good attributes.Windows = word_good (attribute_name attributes.Windows) refl refl
+kind_good attributes.WorkingDirectory = word_good (attribute_name attributes.WorkingDirectory) refl refl
+
+-- whether it takes keys is seen from its name
+keys_of_name : (k : AttributeKind) → name_takes_keys (fixed_text (attribute_name k)) ≡ takes_keys k
+unfolding fixed_text
+keys_of_name k = ap named_takes_keys (named k)
+
+-- ---- results of optional steps
+
+-- if two steps in a row have a result, so has each of them
+pub bind_some : {X Y : Type 0} (o : Option X) (f : X → Option Y) (y : Y) → (o >>= f) ≡ Some y → (x : X) × (o ≡ Some x) × (f x ≡ Some y)
+bind_some None f y e = cc
+bind_some (Some x) f y e = (x, refl, e)
+
+-- the same, by the results of the two steps
+pub binding : {X Y R : Type 0} (o : Option X) (f : X → Option Y) (y : Y) → (o >>= f) ≡ Some y → ((x : X) → o ≡ Some x → f x ≡ Some y → R) → R
+binding None f y e step = cc
+binding (Some x) f y e step = step x refl e
+
+some_same : {X : Type 0} {x y : X} → Some x ≡ Some y → x ≡ y
+some_same e = cc e
+
+abbrev pub IfGiven : {X : Type 0} (P : X → Type 0) → Option X → Type 0
+IfGiven P None = Unit {0}
+IfGiven P (Some x) = P x
+
+count_small : (text : List ℕ) (n : ℕ) → count_of text ≡ Some n → n < 2 ^ 64
+count_small text n e = by (meaning.is_count text) (ltb (digits_value 10 text) (2 ^ 64)) refl e
+  where
+    by : (a b : Bool) → ltb (digits_value 10 text) (2 ^ 64) ≡ b → cond (a && b) (Some (digits_value 10 text)) None ≡ Some n → n < 2 ^ 64
+    by true true small e = subst (λ v. v < 2 ^ 64) (some_same e) (grind (arith, nat_tests, small))
+    by true false small e = cc
+    by false b small e = cc
+
+module _ (limit : ℕ) where
+  -- ---- written arguments: each value is good
+
+  abbrev pub GoodSource : Argument → Type 0
+  GoodSource (tree.Positional first value) = GoodExpression limit value
+  GoodSource (tree.Bare key) = Unit {0}
+  GoodSource (tree.Keyed key value) = GoodExpression limit value
+
+  abbrev pub AllGoodSource : List Argument → Type 0
+  AllGoodSource [] = Unit {0}
+  AllGoodSource (a ∷ arguments) = GoodSource a × AllGoodSource arguments
+
+  -- an attribute as it is written in a source, and its comment
+  pub record GoodSourceAttribute (w : Written) : Type 0 where
+    pub arguments : AllGoodSource w.arguments
+    pub comment : GoodOptionalComment w.comment
+
+  abbrev pub AllGoodAttributes : List Written → Type 0
+  AllGoodAttributes [] = Unit {0}
+  AllGoodAttributes (w ∷ ws) = GoodSourceAttribute w × AllGoodAttributes ws
+
+  abbrev AllValues : List Value → Type 0
+  AllValues [] = Unit {0}
+  AllValues (v ∷ vs) = GoodExpression limit v × AllValues vs
+
+  abbrev GoodKey : KeyArgument (List ℕ) (Unit {0}) → Type 0
+  GoodKey k = IfGiven (GoodExpression limit) k.value
+
+  abbrev AllKeys : List (KeyArgument (List ℕ) (Unit {0})) → Type 0
+  AllKeys [] = Unit {0}
+  AllKeys (k ∷ ks) = GoodKey k × AllKeys ks
+
+  abbrev GoodQuoted : Quoted (List ℕ) → Type 0
+  GoodQuoted q = GoodExpression limit (tree.StringLiteral q.expanded q.token)
+
+  abbrev AllQuoted : List (Quoted (List ℕ)) → Type 0
+  AllQuoted [] = Unit {0}
+  AllQuoted (q ∷ qs) = GoodQuoted q × AllQuoted qs
+
+  source_values : (arguments : List Argument) → AllGoodSource arguments → AllValues (map (λ (p : Placed (List ℕ) (Unit {0})). p.value) (by_position arguments))
+  source_values [] h = tt
+  source_values (tree.Positional first value ∷ arguments) h = (h.0, source_values arguments h.1)
+  source_values (tree.Bare key ∷ arguments) h = source_values arguments h.1
+  source_values (tree.Keyed key value ∷ arguments) h = source_values arguments h.1
+
+  source_keys : (arguments : List Argument) → AllGoodSource arguments → AllKeys (by_key arguments)
+  source_keys [] h = tt
+  source_keys (tree.Positional first value ∷ arguments) h = source_keys arguments h.1
+  source_keys (tree.Bare key ∷ arguments) h = (tt, source_keys arguments h.1)
+  source_keys (tree.Keyed key value ∷ arguments) h = (h.0, source_keys arguments h.1)
+
+  found_good : (test : KeyArgument (List ℕ) (Unit {0}) → Bool) (ks : List (KeyArgument (List ℕ) (Unit {0}))) → AllKeys ks → IfGiven GoodKey (find test ks)
+  found_good test [] h = tt
+  found_good test (k ∷ ks) h = by (test k) (found_good test ks h.1)
+    where
+      by : (b : Bool) → IfGiven GoodKey (find test ks) → IfGiven GoodKey (cond b (Some k) (find test ks))
+      by true more = h.0
+      by false more = more
+
+  quoted_is : (v : Value) (q : Quoted (List ℕ)) → quoted v ≡ Some q → GoodExpression limit v → GoodQuoted q
+  quoted_is (tree.StringLiteral expanded token) q e h = subst GoodQuoted (some_same e) h
+  quoted_is _ q e h = cc
+
+  all_quoted : (values : List Value) (texts : List (Quoted (List ℕ))) → all_of quoted values ≡ Some texts → AllValues values → AllQuoted texts
+  all_quoted [] texts e h = subst AllQuoted (some_same e) tt
+  all_quoted (v ∷ vs) texts e h =
+      let first = bind_some (quoted v) _ texts e in
+      let others = bind_some (all_of quoted vs) _ texts first.2 in
+      subst AllQuoted (some_same others.2) (quoted_is v first.0 first.1 h.0, all_quoted vs others.0 others.1 h.1)
+
+  -- ---- what attributes of each form are printed with
+
+  abbrev GoodAttribute : Attribute (List ℕ) (Unit {0}) → Type 0
+  GoodAttribute a = GoodArguments limit (takes_keys (kind_of_attribute a)) (attribute_arguments a)
+
+  quoted_arguments : (keys : Bool) (texts : List (Quoted (List ℕ))) → AllQuoted texts → GoodArguments limit keys (map quoted_argument texts)
+  quoted_arguments keys [] h = tt
+  quoted_arguments keys (q ∷ qs) h = ((h.0, λ k. refl), quoted_arguments keys qs h.1)
+
+  signal_arguments : (ss : List Signal) → 0 < limit → GoodArguments limit false (map signal_argument ss)
+  signal_arguments [] some = tt
+  signal_arguments (s ∷ ss) some = ((signal_good limit s some, λ k. refl), signal_arguments ss some)
+
+  arguments_joined : (keys : Bool) (a b : List Argument) → GoodArguments limit keys a → GoodArguments limit keys b → GoodArguments limit keys (a ++ b)
+  arguments_joined keys [] b h k = k
+  arguments_joined keys (x ∷ a) b h k = (h.0, arguments_joined keys a b h.1 k)
+
+  keyed_good : {X : Type 0} (word : List ℕ) (f : X → Value) (P : X → Type 0) → GoodName (fixed_text word) → ((x : X) → P x → GoodExpression limit (f x))
+      → (o : Option X) → IfGiven P o
+      → GoodArguments limit true (keyed_if word f o)
+  keyed_good word f P name step None h = tt
+  keyed_good word f P name step (Some x) h = ((name, refl, step x h), tt)
+
+  bare_good : {X : Type 0} (word : List ℕ) → GoodName (fixed_text word) → (o : Option X) → GoodArguments limit true (bare_if word o)
+  bare_good word name None = tt
+  bare_good word name (Some x) = ((name, refl), tt)
+
+  abbrev GoodOption : OptionName (List ℕ) (Unit {0}) → Type 0
+  GoodOption tree.NoOption = Unit {0}
+  GoodOption (tree.OwnName key) = Unit {0}
+  GoodOption (tree.Named q) = GoodQuoted q
+
+  option_good : (word : List ℕ) → GoodName (fixed_text word) → (o : OptionName (List ℕ) (Unit {0})) → GoodOption o
+      → GoodArguments limit true (option_argument word o)
+  option_good word name tree.NoOption h = tt
+  option_good word name (tree.OwnName key) h = ((name, refl), tt)
+  option_good word name (tree.Named q) h = ((name, refl, h), tt)
+
+  abbrev GoodProperty : Property (List ℕ) (Unit {0}) → Type 0
+  GoodProperty p = GoodExpression limit p.value
+
+  abbrev GoodBound : Bound (Unit {0}) → Type 0
+  GoodBound b = b.number < 2 ^ 64
+
+  record GoodRules (a : ArgumentRules (List ℕ) (Unit {0})) : Type 0 where
+    name : GoodQuoted a.name
+    long : GoodOption a.long
+    short : GoodOption a.short
+    pattern : IfGiven GoodProperty a.pattern
+    value : IfGiven (GoodExpression limit) a.value
+    min : IfGiven GoodBound a.min
+    max : IfGiven GoodBound a.max
+    help : IfGiven GoodProperty a.help
+
+  rules_good : (a : ArgumentRules (List ℕ) (Unit {0})) → GoodRules a → GoodArguments limit true (rules_arguments a)
+  unfolding class_of
+  rules_good a h =
+      let some = some_limit h.name in
+      let number : (b : Bound (Unit {0})) → GoodBound b → GoodExpression limit (number_literal b.number) = λ b small. number_good limit b.number some small in
+      let join = arguments_joined true in (
+        (h.name, λ k. refl),
+        join _ _ (join _ _ (join _ _ (join _ _ (join _ _ (join _ _ (join _ _ (join _ _
+            (option_good (codes "long") (word_good (codes "long") refl refl) a.long h.long)
+            (option_good (codes "short") (word_good (codes "short") refl refl) a.short h.short))
+            (keyed_good (codes "pattern") (λ p. p.value) GoodProperty (word_good (codes "pattern") refl refl) (λ p good. good) a.pattern h.pattern))
+            (keyed_good (codes "value") (λ e. e) (GoodExpression limit) (word_good (codes "value") refl refl) (λ e good. good) a.value h.value))
+            (bare_good (codes "flag") (word_good (codes "flag") refl refl) a.flag))
+            (bare_good (codes "multiple") (word_good (codes "multiple") refl refl) a.multiple))
+            (keyed_good (codes "min") (λ b. number_literal b.number) GoodBound (word_good (codes "min") refl refl) number a.min h.min))
+            (keyed_good (codes "max") (λ b. number_literal b.number) GoodBound (word_good (codes "max") refl refl) number a.max h.max))
+            (keyed_good (codes "help") (λ p. p.value) GoodProperty (word_good (codes "help") refl refl) (λ p good. good) a.help h.help),
+      )
+
+  -- ---- what they mean
+
+  module _ (view : LeafView (List ℕ) (Unit {0})) where
+    given_good : {Y : Type 0} (P : Y → Type 0) (f : KeyArgument (List ℕ) (Unit {0}) → Option Y)
+        → ((k : KeyArgument (List ℕ) (Unit {0})) (y : Y) → f k ≡ Some y → GoodKey k → P y)
+        → (o : Option (KeyArgument (List ℕ) (Unit {0}))) (r : Option Y) → of_given f o ≡ Some r → IfGiven GoodKey o → IfGiven P r
+    given_good P f step None r e h = subst (IfGiven P) (some_same e) tt
+    given_good P f step (Some k) r e h =
+        let b = bind_some (f k) (λ y. Some (Some y)) r e in
+        subst (IfGiven P) (some_same b.2) (step k b.0 b.1 h)
+
+    property_good : (k : KeyArgument (List ℕ) (Unit {0})) (p : Property (List ℕ) (Unit {0})) → property_of view k ≡ Some p → GoodKey k → GoodProperty p
+    property_good k p e h =
+        let b = bind_some k.value _ p e in
+        subst GoodProperty (some_same b.2) (subst (IfGiven (GoodExpression limit)) b.1 h)
+
+    value_good : (k : KeyArgument (List ℕ) (Unit {0})) (v : Value) → k.value ≡ Some v → GoodKey k → GoodExpression limit v
+    value_good k v e h = subst (IfGiven (GoodExpression limit)) e h
+
+    bound_good : (k : KeyArgument (List ℕ) (Unit {0})) (b : Bound (Unit {0})) → bound_of view k ≡ Some b → GoodKey k → GoodBound b
+    bound_good k b e h =
+        let value = bind_some k.value _ b e in
+        let literal = bind_some (quoted value.0) _ b value.2 in
+        let number = bind_some (count_of (text_of view literal.0)) _ b literal.2 in
+        subst GoodBound (some_same number.2) (count_small (text_of view literal.0) number.0 number.1)
+
+    named_good : (key : List ℕ) (value : Option Value) (o : OptionName (List ℕ) (Unit {0})) → option_named view key value ≡ Some o
+        → IfGiven (GoodExpression limit) value → GoodOption o
+    named_good key None o e h = subst GoodOption (some_same e) tt
+    named_good key (Some value) o e h =
+        let b = bind_some (quoted value) _ o e in
+        subst GoodOption (some_same b.2) (quoted_is value b.0 b.1 h)
+
+    option_at_good : (k : Option (KeyArgument (List ℕ) (Unit {0}))) (o : OptionName (List ℕ) (Unit {0})) → option_at view k ≡ Some o → IfGiven GoodKey k
+        → GoodOption o
+    option_at_good None o e h = subst GoodOption (some_same e) tt
+    option_at_good (Some k) o e h = named_good k.key k.value o e h
+
+    first_good : (texts : List (Quoted (List ℕ))) (q : Quoted (List ℕ)) → first_of texts ≡ Some q → AllQuoted texts → GoodQuoted q
+    first_good [] q e h = cc
+    first_good (t ∷ ts) q e h = subst GoodQuoted (some_same e) h.0
+
+    meant_rules : (texts : List (Quoted (List ℕ))) (keys : List (KeyArgument (List ℕ) (Unit {0}))) (a : ArgumentRules (List ℕ) (Unit {0}))
+        → rules_of view texts keys ≡ Some a → AllQuoted texts → AllKeys keys → GoodRules a
+    meant_rules texts keys a e h ks =
+        let at : (word : List ℕ) → IfGiven GoodKey (at_key view word keys) = λ word. found_good (meaning.is_key view word) keys ks in
+        binding (first_of texts) _ _ e (λ name name_is e.
+        binding (of_given (bare_of view) (at_key view (codes "flag") keys)) _ _ e (λ flag flag_is e.
+        binding (of_given (property_of view) (at_key view (codes "help") keys)) _ _ e (λ help help_is e.
+        binding (option_at view (at_key view (codes "long") keys)) _ _ e (λ long long_is e.
+        binding (of_given (bound_of view) (at_key view (codes "max") keys)) _ _ e (λ max max_is e.
+        binding (of_given (bound_of view) (at_key view (codes "min") keys)) _ _ e (λ min min_is e.
+        binding (of_given (bare_of view) (at_key view (codes "multiple") keys)) _ _ e (λ multiple multiple_is e.
+        binding (of_given (property_of view) (at_key view (codes "pattern") keys)) _ _ e (λ pattern pattern_is e.
+        binding (option_at view (at_key view (codes "short") keys)) _ _ e (λ short short_is e.
+        binding (of_given (value_of view) (at_key view (codes "value") keys)) _ _ e (λ value value_is e.
+        subst GoodRules (some_same e) (record {
+          name = first_good texts name name_is h;
+          long = option_at_good _ long long_is (at (codes "long"));
+          short = option_at_good _ short short_is (at (codes "short"));
+          pattern = given_good GoodProperty (property_of view) property_good _ pattern pattern_is (at (codes "pattern"));
+          value = given_good (GoodExpression limit) (value_of view) value_good _ value value_is (at (codes "value"));
+          min = given_good GoodBound (bound_of view) bound_good _ min min_is (at (codes "min"));
+          max = given_good GoodBound (bound_of view) bound_good _ max max_is (at (codes "max"));
+          help = given_good GoodProperty (property_of view) property_good _ help help_is (at (codes "help"));
+        })))))))))))
+
+    cache_good : (keys : List (KeyArgument (List ℕ) (Unit {0}))) (a : Attribute (List ℕ) (Unit {0})) → of_literals view attributes.Cache [] keys ≡ Some a
+        → AllKeys keys → GoodAttribute a
+    unfolding class_of
+    cache_good keys a e ks =
+        let at : (word : List ℕ) → IfGiven GoodKey (at_key view word keys) = λ word. found_good (meaning.is_key view word) keys ks in
+        let value : (v : Value) → GoodExpression limit v → GoodExpression limit v = λ v h. h in
+        let extra = bind_some (of_given (value_of view) (at_key view (codes "extra") keys)) _ a e in
+        let inputs = bind_some (of_given (value_of view) (at_key view (codes "inputs") keys)) _ a extra.2 in
+        let outputs = bind_some (of_given (value_of view) (at_key view (codes "outputs") keys)) _ a inputs.2 in
+        let join = arguments_joined true in
+        subst GoodAttribute (some_same outputs.2)
+        (join _ _ (join _ _
+        (keyed_good (codes "extra") (λ e. e) (GoodExpression limit) (word_good (codes "extra") refl refl) value extra.0
+        (given_good (GoodExpression limit) (value_of view) value_good _ extra.0 extra.1 (at (codes "extra"))))
+        (keyed_good (codes "inputs") (λ e. e) (GoodExpression limit) (word_good (codes "inputs") refl refl) value inputs.0
+        (given_good (GoodExpression limit) (value_of view) value_good _ inputs.0 inputs.1 (at (codes "inputs")))))
+        (keyed_good (codes "outputs") (λ e. e) (GoodExpression limit) (word_good (codes "outputs") refl refl) value outputs.0
+        (given_good (GoodExpression limit) (value_of view) value_good _ outputs.0 outputs.1 (at (codes "outputs")))))
+
+    signals_good : (texts : List (Quoted (List ℕ))) (given : List Signal) → all_of (signal_of view) texts ≡ Some given → AllQuoted texts
+        → GoodArguments limit false (map signal_argument (signal_set given))
+    signals_good [] given e h = subst (λ (g : List Signal). GoodArguments limit false (map signal_argument (signal_set g))) (some_same e) tt
+    signals_good (q ∷ qs) given e h = signal_arguments (signal_set given) (some_limit h.0)
+
+    single_good : (kind : AttributeKind) (values : List Value) → takes_keys kind ≡ false → AllValues values → GoodAttribute (single_of view kind values)
+    single_good kind [] no_keys h = tt
+    single_good kind (v ∷ vs) no_keys h = ((h.0, λ k. let bad : true ≡ false = sym k ∙ no_keys in cc), tt)
+
+    texts_good : (kind : AttributeKind) (texts : List (Quoted (List ℕ))) → AllQuoted texts → GoodAttribute (texts_of view kind texts)
+    texts_good kind [] h = tt
+    texts_good kind (q ∷ qs) h = quoted_arguments (takes_keys kind) (q ∷ qs) h
+
+    env_good : (values : List Value) (a : Attribute (List ℕ) (Unit {0})) → env_of view values ≡ Some a → AllValues values → GoodAttribute a
+    env_good [] a e h = cc
+    env_good (key ∷ []) a e h = cc
+    env_good (key ∷ value ∷ values) a e h = subst GoodAttribute (some_same e) ((h.0, λ k. cc), ((h.1.0, λ k. cc), tt))
+
+    expressions_good : (kind : AttributeKind) (values : List Value) (a : Attribute (List ℕ) (Unit {0})) → takes_expressions kind ≡ true
+        → of_expressions view kind values ≡ Some a → AllValues values → GoodAttribute a
+    expressions_good attributes.Env values a takes e h = env_good values a e h
+    expressions_good attributes.Confirm values a takes e h = subst GoodAttribute (some_same e) (single_good attributes.Confirm values refl h)
+    expressions_good attributes.Doc values a takes e h = subst GoodAttribute (some_same e) (single_good attributes.Doc values refl h)
+    expressions_good attributes.Timestamp values a takes e h = subst GoodAttribute (some_same e) (single_good attributes.Timestamp values refl h)
+    expressions_good attributes.WorkingDirectory values a takes e h = subst GoodAttribute (some_same e) (single_good attributes.WorkingDirectory values refl h)
+    expressions_good _ values a takes e h = cc
+
+    literals_good : (kind : AttributeKind) (texts : List (Quoted (List ℕ))) (keys : List (KeyArgument (List ℕ) (Unit {0}))) (a : Attribute (List ℕ) (Unit {0}))
+        → of_literals view kind texts keys ≡ Some a → AllQuoted texts → AllKeys keys → GoodAttribute a
+    literals_good attributes.Arg texts keys a e h ks =
+        let b = bind_some (rules_of view texts keys) _ a e in
+        subst GoodAttribute (some_same b.2) (rules_good b.0 (meant_rules texts keys b.0 b.1 h ks))
+    literals_good attributes.Cache texts keys a e h ks = cache_good keys a e ks
+    literals_good attributes.Continue texts keys a e h ks =
+        let b = bind_some (all_of (signal_of view) texts) _ a e in
+        subst GoodAttribute (some_same b.2) (signals_good texts b.0 b.1 h)
+    literals_good kind texts keys a e h ks = subst GoodAttribute (some_same e) (texts_good kind texts h)
+
+    meant_by : (takes : Bool) (kind : AttributeKind) (values : List Value) (keys : List (KeyArgument (List ℕ) (Unit {0}))) (a : Attribute (List ℕ) (Unit {0}))
+        → takes_expressions kind ≡ takes → by_takes view takes kind values keys ≡ Some a → AllValues values → AllKeys keys
+        → GoodAttribute a
+    meant_by true kind values keys a takes e h ks = expressions_good kind values a takes e h
+    meant_by false kind values keys a takes e h ks =
+        let b = bind_some (all_of quoted values) _ a e in
+        literals_good kind b.0 keys a b.2 (all_quoted values b.0 b.1 h) ks
+
+    -- an attribute whose values are good means one that is
+    pub entry_good : (w : Written) (e : ShapeEntry) → entry_of view w ≡ Some e → GoodSourceAttribute w → GoodEntry limit e
+    entry_good w e is h =
+        let kind = bind_some (kind_named (view.bytes w.name)) _ e is in
+        let attribute = bind_some (attribute_of view kind.0 (by_position w.arguments) (by_key w.arguments)) _ e kind.2 in
+        let good = meant_by (takes_expressions kind.0) kind.0 _ (by_key w.arguments) attribute.0 refl attribute.1 (source_values w.arguments h.arguments)
+        (source_keys w.arguments h.arguments) in
+        subst (GoodEntry limit) (some_same attribute.2) (record {
+          named = kind_good (kind_of_attribute attribute.0);
+          arguments = subst (λ k. GoodArguments limit k (attribute_arguments attribute.0)) (sym (keys_of_name (kind_of_attribute attribute.0))) good;
+          comment = h.comment;
+        })
+
+    all_entries_good : (ws : List Written) (entries : List ShapeEntry) → all_of (entry_of view) ws ≡ Some entries → AllGoodAttributes ws
+        → GoodEntries limit entries
+    all_entries_good [] entries e h = subst (GoodEntries limit) (some_same e) tt
+    all_entries_good (w ∷ ws) entries e h =
+        let first = bind_some (entry_of view w) _ entries e in
+        let others = bind_some (all_of (entry_of view) ws) _ entries first.2 in
+        subst (GoodEntries limit) (some_same others.2) (entry_good w first.0 first.1 h.0, all_entries_good ws others.0 others.1 h.1)
+
+    placed_good : (cmp : ShapeEntry → ShapeEntry → Ordering) (x : ShapeEntry) (ys : List ShapeEntry) → GoodEntry limit x → GoodEntries limit ys
+        → GoodEntries limit (placed cmp x ys)
+    placed_good cmp x [] h hs = (h, tt)
+    placed_good cmp x (y ∷ ys) h hs = by (is_gt (cmp x y)) (placed_good cmp x ys h hs.1)
+      where
+        by : (b : Bool) → GoodEntries limit (placed cmp x ys) → GoodEntries limit (cond b (y ∷ placed cmp x ys) (x ∷ y ∷ ys))
+        by true more = (hs.0, more)
+        by false more = (h, hs)
+
+    in_order_good : (cmp : ShapeEntry → ShapeEntry → Ordering) (xs : List ShapeEntry) → GoodEntries limit xs → GoodEntries limit (in_order cmp xs)
+    in_order_good cmp [] h = tt
+    in_order_good cmp (x ∷ xs) h = placed_good cmp x (in_order cmp xs) h.0 (in_order_good cmp xs h.1)
+
+    -- attributes whose values are good mean entries that are
+    pub entries_good : (ws : List Written) (entries : List ShapeEntry) → entries_of view ws ≡ Some entries → AllGoodAttributes ws → GoodEntries limit entries
+    entries_good ws entries e h =
+        let b = bind_some (all_of (entry_of view) ws) _ entries e in
+        subst (GoodEntries limit) (some_same b.2) (in_order_good (entry_cmp view) b.0 (all_entries_good ws b.0 b.1 h))

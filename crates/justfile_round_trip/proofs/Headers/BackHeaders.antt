@@ -1,0 +1,278 @@
+-- If tokens derive a header, the printer's tokens for it do, too, with the same features.
+use Rattle.std.proofs.Common.{◌≡◌, ℕ, Bool, true, false, cond, List, [], ◌∷◌, ◌++◌, Option, Some, None, refl, sym, subst, ap, ◌∙◌, arith}
+use Rattle.std.specs.Prelude.{◌&&◌}
+use Rattle.std.specs.List.{flat_map}
+use Rattle.justfile_vocabulary.specs.declared.token_kind.TokenKind.TheVariants as kinds
+use Rattle.justfile_model.specs.declared.parameter_kind.ParameterKind.{ParameterKind}
+use Rattle.justfile_model.specs.declared.parameter_kind.ParameterKind.TheVariants.{Plus, Singular, Star}
+use Rattle.justfile_model.specs.Expressions.{Tokens, NotNext, BelowLimit}
+use Rattle.justfile_model.specs.Headers as g
+use Rattle.justfile_model.specs.Headers.{PathRest, PathOf, NamedParameter, ParameterOf, Parameters, DependencyArguments, DependencyOf, Dependencies, AllDependencies, NamedHeader, HeaderOf}
+use Rattle.justfile_model.specs.RecipeRules.{dependency_broken, header_broken, misplaced_broken, second_broken, stars}
+use Rattle.justfile_model.specs.SignificantTokens.{SignificantToken, is_whitespace}
+use Rattle.justfile_model.specs.Tree.{lexeme, nothing}
+use Rattle.justfile_model.proofs.Binds.{nothing_in}
+use Rattle.justfile_round_trip.proofs.LiteralTexts.LexedModes.{Mark, placed}
+use Rattle.justfile_round_trip.proofs.Back.{StopE, glued_string, is_string, lower, none_but_closing, stop_before, ends_before, value_before, expression_back, value_back}
+use Rattle.justfile_round_trip.proofs.Canon.{Shown, colon, word, paren_right, space}
+use Rattle.justfile_round_trip.proofs.Headers.CanonHeaders.{ShapeParameter, ShapeArgument, ShapeDependency, ShapeHeader, default_marks, dollar_marks, prefix_marks, parameters_marks, path_rest_marks, path_marks, dependency_arguments_marks, dependency_parts_marks, dependency_marks, dependencies_marks, subsequents_marks, header_rest_marks, header_marks, ampersands}
+use Rattle.justfile_round_trip.proofs.Ends.{End, tail, EndsIn, ValueEndsIn, expression_head}
+use Rattle.justfile_round_trip.proofs.Good.{significant, ends_value}
+use Rattle.justfile_round_trip.proofs.Headers.GoodHeaders.{HeaderDerivesBack}
+use Rattle.justfile_round_trip.proofs.SideBySide.{apart, begins_too, ends_too, not_begun, expression_begins, expression_ends, stop_beside, value_ends, value_ends_too}
+
+-- ---- the tokens that follow
+
+-- the tokens before which a value ends
+record Parted (ts : Tokens) : Type 0 where
+  no_equals : NotNext kinds.Equals ts
+  no_paren : NotNext kinds.ParenL ts
+  apart : glued_string ts ≡ false
+
+-- after the name of a recipe or after a parameter: another parameter, or the colon
+parameters_parted : (ps : List ShapeParameter) (on : List Mark) → Parted (significant true (parameters_marks ps (colon ∷ on)))
+parameters_parted [] on = record { no_equals = λ e. cc; no_paren = λ e. cc; apart = refl }
+parameters_parted (p ∷ ps) on = by p.kind p.export
+  where
+    by : (k : ParameterKind) (b : Bool)
+        → Parted (significant true (space ∷ prefix_marks k (dollar_marks b (word p.name ∷ default_marks p.default (parameters_marks ps (colon ∷ on))))))
+    by Plus b = record { no_equals = λ e. cc; no_paren = λ e. cc; apart = refl }
+    by Singular true = record { no_equals = λ e. cc; no_paren = λ e. cc; apart = refl }
+    by Singular false = record { no_equals = λ e. cc; no_paren = λ e. cc; apart = refl }
+    by Star b = record { no_equals = λ e. cc; no_paren = λ e. cc; apart = refl }
+
+-- tokens that don't begin a dependency
+record Done (ts : Tokens) : Type 0 where
+  no_name : NotNext kinds.Identifier ts
+  no_star : NotNext kinds.Asterisk ts
+  no_paren : NotNext kinds.ParenL ts
+  no_colons : NotNext kinds.ColonColon ts
+
+done : (ts : Tokens) → ends_value ts ≡ true → Done ts
+done ts h = record {
+  no_name = none_but_closing kinds.Identifier ts refl h;
+  no_star = none_but_closing kinds.Asterisk ts refl h;
+  no_paren = none_but_closing kinds.ParenL ts refl h;
+  no_colons = none_but_closing kinds.ColonColon ts refl h;
+}
+
+-- two colons follow no path
+dependency_no_colons : (star : Option (Unit {0})) (path : List (List ℕ)) (arguments : List ShapeArgument) (on : List Mark) → (b : Bool)
+    → NotNext kinds.ColonColon (significant b on)
+    → NotNext kinds.ColonColon (significant b (dependency_parts_marks star path arguments on))
+dependency_no_colons star [] [] on b h = h
+dependency_no_colons star (n ∷ path) [] on b h = λ e. cc
+dependency_no_colons None path (a ∷ arguments) on b h = λ e. cc
+dependency_no_colons (Some s) path (a ∷ arguments) on b h = λ e. cc
+
+dependencies_no_colons : (ds : List ShapeDependency) (on : List Mark) (b : Bool) → ((c : Bool) → NotNext kinds.ColonColon (significant c on))
+    → NotNext kinds.ColonColon (significant b (dependencies_marks ds on))
+dependencies_no_colons [] on b h = h b
+dependencies_no_colons (d ∷ ds) on b h =
+    dependency_no_colons d.star d.path d.arguments (dependencies_marks ds on) false (dependencies_no_colons ds on false h)
+
+-- a dependency with a star before its parentheses has arguments
+abbrev NoBareStar : Option (Unit {0}) → List ShapeArgument → Type 0
+NoBareStar (Some star) [] = ⊥
+NoBareStar star arguments = Unit {0}
+
+abbrev AllStarred : List ShapeDependency → Type 0
+AllStarred [] = Unit {0}
+AllStarred (d ∷ ds) = NoBareStar d.star d.arguments × AllStarred ds
+
+no_bare_star : (star : Option (Unit {0})) (arguments : List ShapeArgument) → second_broken (stars arguments) ++ misplaced_broken star (stars arguments) ≡ [] → NoBareStar star arguments
+no_bare_star (Some star) [] h = cc
+no_bare_star (Some star) (a ∷ arguments) h = tt
+no_bare_star None arguments h = tt
+
+all_starred : (ds : List ShapeDependency) → flat_map dependency_broken ds ≡ [] → AllStarred ds
+all_starred [] h = tt
+all_starred (d ∷ ds) h =
+    let parts = nothing_in (dependency_broken d) (flat_map dependency_broken ds) h in (no_bare_star d.star d.arguments parts.0, all_starred ds parts.1)
+
+-- before a star an expression stops
+star_stops : (t : SignificantToken) (ts : Tokens) → t.tok.kind ≡ kinds.Asterisk → StopE (t ∷ ts)
+star_stops t ts kind = record {
+  or = λ e. let bad : kinds.Asterisk ≡ kinds.BarBar = sym kind ∙ e in cc;
+  disjunct = record {
+    and = λ e. let bad : kinds.Asterisk ≡ kinds.AmpersandAmpersand = sym kind ∙ e in cc;
+    comparison = record {
+      compared = record { equality = λ e. let bad : kinds.Asterisk ≡ kinds.EqualsEquals = sym kind ∙ e in cc; inequality = λ e. let bad : kinds.Asterisk ≡ kinds.BangEquals = sym kind ∙ e in cc; regex_match = λ e. let bad : kinds.Asterisk ≡ kinds.EqualsTilde = sym kind ∙ e in cc; regex_mismatch = λ e. let bad : kinds.Asterisk ≡ kinds.BangTilde = sym kind ∙ e in cc };
+      conjunct = record { apart = ap (λ k. is_string k && t.glued) kind };
+    };
+  };
+}
+
+-- it makes no difference whether the next token is glued
+ends_either : (on : List Mark) → ends_value (significant true on) ≡ true → (c : Bool) → ends_value (significant c on) ≡ true
+ends_either [] h c = h
+ends_either (m ∷ on) h c = by (is_whitespace m.kind) h
+  where
+    by : (w : Bool) → ends_value (cond w (significant false on) (record { tok = placed m 0 0 0; glued = true } ∷ significant true on)) ≡ true
+        → ends_value (cond w (significant false on) (record { tok = placed m 0 0 0; glued = c } ∷ significant true on)) ≡ true
+    by true h = h
+    by false h = h
+
+module _ (limit : ℕ) where
+  -- ---- parameters
+
+  record ParameterBack (kind : ParameterKind) (p : ShapeParameter) (fs : Shown) (b : Bool) (on : List Mark) : Type 0 where
+    derives : ParameterOf lexeme nothing (BelowLimit limit) kind p fs (significant b (dollar_marks p.export (word p.name ∷ default_marks p.default on))) (significant true on)
+    same_kind : p.kind ≡ kind
+
+  named_back : {kind : ParameterKind} {export : Bool} {p : ShapeParameter} {fs : Shown} {ts rest : Tokens}
+      → NamedParameter lexeme nothing (BelowLimit limit) kind export p fs ts rest → (b : Bool) (on : List Mark) → Parted (significant true on)
+      → NamedParameter lexeme nothing (BelowLimit limit) kind export p fs (significant b (word p.name ∷ default_marks p.default on)) (significant true on)
+  named_back (g.required kind next) b on h = g.required refl h.no_equals
+  named_back (g.optional {e = e'} kind kind2 v) b on h =
+      g.optional refl refl (value_back (BelowLimit limit) (BelowLimit limit) (lower limit) v 0 (omega arith) true on (value_before (tail e') _ h.no_paren) h.apart)
+
+  named_parts : {kind : ParameterKind} {export : Bool} {p : ShapeParameter} {fs : Shown} {ts rest : Tokens}
+      → NamedParameter lexeme nothing (BelowLimit limit) kind export p fs ts rest → (p.kind ≡ kind) × (p.export ≡ export)
+  named_parts (g.required kind next) = (refl, refl)
+  named_parts (g.optional kind kind2 v) = (refl, refl)
+
+  parameter_back : {kind : ParameterKind} {p : ShapeParameter} {fs : Shown} {ts rest : Tokens} → ParameterOf lexeme nothing (BelowLimit limit) kind p fs ts rest
+      → (b : Bool) (on : List Mark) → Parted (significant true on) → ParameterBack kind p fs b on
+  parameter_back {p = p} {fs = fs} (g.exported {kind = k} kind n) b on h =
+      let parts = named_parts n in
+      record {
+        derives = subst (λ x. ParameterOf lexeme nothing (BelowLimit limit) k p fs (significant b (dollar_marks x (word p.name ∷ default_marks p.default on))) (significant true on)) (sym parts.1)
+            (g.exported refl (named_back n true on h));
+        same_kind = parts.0;
+      }
+  parameter_back {p = p} {fs = fs} (g.unexported {kind = k} n) b on h =
+      let parts = named_parts n in
+      record {
+        derives = subst (λ x. ParameterOf lexeme nothing (BelowLimit limit) k p fs (significant b (dollar_marks x (word p.name ∷ default_marks p.default on))) (significant true on)) (sym parts.1)
+            (g.unexported (named_back n b on h));
+        same_kind = parts.0;
+      }
+
+  -- the parameters after the name of a recipe, and the colon
+  parameters_back : {ps : List ShapeParameter} {fs : Shown} {ts rest : Tokens} → Parameters lexeme nothing (BelowLimit limit) ps fs ts rest → (b : Bool) (on : List Mark)
+      → Parameters lexeme nothing (BelowLimit limit) ps fs (significant b (parameters_marks ps (colon ∷ on))) (significant true on)
+  parameters_back (g.none kind) b on = g.none refl
+  parameters_back (g.more {p = p} {ps = ps} {fs = fs} {gs = gs} x r) b on =
+      let others = parameters_marks ps (colon ∷ on) in
+      let q = parameter_back x false others (parameters_parted ps on) in
+      subst (λ k. Parameters lexeme nothing (BelowLimit limit) (p ∷ ps) (fs ++ gs) (significant false (prefix_marks k (dollar_marks p.export (word p.name ∷ default_marks p.default others)))) (significant true on))
+      (sym q.same_kind) (g.more q.derives (parameters_back r true on))
+  parameters_back (g.plus {p = p} {fs = fs} kind x kind2) b on =
+      let q = parameter_back x true (colon ∷ on) (parameters_parted [] on) in
+      subst (λ k. Parameters lexeme nothing (BelowLimit limit) (p ∷ []) fs (significant false (prefix_marks k (dollar_marks p.export (word p.name ∷ default_marks p.default (colon ∷ on))))) (significant true on))
+      (sym q.same_kind) (g.plus refl q.derives refl)
+  parameters_back (g.star {p = p} {fs = fs} kind x kind2) b on =
+      let q = parameter_back x true (colon ∷ on) (parameters_parted [] on) in
+      subst (λ k. Parameters lexeme nothing (BelowLimit limit) (p ∷ []) fs (significant false (prefix_marks k (dollar_marks p.export (word p.name ∷ default_marks p.default (colon ∷ on))))) (significant true on))
+      (sym q.same_kind) (g.star refl q.derives refl)
+
+  -- ---- dependencies
+
+  path_rest_back : {names : List (List ℕ)} {ts rest : Tokens} → PathRest lexeme names ts rest → (b : Bool) (on : List Mark)
+      → ((c : Bool) → NotNext kinds.ColonColon (significant c on))
+      → PathRest lexeme names (significant true (path_rest_marks names on)) (significant true on)
+  path_rest_back (g.last next) b on h = g.last (h true)
+  path_rest_back (g.next kind kind2 r) b on h = g.next refl refl (path_rest_back r b on h)
+
+  path_back : {names : List (List ℕ)} {ts rest : Tokens} → PathOf lexeme names ts rest → (b : Bool) (on : List Mark)
+      → ((c : Bool) → NotNext kinds.ColonColon (significant c on))
+      → PathOf lexeme names (significant b (path_marks names on)) (significant true on)
+  path_back (g.path kind r) b on h = g.path refl (path_rest_back r b on h)
+
+  -- an argument ends before the others, or before the closing parenthesis
+  record ArgumentsBack (arguments : List ShapeArgument) (fs : Shown) (ts : Tokens) (on : List Mark) : Type 0 where
+    derives : DependencyArguments lexeme nothing nothing (BelowLimit limit) arguments fs (significant true (dependency_arguments_marks arguments (paren_right ∷ on))) (significant true on)
+    ends : {x : End} → EndsIn x ts → EndsIn x (significant true (dependency_arguments_marks arguments (paren_right ∷ on)))
+    value_ends : {x : End} → ValueEndsIn x ts → ValueEndsIn x (significant true (dependency_arguments_marks arguments (paren_right ∷ on)))
+    stops : StopE (significant true (dependency_arguments_marks arguments (paren_right ∷ on)))
+    apart : glued_string (significant true (dependency_arguments_marks arguments (paren_right ∷ on))) ≡ false
+    no_colons : (c : Bool) → NotNext kinds.ColonColon (significant c (dependency_arguments_marks arguments (paren_right ∷ on)))
+
+  arguments_back : {arguments : List ShapeArgument} {fs : Shown} {ts rest : Tokens} → DependencyArguments lexeme nothing nothing (BelowLimit limit) arguments fs ts rest
+      → (on : List Mark) → ArgumentsBack arguments fs ts on
+  arguments_back (g.none kind) on = record {
+    derives = g.none refl;
+    ends = λ {x} h. ends_before x _ _ refl;
+    value_ends = λ {x} h. value_before x _ (λ e. cc);
+    stops = stop_before _ _ refl;
+    apart = refl;
+    no_colons = λ c e. cc;
+  }
+  arguments_back (g.plain {e = e'} {others = others} x r) on =
+      let q = arguments_back r on in
+      let head = expression_head (BelowLimit limit) x false (dependency_arguments_marks others (paren_right ∷ on)) in
+      record {
+        derives = g.plain (expression_back (BelowLimit limit) (BelowLimit limit) (lower limit) x 0 (omega arith) false _ (q.ends (expression_ends (BelowLimit limit) x)) q.stops) q.derives;
+        ends = λ {x} h. ends_too x head h;
+        value_ends = λ {x} h. value_ends_too x head h;
+        stops = stop_beside head (expression_begins (BelowLimit limit) x);
+        apart = apart head;
+        no_colons = λ c. not_begun kinds.ColonColon (begins_too head (expression_begins (BelowLimit limit) x)) refl;
+      }
+  arguments_back (g.starred {e = e'} kind v r) on =
+      let q = arguments_back r on in
+      record {
+        derives = g.starred refl (value_back (BelowLimit limit) (BelowLimit limit) (lower limit) v 0 (omega arith) true _ (q.value_ends (value_ends (BelowLimit limit) v)) q.apart) q.derives;
+        ends = λ {x} h. ends_before x _ _ refl;
+        value_ends = λ {x} h. value_before x _ (λ e. cc);
+        stops = star_stops _ _ refl;
+        apart = refl;
+        no_colons = λ c e. cc;
+      }
+
+  -- a dependency after a space, before tokens that don't begin with `::`
+  dependency_back : {d : ShapeDependency} {fs : Shown} {ts rest : Tokens} → DependencyOf lexeme nothing nothing (BelowLimit limit) d fs ts rest → NoBareStar d.star d.arguments
+      → (on : List Mark) → ((c : Bool) → NotNext kinds.ColonColon (significant c on))
+      → DependencyOf lexeme nothing nothing (BelowLimit limit) d fs (significant false (dependency_marks d on)) (significant true on)
+  dependency_back (g.bare p) s on h = g.bare (path_back p false on h)
+  dependency_back (g.plain kind p (g.none kind2)) s on h = g.bare (path_back p false on h)
+  dependency_back (g.plain kind p (g.plain x r)) s on h =
+      let q = arguments_back (g.plain x r) on in g.plain refl (path_back p true _ q.no_colons) q.derives
+  dependency_back (g.plain kind p (g.starred {mark = m} kind2 v r)) s on h =
+      let q = arguments_back (g.starred {mark = m} kind2 v r) on in g.plain refl (path_back p true _ q.no_colons) q.derives
+  dependency_back (g.starred kind kind2 p (g.none kind3)) s on h = absurd s
+  dependency_back (g.starred kind kind2 p (g.plain x r)) s on h =
+      let q = arguments_back (g.plain x r) on in g.starred refl refl (path_back p true _ q.no_colons) q.derives
+  dependency_back (g.starred kind kind2 p (g.starred {mark = m} kind3 v r)) s on h =
+      let q = arguments_back (g.starred {mark = m} kind3 v r) on in g.starred refl refl (path_back p true _ q.no_colons) q.derives
+
+  -- dependencies, each after a space, before tokens that don't begin another one
+  dependencies_back : {ds : List ShapeDependency} {fs : Shown} {ts rest : Tokens} → Dependencies lexeme nothing nothing (BelowLimit limit) ds fs ts rest → AllStarred ds
+      → (on : List Mark) → ((c : Bool) → Done (significant c on))
+      → Dependencies lexeme nothing nothing (BelowLimit limit) ds fs (significant true (dependencies_marks ds on)) (significant true on)
+  dependencies_back (g.none a b c) s on h = let q = h true in g.none q.no_name q.no_star q.no_paren
+  dependencies_back (g.more {ds = ds} x r) s on h =
+      g.more (dependency_back x s.0 (dependencies_marks ds on) (λ c. dependencies_no_colons ds on c (λ b. (h b).no_colons))) (dependencies_back r s.1 on h)
+
+  ampersands_done : (on : List Mark) → Done (significant false (ampersands ∷ on))
+  ampersands_done on = record { no_name = λ e. cc; no_star = λ e. cc; no_paren = λ e. cc; no_colons = λ e. cc }
+
+  all_back : {ds ss : List ShapeDependency} {fs : Shown} {ts rest : Tokens} → AllDependencies lexeme nothing nothing (BelowLimit limit) ds ss fs ts rest
+      → AllStarred ds → AllStarred ss → (on : List Mark) → ((c : Bool) → ends_value (significant c on) ≡ true)
+      → AllDependencies lexeme nothing nothing (BelowLimit limit) ds ss fs (significant true (dependencies_marks ds (subsequents_marks ss on))) (significant true on)
+  all_back (g.priors x next) s r on h =
+      g.priors (dependencies_back x s on (λ c. done _ (h c))) (none_but_closing kinds.AmpersandAmpersand _ refl (h true))
+  all_back (g.both {d = d} {others = others} x kind y) s r on h =
+      g.both (dependencies_back x s (space ∷ ampersands ∷ dependencies_marks (d ∷ others) on) (λ c. ampersands_done (dependencies_marks (d ∷ others) on))) refl (dependencies_back y r on (λ c. done _ (h c)))
+
+  named_header_back : {quiet : Bool} {h : ShapeHeader} {fs : Shown} {ts rest : Tokens} → NamedHeader lexeme nothing nothing (BelowLimit limit) quiet h fs ts rest
+      → AllStarred h.priors → AllStarred h.subsequents → (b : Bool) (on : List Mark) → ((c : Bool) → ends_value (significant c on) ≡ true)
+      → NamedHeader lexeme nothing nothing (BelowLimit limit) quiet h fs (significant b (word h.name ∷ header_rest_marks h on)) (significant true on)
+  named_header_back (g.header {ds = ds} {ss = ss} kind ps all) s r b on h =
+      g.header refl (parameters_back ps true (dependencies_marks ds (subsequents_marks ss on))) (all_back all s r on h)
+
+  -- a header, before tokens at which a value ends
+  header_marks_back : {h : ShapeHeader} {fs : Shown} {ts rest : Tokens} → HeaderOf lexeme nothing nothing (BelowLimit limit) h fs ts rest
+      → AllStarred h.priors → AllStarred h.subsequents → (b : Bool) (on : List Mark) → ((c : Bool) → ends_value (significant c on) ≡ true)
+      → HeaderOf lexeme nothing nothing (BelowLimit limit) h fs (significant b (header_marks h on)) (significant true on)
+  header_marks_back (g.quiet kind (g.header {name = n} kind2 ps all)) s r b on h = g.quiet refl (named_header_back (g.header {name = n} kind2 ps all) s r true on h)
+  header_marks_back (g.loud (g.header {name = n} kind2 ps all)) s r b on h = g.loud (named_header_back (g.header {name = n} kind2 ps all) s r b on h)
+
+  pub header_back : {h : ShapeHeader} {fs : Shown} {ts rest : Tokens} → HeaderOf lexeme nothing nothing (BelowLimit limit) h fs ts rest → header_broken h ≡ []
+      → HeaderDerivesBack limit h fs
+  header_back {h} x unbroken = record {
+    derives = λ b on stop.
+        let parts = nothing_in (flat_map dependency_broken h.priors) (flat_map dependency_broken h.subsequents) unbroken in
+        header_marks_back x (all_starred h.priors parts.0) (all_starred h.subsequents parts.1) b on (ends_either on stop);
+  }

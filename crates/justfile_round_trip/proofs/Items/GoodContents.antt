@@ -1,0 +1,108 @@
+-- Good constructs on one line: each lexeme has the properties of its token, and the values derive back.
+use Rattle.std.proofs.Common.{◌≡◌, ℕ, Bool, true, false, ◌&&◌, List, [], ◌∷◌, Option, Some, None, refl, codes}
+use Rattle.std.specs.Str.{IsUtf8}
+use Rattle.justfile_vocabulary.specs.Keyword.{keyword_text}
+use Rattle.justfile_vocabulary.specs.declared.keyword.Keyword.{Keyword}
+use Rattle.justfile_vocabulary.specs.declared.token_kind.TokenKind.TheVariants as kinds
+use Rattle.justfile_model.specs.Docs.{doc_of, redocumented}
+use Rattle.justfile_model.specs.Expressions.{Sequence, BelowLimit}
+use Rattle.justfile_model.specs.Settings.{ExpressionForm, InterpreterForm, PlainForm, SettingForm, TruthForm, setting_form}
+use Rattle.justfile_model.specs.Tree as tree
+use Rattle.justfile_model.specs.Tree.{assignment_of, bare_module, bare_recipe, lexeme, nothing}
+use Rattle.justfile_round_trip.proofs.LiteralTexts.LexedModes.{Mark, mark}
+use Rattle.justfile_round_trip.proofs.Canon.{Shown, Value, Values, ShapeContent, exprs_on, exprs_marks}
+use Rattle.justfile_round_trip.proofs.Headers.CanonHeaders.{ShapeHeader}
+use Rattle.justfile_round_trip.proofs.Items.CanonItems.{body_in}
+use Rattle.justfile_round_trip.proofs.Items.CanonParts.{ShapeQuoted, ShapeSetting}
+use Rattle.justfile_round_trip.proofs.Good.{GoodExpression, GoodName, GoodValues, IsString, significant}
+use Rattle.justfile_round_trip.proofs.Headers.GoodHeaders.{GoodHeader}
+
+abbrev pub GoodNames : List (List ℕ) → Type 0
+GoodNames [] = Unit {0}
+GoodNames (name ∷ names) = GoodName name × GoodNames names
+
+-- a path has a name at least
+abbrev pub GoodPath : List (List ℕ) → Type 0
+GoodPath [] = ⊥
+GoodPath (name ∷ names) = GoodName name × GoodNames names
+
+pub record GoodFilePath (q : ShapeQuoted) : Type 0 where
+  pub is_string : IsString q.token
+  pub utf8 : IsUtf8 q.token
+
+abbrev pub GoodOptionalPath : Option ShapeQuoted → Type 0
+GoodOptionalPath None = Unit {0}
+GoodOptionalPath (Some q) = GoodFilePath q
+
+module _ (limit : ℕ) where
+  -- the tokens of expressions in brackets derive them
+  pub record SequenceDerivesBack (es : Values) (features : Shown) : Type 0 where
+    pub derives : (glued : Bool) (on : List Mark)
+        → Sequence lexeme nothing (BelowLimit limit) kinds.BracketR 0 es features (significant glued (exprs_marks es (mark kinds.BracketR (codes "]") ∷ on))) (significant true on)
+
+  -- expressions in brackets that no other is open around
+  pub record GoodSequence (es : Values) : Type 0 where
+    pub lexes : GoodValues es
+    pub features : Shown
+    pub derives : SequenceDerivesBack es features
+    pub utf8 : (more : List ℕ) → IsUtf8 more → IsUtf8 (exprs_on es more)
+
+  -- the value of a setting of this form
+  abbrev pub GoodSettingValue : SettingForm → ShapeSetting → Type 0
+  GoodSettingValue TruthForm (tree.Truth value) = Unit {0}
+  GoodSettingValue ExpressionForm (tree.Value value) = GoodExpression limit value
+  GoodSettingValue PlainForm (tree.Value value) = GoodExpression limit value
+  GoodSettingValue InterpreterForm (tree.Interpreter command arguments) = GoodSequence (tree.more command arguments)
+  GoodSettingValue form value = ⊥
+
+  -- the content of a construct on one line
+  pub data GoodContent : ShapeContent → Type 0 where
+    alias : {name : List ℕ} {target : List (List ℕ)} → GoodName name → GoodPath target
+        → GoodContent (tree.Alias (record { name = name; target = target }))
+    assignment : {eager export : Bool} {name : List ℕ} {value : Value} → (eager && export) ≡ false → GoodName name → GoodExpression limit value
+        → GoodContent (tree.Assignment (assignment_of eager export name value))
+    function : {name : List ℕ} {parameters : List (List ℕ)} {body : Value} → GoodName name → GoodNames parameters → GoodExpression limit body
+        → GoodContent (tree.Function (record { name = name; parameters = parameters; body = body }))
+    import : {optional : Bool} {path : ShapeQuoted} → GoodFilePath path
+        → GoodContent (tree.Import (record { optional = optional; path = path }))
+    module_named : {optional : Bool} {name : List ℕ} {path : Option ShapeQuoted} → GoodName name → GoodOptionalPath path
+        → GoodContent (tree.Module (bare_module optional name path))
+    header : {h : ShapeHeader} → GoodHeader limit h
+        → GoodContent (tree.Recipe (bare_recipe h None []))
+    setting : {keyword : Keyword} {form : SettingForm} {name : List ℕ} {value : ShapeSetting} → GoodName name → name ≡ keyword_text keyword
+        → setting_form keyword ≡ Some form → GoodSettingValue form value
+        → GoodContent (tree.Setting (record { keyword = keyword; name = name; value = value }))
+    unexport : {name : List ℕ} → GoodName name
+        → GoodContent (tree.Unexport name)
+
+  -- it has no doc
+  pub content_no_doc : {content : ShapeContent} → GoodContent content → doc_of content ≡ None
+  content_no_doc (alias named path) = refl
+  content_no_doc (assignment one named h) = refl
+  content_no_doc (function named names h) = refl
+  content_no_doc (import path) = refl
+  content_no_doc (module_named named path) = refl
+  content_no_doc (header h) = refl
+  content_no_doc (setting named spelled formed h) = refl
+  content_no_doc (unexport named) = refl
+
+  pub content_undocumented : {content : ShapeContent} → GoodContent content → redocumented None content ≡ content
+  content_undocumented (alias named path) = refl
+  content_undocumented (assignment one named h) = refl
+  content_undocumented (function named names h) = refl
+  content_undocumented (import path) = refl
+  content_undocumented (module_named named path) = refl
+  content_undocumented (header h) = refl
+  content_undocumented (setting named spelled formed h) = refl
+  content_undocumented (unexport named) = refl
+
+  -- and no body
+  pub content_no_body : {content : ShapeContent} → GoodContent content → body_in content ≡ []
+  content_no_body (alias named path) = refl
+  content_no_body (assignment one named h) = refl
+  content_no_body (function named names h) = refl
+  content_no_body (import path) = refl
+  content_no_body (module_named named path) = refl
+  content_no_body (header h) = refl
+  content_no_body (setting named spelled formed h) = refl
+  content_no_body (unexport named) = refl

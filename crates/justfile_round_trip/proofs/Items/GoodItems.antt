@@ -1,0 +1,75 @@
+-- Good items of shapes: they are arranged in lines, and their attributes and contents are good.
+use Rattle.std.proofs.Common.{◌≡◌, ℕ, Bool, true, false, List, [], ◌∷◌, Option, refl}
+use Rattle.std.specs.Prelude.{◌||◌, not}
+use Rattle.justfile_model.specs.Modes.{is_empty}
+use Rattle.justfile_model.specs.Tree as tree
+use Rattle.justfile_model.specs.Tree.{Shape}
+use Rattle.justfile_round_trip.proofs.Canon.{Row, ShapeContent}
+use Rattle.justfile_round_trip.proofs.Attributes.CanonAttributes.{ShapeEntry}
+use Rattle.justfile_round_trip.proofs.Headers.CanonHeaders.{ShapeHeader}
+use Rattle.justfile_round_trip.proofs.Items.CanonItems.{NoDocs, recipe_item}
+use Rattle.justfile_round_trip.proofs.Good.{GoodComment, GoodOptionalComment, EndedBody, pale_after}
+use Rattle.justfile_round_trip.proofs.Attributes.GoodAttributes.{GoodEntries}
+use Rattle.justfile_round_trip.proofs.Items.GoodContents.{GoodContent, content_no_doc}
+use Rattle.justfile_round_trip.proofs.Headers.GoodHeaders.{GoodHeader}
+
+-- line ends alone
+abbrev pub blank_only : Shape → Bool
+blank_only [] = true
+blank_only (tree.Newline ∷ items) = blank_only items
+blank_only (i ∷ items) = false
+
+-- nothing, or not line ends alone
+abbrev pub follows_body : Shape → Bool
+follows_body items = is_empty items || not (blank_only items)
+
+module _ (limit : ℕ) where
+  mutual
+    -- items from the start of a line on
+    pub data AtStart : Shape → Type 0 where
+      end : AtStart []
+      newline : {items : Shape} → AtStart items → AtStart (tree.Newline ∷ items)
+      comment : {t : List ℕ} {items : Shape} → GoodComment t → AtEnd items → AtStart (tree.Comment t ∷ items)
+      on_line : {entries : List ShapeEntry} {content : ShapeContent} {items : Shape} → GoodEntries limit entries → GoodContent limit content → ItemRest items
+          → AtStart (tree.Construct entries content ∷ items)
+      recipe : {entries : List ShapeEntry} {h : ShapeHeader} {comment : Option (List ℕ)} {l : Row} {ls : List Row} {items : Shape} → GoodEntries limit entries → GoodHeader limit h
+          → GoodOptionalComment comment → EndedBody limit (l ∷ ls) → AfterBody (l ∷ ls) items
+          → AtStart (recipe_item entries h comment (l ∷ ls) ∷ items)
+
+    -- after an item a comment may trail it
+    pub data ItemRest : Shape → Type 0 where
+      trailing : {t : List ℕ} {items : Shape} → GoodComment t → AtEnd items → ItemRest (tree.Comment t ∷ items)
+      bare : {items : Shape} → AtEnd items → ItemRest items
+
+    -- then the line ends, and after the last line too
+    pub data AtEnd : Shape → Type 0 where
+      line_end : {items : Shape} → AtStart items → AtEnd (tree.Newline ∷ items)
+
+    -- after a body its last line ends; then levels close, and if they would close before that, nothing follows
+    pub data AfterBody : List Row → Shape → Type 0 where
+      body_end : {body : List Row} {items : Shape} → follows_body items ≡ true → (pale_after body ≡ true → items ≡ []) → AtStart items
+          → AfterBody body (tree.Newline ∷ items)
+
+  -- after a comment, or after another item
+  abbrev pub After : Bool → Shape → Type 0
+  After true items = AtEnd items
+  After false items = ItemRest items
+
+  mutual
+    -- they have no docs: what they are printed with are comments
+    pub start_no_doc : {items : Shape} → AtStart items → NoDocs items
+    start_no_doc end = tt
+    start_no_doc (newline more) = (tt, start_no_doc more)
+    start_no_doc (comment c more) = (tt, end_no_doc more)
+    start_no_doc (on_line attributes h more) = (content_no_doc limit h, rest_no_doc more)
+    start_no_doc (recipe attributes h c body (body_end follows last more)) = (refl, (tt, start_no_doc more))
+
+    rest_no_doc : {items : Shape} → ItemRest items → NoDocs items
+    rest_no_doc (trailing c more) = (tt, end_no_doc more)
+    rest_no_doc (bare more) = end_no_doc more
+
+    end_no_doc : {items : Shape} → AtEnd items → NoDocs items
+    end_no_doc (line_end more) = (tt, start_no_doc more)
+
+  pub past_newline : {items : Shape} → AtStart (tree.Newline ∷ items) → AtStart items
+  past_newline (newline h) = h

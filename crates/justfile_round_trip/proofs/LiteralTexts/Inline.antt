@@ -1,0 +1,298 @@
+-- Text that is printed inside a line lexes to the printer's tokens.
+use Rattle.std.proofs.Common.{◌≡◌, ◌≢◌, ℕ, suc, ◌+◌, Bool, true, false, cond, eqb, List, [], ◌∷◌, ◌++◌, length, get_or, Option, Some, None, Ok, refl, sym, ap, ◌∙◌, subst, arith, append_assoc, length-append}
+use Rattle.std.specs.Prelude.{◌&&◌, not, is_some}
+use Rattle.std.specs.List.{prefix_len, count_by}
+use Rattle.std.proofs.lemmas.List.{append-nil}
+use Rattle.std.specs.Str.{bytes_eq}
+use Rattle.std.proofs.lemmas.Bool.Decides.{nat_tests}
+use Rattle.justfile_vocabulary.specs.declared.byte_class.ByteClass.{ByteClass}
+use Rattle.justfile_vocabulary.specs.declared.byte_class.ByteClass.TheVariants as classes
+use Rattle.justfile_token.specs.declared.delimiter.Delimiter.TheVariants.{FormatString}
+use Rattle.justfile_model.specs.declared.open_delimiter.OpenDelimiter.{OpenDelimiter}
+use Rattle.justfile_token.specs.declared.string_kind.StringDelimiter.{StringDelimiter}
+use Rattle.justfile_token.specs.declared.string_kind.StringDelimiter.TheVariants as delimiters
+use Rattle.justfile_token.specs.declared.string_kind.StringKind.{StringKind}
+use Rattle.justfile_model.specs.declared.raw_text.RawText.TheVariants as raw_texts
+use Rattle.justfile_vocabulary.specs.declared.token_kind.TokenKind.{TokenKind}
+use Rattle.justfile_vocabulary.specs.declared.token_kind.TokenKind.TheVariants.{Eof, FormatStringContinue, FormatStringEnd, FormatStringStart, Identifier, Whitespace}
+use Rattle.justfile_vocabulary.specs.ByteClass.{class_of}
+use Rattle.justfile_model.specs.Bytes.{blank, in_word, is_interpolation_end, is_interpolation_start}
+use Rattle.justfile_token.specs.StringKind.{delimiter_len, is_quote, kind_of, quote_of, token_kind_of}
+use Rattle.justfile_model.specs.LiteralText.{raw_len}
+use Rattle.justfile_model.specs.Tok.{Tok}
+use Rattle.justfile_model.specs.Places.{is_newline}
+use Rattle.justfile_model.specs.Modes.{Mode, is_empty, opener, mode_after}
+use Rattle.justfile_model.specs.Next.{token_by_class, token_within_line, next, literal_token, literal_part, is_backtick}
+use Rattle.justfile_round_trip.proofs.LiteralTexts.LexedModes.{Mark, mark, LexesTo, step, drop_front}
+
+-- each byte passes
+abbrev pub Each : (ByteClass → Bool) → List ℕ → Type 0
+Each p [] = Unit {0}
+Each p (c ∷ cs) = (p (class_of c) ≡ true) × Each p cs
+
+abbrev pub head_is : (ByteClass → Bool) → List ℕ → Bool
+head_is p [] = false
+head_is p (c ∷ cs) = p (class_of c)
+
+-- what would go on a word or a literal
+abbrev pub joins : ByteClass → Bool
+joins classes.IdentifierStart = true
+joins classes.IdentifierContinue = true
+joins classes.Quote = true
+joins _ = false
+
+joins_word : (k : ByteClass) → joins k ≡ false → in_word k ≡ false
+joins_word classes.IdentifierStart e = cc
+joins_word classes.IdentifierContinue e = cc
+joins_word _ e = refl
+
+pub head_word : (more : List ℕ) → head_is joins more ≡ false → head_is in_word more ≡ false
+head_word [] h = refl
+head_word (c ∷ cs) h = joins_word (class_of c) h
+
+pub run_each : (p : ByteClass → Bool) (cs more : List ℕ) → Each p cs → head_is p more ≡ false → prefix_len (λ b. p (class_of b)) (cs ++ more) ≡ length cs
+run_each p [] [] each stop = refl
+run_each p [] (d ∷ more) each stop = rw stop refl
+run_each p (c ∷ cs) more each stop = rw each.0 (let ih = run_each p cs more each.1 stop in omega (arith, ih))
+
+-- amid a line: outside bodies, or in an interpolation
+abbrev pub amid : List OpenDelimiter → List (List ℕ) → Bool → Option Tok → Bool → Mode
+amid os ls c i f = record { openers = os; levels = ls; colon = c; in_body = is_some i; interpolation = i; line_start = false; after_f = f }
+
+pub amid_next : (os : List OpenDelimiter) (ls : List (List ℕ)) (c : Bool) (i : Option Tok) (f : Bool) (x : ℕ) (xs : List ℕ) → (is_empty os && is_interpolation_end (x ∷ xs)) ≡ false → next (amid os ls c i f) (x ∷ xs) ≡ token_by_class (amid os ls c i f) (class_of x) (x ∷ xs)
+unfolding next token_within_line
+amid_next os ls c None f x xs h = refl
+amid_next os ls c (Some t) f x xs h = rw h refl
+
+abbrev pub IsName : List ℕ → Type 0
+IsName [] = ⊥
+IsName (c ∷ cs) = (class_of c ≡ classes.IdentifierStart) × Each in_word cs
+
+starts_no_brace : (x : ℕ) → class_of x ≡ classes.IdentifierStart → eqb x 125 ≡ false
+unfolding class_of
+starts_no_brace x h = go (eqb x 125) refl
+  where
+    go : (b : Bool) → eqb x 125 ≡ b → b ≡ false
+    go true e = let at : x ≡ 125 = grind (arith, nat_tests) in let h' : class_of 125 ≡ classes.IdentifierStart = subst (λ n. class_of n ≡ classes.IdentifierStart) at h in cc
+    go false e = refl
+
+pub and_false : (a b c : Bool) → b ≡ false → (a && (b && c)) ≡ false
+and_false true b c e = rw e refl
+and_false false b c e = refl
+
+pub and_no : (a : Bool) → (a && false) ≡ false
+and_no true = refl
+and_no false = refl
+
+module _ {os : List OpenDelimiter} {ls : List (List ℕ)} {c : Bool} {i : Option Tok} {f : Bool} where
+  pub name_step : (n : List ℕ) {more : List ℕ} {ts : List Mark} → IsName n → head_is in_word more ≡ false → LexesTo (amid os ls c i (bytes_eq n (102 ∷ []))) more ts → LexesTo (amid os ls c i f) (n ++ more) (mark Identifier n ∷ ts)
+  unfolding token_by_class
+  name_step [] h stop k = absurd h
+  name_step (x ∷ xs) {more} {ts} h stop k =
+      let word : Each in_word (x ∷ xs) = (ap in_word h.0, h.1) in
+      step (amid os ls c i f) Identifier (x ∷ xs) more ts
+      (amid_next os ls c i f x (xs ++ more) (and_false (is_empty os) _ _ (starts_no_brace x h.0))
+      ∙ ap (λ q. token_by_class (amid os ls c i f) q (x ∷ xs ++ more)) h.0
+      ∙ ap (λ n. Ok (Identifier, n)) (run_each in_word (x ∷ xs) more word stop))
+      (λ e. cc) (λ o n col. k)
+
+  pub space_step : {more : List ℕ} {ts : List Mark} → head_is blank more ≡ false → LexesTo (amid os ls c i false) more ts → LexesTo (amid os ls c i f) (32 ∷ more) (mark Whitespace (32 ∷ []) ∷ ts)
+  unfolding token_by_class class_of
+  space_step {more} {ts} stop k =
+      step (amid os ls c i f) Whitespace (32 ∷ []) more ts
+      (amid_next os ls c i f 32 more (and_no (is_empty os)) ∙ ap (λ n. Ok (Whitespace, n)) (run_each blank (32 ∷ []) more (refl, tt) stop))
+      (λ e. cc) (λ o n col. k)
+
+-- Literals.
+abbrev pub delimiter_tail : StringKind → List ℕ
+delimiter_tail k = cond k.indented (quote_of k.delimiter ∷ quote_of k.delimiter ∷ []) []
+
+abbrev pub delimiter_of : StringKind → List ℕ
+delimiter_of k = quote_of k.delimiter ∷ delimiter_tail k
+
+pub delimiter_length : (k : StringKind) → delimiter_len k ≡ length (delimiter_of k)
+delimiter_length k = go k.indented
+  where
+    go : (b : Bool) → cond b 3 1 ≡ suc (length (cond b (quote_of k.delimiter ∷ quote_of k.delimiter ∷ []) []))
+    go true = refl
+    go false = refl
+
+quote_class : (d : StringDelimiter) → class_of (quote_of d) ≡ classes.Quote
+unfolding class_of
+quote_class delimiters.Backtick = refl
+quote_class delimiters.QuoteDouble = refl
+quote_class delimiters.QuoteSingle = refl
+
+quote_no_brace : (d : StringDelimiter) → eqb (quote_of d) 125 ≡ false
+quote_no_brace delimiters.Backtick = refl
+quote_no_brace delimiters.QuoteDouble = refl
+quote_no_brace delimiters.QuoteSingle = refl
+
+not_all : (xs ys : List ℕ) → is_empty ys ≡ false → eqb (length xs) (length (xs ++ ys)) ≡ false
+not_all xs [] h = cc
+not_all xs (y ∷ ys) h = let e = length-append xs (y ∷ ys) in grind (arith, nat_tests, e)
+
+-- a part of a literal, after its known front
+pub part_is : (k : StringKind) (format : Bool) (pre inner tail : List ℕ) (more whole : TokenKind) → raw_len (raw_texts.Literal k format) (inner ++ tail) ≡ length inner → is_empty tail ≡ false
+    → literal_part k format (length pre) more whole (pre ++ (inner ++ tail)) ≡ cond (format && is_interpolation_start tail) (Ok (more, length pre + length inner + 2)) (Ok (whole, length pre + length inner + delimiter_len k))
+unfolding literal_part
+part_is k format pre inner tail more whole e some = rw (drop_front pre (inner ++ tail)) (rw e (rw (not_all inner tail some) (rw (drop_front inner tail) refl)))
+
+-- a literal, before a byte that doesn't join it
+pub record IsLiteral (k : StringKind) (lexeme : List ℕ) : Type 0 where
+  pub inner : List ℕ
+  pub is : lexeme ≡ delimiter_of k ++ (inner ++ delimiter_of k)
+  pub ends : (more : List ℕ) → raw_len (raw_texts.Literal k false) (inner ++ (delimiter_of k ++ more)) ≡ length inner
+  pub opens : (more : List ℕ) → is_quote (get_or more 0 0) ≡ false → kind_of (lexeme ++ more) ≡ k
+
+-- a part of a format string, between what opens it and its end: the delimiter, or two braces and a space
+abbrev pub closing_of : StringKind → Bool → List ℕ
+closing_of k fin = cond fin (delimiter_of k) (123 ∷ 123 ∷ [])
+
+abbrev pub stop_of : Bool → List ℕ
+stop_of fin = cond fin [] (32 ∷ [])
+
+pub record IsPart (k : StringKind) (opener : List ℕ) (fin : Bool) (lexeme : List ℕ) : Type 0 where
+  pub inner : List ℕ
+  pub is : lexeme ≡ opener ++ (inner ++ closing_of k fin)
+  pub ends : (more : List ℕ) → raw_len (raw_texts.Literal k true) (inner ++ (closing_of k fin ++ (stop_of fin ++ more))) ≡ length inner
+
+pub assoc3 : (a b c d : List ℕ) → (a ++ (b ++ c)) ++ d ≡ a ++ (b ++ (c ++ d))
+assoc3 a b c d = append_assoc a (b ++ c) d ∙ ap (λ x. a ++ x) (append_assoc b c d)
+
+pub length3 : (a b c : List ℕ) (n : ℕ) → length c ≡ n → length a + length b + n ≡ length (a ++ (b ++ c))
+length3 a b c n e = omega (arith, e, length-append a (b ++ c), length-append b c)
+
+-- at a quote a literal is next
+literal_next : (os : List OpenDelimiter) (ls : List (List ℕ)) (c : Bool) (i : Option Tok) (f : Bool) (k : StringKind) (xs : List ℕ) → next (amid os ls c i f) (delimiter_of k ++ xs) ≡ literal_token (amid os ls c i f) (delimiter_of k ++ xs)
+unfolding token_by_class
+literal_next os ls c i f k xs =
+    amid_next os ls c i f (quote_of k.delimiter) (delimiter_tail k ++ xs) (and_false (is_empty os) _ _ (quote_no_brace k.delimiter))
+    ∙ ap (λ q. token_by_class (amid os ls c i f) q (delimiter_of k ++ xs)) (quote_class k.delimiter)
+
+-- of a known kind
+literal_of : (m : Mode) (k : StringKind) (format : Bool) (xs : List ℕ) → kind_of (delimiter_of k ++ xs) ≡ k → (m.after_f && not (is_backtick k.delimiter)) ≡ format
+    → literal_token m (delimiter_of k ++ xs) ≡ literal_part k format (length (delimiter_of k)) FormatStringStart (token_kind_of k.delimiter) (delimiter_of k ++ xs)
+literal_of m k format xs e g =
+    ap (λ v. literal_part v (m.after_f && not (is_backtick v.delimiter)) (delimiter_len v) FormatStringStart (token_kind_of v.delimiter) (delimiter_of k ++ xs)) e
+    ∙ (λ j. literal_part k (g j) (delimiter_length k j) FormatStringStart (token_kind_of k.delimiter) (delimiter_of k ++ xs))
+
+-- a whole literal, before a text that doesn't begin with a quote
+pub literal_again : (m : Mode) (k : StringKind) (l more : List ℕ) → m.after_f ≡ false → IsLiteral k l → is_quote (get_or more 0 0) ≡ false → literal_token m (l ++ more) ≡ Ok (token_kind_of k.delimiter, length l)
+literal_again m k l more f h stop =
+    let inner = h.inner in
+    let tail : List ℕ = inner ++ (delimiter_of k ++ more) in
+    let whole : l ++ more ≡ delimiter_of k ++ tail = ap (λ x. x ++ more) h.is ∙ assoc3 (delimiter_of k) inner (delimiter_of k) more in
+    let len = length3 (delimiter_of k) inner (delimiter_of k) (delimiter_len k) (sym (delimiter_length k)) ∙ ap length (sym h.is) in
+    ap (literal_token m) whole
+    ∙ literal_of m k false tail (sym (ap kind_of whole) ∙ h.opens more stop) (ap (λ b. b && not (is_backtick k.delimiter)) f)
+    ∙ part_is k false (delimiter_of k) inner (delimiter_of k ++ more) _ _ (h.ends more) refl
+    ∙ ap (λ n. Ok (token_kind_of k.delimiter, n)) len
+
+pub quote_is : (b : ℕ) → is_quote b ≡ true → class_of b ≡ classes.Quote
+quote_is b h = by (eqb b 96) (eqb b 34) refl refl
+  where
+    by : (s t : Bool) → eqb b 96 ≡ s → eqb b 34 ≡ t → class_of b ≡ classes.Quote
+    by true t e f = let at : b ≡ 96 = grind (arith, nat_tests) in ap class_of at ∙ quote_class delimiters.Backtick
+    by false true e f = let at : b ≡ 34 = grind (arith, nat_tests) in ap class_of at ∙ quote_class delimiters.QuoteDouble
+    by false false e f = let at : b ≡ 39 = grind (arith, nat_tests, h, e, f) in ap class_of at ∙ quote_class delimiters.QuoteSingle
+
+joins_quote : (more : List ℕ) → head_is joins more ≡ false → is_quote (get_or more 0 0) ≡ false
+joins_quote [] h = refl
+joins_quote (y ∷ ys) h = by (is_quote y) refl
+  where
+    by : (t : Bool) → is_quote y ≡ t → t ≡ false
+    by true e = let bad : true ≡ false = sym (ap joins (quote_is y e)) ∙ h in cc
+    by false e = refl
+
+kind_not_eof : (d : StringDelimiter) → token_kind_of d ≢ Eof
+kind_not_eof delimiters.Backtick e = cc
+kind_not_eof delimiters.QuoteDouble e = cc
+kind_not_eof delimiters.QuoteSingle e = cc
+
+after_literal : (os : List OpenDelimiter) (ls : List (List ℕ)) (c : Bool) (i : Option Tok) (d : StringDelimiter) (f : Bool) (t : Tok) → mode_after (token_kind_of d) t (amid os ls c i f) ≡ amid os ls c i false
+after_literal os ls c i delimiters.Backtick f t = refl
+after_literal os ls c i delimiters.QuoteDouble f t = refl
+after_literal os ls c i delimiters.QuoteSingle f t = refl
+
+no_opening : (d : StringDelimiter) (xs : List ℕ) → is_interpolation_start (quote_of d ∷ xs) ≡ false
+no_opening delimiters.Backtick xs = refl
+no_opening delimiters.QuoteDouble xs = refl
+no_opening delimiters.QuoteSingle xs = refl
+
+brace_next : (os : List OpenDelimiter) (ls : List (List ℕ)) (c : Bool) (i : Option Tok) (k : StringKind) (line : ℕ) (xs : List ℕ) → next (amid (opener (FormatString k) line ∷ os) ls c i false) (125 ∷ 125 ∷ xs) ≡ literal_part k true 2 FormatStringContinue FormatStringEnd (125 ∷ 125 ∷ xs)
+unfolding token_by_class class_of
+brace_next os ls c i k line xs = amid_next (opener (FormatString k) line ∷ os) ls c i false 125 (125 ∷ xs) refl
+
+module _ {os : List OpenDelimiter} {ls : List (List ℕ)} {c : Bool} {i : Option Tok} where
+  pub literal_step : (k : StringKind) (l more : List ℕ) {ts : List Mark} → IsLiteral k l → head_is joins more ≡ false → LexesTo (amid os ls c i false) more ts → LexesTo (amid os ls c i false) (l ++ more) (mark (token_kind_of k.delimiter) l ∷ ts)
+  literal_step k l more {ts} h stop r =
+      let m : Mode = amid os ls c i false in
+      let whole : l ++ more ≡ delimiter_of k ++ (h.inner ++ (delimiter_of k ++ more)) = ap (λ x. x ++ more) h.is ∙ assoc3 (delimiter_of k) h.inner (delimiter_of k) more in
+      step m (token_kind_of k.delimiter) l more ts
+      (ap (next m) whole ∙ literal_next os ls c i false k _ ∙ sym (ap (literal_token m) whole) ∙ literal_again m k l more refl h (joins_quote more stop))
+      (kind_not_eof k.delimiter)
+      (λ o n col. subst (λ m. LexesTo m more ts) (sym (after_literal os ls c i k.delimiter false _)) r)
+
+  -- after `f`: a format string without interpolations
+  pub whole_step : (k : StringKind) (l more : List ℕ) {ts : List Mark} → (h : IsLiteral k l) → ((more : List ℕ) → raw_len (raw_texts.Literal k true) (h.inner ++ (delimiter_of k ++ more)) ≡ length h.inner) → is_backtick k.delimiter ≡ false
+      → head_is joins more ≡ false → LexesTo (amid os ls c i false) more ts → LexesTo (amid os ls c i true) (l ++ more) (mark (token_kind_of k.delimiter) l ∷ ts)
+  whole_step k l more {ts} h ends quote stop r =
+      let m : Mode = amid os ls c i true in
+      let inner = h.inner in
+      let tail : List ℕ = inner ++ (delimiter_of k ++ more) in
+      let whole : l ++ more ≡ delimiter_of k ++ tail = ap (λ x. x ++ more) h.is ∙ assoc3 (delimiter_of k) inner (delimiter_of k) more in
+      let len = length3 (delimiter_of k) inner (delimiter_of k) (delimiter_len k) (sym (delimiter_length k)) ∙ ap length (sym h.is) in
+      step m (token_kind_of k.delimiter) l more ts
+      (ap (next m) whole
+      ∙ literal_next os ls c i true k tail
+      ∙ literal_of m k true tail (sym (ap kind_of whole) ∙ h.opens more (joins_quote more stop)) (ap not quote)
+      ∙ part_is k true (delimiter_of k) inner (delimiter_of k ++ more) FormatStringStart (token_kind_of k.delimiter) (ends more) refl
+      ∙ ap (λ b. cond b (Ok (FormatStringStart, length (delimiter_of k) + length inner + 2)) (Ok (token_kind_of k.delimiter, length (delimiter_of k) + length inner + delimiter_len k))) (no_opening k.delimiter (delimiter_tail k ++ more))
+      ∙ ap (λ n. Ok (token_kind_of k.delimiter, n)) len)
+      (kind_not_eof k.delimiter)
+      (λ o n col. subst (λ m. LexesTo m more ts) (sym (after_literal os ls c i k.delimiter true _)) r)
+
+  -- after f: up to two braces
+  pub start_step : (k : StringKind) (l more : List ℕ) {ts : List Mark} → IsPart k (delimiter_of k) false l → is_backtick k.delimiter ≡ false → ((more : List ℕ) → kind_of (l ++ more) ≡ k)
+      → ((line : ℕ) → LexesTo (amid (opener (FormatString k) line ∷ os) ls c i false) (32 ∷ more) ts) → LexesTo (amid os ls c i true) (l ++ (32 ∷ more)) (mark FormatStringStart l ∷ ts)
+  start_step k l more {ts} h quote opens r =
+      let inner = h.inner in
+      let tail : List ℕ = inner ++ (123 ∷ 123 ∷ 32 ∷ more) in
+      let whole : l ++ (32 ∷ more) ≡ delimiter_of k ++ tail = ap (λ x. x ++ (32 ∷ more)) h.is ∙ assoc3 (delimiter_of k) inner (123 ∷ 123 ∷ []) (32 ∷ more) in
+      let len = length3 (delimiter_of k) inner (123 ∷ 123 ∷ []) 2 refl ∙ ap length (sym h.is) in
+      let kind : kind_of l ≡ k = ap kind_of (sym (append-nil l)) ∙ opens [] in
+      step (amid os ls c i true) FormatStringStart l (32 ∷ more) ts
+      (ap (next (amid os ls c i true)) whole
+      ∙ literal_next os ls c i true k tail
+      ∙ literal_of (amid os ls c i true) k true tail (sym (ap kind_of whole) ∙ opens (32 ∷ more)) (ap not quote)
+      ∙ part_is k true (delimiter_of k) inner (123 ∷ 123 ∷ 32 ∷ more) FormatStringStart (token_kind_of k.delimiter) (h.ends more) refl
+      ∙ ap (λ n. Ok (FormatStringStart, n)) len)
+      (λ e. cc)
+      (λ o n col. subst (λ v. LexesTo (amid (opener (FormatString v) (n + count_by is_newline l) ∷ os) ls c i false) (32 ∷ more) ts) (sym kind) (r _))
+
+  pub continue_step : (k : StringKind) (line : ℕ) (l more : List ℕ) {ts : List Mark} → IsPart k (125 ∷ 125 ∷ []) false l
+      → LexesTo (amid (opener (FormatString k) line ∷ os) ls c i false) (32 ∷ more) ts → LexesTo (amid (opener (FormatString k) line ∷ os) ls c i false) (l ++ (32 ∷ more)) (mark FormatStringContinue l ∷ ts)
+  continue_step k line l more {ts} h r =
+      let inner = h.inner in
+      let tail : List ℕ = inner ++ (123 ∷ 123 ∷ 32 ∷ more) in
+      let m = amid (opener (FormatString k) line ∷ os) ls c i false in
+      let whole : l ++ (32 ∷ more) ≡ 125 ∷ 125 ∷ tail = ap (λ x. x ++ (32 ∷ more)) h.is ∙ assoc3 (125 ∷ 125 ∷ []) inner (123 ∷ 123 ∷ []) (32 ∷ more) in
+      let len = length3 (125 ∷ 125 ∷ []) inner (123 ∷ 123 ∷ []) 2 refl ∙ ap length (sym h.is) in
+      step m FormatStringContinue l (32 ∷ more) ts
+      (ap (next m) whole ∙ brace_next os ls c i k line tail ∙ part_is k true (125 ∷ 125 ∷ []) inner (123 ∷ 123 ∷ 32 ∷ more) FormatStringContinue FormatStringEnd (h.ends more) refl ∙ ap (λ n. Ok (FormatStringContinue, n)) len)
+      (λ e. cc) (λ o n col. r)
+
+  pub end_step : (k : StringKind) (line : ℕ) (l more : List ℕ) {ts : List Mark} → IsPart k (125 ∷ 125 ∷ []) true l
+      → LexesTo (amid os ls c i false) more ts → LexesTo (amid (opener (FormatString k) line ∷ os) ls c i false) (l ++ more) (mark FormatStringEnd l ∷ ts)
+  end_step k line l more {ts} h r =
+      let inner = h.inner in
+      let tail : List ℕ = inner ++ (delimiter_of k ++ more) in
+      let m = amid (opener (FormatString k) line ∷ os) ls c i false in
+      let whole : l ++ more ≡ 125 ∷ 125 ∷ tail = ap (λ x. x ++ more) h.is ∙ assoc3 (125 ∷ 125 ∷ []) inner (delimiter_of k) more in
+      let len = length3 (125 ∷ 125 ∷ []) inner (delimiter_of k) (delimiter_len k) (sym (delimiter_length k)) ∙ ap length (sym h.is) in
+      step m FormatStringEnd l more ts
+      (ap (next m) whole ∙ brace_next os ls c i k line tail ∙ part_is k true (125 ∷ 125 ∷ []) inner (delimiter_of k ++ more) FormatStringContinue FormatStringEnd (h.ends more) refl
+      ∙ ap (λ b. cond b (Ok (FormatStringContinue, length {A = ℕ} (125 ∷ 125 ∷ []) + length inner + 2)) (Ok (FormatStringEnd, length {A = ℕ} (125 ∷ 125 ∷ []) + length inner + delimiter_len k))) (no_opening k.delimiter (delimiter_tail k ++ more))
+      ∙ ap (λ n. Ok (FormatStringEnd, n)) len)
+      (λ e. cc) (λ o n col. r)

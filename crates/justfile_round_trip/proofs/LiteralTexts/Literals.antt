@@ -1,0 +1,186 @@
+-- A literal that was lexed ends at the same position before any text that can be printed after it.
+use Rattle.std.proofs.Common.{◌≡◌, ℕ, zero, suc, ◌<◌, Bool, true, false, cond, eqb, ltb, List, [], ◌∷◌, ◌++◌, length, get_or, drop, refl, sym, ap, ◌∙◌, subst, arith}
+use Rattle.std.specs.Prelude.{◌&&◌, ◌||◌}
+use Rattle.std.proofs.lemmas.Bool.{and_parts}
+use Rattle.std.proofs.lemmas.Bool.Decides.{nat_tests}
+use Rattle.std.specs.Char.{is_ascii_alphabetic, is_ascii_digit}
+use Rattle.justfile_vocabulary.specs.declared.byte_class.ByteClass.{ByteClass}
+use Rattle.justfile_vocabulary.specs.declared.byte_class.ByteClass.TheVariants as classes
+use Rattle.justfile_token.specs.declared.string_kind.StringDelimiter.{StringDelimiter}
+use Rattle.justfile_token.specs.declared.string_kind.StringDelimiter.TheVariants as delimiters
+use Rattle.justfile_token.specs.declared.string_kind.StringKind.{StringKind}
+use Rattle.justfile_vocabulary.specs.ByteClass.{class_of, begins_fixed}
+use Rattle.justfile_token.specs.StringKind.{delimiter_len, delimiter_at, is_quote, kind_of, quote_of}
+use Rattle.justfile_model.specs.declared.raw_text.RawText.TheVariants as raw_texts
+use Rattle.justfile_model.specs.LiteralText.{pieces_len, hides, ends, is_delimiter}
+use Rattle.justfile_round_trip.proofs.LiteralTexts.Inline.{delimiter_of}
+
+-- ---- delimiters
+
+abbrev QuoteFact : ℕ → ByteClass → Type 0
+QuoteFact b classes.Quote = quote_of (delimiter_at b) ≡ b
+QuoteFact b _ = Unit {0}
+
+record HasQuote (b : ℕ) (k : ByteClass) : Type 0 where
+  fact : QuoteFact b k
+
+either : (b : ℕ) (t : Bool) {x y : ByteClass} → (t ≡ true → HasQuote b x) → (t ≡ false → HasQuote b y) → HasQuote b (cond t x y)
+either b true f g = f refl
+either b false f g = g refl
+
+quoted : (b : ℕ) → (eqb b 39 || eqb b 34 || eqb b 96) ≡ true → quote_of (delimiter_at b) ≡ b
+quoted b h = by (eqb b 96) (eqb b 34) refl refl
+  where
+    by : (s t : Bool) → eqb b 96 ≡ s → eqb b 34 ≡ t → quote_of (cond s delimiters.Backtick (cond t delimiters.QuoteDouble delimiters.QuoteSingle)) ≡ b
+    by true t e f = grind (arith, nat_tests)
+    by false true e f = grind (arith, nat_tests)
+    by false false e f = grind (arith, nat_tests)
+
+has_quote : (b : ℕ) → HasQuote b (class_of b)
+unfolding class_of
+has_quote b =
+    either b (eqb b 32 || eqb b 9) (λ h. record { fact = tt }) (λ _.
+    either b (eqb b 10) (λ h. record { fact = tt }) (λ _.
+    either b (eqb b 13) (λ h. record { fact = tt }) (λ _.
+    either b (is_ascii_alphabetic b || eqb b 95) (λ h. record { fact = tt }) (λ _.
+    either b (is_ascii_digit b || eqb b 45) (λ h. record { fact = tt }) (λ _.
+    either b (eqb b 39 || eqb b 34 || eqb b 96) (λ h. record { fact = quoted b h }) (λ _.
+    either b (eqb b 40 || eqb b 91 || eqb b 123) (λ h. record { fact = tt }) (λ _.
+    either b (eqb b 41 || eqb b 93 || eqb b 125) (λ h. record { fact = tt }) (λ _.
+    either b (begins_fixed b) (λ h. record { fact = tt }) (λ _.
+    either b (ltb 193 b && ltb b 245) {x = classes.Lead} {y = classes.Other} (λ h. record { fact = tt }) (λ _. record { fact = tt }))))))))))
+
+pub quote_byte : (b : ℕ) → class_of b ≡ classes.Quote → quote_of (delimiter_at b) ≡ b
+quote_byte b e = (subst (HasQuote b) e (has_quote b)).fact
+
+quote_positive : (d : StringDelimiter) → 0 < quote_of d
+quote_positive delimiters.Backtick = omega arith
+quote_positive delimiters.QuoteDouble = omega arith
+quote_positive delimiters.QuoteSingle = omega arith
+
+-- if the byte at the front isn't 0, the text begins with it
+pub front_byte : (bs : List ℕ) (q : ℕ) → 0 < q → eqb (get_or bs 0 0) q ≡ true → bs ≡ q ∷ drop 1 bs
+front_byte [] q p h = absurd (no_zero q p h)
+  where
+    no_zero : (q : ℕ) → 0 < q → eqb 0 q ≡ true → ⊥
+    no_zero q p h = grind (arith, nat_tests)
+front_byte (x ∷ xs) q p h = let e : x ≡ q = grind (arith, nat_tests) in ap (λ y. y ∷ xs) e
+
+second_byte : (bs : List ℕ) → get_or (drop 1 bs) 0 0 ≡ get_or bs 1 0
+second_byte [] = refl
+second_byte (x ∷ xs) = refl
+
+third_byte : (bs : List ℕ) → get_or (drop 2 bs) 0 0 ≡ get_or bs 2 0
+third_byte [] = refl
+third_byte (x ∷ []) = refl
+third_byte (x ∷ y ∷ xs) = refl
+
+pub drop_two : (bs : List ℕ) → drop 1 (drop 1 bs) ≡ drop 2 bs
+drop_two [] = refl
+drop_two (x ∷ xs) = refl
+
+drop_three : (bs : List ℕ) → drop 1 (drop 2 bs) ≡ drop 3 bs
+drop_three [] = refl
+drop_three (x ∷ []) = refl
+drop_three (x ∷ y ∷ xs) = refl
+
+-- where a delimiter is at the front, its bytes are
+pub delimiter_front : (k : StringKind) (bs : List ℕ) → is_delimiter k bs ≡ true → bs ≡ delimiter_of k ++ drop (delimiter_len k) bs
+delimiter_front k bs h = go k.indented h
+  where
+    q : ℕ
+    q = quote_of k.delimiter
+
+    some : 0 < q
+    some = quote_positive k.delimiter
+
+    go : (t : Bool) → cond t (eqb (get_or bs 0 0) q && eqb (get_or bs 1 0) q && eqb (get_or bs 2 0) q) (eqb (get_or bs 0 0) q) ≡ true → bs ≡ q ∷ (cond t (q ∷ q ∷ []) [] ++ drop (cond t 3 1) bs)
+    go true h =
+        let last = and_parts (eqb (get_or bs 0 0) q && eqb (get_or bs 1 0) q) _ h in
+        let firsts = and_parts (eqb (get_or bs 0 0) q) _ last.0 in
+        front_byte bs q some firsts.0
+        ∙ ap (λ l. q ∷ l) (front_byte (drop 1 bs) q some (ap (λ b. eqb b q) (second_byte bs) ∙ firsts.1) ∙ ap (λ l. q ∷ l) (drop_two bs))
+        ∙ ap (λ l. q ∷ q ∷ l) (front_byte (drop 2 bs) q some (ap (λ b. eqb b q) (third_byte bs) ∙ last.1) ∙ ap (λ l. q ∷ l) (drop_three bs))
+    go false h = front_byte bs q some h
+
+-- a text that begins with a quote begins with the delimiter of its kind
+pub delimiter_there : (bs : List ℕ) → class_of (get_or bs 0 0) ≡ classes.Quote → is_delimiter (kind_of bs) bs ≡ true
+delimiter_there bs e = go (eqb (get_or bs 1 0) (get_or bs 0 0) && eqb (get_or bs 2 0) (get_or bs 0 0)) refl
+  where
+    q : ℕ
+    q = quote_of (delimiter_at (get_or bs 0 0))
+
+    is : q ≡ get_or bs 0 0
+    is = quote_byte (get_or bs 0 0) e
+
+    all : (a b c q : ℕ) → q ≡ a → (eqb b a && eqb c a) ≡ true → (eqb a q && eqb b q && eqb c q) ≡ true
+    all a b c q e h = grind (arith, nat_tests)
+
+    one : (a q : ℕ) → q ≡ a → eqb a q ≡ true
+    one a q e = grind (arith, nat_tests)
+
+    go : (t : Bool) → (eqb (get_or bs 1 0) (get_or bs 0 0) && eqb (get_or bs 2 0) (get_or bs 0 0)) ≡ t → cond t (eqb (get_or bs 0 0) q && eqb (get_or bs 1 0) q && eqb (get_or bs 2 0) q) (eqb (get_or bs 0 0) q) ≡ true
+    go true h = all _ _ _ q is h
+    go false h = one _ q is
+
+-- ---- scans
+
+-- the delimiter ends a scan, as nothing hides it
+abbrev pub scan : StringKind → Bool → ℕ → List ℕ → ℕ
+scan k format = pieces_len (hides (raw_texts.Literal k format)) (ends (raw_texts.Literal k format))
+
+pub delimiter_ends : (d : StringDelimiter) (i : Bool) (more : List ℕ) → scan (record { delimiter = d; indented = i }) false 0 (delimiter_of (record { delimiter = d; indented = i }) ++ more) ≡ 0
+unfolding pieces_len
+delimiter_ends delimiters.Backtick true more = refl
+delimiter_ends delimiters.Backtick false more = refl
+delimiter_ends delimiters.QuoteDouble true more = refl
+delimiter_ends delimiters.QuoteDouble false more = refl
+delimiter_ends delimiters.QuoteSingle true more = refl
+delimiter_ends delimiters.QuoteSingle false more = refl
+
+-- whether a delimiter begins inside or at the end of the text is seen from the text and the delimiter after it
+pub same_delimiter : (d : StringDelimiter) (i : Bool) (x : ℕ) (xs a b : List ℕ) → is_delimiter (record { delimiter = d; indented = i }) (x ∷ xs ++ (delimiter_of (record { delimiter = d; indented = i }) ++ a)) ≡ is_delimiter (record { delimiter = d; indented = i }) (x ∷ xs ++ (delimiter_of (record { delimiter = d; indented = i }) ++ b))
+same_delimiter d false x xs a b = refl
+same_delimiter d true x [] a b = refl
+same_delimiter d true x (y ∷ []) a b = refl
+same_delimiter d true x (y ∷ z ∷ zs) a b = refl
+
+-- a text that is scanned up to the delimiter is scanned up to it before any other text
+pub stable : (k : StringKind) (hidden : ℕ) (inner a b : List ℕ) → scan k false hidden (inner ++ (delimiter_of k ++ a)) ≡ length inner → scan k false hidden (inner ++ (delimiter_of k ++ b)) ≡ length inner
+unfolding pieces_len
+stable k zero [] a b e = delimiter_ends k.delimiter k.indented b
+stable k (suc n) [] a b e = absurd (omega arith)
+stable k (suc n) (x ∷ xs) a b e = ap suc (stable k n xs a b (omega arith))
+stable k zero (x ∷ xs) a b e =
+    go (ltb 0 (hides (raw_texts.Literal k false) (x ∷ xs))) (is_delimiter k (x ∷ xs ++ (delimiter_of k ++ a))) (is_delimiter k (x ∷ xs ++ (delimiter_of k ++ b))) (same_delimiter k.delimiter k.indented x xs a b)
+    (stable k (hides (raw_texts.Literal k false) (x ∷ xs)) xs a b) (stable k 0 xs a b) e
+  where
+    h : ℕ
+    h = hides (raw_texts.Literal k false) (x ∷ xs)
+
+    go : (t s r : Bool) → s ≡ r → (scan k false h (xs ++ (delimiter_of k ++ a)) ≡ length xs → scan k false h (xs ++ (delimiter_of k ++ b)) ≡ length xs) → (scan k false 0 (xs ++ (delimiter_of k ++ a)) ≡ length xs → scan k false 0 (xs ++ (delimiter_of k ++ b)) ≡ length xs)
+        → cond t (suc (scan k false h (xs ++ (delimiter_of k ++ a)))) (cond (s || false) 0 (suc (scan k false 0 (xs ++ (delimiter_of k ++ a))))) ≡ suc (length xs)
+        → cond t (suc (scan k false h (xs ++ (delimiter_of k ++ b)))) (cond (r || false) 0 (suc (scan k false 0 (xs ++ (delimiter_of k ++ b))))) ≡ suc (length xs)
+    go true s r same ih i0 e = ap suc (ih (omega arith))
+    go false true r same ih i0 e = absurd (omega arith)
+    go false false r same ih i0 e = ap (λ v. cond (v || false) 0 (suc (scan k false 0 (xs ++ (delimiter_of k ++ b))))) (sym same) ∙ ap suc (i0 (omega arith))
+
+-- ---- the kind of a literal
+
+pub no_quote : (d : StringDelimiter) (b : ℕ) → is_quote b ≡ false → eqb b (quote_of d) ≡ false
+no_quote delimiters.Backtick b h = grind (arith, nat_tests)
+no_quote delimiters.QuoteDouble b h = grind (arith, nat_tests)
+no_quote delimiters.QuoteSingle b h = grind (arith, nat_tests)
+
+-- before a text that doesn't begin with a quote, the kind of a literal is read again
+pub same_opening : (d : StringDelimiter) (i : Bool) (inner following more : List ℕ) → is_quote (get_or more 0 0) ≡ false
+    → kind_of (delimiter_of (record { delimiter = d; indented = i }) ++ (inner ++ (delimiter_of (record { delimiter = d; indented = i }) ++ following))) ≡ record { delimiter = d; indented = i }
+    → kind_of (delimiter_of (record { delimiter = d; indented = i }) ++ (inner ++ (delimiter_of (record { delimiter = d; indented = i }) ++ more))) ≡ record { delimiter = d; indented = i }
+same_opening delimiters.Backtick true inner following more stop e = refl
+same_opening delimiters.QuoteDouble true inner following more stop e = refl
+same_opening delimiters.QuoteSingle true inner following more stop e = refl
+same_opening delimiters.Backtick false [] following more stop e = ap (λ b. record { delimiter = delimiters.Backtick; indented = b }) (no_quote delimiters.Backtick (get_or more 0 0) stop)
+same_opening delimiters.QuoteDouble false [] following more stop e = ap (λ b. record { delimiter = delimiters.QuoteDouble; indented = b }) (no_quote delimiters.QuoteDouble (get_or more 0 0) stop)
+same_opening delimiters.QuoteSingle false [] following more stop e = ap (λ b. record { delimiter = delimiters.QuoteSingle; indented = b }) (no_quote delimiters.QuoteSingle (get_or more 0 0) stop)
+same_opening d false (x ∷ []) following more stop e = e
+same_opening d false (x ∷ y ∷ ys) following more stop e = e

@@ -1,0 +1,339 @@
+-- A body that is parsed from the tokens of a text is good, if no line of it ends in a carriage return.
+use Rattle.std.proofs.Common.{◌≡◌, ℕ, suc, Bool, true, false, List, [], ◌∷◌, ◌⊎◌, inl, inr, refl, sym, ap, ◌∙◌, subst, ⊎_elim}
+use Rattle.std.specs.Prelude.{◌&&◌, ◌||◌, not}
+use Rattle.std.specs.Str.{IsUtf8}
+use Rattle.std.proofs.lemmas.Bool.{and_parts}
+use Rattle.justfile_vocabulary.specs.declared.token_kind.TokenKind.{TokenKind}
+use Rattle.justfile_vocabulary.specs.declared.token_kind.TokenKind.TheVariants as kinds
+use Rattle.justfile_model.specs.SignificantTokens.{SignificantToken}
+use Rattle.justfile_model.specs.Tree.{Text, Interpolation, Line, lexeme, nothing, line_before, trimmed}
+use Rattle.justfile_model.specs.Grammar as g
+use Rattle.justfile_model.specs.Expressions.{BelowLimit, Expression}
+use Rattle.justfile_model.specs.Files.{to_lexemes}
+use Rattle.justfile_model.specs.Grammar.{LineRest, BodyLines}
+use Rattle.justfile_model.specs.Printing.{ends_in_return, printable_fragments, printable_body}
+use Rattle.justfile_round_trip.proofs.Canon.{Shown, Value, Fragment, Row}
+use Rattle.justfile_round_trip.proofs.Good.{GoodExpression, GoodFragments, IsShown, IsFirst, GoodLines, GoodBody, pale, pale_line, all_pale, pale_after}
+use Rattle.justfile_round_trip.proofs.Walks.{quiet, walk}
+use Rattle.justfile_round_trip.proofs.RecipeBodies.BodyTokens.{At, First, Start, Amid, NotFirst}
+use Rattle.justfile_round_trip.proofs.RecipeBodies.BodyFacts.{TextKnown, LastKnown, Outline, outline_after, no_body, NextIs, BodyToken, BodySound}
+
+abbrev pub Tokens : Type 0
+Tokens = List SignificantToken
+
+-- ---- the places of the tokens of a body
+
+-- in a body, and in an interpolation of it
+abbrev pub inner : At → Bool → Bool → Outline
+inner w held colon = record { at = w; held = held; colon = colon; body = true; interpolation = false; levels = 1 }
+
+abbrev pub interpolating : Bool → Outline
+interpolating colon = record { at = Amid; held = false; colon = colon; body = true; interpolation = true; levels = 1 }
+
+quiet_keeps : (k : TokenKind) (l : List ℕ) (colon : Bool) → quiet k ≡ true → outline_after k l (interpolating colon) ≡ interpolating colon
+quiet_keeps kinds.Colon l colon h = cc
+quiet_keeps kinds.Indent l colon h = cc
+quiet_keeps kinds.Dedent l colon h = cc
+quiet_keeps kinds.Eol l colon h = cc
+quiet_keeps kinds.Text l colon h = cc
+quiet_keeps kinds.Whitespace l colon h = cc
+quiet_keeps kinds.InterpolationStart l colon h = cc
+quiet_keeps kinds.InterpolationEnd l colon h = cc
+quiet_keeps _ l colon h = refl
+
+-- an Indent after a colon, where no level is
+pub indent_leads : (l : List ℕ) (s : Outline) → s.colon ≡ true → s.interpolation ≡ false → s.levels ≡ 0 → outline_after kinds.Indent l s ≡ inner First false true
+indent_leads l s colon interpolation levels = λ i. record { at = First; held = false; colon = colon i; body = whole i; interpolation = interpolation i; levels = one i }
+  where
+    or_true : (b : Bool) → (b || true) ≡ true
+    or_true true = refl
+    or_true false = refl
+
+    whole : (s.body || s.colon) ≡ true
+    whole = ap (λ b. s.body || b) colon ∙ or_true s.body
+
+    one : (outline_after kinds.Indent l s).levels ≡ 1
+    one = ap suc levels
+
+and_assoc : (a b c : Bool) → ((a && b) && c) ≡ (a && (b && c))
+and_assoc true b c = refl
+and_assoc false b c = refl
+
+and_none : (a : Bool) → (a && false) ≡ false
+and_none true = refl
+and_none false = refl
+
+-- ---- lines
+
+-- the condition on the first fragment at this place
+abbrev pub LineBegins : At → List Fragment → Type 0
+LineBegins w [] = Unit {0}
+LineBegins First (f ∷ fs) = IsFirst (f ∷ fs)
+LineBegins Start (f ∷ fs) = IsShown (f ∷ fs)
+LineBegins Amid (f ∷ fs) = Unit {0}
+
+-- only after a fragment none may be left
+abbrev InLine : At → List Fragment → Type 0
+InLine Amid fs = Unit {0}
+InLine _ [] = ⊥
+InLine _ (f ∷ fs) = Unit {0}
+
+-- outside bodies, before an item or in it
+pub record IsOutside (s : Outline) : Type 0 where
+  pub body : s.body ≡ false
+  pub interpolation : s.interpolation ≡ false
+  pub levels : s.levels ≡ 0
+
+-- the tokens that begin or end a body or an interpolation
+abbrev pub shifts : TokenKind → Bool
+shifts kinds.Indent = true
+shifts kinds.Dedent = true
+shifts kinds.InterpolationStart = true
+shifts kinds.InterpolationEnd = true
+shifts _ = false
+
+pub outside_after : (k : TokenKind) (l : List ℕ) (s : Outline) → shifts k ≡ false → IsOutside s → IsOutside (outline_after k l s)
+outside_after kinds.Indent l s h o = cc
+outside_after kinds.Dedent l s h o = cc
+outside_after kinds.InterpolationStart l s h o = cc
+outside_after kinds.InterpolationEnd l s h o = cc
+outside_after _ l s h o = record { body = o.body; interpolation = o.interpolation; levels = o.levels }
+
+pub outside_first : IsOutside no_body
+outside_first = record { body = refl; interpolation = refl; levels = refl }
+
+-- An expression keeps the properties of the outline, as each of its tokens does.
+pub record Walked (P : Outline → Type 0) (ts : Tokens) : Type 0 where
+  pub outline : Outline
+  pub is : P outline
+  pub sound : BodySound outline ts
+
+module _ (P : Outline → Type 0) (keep : (k : TokenKind) (l : List ℕ) (s : Outline) → quiet k ≡ true → P s → P (outline_after k l s)) where
+  quiet_walk : (k : TokenKind) (t : SignificantToken) (rest : Tokens) → t.tok.kind ≡ k → quiet k ≡ true → Walked P (t ∷ rest) → Walked P rest
+  quiet_walk k t rest e h w = record { outline = outline_after t.tok.kind t.tok.lexeme w.outline; is = keep t.tok.kind t.tok.lexeme w.outline (ap quiet e ∙ h) w.is; sound = w.sound.1 }
+
+  walk_past : (limit : ℕ) {condition : Bool} {depth : ℕ} {e : Value} {ns : Shown} {tokens rest : Tokens} → Expression lexeme nothing (BelowLimit limit) condition depth e ns tokens rest → Walked P tokens → Walked P rest
+  walk_past limit = walk lexeme nothing (BelowLimit limit) (Walked P) quiet_walk
+
+pub quiet_stays : (k : TokenKind) → quiet k ≡ true → shifts k ≡ false
+quiet_stays kinds.Indent h = cc
+quiet_stays kinds.Dedent h = cc
+quiet_stays kinds.InterpolationStart h = cc
+quiet_stays kinds.InterpolationEnd h = cc
+quiet_stays _ h = refl
+
+-- ---- lines that are left out
+
+-- whether levels are held open after the lines
+abbrev held_later : Bool → List Row → Bool
+held_later held [] = held
+held_later held (Line n [] ∷ ls) = held_later true ls
+held_later held (Line n (f ∷ fs) ∷ ls) = held_later (held && pale_line (f ∷ fs)) ls
+
+all_held : (ls : List Row) → all_pale (trimmed ls) ≡ true → held_later true ls ≡ true
+all_held [] h = refl
+all_held (Line n [] ∷ ls) h = all_held ls (by (trimmed ls) h)
+  where
+    by : (ls : List Row) → all_pale (line_before (Line n []) ls) ≡ true → all_pale ls ≡ true
+    by [] h = refl
+    by (l ∷ ls) h = h
+all_held (Line n (f ∷ fs) ∷ ls) h =
+    let parts = and_parts (pale_line (f ∷ fs)) (all_pale (trimmed ls)) h in
+    ap (λ b. held_later b ls) parts.0 ∙ all_held ls parts.1
+
+after_held : (ls : List Row) (held : Bool) → pale_after (trimmed ls) ≡ true → held_later held ls ≡ true
+after_held [] held h = cc
+after_held (Line n [] ∷ ls) held h = by (trimmed ls) h (all_held ls) (after_held ls true)
+  where
+    by : (ks : List Row) → pale_after (line_before (Line n []) ks) ≡ true → (all_pale ks ≡ true → held_later true ls ≡ true) → (pale_after ks ≡ true → held_later true ls ≡ true) → held_later true ls ≡ true
+    by [] h all some = cc
+    by (k ∷ ks) h all some = go (all_pale (k ∷ ks)) (pale_after (k ∷ ks)) h all some
+      where
+        go : (a b : Bool) → (a || b) ≡ true → (a ≡ true → held_later true ls ≡ true) → (b ≡ true → held_later true ls ≡ true) → held_later true ls ≡ true
+        go true b h all some = all refl
+        go false b h all some = some h
+after_held (Line n (f ∷ fs) ∷ ls) held h = after_held ls (held && pale_line (f ∷ fs)) h
+
+sound_after : (s : Outline) (k : TokenKind) (t : SignificantToken) (rest : Tokens) → t.tok.kind ≡ k → BodySound s (t ∷ rest) → BodySound (outline_after k t.tok.lexeme s) rest
+sound_after s k t rest e sound = subst (λ k. BodySound (outline_after k t.tok.lexeme s) rest) e sound.1
+
+known_of : (s : Outline) (k : TokenKind) (t : SignificantToken) (rest : Tokens) → t.tok.kind ≡ k → BodySound s (t ∷ rest) → BodyToken s k t.tok.lexeme rest
+known_of s k t rest e sound = subst (λ k. BodyToken s k t.tok.lexeme rest) e sound.0
+
+printable_rest : (f : Fragment) (fs : List Fragment) → printable_fragments (f ∷ fs) ≡ true → printable_fragments fs ≡ true
+printable_rest f [] p = refl
+printable_rest (Text t) (k ∷ fs) p = p
+printable_rest (Interpolation e) (k ∷ fs) p = p
+
+module _ (limit : ℕ) where
+  -- fragments and the line end after them, or fragments before the dedent
+  abbrev pub LineOf : List Fragment → Shown → Tokens → Tokens → Type 0
+  LineOf = LineRest lexeme nothing (BelowLimit limit)
+
+  -- lines, and the dedent after them
+  abbrev pub LinesOf : List Row → Shown → Tokens → Tokens → Type 0
+  LinesOf = BodyLines to_lexemes (BelowLimit limit)
+
+  -- the properties of the single parts of a line
+  abbrev pub PartsGood : List Fragment → Type 0
+  PartsGood [] = Unit {0}
+  PartsGood (Text t ∷ fs) = IsUtf8 t × PartsGood fs
+  PartsGood (Interpolation e ∷ fs) = GoodExpression limit e × PartsGood fs
+
+  abbrev pub AllPartsGood : List Row → Type 0
+  AllPartsGood [] = Unit {0}
+  AllPartsGood (Line number fs ∷ ls) = PartsGood fs × AllPartsGood ls
+
+  -- in an interpolation
+  walk_inside : {condition : Bool} {depth : ℕ} {e : Value} {ns : Shown} {tokens rest : Tokens} (colon : Bool) → Expression lexeme nothing (BelowLimit limit) condition depth e ns tokens rest → BodySound (interpolating colon) tokens → BodySound (interpolating colon) rest
+  walk_inside {rest} colon x s =
+      let w = walk_past (λ o. o ≡ interpolating colon) (λ k l o h e. ap (outline_after k l) e ∙ quiet_keeps k l colon h) limit x (record { outline = interpolating colon; is = refl; sound = s }) in
+      subst (λ o. BodySound o rest) w.is w.sound
+
+  -- outside bodies
+  pub walk_outside : {condition : Bool} {depth : ℕ} {e : Value} {ns : Shown} {tokens rest : Tokens} → Expression lexeme nothing (BelowLimit limit) condition depth e ns tokens rest → Walked IsOutside tokens → Walked IsOutside rest
+  walk_outside = walk_past IsOutside (λ k l s h o. outside_after k l s (quiet_stays k h) o) limit
+
+  trimmed_good : (ls : List Row) → GoodLines limit ls → GoodLines limit (trimmed ls)
+  trimmed_good [] g = tt
+  trimmed_good (Line n [] ∷ ls) g = by (trimmed ls) (trimmed_good ls g.2)
+    where
+      by : (ls : List Row) → GoodLines limit ls → GoodLines limit (line_before (Line n []) ls)
+      by [] g = tt
+      by (l ∷ ls) g = (tt, tt, g)
+  trimmed_good (Line n (f ∷ fs) ∷ ls) g = (g.0, g.1, trimmed_good ls g.2)
+
+  record LineGood (w : At) (held colon : Bool) (fs : List Fragment) (rest : Tokens) : Type 0 where
+    good : GoodFragments limit fs
+    begins : LineBegins w fs
+    place : At
+    stands : (place ≡ Start) ⊎ (NotFirst place × NextIs (λ k. k ≡ kinds.Dedent) rest)
+    sound : BodySound (inner place (held && pale_line fs) colon) rest
+
+  -- a text, and the fragments after it on its line
+  raw_good : {ns : Shown} (w : At) (l : List ℕ) (fs : List Fragment) (tokens rest : Tokens) → LineOf fs ns tokens rest → NextIs (TextKnown w l) tokens → GoodFragments limit fs → IsUtf8 l → printable_fragments (Text l ∷ fs) ≡ true → GoodFragments limit (Text l ∷ fs) × LineBegins w (Text l ∷ fs)
+  raw_good w l [] tokens rest r known good u p = by r known
+    where
+      off : (b : Bool) → not b ≡ true → b ≡ false
+      off true e = cc
+      off false e = refl
+
+      begins : (w : At) → LastKnown w l → LineBegins w (Text l ∷ [])
+      begins First k = k.2
+      begins Start k = k.1
+      begins Amid k = tt
+
+      last : LastKnown w l → GoodFragments limit (Text l ∷ []) × LineBegins w (Text l ∷ [])
+      last k = ((k.0 (off (ends_in_return l) p), u), begins w k)
+
+      by : {ns : Shown} {tokens rest : Tokens} → LineOf [] ns tokens rest → NextIs (TextKnown w l) tokens → GoodFragments limit (Text l ∷ []) × LineBegins w (Text l ∷ [])
+      by (g.line_ends e) known = last (subst (TextKnown w l) e known)
+      by (g.body_ends e) known = last (subst (TextKnown w l) e known)
+  raw_good w l (Text k ∷ fs) tokens rest r known good u p = absurd (by r known)
+    where
+      by : {ns : Shown} {k : List ℕ} {fs : List Fragment} {tokens rest : Tokens} → LineOf (Text k ∷ fs) ns tokens rest → NextIs (TextKnown w l) tokens → ⊥
+      by (g.text e r) known = subst (TextKnown w l) e known
+  raw_good w l (Interpolation e ∷ fs) tokens rest r known good u p = by r known
+    where
+      begins : (w : At) → TextKnown w l kinds.InterpolationStart → LineBegins w (Text l ∷ Interpolation e ∷ fs)
+      begins First k = k.1
+      begins Start k = tt
+      begins Amid k = tt
+
+      by : {ns : Shown} {tokens rest : Tokens} → LineOf (Interpolation e ∷ fs) ns tokens rest → NextIs (TextKnown w l) tokens → GoodFragments limit (Text l ∷ Interpolation e ∷ fs) × LineBegins w (Text l ∷ Interpolation e ∷ fs)
+      by (g.interpolation e' reads e'' r) known = let k = subst (TextKnown w l) e' known in ((k.0, u, good), begins w k)
+
+  line_good : {ns : Shown} (w : At) (held colon : Bool) {fs : List Fragment} {tokens rest : Tokens} → InLine w fs → LineOf fs ns tokens rest → BodySound (inner w held colon) tokens → PartsGood fs → printable_fragments fs ≡ true → LineGood w held colon fs rest
+  line_good Amid held colon i (g.line_ends {token = t} {rest} e) s v p = record { good = tt; begins = tt; place = Start; stands = inl refl; sound = subst (λ h. BodySound (inner Start h colon) rest) (sym (and_true held)) (sound_after (inner Amid held colon) kinds.Eol t rest e s) }
+    where
+      and_true : (b : Bool) → (b && true) ≡ b
+      and_true true = refl
+      and_true false = refl
+  line_good First held colon i (g.line_ends e) s v p = absurd i
+  line_good Start held colon i (g.line_ends e) s v p = absurd i
+  line_good Amid held colon i (g.body_ends {token = t} {rest} e) s v p = record { good = tt; begins = tt; place = Amid; stands = inr (tt, e); sound = subst (λ h. BodySound (inner Amid h colon) (t ∷ rest)) (sym (and_true held)) s }
+    where
+      and_true : (b : Bool) → (b && true) ≡ b
+      and_true true = refl
+      and_true false = refl
+  line_good First held colon i (g.body_ends e) s v p = absurd i
+  line_good Start held colon i (g.body_ends e) s v p = absurd i
+  line_good w held colon {fs} {tokens} {rest} i (g.text {token = t} {tokens = mid} e r) s v p = following r v p (line_good Amid (held && pale t.tok.lexeme) colon tt r (sound_after (inner w held colon) kinds.Text t mid e s))
+    where
+      following : {ns : Shown} {gs : List Fragment} → LineOf gs ns mid rest → PartsGood (Text t.tok.lexeme ∷ gs) → printable_fragments (Text t.tok.lexeme ∷ gs) ≡ true → (PartsGood gs → printable_fragments gs ≡ true → LineGood Amid (held && pale t.tok.lexeme) colon gs rest) → LineGood w held colon (Text t.tok.lexeme ∷ gs) rest
+      following {gs} r v p more =
+          let m = more v.1 (printable_rest (Text t.tok.lexeme) gs p) in
+          let front = raw_good w t.tok.lexeme gs mid rest r (known_of (inner w held colon) kinds.Text t mid e s) m.good v.0 p in
+          record { good = front.0; begins = front.1; place = m.place; stands = m.stands; sound = subst (λ h. BodySound (inner m.place h colon) rest) (and_assoc held (pale t.tok.lexeme) (pale_line gs)) m.sound }
+  line_good w held colon {fs} {tokens} {rest} i (g.interpolation {e} {start} {end = stop} {tokens = inside} {others = mid} e' reads e'' r) s v p =
+      following r v p (line_good Amid false colon tt r closed)
+    where
+      opened : BodySound (interpolating colon) (stop ∷ mid)
+      opened = walk_inside colon reads (sound_after (inner w held colon) kinds.InterpolationStart start inside e' s)
+
+      closed : BodySound (inner Amid false colon) mid
+      closed = sound_after (interpolating colon) kinds.InterpolationEnd stop mid e'' opened
+
+      begins : (w : At) (gs : List Fragment) → LineBegins w (Interpolation e ∷ gs)
+      begins First gs = tt
+      begins Start gs = tt
+      begins Amid gs = tt
+
+      following : {ns : Shown} {gs : List Fragment} → LineOf gs ns mid rest → PartsGood (Interpolation e ∷ gs) → printable_fragments (Interpolation e ∷ gs) ≡ true → (PartsGood gs → printable_fragments gs ≡ true → LineGood Amid false colon gs rest) → LineGood w held colon (Interpolation e ∷ gs) rest
+      following {gs} r v p more =
+          let m = more v.1 (printable_rest (Interpolation e) gs p) in
+          record { good = (v.0, m.good); begins = begins w gs; place = m.place; stands = m.stands; sound = subst (λ h. BodySound (inner m.place h colon) rest) (sym (and_none held)) m.sound }
+
+  -- ---- lines up to the dedent
+
+  record LinesGood (held : Bool) (ls : List Row) (rest : Tokens) : Type 0 where
+    good : GoodLines limit ls
+    last : held_later held ls ≡ true → NextIs (λ k. k ≡ kinds.Eof) rest
+    sound : BodySound no_body rest
+
+  closed_good : (w : At) (held colon : Bool) (t : SignificantToken) (rest : Tokens) → NotFirst w → t.tok.kind ≡ kinds.Dedent → BodySound (inner w held colon) (t ∷ rest) → LinesGood held [] rest
+  closed_good w held colon t rest later e s = record {
+    good = tt;
+    last = λ h. (known_of (inner w held colon) kinds.Dedent t rest e s refl).1 h refl;
+    sound = sound_after (inner w held colon) kinds.Dedent t rest e s;
+  }
+
+  -- a dedent doesn't begin a line
+  dedent_good : {ns : Shown} (w : At) (held colon : Bool) {ls : List Row} {tokens rest : Tokens} → NotFirst w → NextIs (λ k. k ≡ kinds.Dedent) tokens → LinesOf ls ns tokens rest → BodySound (inner w held colon) tokens → LinesGood held ls rest
+  dedent_good w held colon later d (g.no_line {token = t} {rest} e) s = closed_good w held colon t rest later e s
+  dedent_good w held colon later d (g.empty_line e r) s = let bad : kinds.Eol ≡ kinds.Dedent = sym e ∙ d in cc
+  dedent_good w held colon later d (g.some_line (g.text e l) r) s = let bad : kinds.Text ≡ kinds.Dedent = sym e ∙ d in cc
+  dedent_good w held colon later d (g.some_line (g.interpolation e reads e' l) r) s = let bad : kinds.InterpolationStart ≡ kinds.Dedent = sym e ∙ d in cc
+
+  lines_good : {ns : Shown} (held colon : Bool) {ls : List Row} {tokens rest : Tokens} → LinesOf ls ns tokens rest → BodySound (inner Start held colon) tokens → AllPartsGood ls → printable_body ls ≡ true → LinesGood held ls rest
+  lines_good held colon (g.no_line {token = t} {rest} e) s v p = closed_good Start held colon t rest tt e s
+  lines_good held colon (g.empty_line {lines = ls} {token = t} {tokens} e r) s v p =
+      let m = lines_good true colon r (sound_after (inner Start held colon) kinds.Eol t tokens e s) v.1 p in
+      record { good = (tt, tt, m.good); last = m.last; sound = m.sound }
+  lines_good held colon {tokens} {rest} (g.some_line {f} {fragments = fs} {lines = ls} {between = mid} l r) s v p =
+      following (line_good Start held colon tt l s v.0 parts.0) (λ h. lines_good h colon r)
+    where
+      parts : (printable_fragments (f ∷ fs) ≡ true) × (printable_body ls ≡ true)
+      parts = and_parts (printable_fragments (f ∷ fs)) (printable_body ls) p
+
+      following : LineGood Start held colon (f ∷ fs) mid → ((h : Bool) → BodySound (inner Start h colon) mid → AllPartsGood ls → printable_body ls ≡ true → LinesGood h ls rest) → LinesGood held (Line tt (f ∷ fs) ∷ ls) rest
+      following m ih =
+          let h : Bool = held && pale_line (f ∷ fs) in
+          let k : LinesGood h ls rest = ⊎_elim (λ at. ih h (subst (λ w. BodySound (inner w h colon) mid) at m.sound) v.1 parts.1) (λ d. dedent_good m.place h colon d.0 d.1 r m.sound) m.stands in
+          record { good = (m.good, m.begins, k.good); last = k.last; sound = k.sound }
+
+  -- A body that was read has good lines, and where its last lines hold levels open it is the last item of the file.
+  pub record BodyRead (ls : List Row) (rest : Tokens) : Type 0 where
+    pub good : GoodBody limit (trimmed ls)
+    pub last : pale_after (trimmed ls) ≡ true → NextIs (λ k. k ≡ kinds.Eof) rest
+    pub sound : BodySound no_body rest
+
+  -- from the token after the Indent on
+  pub body_read : {ns : Shown} (colon : Bool) {ls : List Row} {tokens rest : Tokens} → LinesOf ls ns tokens rest → BodySound (inner First false colon) tokens → AllPartsGood ls → printable_body ls ≡ true → BodyRead ls rest
+  body_read colon (g.no_line {token = t} {rest} e) s v p = absurd ((known_of (inner First false colon) kinds.Dedent t rest e s refl).0)
+  body_read colon (g.empty_line {lines = ls} {token = t} {tokens} e r) s v p = absurd (known_of (inner First false colon) kinds.Eol t tokens e s refl refl)
+  body_read colon {tokens} {rest} (g.some_line {f} {fragments = fs} {lines = ls} {between = mid} l r) s v p =
+      let parts = and_parts (printable_fragments (f ∷ fs)) (printable_body ls) p in
+      let m = line_good First false colon tt l s v.0 parts.0 in
+      let k : LinesGood false ls rest = ⊎_elim (λ at. lines_good false colon r (subst (λ w. BodySound (inner w false colon) mid) at m.sound) v.1 parts.1) (λ d. dedent_good m.place false colon d.0 d.1 r m.sound) m.stands in
+      record { good = (m.begins, m.good, trimmed_good ls k.good); last = λ h. k.last (after_held ls false h); sound = k.sound }
