@@ -15,7 +15,7 @@ use crate::orders::orders;
 use crate::parts::parts;
 use crate::printing::{copies, prints, prints_item};
 use crate::recipes::push_of_recipe;
-use crate::refusal::{push_expected, push_fault, push_message};
+use crate::refusal::{push_expected, push_message};
 use crate::resolution::resolves;
 use crate::sets::sets;
 use crate::settings::settings;
@@ -29,7 +29,7 @@ use justfile_syntax::numerator::{Number, Numerator};
 use justfile_syntax::parser::{Parser, RECURSION_LIMIT};
 use justfile_syntax::source::Source;
 use justfile_syntax::version::Version;
-use row_notation::{Answer, Text, field_at, number_at};
+use row_notation::{Answer, Text, field_at, number_at, push_fault};
 use std::alloc::Global;
 
 /// Parses a text under a limit of depth, with numbers from a numerator.

@@ -3,14 +3,13 @@
 use crate::expansion::Expansion;
 use crate::files::parse;
 use crate::orders::{copy_of, push_order};
-use crate::refusal::push_fault;
 use justfile_syntax::expression::Expression;
 use justfile_syntax::item::Item;
 use justfile_syntax::name::Name;
 use justfile_syntax::numerator::Number;
 use justfile_syntax::parser::RECURSION_LIMIT;
 use justfile_syntax::setting::Setting;
-use row_notation::{Answer, Text, field_at};
+use row_notation::{Answer, Text, field_at, push_fault};
 use std::alloc::{AllocError, Global};
 use std::collections::HashMap;
 

@@ -1,6 +1,5 @@
 //! The parts of the first value of a file.
 
-use crate::lexing::push_string_kind;
 use crate::word::Word;
 use justfile_expression::child;
 use justfile_syntax::conditional_operator::ConditionalOperator;
@@ -10,7 +9,7 @@ use justfile_syntax::name::Name;
 use justfile_syntax::setting::Setting;
 use justfile_syntax::string_literal::StringLiteral;
 use justfile_syntax::token::Token;
-use row_notation::{Answer, Text};
+use row_notation::{Answer, Text, push_string_kind};
 
 /// Writes what a row's word asks for about the first value of a file's items, or the first path if
 /// there is no value.

@@ -1,15 +1,11 @@
 //! Tokens of texts, as rows show them.
 
-use crate::refusal::{kind_of, place_after, push_fault};
 use crate::word::Word;
-use justfile_syntax::compile_error::CompileError;
-use justfile_syntax::fault::Fault;
-use justfile_syntax::lexer::Lexer;
-use justfile_syntax::parser::significant;
-use justfile_syntax::string_kind::StringKind;
-use justfile_syntax::token::Token;
-use justfile_syntax::token_kind::TokenKind;
-use row_notation::{Answer, Text};
+use justfile_lex::Lexer;
+use justfile_parse_expression::significant::significant;
+use justfile_token::{CompileError, Fault, StringKind, Token};
+use justfile_vocabulary::TokenKind;
+use row_notation::{Answer, Text, kind_of, place_after, push_fault, push_string_kind};
 
 /// The lexemes that results leave out.
 static USUAL_LEXEMES: &[(TokenKind, &str)] = &[
@@ -141,12 +137,6 @@ fn push_literal_kind(answer: &mut Answer, tokens: &[Token<'_>]) {
             Err(error) => push_error(answer, &error),
         }
     }
-}
-
-/// Writes the delimiter of a literal, and whether it is tripled.
-pub(crate) fn push_string_kind(answer: &mut Answer, kind: StringKind) {
-    answer.push_made(format!(in answer.alloc(); "{:?}", kind.delimiter));
-    answer.push(if kind.indented { "tripled" } else { "single" });
 }
 
 /// Writes what a row's word asks for about the tokens of a text.
