@@ -132,10 +132,15 @@ fn push_table(answer: &mut Answer, table: &[(Token<'_>, bool)]) {
 /// Writes the kind of the literal that the first token is, or why it isn't one.
 fn push_literal_kind(answer: &mut Answer, tokens: &[Token<'_>]) {
     if let Some(token) = tokens.first() {
-        match StringKind::from_string_or_backtick(*token) {
-            Ok(kind) => push_string_kind(answer, kind),
-            Err(error) => push_error(answer, &error),
-        }
+        push_kind_of(answer, *token);
+    }
+}
+
+/// Writes the kind of the literal that a token is, or why it isn't one.
+fn push_kind_of(answer: &mut Answer, token: Token<'_>) {
+    match StringKind::from_string_or_backtick(token) {
+        Ok(kind) => push_string_kind(answer, kind),
+        Err(error) => push_error(answer, &error),
     }
 }
 
@@ -149,11 +154,18 @@ fn push_lexed(answer: &mut Answer, word: Word, text: &str, tokens: &[Token<'_>])
     }
 }
 
+/// Writes why a text has no tokens.
+fn push_lexical_fault(answer: &mut Answer, text: &str, fault: &Fault<'_>) {
+    match fault {
+        Fault::Compile(error) => push_error(answer, error),
+        fault => push_fault(answer, text, fault),
+    }
+}
+
 /// Lexes a text, and writes what a row's word asks for about it, or why it is refused.
 pub(crate) fn lex(answer: &mut Answer, word: Word, text: &str) {
     match Lexer::lex(answer.alloc(), "justfile", text) {
         Ok(tokens) => push_lexed(answer, word, text, tokens.as_slice()),
-        Err(Fault::Compile(error)) => push_error(answer, &error),
-        Err(fault) => push_fault(answer, text, &fault),
+        Err(fault) => push_lexical_fault(answer, text, &fault),
     }
 }
