@@ -11,28 +11,17 @@
 //! and the words.
 #![tactic(auto)]
 
-mod attributes;
 mod beginnings;
-mod copies;
 mod expansion;
-mod expressions;
 mod fields;
 mod files;
-mod headers;
-mod items;
-mod orders;
-mod parts;
 mod printing;
 mod program;
-mod recipes;
 mod refusal;
 mod resolution;
 mod roots;
-mod sets;
-mod settings;
 mod stream;
 mod symbols;
-mod values;
 mod word;
 
 use crate::word::Word;
