@@ -151,7 +151,7 @@ def crate_before(line, section):
 def known(crate):
     """The words that a name with this crate may have. Those of justfiles and the names of laws stand in any section."""
     if crate == "tests":
-        return words("justfile_rows") | words("justfile_syntax") | tests() | set(NAMES)
+        return words("text_rows") | words("justfile_rows") | words("justfile_syntax") | tests() | set(NAMES)
     if crate.endswith("/specs"):
         return words(crate) | set(NAMES)
     elsewhere = ELSEWHERE[None] | ELSEWHERE.get(crate, set())

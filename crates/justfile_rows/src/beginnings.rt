@@ -5,13 +5,12 @@ use crate::expansion::Expansion;
 use crate::fields::indentation_of;
 use crate::files::parse;
 use crate::printing::settles;
-use crate::refusal::push_fault;
 use justfile_syntax::ast::Ast;
 use justfile_syntax::compile_error_kind::CompileErrorKind;
 use justfile_syntax::fault::Fault;
 use justfile_syntax::indentation::Indentation;
 use justfile_syntax::parser::RECURSION_LIMIT;
-use row_notation::{Answer, Text};
+use row_notation::{Answer, Text, push_fault};
 
 /// The indentations at which the printed text has to settle.
 const INDENTATIONS: [&str; 3] = ["    ", "  ", "\t"];

@@ -24,14 +24,12 @@ pub(crate) fn are_readable(word: Word, fields: &[String]) -> bool {
     match word {
         Word::Breaks => is_breakable(first) && is_number(fields, 1),
         Word::BreaksEach => matches!(first, "reading" | "reporting" | "writing"),
-        Word::Class => first.parse::<u8>().is_ok(),
         Word::Expands => Expansion::of(first).is_some(),
         Word::CanonicalUnder | Word::Line | Word::PrintsUnder | Word::RefusedUnder | Word::Roots =>
             { is_number(fields, 0) }
-        Word::Identifier | Word::Numbers => is_number(fields, 0) && is_number(fields, 1),
+        Word::Numbers => is_number(fields, 0) && is_number(fields, 1),
         Word::FormatsAt | Word::PrintsAt | Word::PrintsItem => first.parse::<Indentation>().is_ok(),
         Word::Sigils => matches!(first, "guarded" | "unguarded"),
-        Word::Switch => matches!(first, "long" | "short"),
         _ => true,
     }
 }

@@ -1,35 +1,31 @@
 //! Rows of texts that are parsed.
 
-use crate::attributes::attributes;
 use crate::beginnings::beginnings;
-use crate::copies::copies_items;
 use crate::expansion::Expansion;
-use crate::expressions::expressions;
 use crate::fields::indentation_of;
-use crate::headers::docs;
-use crate::items::{
-    FILE_DEPTH, IMPORT_OFFSETS, WORKING_DIRECTORY, enabled, features, file, indented, keys,
-    unstable,
-};
-use crate::orders::orders;
-use crate::parts::parts;
 use crate::printing::{copies, prints, prints_item};
-use crate::recipes::push_of_recipe;
-use crate::refusal::{push_expected, push_fault, push_message};
+use crate::refusal::{push_expected, push_message};
 use crate::resolution::resolves;
-use crate::sets::sets;
-use crate::settings::settings;
-use crate::values::push_of_value;
 use crate::word::Word;
 use justfile_syntax::ast::Ast;
 use justfile_syntax::fault::{CompileResult, Fault};
+use justfile_syntax::format::own_indentation;
 use justfile_syntax::indentation::Indentation;
 use justfile_syntax::item::Item;
 use justfile_syntax::numerator::{Number, Numerator};
 use justfile_syntax::parser::{Parser, RECURSION_LIMIT};
 use justfile_syntax::source::Source;
 use justfile_syntax::version::Version;
-use row_notation::{Answer, Text, field_at, number_at};
+use row_items::copies::copies_items;
+use row_items::expressions::expressions;
+use row_items::items::{WORKING_DIRECTORY, file};
+use row_items::names::{attributes, docs, enabled, features, keys, sets, settings, unstable};
+use row_items::orders::orders;
+use row_items::parts::parts;
+use row_items::recipes::{FILE_DEPTH, IMPORT_OFFSETS, RecipePart, push_of_recipe};
+use row_items::values::push_of_value;
+use row_notation::{Answer, Text, field_at, number_at, push_fault};
+use row_parts::values::ValueForm;
 use std::alloc::Global;
 
 /// Parses a text under a limit of depth, with numbers from a numerator.
@@ -98,12 +94,42 @@ fn push_of_items(items: &[Item<'_>], answer: &mut Answer, word: Word, fields: &[
         Word::Enabled => enabled(items, answer),
         Word::Expressions => expressions(items, answer),
         Word::Keys => keys(items, answer),
-        Word::Expands | Word::Literal | Word::Value => push_of_value(items, answer, word),
+        Word::Literal => push_of_value(items, answer, ValueForm::Literal),
+        Word::Expands | Word::Value => push_of_value(items, answer, ValueForm::Parts),
         Word::Orders => orders(items, answer),
         Word::Parts => parts(items, answer),
         Word::Sets => sets(items, answer),
         Word::Settings => settings(items, answer),
-        _ => push_of_recipe(items, answer, word, fields),
+        _ => push_of_recipe(items, answer, recipe_part(word, fields)),
+    }
+}
+
+/// Returns the part of a recipe that a row's word asks for.
+fn recipe_part(word: Word, fields: &[String]) -> RecipePart {
+    match word {
+        Word::Arguments => RecipePart::Arguments,
+        Word::Defaults => RecipePart::Defaults,
+        Word::Dependencies => RecipePart::Dependencies,
+        Word::Line => RecipePart::Line(number_at(fields, 0) as usize),
+        Word::Parameters => RecipePart::Parameters,
+        Word::Sigils => RecipePart::Sigils(field_at(fields, 0) == "guarded"),
+        _ => RecipePart::Marks,
+    }
+}
+
+/// Writes the indentation that a file sets, or `none`. Writes `own` after it if the file isn't printed
+/// at this indentation, or else at four spaces.
+fn indented(ast: &Ast<'_>, answer: &mut Answer) {
+    push_indentation(ast, answer);
+    let expected = ast.indentation().unwrap_or_default();
+    answer.push_if("own", own_indentation(ast) != expected);
+}
+
+/// Writes the indentation that a file sets, or `none`.
+fn push_indentation(ast: &Ast<'_>, answer: &mut Answer) {
+    match ast.indentation() {
+        Some(indentation) => answer.push_made(indentation.to_string(answer.alloc())),
+        None => answer.push("none"),
     }
 }
 
@@ -131,7 +157,7 @@ fn indentation_for(word: Word, fields: &[String]) -> Indentation {
 
 /// Writes the parts of the first value of a file, and the file's printed text.
 fn push_value_and_text(ast: &Ast<'_>, answer: &mut Answer) {
-    push_of_value(&ast.items, answer, Word::Value);
+    push_of_value(&ast.items, answer, ValueForm::Parts);
     copies(ast, answer, Indentation::default());
 }
 

@@ -3,12 +3,11 @@
 
 use crate::expansion::Expansion;
 use crate::files::parse;
-use crate::refusal::push_fault;
 use crate::stream::Stream;
 use justfile_syntax::ast::Ast;
 use justfile_syntax::indentation::Indentation;
 use justfile_syntax::item::Item;
-use row_notation::{Answer, Text};
+use row_notation::{Answer, Text, push_fault};
 use std::alloc::Global;
 
 /// Writes a file's printed text at an indentation.

@@ -1,13 +1,12 @@
 //! Runs of the program `justfmt`.
 
 use crate::fields::indentation_of;
-use crate::refusal::push_fault;
 use crate::stream::Stream;
 use crate::word::Word;
 use formatted::{formatted, formatted_as_set};
 use justfile_format::run::run;
 use justfile_syntax::format::format_text;
-use row_notation::{Answer, field_at, number_at};
+use row_notation::{Answer, field_at, number_at, push_fault};
 use std::alloc::{AllocError, Global};
 
 /// How many bytes a call reads or writes at most.

@@ -1,12 +1,11 @@
 //! Root files with numbers from a numerator, as rows show them.
 
 use crate::files::push_next;
-use crate::items::push_items;
-use crate::refusal::push_fault;
 use justfile_syntax::ast::Ast;
 use justfile_syntax::numerator::Numerator;
 use justfile_syntax::parser::{parse_root_with, release};
-use row_notation::{Answer, field_at, number_at};
+use row_items::items::push_items;
+use row_notation::{Answer, field_at, number_at, push_fault};
 
 /// Writes the items of a root file that is parsed after as many constants as the first field says,
 /// after the numbers that the next binding and the next recipe would get.

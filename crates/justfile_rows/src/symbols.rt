@@ -1,11 +1,10 @@
 //! Symbols of root files, as rows show them.
 
-use crate::items::{put_if, put_marked};
-use crate::refusal::push_fault;
 use justfile_syntax::ast::Ast;
 use justfile_syntax::outline::{Symbol, outline, symbols};
 use justfile_syntax::parser::{Reader, parse_root, read_root, release};
-use row_notation::{Answer, Text};
+use row_notation::{Answer, Text, push_fault};
+use row_parts::shown::{put_if, put_marked};
 
 /// Writes the symbols of a text. Writes `parsed` and what is found if the outline of the parsed file
 /// has others, and `read` if the file that is lent to a reader does.

@@ -1,18 +1,22 @@
 //! The words that rows begin with.
 
+use crate::fields::are_readable;
+use crate::files::push_fields;
+use crate::program::{breaks_each, formats, formats_at, runs};
+use crate::roots::roots;
+use crate::symbols::push_symbols;
+use row_notation::{Answer, RowWord, field_at};
+
 /// What a row does.
 #[derive(Clone, Copy, PartialEq, Eq)]
 pub(crate) enum Word {
     Arguments,
-    AttributeKind,
     Attributes,
     Beginnings,
     Breaks,
     BreaksEach,
     Canonical,
     CanonicalUnder,
-    Class,
-    Cooks,
     Copies,
     Defaults,
     Dependencies,
@@ -25,20 +29,13 @@ pub(crate) enum Word {
     Features,
     Formats,
     FormatsAt,
-    Identifier,
-    Indentation,
     Indented,
     Items,
     Keys,
-    Keyword,
-    KindOf,
-    Kinds,
-    Lexes,
     Line,
     Literal,
     Message,
     Numbers,
-    Opens,
     Orders,
     Parameters,
     Parts,
@@ -55,28 +52,20 @@ pub(crate) enum Word {
     Sets,
     Settings,
     Sigils,
-    Signal,
-    Significant,
-    Switch,
     Symbols,
-    Unindents,
     Unstable,
     Value,
-    Version,
 }
 
 /// The words, each with the least number of fields of its rows.
 static WORDS: &[(&str, Word, usize)] = &[
     ("arguments", Word::Arguments, 1),
-    ("attribute_kind", Word::AttributeKind, 1),
     ("attributes", Word::Attributes, 1),
     ("beginnings", Word::Beginnings, 2),
     ("breaks", Word::Breaks, 4),
     ("breaks_each", Word::BreaksEach, 3),
     ("canonical", Word::Canonical, 1),
     ("canonical_under", Word::CanonicalUnder, 2),
-    ("class", Word::Class, 1),
-    ("cooks", Word::Cooks, 1),
     ("copies", Word::Copies, 1),
     ("defaults", Word::Defaults, 1),
     ("dependencies", Word::Dependencies, 1),
@@ -89,20 +78,13 @@ static WORDS: &[(&str, Word, usize)] = &[
     ("features", Word::Features, 1),
     ("formats", Word::Formats, 1),
     ("formats_at", Word::FormatsAt, 2),
-    ("identifier", Word::Identifier, 2),
-    ("indentation", Word::Indentation, 1),
     ("indented", Word::Indented, 1),
     ("items", Word::Items, 1),
     ("keys", Word::Keys, 1),
-    ("keyword", Word::Keyword, 1),
-    ("kind_of", Word::KindOf, 1),
-    ("kinds", Word::Kinds, 1),
-    ("lexes", Word::Lexes, 1),
     ("line", Word::Line, 2),
     ("literal", Word::Literal, 1),
     ("message", Word::Message, 1),
     ("numbers", Word::Numbers, 3),
-    ("opens", Word::Opens, 1),
     ("orders", Word::Orders, 1),
     ("parameters", Word::Parameters, 1),
     ("parts", Word::Parts, 1),
@@ -119,20 +101,41 @@ static WORDS: &[(&str, Word, usize)] = &[
     ("sets", Word::Sets, 1),
     ("settings", Word::Settings, 1),
     ("sigils", Word::Sigils, 2),
-    ("signal", Word::Signal, 1),
-    ("significant", Word::Significant, 1),
-    ("switch", Word::Switch, 2),
     ("symbols", Word::Symbols, 1),
-    ("unindents", Word::Unindents, 1),
     ("unstable", Word::Unstable, 1),
     ("value", Word::Value, 1),
-    ("version", Word::Version, 1),
 ];
 
-impl Word {
-    /// Returns the word with this spelling, and the least number of fields of its rows.
-    pub(crate) fn of(written: &str) -> Option<(Word, usize)> {
+impl RowWord for Word {
+    fn of(written: &str) -> Option<(Word, usize)> {
         let (_, word, least) = WORDS.iter().find(|row| row.0 == written)?;
         Some((*word, *least))
+    }
+
+    fn are_readable(self, fields: &[String]) -> bool {
+        are_readable(self, fields)
+    }
+
+    /// `beginnings` expects its first field, `canonical` its input, `canonical_under` its input
+    /// without the limit, and another word the fields after its input.
+    fn is_expected(self, least: usize, place: usize) -> bool {
+        match self {
+            Word::Beginnings => place == 0,
+            Word::Canonical => true,
+            Word::CanonicalUnder => place >= 1,
+            _ => place >= least,
+        }
+    }
+
+    fn push_found(self, answer: &mut Answer, fields: &[String]) {
+        match self {
+            Word::Breaks | Word::Run => runs(answer, self, fields),
+            Word::BreaksEach => breaks_each(answer, fields),
+            Word::Formats => formats(answer, field_at(fields, 0)),
+            Word::FormatsAt => formats_at(answer, fields),
+            Word::Roots => roots(answer, fields),
+            Word::Symbols => push_symbols(answer, field_at(fields, 0)),
+            _ => push_fields(answer, self, fields),
+        }
     }
 }

@@ -1,5 +1,5 @@
-//! Tests of calls that no text leads to. The rows of `justfile_rows` test what texts are lexed,
-//! parsed and printed to.
+//! Tests of calls that no text leads to. The rows of `text_rows` and `justfile_rows` test what texts
+//! are lexed, parsed and printed to.
 
 mod attributes;
 mod excerpts;

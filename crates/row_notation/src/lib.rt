@@ -1,14 +1,19 @@
-//! The notation of rows of data: reads the rows of a file, and writes results like their fields.
-//! `docs/ROWS.md` has the notation.
+//! The notation of rows of data: reads the rows of files and runs them, and writes what they find like
+//! their fields. `docs/ROWS.md` has the notation.
 #![tactic(auto)]
 
 mod answer;
 mod field_reader;
 mod fields;
+mod literal;
+mod refusal;
 mod row;
+mod run;
 mod text;
 
 pub use crate::answer::Answer;
 pub use crate::fields::{field_at, is_number, number_at};
-pub use crate::row::{Row, rows_of};
+pub use crate::literal::push_string_kind;
+pub use crate::refusal::{kind_of, place_after, push_fault, push_refusal};
+pub use crate::run::{RowWord, run_rows};
 pub use crate::text::Text;

@@ -5,9 +5,9 @@ use std::alloc::{AllocError, Global};
 
 /// A row: the number of its first line, and its fields, if they can be read.
 #[derive(Drop)]
-pub struct Row {
+pub(crate) struct Row {
     /// The number of the row's first line, counted from 1.
-    pub line: usize,
+    pub(crate) line: usize,
     reader: FieldReader,
 }
 
@@ -17,7 +17,7 @@ impl Row {
     /// # Errors
     ///
     /// Memory ran out.
-    pub fn fields(self) -> Result<Option<Vec<String>>, AllocError> {
+    pub(crate) fn fields(self) -> Result<Option<Vec<String>>, AllocError> {
         let Row { line: _, reader } = self;
         reader.finish()
     }
@@ -28,7 +28,7 @@ impl Row {
 /// # Errors
 ///
 /// Memory ran out.
-pub fn rows_of(alloc: Global, text: &str) -> Result<Vec<Row>, AllocError> {
+pub(crate) fn rows_of(alloc: Global, text: &str) -> Result<Vec<Row>, AllocError> {
     let mut rows = Vec::new(alloc);
     for (index, line) in text.lines().enumerate() {
         read_line(alloc, &mut rows, index, line)?;

@@ -1,25 +1,14 @@
 //! Sets of attributes made from entries and from pairs.
 
 use crate::attributes::push_attribute;
-use justfile_syntax::attribute::Attribute;
-use justfile_syntax::attribute_set::{AttributeSet, ContentOrder, IntoNamed, PairSet};
-use justfile_syntax::item::Item;
-use justfile_syntax::name::Name;
+use justfile_attribute::Attribute;
+use justfile_attribute_set::{AttributeSet, ContentOrder, IntoNamed, PairSet};
+use justfile_token::Name;
 use row_notation::Answer;
 use std::alloc::{AllocError, Global};
 
-/// Writes the set that is made from the attributes of a file's first recipe.
-pub(crate) fn sets(items: &[Item<'_>], answer: &mut Answer) {
-    for item in items {
-        if let Item::Recipe(recipe) = item {
-            return push_joined(&recipe.attributes, answer, recipe.name, recipe.comment);
-        }
-    }
-    answer.push("none")
-}
-
 /// Makes a set from a set's attributes and their copies with this name and comment, and writes it.
-fn push_joined<'src>(
+pub fn push_joined<'src>(
     set: &AttributeSet<'src>,
     answer: &mut Answer,
     name: Name<'src>,

@@ -1,18 +1,12 @@
 //! Texts that aren't justfiles: literals, versions, indentations, keywords, bytes and characters.
 
-use crate::lexing::push_string_kind;
-use crate::refusal::push_fault;
-use justfile_syntax::byte_class::byte_class;
-use justfile_syntax::indentation::Indentation;
-use justfile_syntax::keyword::Keyword;
-use justfile_syntax::lexer::Lexer;
-use justfile_syntax::parser::cook_string;
-use justfile_syntax::string_kind::StringKind;
-use justfile_syntax::token::Token;
-use justfile_syntax::token_kind::TokenKind;
-use justfile_syntax::unindent::unindent;
-use justfile_syntax::version::Version;
-use row_notation::{Answer, Text, number_at};
+use justfile_lex::Lexer;
+use justfile_literal::cook_string;
+use justfile_literal::unindent::unindent;
+use justfile_token::{StringKind, Token};
+use justfile_vocabulary::byte_class::byte_class;
+use justfile_vocabulary::{Indentation, Keyword, TokenKind, Version};
+use row_notation::{Answer, Text, number_at, push_fault, push_string_kind};
 
 /// The token at which texts with bad escapes are refused.
 const LITERAL: Token<'static> = Token {

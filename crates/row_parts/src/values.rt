@@ -1,58 +1,38 @@
-//! The parts of the first value of a file.
+//! The parts of a value.
 
-use crate::lexing::push_string_kind;
-use crate::word::Word;
-use justfile_expression::child;
-use justfile_syntax::conditional_operator::ConditionalOperator;
-use justfile_syntax::expression::Expression;
-use justfile_syntax::item::Item;
-use justfile_syntax::name::Name;
-use justfile_syntax::setting::Setting;
-use justfile_syntax::string_literal::StringLiteral;
-use justfile_syntax::token::Token;
-use row_notation::{Answer, Text};
+use justfile_expression::{ConditionalOperator, Expression, child};
+use justfile_setting::Setting;
+use justfile_token::{Name, StringLiteral, Token};
+use row_notation::{Answer, Text, push_string_kind};
 
-/// Writes what a row's word asks for about the first value of a file's items, or the first path if
-/// there is no value.
-pub(crate) fn push_of_value(items: &[Item<'_>], answer: &mut Answer, word: Word) {
-    for item in items {
-        if push_value_in(item, answer, word) {
-            return;
-        }
-    }
-    push_of_path(items, answer, word)
+/// What is shown of a value.
+#[derive(Clone, Copy, PartialEq, Eq)]
+pub enum ValueForm {
+    /// The literal that it is: its kind, its lexeme and the offset of that.
+    Literal,
+    /// Its form, and the texts of its parts.
+    Parts,
 }
 
-/// Writes what a row's word asks for about the value of an assignment, a function or a setting, and
-/// returns whether the item has one.
-fn push_value_in(item: &Item<'_>, answer: &mut Answer, word: Word) -> bool {
-    match item {
-        Item::Assignment(assignment) => push_value(&assignment.value, answer, word),
-        Item::Function(function) => push_value(&function.body, answer, word),
-        Item::Setting(set) => push_value_set(&set.value, answer, word),
-        _ => false,
-    }
-}
-
-/// Writes what a row's word asks for about a setting's expression, or the command of its
+/// Writes what a form shows of a setting's expression, or the command of its
 /// interpreter, and returns whether there is one.
-fn push_value_set(setting: &Setting<'_>, answer: &mut Answer, word: Word) -> bool {
+pub fn push_value_set(setting: &Setting<'_>, answer: &mut Answer, form: ValueForm) -> bool {
     match setting {
-        Setting::DotenvCommand(value) => push_value(value, answer, word),
-        Setting::DotenvFilename(value) => push_value(value, answer, word),
-        Setting::DotenvPath(value) => push_value(value, answer, word),
-        Setting::ScriptInterpreter(interpreter) => push_value(&interpreter.command, answer, word),
-        Setting::Shell(interpreter) => push_value(&interpreter.command, answer, word),
-        Setting::Tempdir(value) => push_value(value, answer, word),
-        Setting::WindowsShell(interpreter) => push_value(&interpreter.command, answer, word),
-        Setting::WorkingDirectory(value) => push_value(value, answer, word),
+        Setting::DotenvCommand(value) => push_value(value, answer, form),
+        Setting::DotenvFilename(value) => push_value(value, answer, form),
+        Setting::DotenvPath(value) => push_value(value, answer, form),
+        Setting::ScriptInterpreter(interpreter) => push_value(&interpreter.command, answer, form),
+        Setting::Shell(interpreter) => push_value(&interpreter.command, answer, form),
+        Setting::Tempdir(value) => push_value(value, answer, form),
+        Setting::WindowsShell(interpreter) => push_value(&interpreter.command, answer, form),
+        Setting::WorkingDirectory(value) => push_value(value, answer, form),
         _ => false,
     }
 }
 
-/// Writes what a row's word asks for about a value, and returns true.
-fn push_value(value: &Expression<'_>, answer: &mut Answer, word: Word) -> bool {
-    if word == Word::Literal {
+/// Writes what a form shows of a value, and returns true.
+pub fn push_value(value: &Expression<'_>, answer: &mut Answer, form: ValueForm) -> bool {
+    if form == ValueForm::Literal {
         push_place(value, answer);
     } else {
         push_parts(value, answer);
@@ -60,37 +40,21 @@ fn push_value(value: &Expression<'_>, answer: &mut Answer, word: Word) -> bool {
     true
 }
 
-/// Writes what a row's word asks for about the first path of a file's items.
-fn push_of_path(items: &[Item<'_>], answer: &mut Answer, word: Word) {
-    for item in items {
-        if push_path_in(item, answer, word) {
-            return;
-        }
-    }
-    answer.push("none")
-}
-
-/// Writes what a row's word asks for about the path of an import or a module, and returns whether
-/// there is one.
-fn push_path_in(item: &Item<'_>, answer: &mut Answer, word: Word) -> bool {
-    match item {
-        Item::Import { relative, .. } => push_path(relative, answer, word),
-        Item::Module { relative, .. } => push_module_path(relative, answer, word),
-        _ => false,
-    }
-}
-
-/// Writes what a row's word asks for about the path of a module, and returns whether it has one.
-fn push_module_path(relative: &Option<StringLiteral<'_>>, answer: &mut Answer, word: Word) -> bool {
+/// Writes what a form shows of the path of a module, and returns whether it has one.
+pub fn push_module_path(
+    relative: &Option<StringLiteral<'_>>,
+    answer: &mut Answer,
+    form: ValueForm,
+) -> bool {
     match relative {
-        Some(path) => push_path(path, answer, word),
+        Some(path) => push_path(path, answer, form),
         None => false,
     }
 }
 
-/// Writes what a row's word asks for about a path, and returns true.
-fn push_path(path: &StringLiteral<'_>, answer: &mut Answer, word: Word) -> bool {
-    if word == Word::Literal {
+/// Writes what a form shows of a path, and returns true.
+pub fn push_path(path: &StringLiteral<'_>, answer: &mut Answer, form: ValueForm) -> bool {
+    if form == ValueForm::Literal {
         push_literal_place(path, answer);
     } else {
         push_literal(path, answer);
@@ -117,7 +81,7 @@ fn push_literal_place(literal: &StringLiteral<'_>, answer: &mut Answer) {
 
 /// Writes the parts of an expression: its outermost form, with the token that it holds, and the
 /// texts of the expressions in it.
-pub(crate) fn push_parts(expression: &Expression<'_>, answer: &mut Answer) {
+pub fn push_parts(expression: &Expression<'_>, answer: &mut Answer) {
     match expression {
         Expression::FormatString { start, expressions } => {
             push_format_string(expressions, start, answer)

@@ -1,38 +1,9 @@
-//! The order of a file's values.
+//! The order of values.
 
-use crate::copies::copies_assignment;
-use justfile_syntax::expression::Expression;
-use justfile_syntax::item::Item;
+use justfile_expression::Expression;
 use row_notation::{Answer, Text};
 use std::alloc::{AllocError, Global};
 use std::cmp::Ordering;
-
-/// Writes how the value of each assignment compares with that of the next one. A line end comes
-/// between two assignments.
-pub(crate) fn orders(items: &[Item<'_>], answer: &mut Answer) {
-    for (index, item) in items.iter().enumerate() {
-        if let Item::Assignment(assignment) = item {
-            push_with_next(items, answer, index.saturating_add(2), &assignment.value);
-            push_with_copy(&assignment.value, answer);
-            copies_assignment(assignment, answer);
-        }
-    }
-}
-
-/// Writes how a value compares with that of the assignment at an index, if there is one.
-fn push_with_next<'src>(
-    items: &[Item<'src>],
-    answer: &mut Answer,
-    index: usize,
-    value: &Expression<'src>,
-) {
-    if index >= items.len() {
-        return;
-    }
-    if let Item::Assignment(next) = &items[index] {
-        push_order(value, &next.value, answer);
-    }
-}
 
 /// Moves a value into a box, if it was made.
 fn boxed<T: Drop>(alloc: Global, made: Result<T, AllocError>) -> Result<Box<T>, AllocError> {
@@ -54,7 +25,7 @@ pub(crate) fn copy_of<'src>(
 }
 
 /// Writes the copy of a value if it differs from the value.
-fn push_with_copy(value: &Expression<'_>, answer: &mut Answer) {
+pub fn push_with_copy(value: &Expression<'_>, answer: &mut Answer) {
     match copy_of(value, answer.alloc()) {
         Ok(copy) => push_other(value, &copy, answer),
         Err(_) => answer.fail(),
@@ -70,11 +41,7 @@ fn push_other<'src>(value: &Expression<'src>, copy: &Expression<'src>, answer: &
 
 /// Writes how two values compare with their positions, and how they compare by content. Writes
 /// `apart` if the ways to compare them with their positions disagree.
-pub(crate) fn push_order<'src>(
-    value: &Expression<'src>,
-    other: &Expression<'src>,
-    answer: &mut Answer,
-) {
+pub fn push_order<'src>(value: &Expression<'src>, other: &Expression<'src>, answer: &mut Answer) {
     let order = value.cmp(other);
     let mut signs = Text::new(answer.alloc());
     signs.put(sign(order));

@@ -1,15 +1,11 @@
 //! Tokens of texts, as rows show them.
 
-use crate::refusal::{kind_of, place_after, push_fault};
 use crate::word::Word;
-use justfile_syntax::compile_error::CompileError;
-use justfile_syntax::fault::Fault;
-use justfile_syntax::lexer::Lexer;
-use justfile_syntax::parser::significant;
-use justfile_syntax::string_kind::StringKind;
-use justfile_syntax::token::Token;
-use justfile_syntax::token_kind::TokenKind;
-use row_notation::{Answer, Text};
+use justfile_lex::Lexer;
+use justfile_parse_expression::significant::significant;
+use justfile_token::{CompileError, Fault, StringKind, Token};
+use justfile_vocabulary::TokenKind;
+use row_notation::{Answer, Text, kind_of, place_after, push_fault, push_string_kind};
 
 /// The lexemes that results leave out.
 static USUAL_LEXEMES: &[(TokenKind, &str)] = &[
@@ -136,17 +132,16 @@ fn push_table(answer: &mut Answer, table: &[(Token<'_>, bool)]) {
 /// Writes the kind of the literal that the first token is, or why it isn't one.
 fn push_literal_kind(answer: &mut Answer, tokens: &[Token<'_>]) {
     if let Some(token) = tokens.first() {
-        match StringKind::from_string_or_backtick(*token) {
-            Ok(kind) => push_string_kind(answer, kind),
-            Err(error) => push_error(answer, &error),
-        }
+        push_kind_of(answer, *token);
     }
 }
 
-/// Writes the delimiter of a literal, and whether it is tripled.
-pub(crate) fn push_string_kind(answer: &mut Answer, kind: StringKind) {
-    answer.push_made(format!(in answer.alloc(); "{:?}", kind.delimiter));
-    answer.push(if kind.indented { "tripled" } else { "single" });
+/// Writes the kind of the literal that a token is, or why it isn't one.
+fn push_kind_of(answer: &mut Answer, token: Token<'_>) {
+    match StringKind::from_string_or_backtick(token) {
+        Ok(kind) => push_string_kind(answer, kind),
+        Err(error) => push_error(answer, &error),
+    }
 }
 
 /// Writes what a row's word asks for about the tokens of a text.
@@ -159,11 +154,18 @@ fn push_lexed(answer: &mut Answer, word: Word, text: &str, tokens: &[Token<'_>])
     }
 }
 
+/// Writes why a text has no tokens.
+fn push_lexical_fault(answer: &mut Answer, text: &str, fault: &Fault<'_>) {
+    match fault {
+        Fault::Compile(error) => push_error(answer, error),
+        fault => push_fault(answer, text, fault),
+    }
+}
+
 /// Lexes a text, and writes what a row's word asks for about it, or why it is refused.
 pub(crate) fn lex(answer: &mut Answer, word: Word, text: &str) {
     match Lexer::lex(answer.alloc(), "justfile", text) {
         Ok(tokens) => push_lexed(answer, word, text, tokens.as_slice()),
-        Err(Fault::Compile(error)) => push_error(answer, &error),
-        Err(fault) => push_fault(answer, text, &fault),
+        Err(fault) => push_lexical_fault(answer, text, &fault),
     }
 }

@@ -1,16 +1,15 @@
 //! What items of all kinds have, as rows show it.
 
-use crate::items::{put_expression, put_if, put_marked};
-use justfile_syntax::attribute_set::AttributeSet;
-use justfile_syntax::expression::Expression;
-use justfile_syntax::item::Item;
+use justfile_item::Item;
 use row_notation::{Answer, Text};
+use row_parts::attributes::put_groups;
+use row_parts::shown::{put_expression_of, put_if, put_marked};
 use std::alloc::AllocError;
 
 /// Writes what each item has: its kind, its name, whether it is private, the kinds of its
 /// attributes, its groups, its doc, the truth of a setting, and its expressions, each with the lexeme
 /// that it begins with.
-pub(crate) fn parts(items: &[Item<'_>], answer: &mut Answer) {
+pub fn parts(items: &[Item<'_>], answer: &mut Answer) {
     for item in items {
         push_parts(item, answer);
     }
@@ -47,18 +46,6 @@ fn put_kinds(item: &Item<'_>, shown: &mut Text) {
     }
 }
 
-/// Writes the names of the groups.
-fn put_groups(attributes: &AttributeSet<'_>, shown: &mut Text) {
-    match attributes.group_names(shown.alloc()) {
-        Ok(names) => {
-            for name in &names {
-                put_marked(shown, " group ", name);
-            }
-        }
-        Err(_) => shown.fail(),
-    }
-}
-
 /// Writes the doc of an item, if it has one.
 fn put_item_doc(item: &Item<'_>, shown: &mut Text) {
     if let Some(doc) = item.doc() {
@@ -81,17 +68,4 @@ fn put_expressions(item: &Item<'_>, shown: &mut Text) -> Result<(), AllocError> 
         put_expression_of(expressions[index], shown);
     }
     Ok(())
-}
-
-/// Writes an expression after a blank: a literal by its text in ‹›, and another in brackets after
-/// the lexeme that it begins with.
-pub(crate) fn put_expression_of(expression: &Expression<'_>, shown: &mut Text) {
-    if let Some(literal) = expression.as_string_literal() {
-        return put_marked(shown, " ", literal.cooked.as_str());
-    }
-    shown.put(" ");
-    shown.put(expression.token().lexeme());
-    shown.put(" (");
-    put_expression(expression, shown);
-    shown.put(")");
 }

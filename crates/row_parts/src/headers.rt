@@ -1,24 +1,13 @@
-//! Docs, parameters and dependencies of recipes, as rows show them.
+//! Parameters and dependencies of recipes, as rows show them.
 
-use crate::items::{put_expression, put_if, put_marked, put_name};
+use crate::shown::{put_expression, put_if, put_marked, put_name};
 use crate::values::push_parts;
-use justfile_syntax::expression::Expression;
-use justfile_syntax::item::Item;
-use justfile_syntax::parameter::Parameter;
-use justfile_syntax::recipe::UnresolvedRecipe;
-use justfile_syntax::unresolved_dependency::{DependencyArgument, UnresolvedDependency};
+use justfile_expression::Expression;
+use justfile_recipe_header::{DependencyArgument, Parameter, UnresolvedDependency};
 use row_notation::{Answer, Text};
 
-/// Writes the doc of a recipe or a module in ‹›, if it has one.
-pub(crate) fn put_doc(shown: &mut Text, doc: &Option<String>) {
-    if let Some(text) = doc {
-        put_marked(shown, "doc ", text.as_str());
-        shown.put(" ");
-    }
-}
-
 /// Writes parameters as they are printed, each with its number.
-pub(crate) fn put_parameters(parameters: &[Parameter<'_>], shown: &mut Text) {
+pub fn put_parameters(parameters: &[Parameter<'_>], shown: &mut Text) {
     for parameter in parameters {
         shown.put(" ");
         shown.put_made(parameter.to_string(shown.alloc()));
@@ -29,7 +18,7 @@ pub(crate) fn put_parameters(parameters: &[Parameter<'_>], shown: &mut Text) {
 
 /// Writes dependencies as they are printed, after a colon if there are any, with `&&` before the
 /// first that runs after the recipe.
-pub(crate) fn put_dependencies(
+pub fn put_dependencies(
     dependencies: &[UnresolvedDependency<'_>],
     shown: &mut Text,
     priors: usize,
@@ -41,28 +30,8 @@ pub(crate) fn put_dependencies(
     }
 }
 
-/// Writes the doc of each recipe and module of a file's items in ‹›, or `none`.
-pub(crate) fn docs(items: &[Item<'_>], answer: &mut Answer) {
-    for item in items {
-        match item {
-            Item::Module { doc, .. } => push_doc(answer, doc),
-            Item::Recipe(recipe) => push_doc(answer, &recipe.doc),
-            _ => {}
-        }
-    }
-}
-
-fn push_doc(answer: &mut Answer, doc: &Option<String>) {
-    let mut shown = Text::new(answer.alloc());
-    match doc {
-        Some(text) => put_marked(&mut shown, "", text.as_str()),
-        None => shown.put("none"),
-    }
-    answer.push_text(shown);
-}
-
 /// Writes each parameter of a recipe: its printed text, and its fields.
-pub(crate) fn push_parameters(parameters: &[Parameter<'_>], answer: &mut Answer) {
+pub fn push_parameters(parameters: &[Parameter<'_>], answer: &mut Answer) {
     for parameter in parameters {
         answer.push_made(parameter.to_string(answer.alloc()));
         push_parameter(parameter, answer);
@@ -126,7 +95,7 @@ fn put_argument_rules(parameter: &Parameter<'_>, shown: &mut Text) {
 }
 
 /// Writes the parts of each parameter's default, or `none`.
-pub(crate) fn push_defaults(parameters: &[Parameter<'_>], answer: &mut Answer) {
+pub fn push_defaults(parameters: &[Parameter<'_>], answer: &mut Answer) {
     for parameter in parameters {
         match &parameter.default {
             Some(expression) => push_parts(expression, answer),
@@ -137,9 +106,13 @@ pub(crate) fn push_defaults(parameters: &[Parameter<'_>], answer: &mut Answer) {
 
 /// Writes how many dependencies run before a recipe, and each dependency: its printed text, and its
 /// fields.
-pub(crate) fn push_dependencies(recipe: &UnresolvedRecipe<'_>, answer: &mut Answer) {
-    answer.push_number(recipe.priors);
-    for dependency in &recipe.dependencies {
+pub fn push_dependencies(
+    dependencies: &[UnresolvedDependency<'_>],
+    answer: &mut Answer,
+    priors: usize,
+) {
+    answer.push_number(priors);
+    for dependency in dependencies {
         answer.push_made(dependency.to_string(answer.alloc()));
         push_dependency(dependency, answer);
     }
@@ -176,7 +149,7 @@ fn put_argument(argument: &DependencyArgument<'_>, shown: &mut Text) {
 }
 
 /// Writes the parts of each argument of each dependency.
-pub(crate) fn push_arguments(dependencies: &[UnresolvedDependency<'_>], answer: &mut Answer) {
+pub fn push_arguments(dependencies: &[UnresolvedDependency<'_>], answer: &mut Answer) {
     for dependency in dependencies {
         push_arguments_of(dependency.arguments.as_slice(), answer);
     }

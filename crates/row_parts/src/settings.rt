@@ -1,14 +1,11 @@
 //! Settings, as rows show them.
 
-use crate::attributes::put_attributes;
-use crate::items::{put_if, put_literal, put_name, put_value};
-use justfile_syntax::expression::Expression;
-use justfile_syntax::indentation::Indentation;
-use justfile_syntax::interpreter::Interpreter;
-use justfile_syntax::item::Item;
-use justfile_syntax::set::Set;
-use justfile_syntax::setting::Setting;
-use justfile_syntax::string_literal::StringLiteral;
+use crate::shown::{put_if, put_literal, put_value};
+use justfile_attribute::Interpreter;
+use justfile_expression::Expression;
+use justfile_setting::Setting;
+use justfile_token::StringLiteral;
+use justfile_vocabulary::Indentation;
 use row_notation::{Answer, Text};
 
 /// Writes an interpreter: its command and its arguments in brackets.
@@ -29,7 +26,7 @@ fn put_indentation(literal: &StringLiteral<'_>, shown: &mut Text, indentation: I
 }
 
 /// Writes the value of a setting.
-fn put_setting(setting: &Setting<'_>, shown: &mut Text) {
+pub fn put_setting(setting: &Setting<'_>, shown: &mut Text) {
     match setting {
         Setting::DotenvCommand(value) => put_value(value, shown),
         Setting::DotenvFilename(value) => put_value(value, shown),
@@ -45,28 +42,9 @@ fn put_setting(setting: &Setting<'_>, shown: &mut Text) {
     }
 }
 
-/// Writes a setting: its attributes, its name, and its value.
-pub(crate) fn put_set(set: &Set<'_>, shown: &mut Text) {
-    put_attributes(&set.attributes, shown);
-    shown.put("set ");
-    put_name(shown, set.name);
-    shown.put(" ");
-    put_setting(&set.value, shown);
-}
-
-/// Writes the properties of each setting of a file's items, and the text that it displays.
-pub(crate) fn settings(items: &[Item<'_>], answer: &mut Answer) {
-    for item in items {
-        if let Item::Setting(set) = item {
-            push_setting(&set.value, answer);
-            answer.push_made(set.to_string(answer.alloc()));
-        }
-    }
-}
-
 /// Writes which setting it is, whether it is as if its value were left out, and after `!` which
 /// settings it conflicts with.
-fn push_setting(setting: &Setting<'_>, answer: &mut Answer) {
+pub fn push_setting(setting: &Setting<'_>, answer: &mut Answer) {
     let mut shown = Text::new(answer.alloc());
     shown.put_made(format!(in answer.alloc(); "{:?}", setting.keyword()));
     put_if(&mut shown, " default", setting.is_default());

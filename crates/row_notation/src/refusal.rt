@@ -1,0 +1,142 @@
+//! Why texts are refused, and where.
+
+use crate::answer::Answer;
+use justfile_token::{CompileError, CompileErrorKind, Fault, StringKind, StringLiteral};
+use std::alloc::{AllocError, Global};
+
+/// Returns the line and the column after `before`, a beginning of the text. A newline at the end of
+/// a text doesn't begin a line.
+pub fn place_after(text: &str, before: &str) -> (usize, usize) {
+    let counted = if before.len() == text.len() {
+        before.strip_suffix('\n').unwrap_or(before)
+    } else {
+        before
+    };
+    let line = counted.matches('\n').count();
+    let start = counted.rfind('\n').map_or(0, |at| at + 1);
+    (line, before.len() - start)
+}
+
+/// Returns a kind of error that holds the name of a key.
+fn kind_with_key(alloc: Global, kind: &CompileErrorKind<'_>) -> Result<String, AllocError> {
+    match kind {
+        CompileErrorKind::ArgAttributeRequiresMultipleOrVariadic { key } => {
+            let at = key.token.offset;
+            format!(in alloc; "ArgAttributeRequiresMultipleOrVariadic {{ key: {key}@{at} }}")
+        }
+        CompileErrorKind::ArgAttributeRequiresOption { key } => {
+            let at = key.token.offset;
+            format!(in alloc; "ArgAttributeRequiresOption {{ key: {key}@{at} }}")
+        }
+        CompileErrorKind::ArgumentCountParse { key, source, value } => {
+            let at = key.token.offset;
+            format!(in alloc;
+                "ArgumentCountParse {{ key: {key}@{at}, source: {source:?}, value: {value:?} }}"
+            )
+        }
+        CompileErrorKind::ArgumentCountValue { key, value } => {
+            let at = key.token.offset;
+            format!(in alloc; "ArgumentCountValue {{ key: {key}@{at}, value: {value:?} }}")
+        }
+        CompileErrorKind::AttributeKeyMissingValue { key } => {
+            let at = key.token.offset;
+            format!(in alloc; "AttributeKeyMissingValue {{ key: {key}@{at} }}")
+        }
+        CompileErrorKind::AttributeKeyTakesNoValue { key } => {
+            let at = key.token.offset;
+            format!(in alloc; "AttributeKeyTakesNoValue {{ key: {key}@{at} }}")
+        }
+        kind => format!(in alloc; "{kind:?}"),
+    }
+}
+
+/// Returns the error for a group that was first on this line, with the text of its literal.
+fn kind_of_group(
+    alloc: Global,
+    first: usize,
+    group: &StringLiteral<'_>,
+) -> Result<String, AllocError> {
+    let at = group.token.offset;
+    let cooked = group.cooked.as_str();
+    let StringKind {
+        delimiter,
+        indented,
+    } = group.kind;
+    let width = if indented { "tripled" } else { "single" };
+    let part = if group.part.is_some() { " part" } else { "" };
+    format!(in alloc;
+        "DuplicateGroupAttribute {{ first: {first}, group: {group}@{at}‹{cooked}› {delimiter:?} {width}{part} }}"
+    )
+}
+
+/// Returns a kind of error about settings and paths of files.
+fn kind_of_setting(alloc: Global, kind: &CompileErrorKind<'_>) -> Result<String, AllocError> {
+    match kind {
+        CompileErrorKind::ExpectedKeyword { expected, found } => {
+            let (lexeme, at) = (found.lexeme(), found.offset);
+            format!(in alloc; "ExpectedKeyword {{ expected: {expected:?}, found: {lexeme}@{at} }}")
+        }
+        CompileErrorKind::MinimumVersion { current, minimum } => {
+            format!(in alloc; "MinimumVersion {{ current: {current}, minimum: {minimum} }}")
+        }
+        kind => kind_with_key(alloc, kind),
+    }
+}
+
+/// Returns the name of a kind of error with what it holds: a name, literal or token with its
+/// offset, or a version as it is displayed. For an unexpected token, leaves out what is expected.
+pub fn kind_of(alloc: Global, kind: &CompileErrorKind<'_>) -> Result<String, AllocError> {
+    match kind {
+        CompileErrorKind::AttributeArgumentCountMismatch {
+            attribute,
+            found,
+            min,
+            max,
+        } => {
+            let at = attribute.token.offset;
+            format!(in alloc;
+                "AttributeArgumentCountMismatch {{ attribute: {attribute}@{at}, found: {found}, min: {min}, max: {max} }}"
+            )
+        }
+        CompileErrorKind::AttributeArgumentExpression { attribute } => {
+            let at = attribute.token.offset;
+            format!(in alloc; "AttributeArgumentExpression {{ attribute: {attribute}@{at} }}")
+        }
+        CompileErrorKind::DuplicateAttribute { attribute, first } => {
+            let at = attribute.token.offset;
+            format!(in alloc;
+                "DuplicateAttribute {{ attribute: {attribute}@{at}, first: {first} }}"
+            )
+        }
+        CompileErrorKind::DuplicateGroupAttribute { first, group } => {
+            kind_of_group(alloc, *first, group)
+        }
+        CompileErrorKind::UnexpectedToken { found, .. } => {
+            format!(in alloc; "UnexpectedToken {found:?}")
+        }
+        kind => kind_of_setting(alloc, kind),
+    }
+}
+
+/// Writes an error: its kind, and the offset and the length of its token. Also writes its line and
+/// column if they aren't those of the offset.
+pub fn push_refusal(answer: &mut Answer, text: &str, error: &CompileError<'_>) {
+    let token = error.token;
+    answer.push_made(kind_of(answer.alloc(), &error.kind));
+    answer.push_number(token.offset);
+    answer.push_number(token.length);
+    let before = text.get(..token.offset).unwrap_or("");
+    if (token.line, token.column) != place_after(text, before) {
+        answer.push_number(token.line);
+        answer.push_number(token.column);
+    }
+}
+
+/// Writes why there is no result for a text.
+pub fn push_fault(answer: &mut Answer, text: &str, fault: &Fault<'_>) {
+    match fault {
+        Fault::Compile(error) => push_refusal(answer, text, error),
+        Fault::Memory => answer.push("memory"),
+        Fault::Numbers => answer.push("numbers"),
+    }
+}

@@ -1,0 +1,43 @@
+//! Checks that copies of parts of items are equal to their originals.
+
+use justfile_line::{Fragment, Line};
+use justfile_recipe_header::{DependencyArgument, Parameter, UnresolvedDependency};
+use row_notation::Answer;
+use std::alloc::AllocError;
+
+/// Writes the copy of a value if it isn't equal to the value.
+pub fn push_copy<T: PartialEq + Drop>(value: &T, copy: Result<T, AllocError>, answer: &mut Answer) {
+    match copy {
+        Ok(copy) => answer.push_if("uncopied", copy != *value),
+        Err(_) => answer.fail(),
+    }
+}
+
+fn copies_fragment(fragment: &Fragment<'_>, answer: &mut Answer) {
+    push_copy(fragment, fragment.clone(answer.alloc()), answer);
+}
+
+/// Writes the copy of a line if it isn't equal to it, or the copy of a fragment of it.
+pub(crate) fn copies_line(line: &Line<'_>, answer: &mut Answer) {
+    push_copy(line, line.clone(answer.alloc()), answer);
+    for fragment in &line.fragments {
+        copies_fragment(fragment, answer);
+    }
+}
+
+/// Writes the copy of a parameter if it isn't equal to it.
+pub fn copies_parameter(parameter: &Parameter<'_>, answer: &mut Answer) {
+    push_copy(parameter, parameter.clone(answer.alloc()), answer);
+}
+
+/// Writes the copy of a dependency if it isn't equal to it, or the copy of an argument of it.
+pub fn copies_dependency(dependency: &UnresolvedDependency<'_>, answer: &mut Answer) {
+    push_copy(dependency, dependency.clone(answer.alloc()), answer);
+    for argument in &dependency.arguments {
+        copies_argument(argument, answer);
+    }
+}
+
+fn copies_argument(argument: &DependencyArgument<'_>, answer: &mut Answer) {
+    push_copy(argument, argument.clone(answer.alloc()), answer);
+}

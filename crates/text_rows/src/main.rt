@@ -1,0 +1,20 @@
+//! Runs rows of data about texts that aren't parsed: their tokens, their literals, and the words of
+//! justfiles.
+//!
+//! The arguments are the names of files of rows. The program prints the rows that fail or can't be
+//! read, and at the end how many hold, fail and can't be read. The exit status is 0 if the files
+//! could be read. `docs/ROWS.md` has the notation and the words.
+#![tactic(auto)]
+
+mod lexing;
+mod names;
+mod texts;
+mod word;
+
+use crate::word::Word;
+use row_notation::run_rows;
+use std::io;
+
+fn main(rt: HostRuntime) -> io::Result<()> {
+    run_rows::<Word>(&rt)
+}
