@@ -45,8 +45,8 @@ fn push_of_setting(item: &Item<'_>, answer: &mut Answer) {
 fn push_all(item: &Item<'_>, answer: &mut Answer) -> Result<(), AllocError> {
     let found = item.all_expressions(answer.alloc())?;
     let mut shown = Text::new(answer.alloc());
-    for place in 0..found.len() {
-        put_expression_of(found[place], &mut shown);
+    for index in 0..found.len() {
+        put_expression_of(found[index], &mut shown);
     }
     push_unless_empty(answer, "all", shown);
     Ok(())

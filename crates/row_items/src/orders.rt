@@ -9,9 +9,9 @@ use row_parts::orders::{push_order, push_with_copy};
 /// Writes how the value of each assignment compares with that of the next one. A line end comes
 /// between two assignments.
 pub fn orders(items: &[Item<'_>], answer: &mut Answer) {
-    for (place, item) in items.iter().enumerate() {
+    for (index, item) in items.iter().enumerate() {
         if let Item::Assignment(assignment) = item {
-            push_with_next(items, answer, place.saturating_add(2), &assignment.value);
+            push_with_next(items, answer, index.saturating_add(2), &assignment.value);
             push_with_copy(&assignment.value, answer);
             copies_assignment(assignment, answer);
         }
@@ -22,13 +22,13 @@ pub fn orders(items: &[Item<'_>], answer: &mut Answer) {
 fn push_with_next<'src>(
     items: &[Item<'src>],
     answer: &mut Answer,
-    place: usize,
+    index: usize,
     value: &Expression<'src>,
 ) {
-    if place >= items.len() {
+    if index >= items.len() {
         return;
     }
-    if let Item::Assignment(next) = &items[place] {
+    if let Item::Assignment(next) = &items[index] {
         push_order(value, &next.value, answer);
     }
 }

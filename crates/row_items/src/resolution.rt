@@ -93,8 +93,8 @@ fn push_item(item: &Item<'_>, answer: &mut Answer) {
 
 fn push_of_item(item: &Item<'_>, answer: &mut Answer) -> Result<(), AllocError> {
     let values = item.expressions(answer.alloc())?;
-    for place in 0..values.len() {
-        push_variables(values[place], answer);
+    for index in 0..values.len() {
+        push_variables(values[index], answer);
     }
     Ok(())
 }

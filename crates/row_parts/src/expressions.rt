@@ -11,8 +11,8 @@ use std::alloc::AllocError;
 pub fn push_attribute(attribute: &Attribute<'_>, answer: &mut Answer) -> Result<(), AllocError> {
     let found = attribute.expressions(answer.alloc())?;
     let mut shown = Text::new(answer.alloc());
-    for place in 0..found.len() {
-        put_expression_of(found[place], &mut shown);
+    for index in 0..found.len() {
+        put_expression_of(found[index], &mut shown);
     }
     push_unless_empty(answer, attribute.kind().name(), shown);
     Ok(())
@@ -22,8 +22,8 @@ pub fn push_attribute(attribute: &Attribute<'_>, answer: &mut Answer) -> Result<
 pub fn push_set(attributes: &AttributeSet<'_>, answer: &mut Answer) -> Result<(), AllocError> {
     let found = attributes.expressions(answer.alloc())?;
     let mut shown = Text::new(answer.alloc());
-    for place in 0..found.len() {
-        put_expression_of(found[place], &mut shown);
+    for index in 0..found.len() {
+        put_expression_of(found[index], &mut shown);
     }
     push_unless_empty(answer, "attributes", shown);
     Ok(())
@@ -33,8 +33,8 @@ pub fn push_set(attributes: &AttributeSet<'_>, answer: &mut Answer) -> Result<()
 pub fn push_value(setting: &Setting<'_>, answer: &mut Answer) -> Result<(), AllocError> {
     let found = setting.expressions(answer.alloc())?;
     let mut shown = Text::new(answer.alloc());
-    for place in 0..found.len() {
-        put_expression_of(found[place], &mut shown);
+    for index in 0..found.len() {
+        put_expression_of(found[index], &mut shown);
     }
     push_unless_empty(answer, "value", shown);
     Ok(())

@@ -70,8 +70,8 @@ fn push_setting(setting: &Setting<'_>, answer: &mut Answer) {
 
 fn push_of_setting(setting: &Setting<'_>, answer: &mut Answer) -> Result<(), AllocError> {
     let values = setting.expressions(answer.alloc())?;
-    for place in 0..values.len() {
-        push_variables(values[place], answer);
+    for index in 0..values.len() {
+        push_variables(values[index], answer);
     }
     Ok(())
 }
@@ -80,8 +80,8 @@ fn push_of_setting(setting: &Setting<'_>, answer: &mut Answer) -> Result<(), All
 /// parts.
 pub fn push_variables(value: &Expression<'_>, answer: &mut Answer) {
     push_variable(value, answer);
-    for place in 0..usize::MAX {
-        match value.child(place) {
+    for index in 0..usize::MAX {
+        match value.child(index) {
             Some(part) => push_part(part, answer),
             None => return,
         }
@@ -91,8 +91,8 @@ pub fn push_variables(value: &Expression<'_>, answer: &mut Answer) {
 /// Writes the variables of a part: the part itself if it is one, and those in it.
 fn push_part(part: &Expression<'_>, answer: &mut Answer) {
     push_variable(part, answer);
-    for place in 0..usize::MAX {
-        match part.child(place) {
+    for index in 0..usize::MAX {
+        match part.child(index) {
             Some(inner) => push_variable(inner, answer),
             None => return,
         }
