@@ -34,7 +34,7 @@ use std::alloc::AllocError;
 ///
 /// A `ParseError` if the rest of the table isn't a file, if the counter of bindings or of recipes
 /// has reached its maximum and a number is needed, or if memory runs out.
-#[tactic(auto, using(crate::proofs::Loop::moved, crate::proofs::Loop::moved_on))]
+#[tactic(auto, using(crate::proofs::CounterSteps::unmoved, crate::proofs::Loop::moved, crate::proofs::Loop::moved_on))]
 pub fn parse_items<'src, X: Expander>(
     parser: &mut TokenCursor<'_, 'src, X>,
     numerator: &mut Numerator,
@@ -46,7 +46,7 @@ pub fn parse_items<'src, X: Expander>(
     ensures moved { CountersMoved numerator.old numerator.new
         (identifiers (map significant_of (state_of X.answer parser.old).left)) }
 {
-    let mut items = Vec::new(parser.alloc);
+    let mut items = Vec::with_capacity(parser.alloc, parser.tokens.len() / 8)?;
     'lines: loop {
         if let Some(_end) = parser.accept(TokenKind::Eof) {
             expect_nothing(parser)?;
