@@ -15,7 +15,8 @@ FILL = re.compile(r"\s*call void @llvm\.memset\S*\(.*\bi8 -86\b")
 
 
 def hints():
-    """The attribute of each function that has a hint, by the path that the module calls it by."""
+    """The attribute of each function that has a hint: by the path that the module calls it by, or of a method by its
+    crate, its type and its name."""
     found = {}
     for file in sorted(CRATES.glob("*/src/**/*.rt")):
         crate, _, *parts = file.relative_to(CRATES).with_suffix("").parts
@@ -29,10 +30,17 @@ def hints():
             if given:
                 hint = given.group(1)
             elif name and hint:
-                inside = [owner] if name.group(1) and owner else []
-                found["::".join([crate, *parts, *inside, name.group(2)])] = ATTRIBUTES[hint]
+                # A method is called by the module of its type, which can be another file's.
+                path = [crate, owner] if name.group(1) and owner else [crate, *parts]
+                found["::".join([*path, name.group(2)])] = ATTRIBUTES[hint]
                 hint = None
     return found
+
+
+def hint_for(path, found):
+    """The attribute of the function that the module calls by this path, or None."""
+    parts = path.split("::")
+    return found.get(path) or found.get("::".join([parts[0], *parts[-2:]]))
 
 
 def main():
@@ -42,8 +50,9 @@ def main():
         if FILL.match(line):
             continue
         name = re.match(r'define .*@"?((?:\w+::)*\w+)(?:::<#[^>]*>)?["(]', line)
-        if name and name.group(1) in found:
-            line = re.sub(r"\) #0 \{$", f") #0 {found[name.group(1)]} {{", line)
+        hint = hint_for(name.group(1), found) if name else None
+        if hint:
+            line = re.sub(r"\) #0 \{$", f") #0 {hint} {{", line)
         made.append(line)
     module.write_text("\n".join(made))
     return 0
