@@ -4,6 +4,7 @@ pub mod HeaderFewer
 pub mod Headers
 pub mod Least
 pub mod Notes
+pub mod ParameterSteps
 pub mod Parameters
 pub mod ReadNames
 pub mod SameOptions

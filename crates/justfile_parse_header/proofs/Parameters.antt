@@ -11,7 +11,7 @@ use Rattle.justfile_recipe_header.specs.declared.parameter.Parameter.{Parameter}
 use Rattle.justfile_model.proofs.HeaderReading as laws
 use Rattle.justfile_model.specs.HeaderReader as headers
 use Rattle.justfile_model.specs.HeaderReader.{obeying}
-use Rattle.justfile_model.specs.ReaderState.{Counters, accepted}
+use Rattle.justfile_model.specs.ReaderState.{accepted}
 use Rattle.justfile_model.specs.RecipeRules.{rules_for}
 use Rattle.justfile_model.specs.Rules.{Broken}
 use Rattle.justfile_model.specs.declared.parameter_kind.ParameterKind.{ParameterKind}
@@ -171,11 +171,3 @@ module _ (rules : List Rules) (kind : ParameterKind) (export : Bool) (before : L
             let all : map parameter_tree new ≡ map parameter_tree before ++ q name.0 ∷ [] =
             ap (map parameter_tree) e ∙ map-append parameter_tree before (p ∷ []) ∙ ap (λ (r : LeafParameter). map parameter_tree before ++ r ∷ []) (tree ∙ ap q token) in
             rw (named, valued, obeyed_is, h, all) refl
-
--- ---- all of them
-
--- the parameter that takes several arguments is read after those that take one
-pub last_fails : (rules : List Rules) (n : Counters) (s : State) (x : reader.Parameters × State) → reader.singulars rules (([], n), s) ≡ Ok x
-    → (e : ReadError) → reader.last_parameter rules x ≡ Err e → reader.parameters rules n s ≡ Err e
-unfolding headers.parameters
-last_fails rules n s x singular e h = rw (singular, h) refl

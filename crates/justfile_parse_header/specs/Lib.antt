@@ -4,4 +4,5 @@ pub mod OptionRules
 pub mod Options
 pub mod ArgAttribute
 pub mod ArgNames
+pub mod ParameterResults
 pub mod Tree

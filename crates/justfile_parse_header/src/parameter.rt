@@ -1,6 +1,5 @@
 //! The parameters of a recipe.
-ghost use Rattle.std.specs.Prelude.{◌≡◌, ◌<◌, ◌≤◌, OnOk, IfOk, map};
-ghost use Rattle.std.specs.Option.{is_some};
+ghost use Rattle.std.specs.Prelude.{◌≡◌, ◌<◌, ◌≤◌, [], OnOk};
 ghost use Rattle.justfile_attribute_rules.specs.Made.{IsFaultOfRule};
 ghost use Rattle.justfile_attribute_set.specs.AttributeSet.{attributes_of};
 ghost use Rattle.justfile_model.specs.NewAttribute as new;
@@ -9,11 +8,11 @@ ghost use Rattle.justfile_parse_base.specs.ParseErrors.{IsAfterVariadicFault, Re
 ghost use Rattle.justfile_parse_expression.specs.ParsedResults.{Parses};
 ghost use Rattle.justfile_parse_expression.specs.View.{tokens_left, state_of};
 ghost use Rattle.justfile_parse_header.specs.Arguments.{AreKeyed, rules_by, IsKeyedOption};
-ghost use Rattle.justfile_parse_base.specs.Counting.{TookBindingNumbers, counters_of, identifiers_left, identifiers_left_after, ParsesCounted};
 ghost use Rattle.justfile_parse_header.specs.HeaderTable as reader;
-ghost use Rattle.justfile_parse_header.specs.ArgAttribute.{HaveDerivedParameterFields, KeepsDerivedParameterFields, arg_attribute_broken};
+ghost use Rattle.justfile_parse_header.specs.ArgAttribute.{arg_attribute_broken};
 ghost use Rattle.justfile_parse_header.specs.ArgNames.{AreFirsts};
-ghost use Rattle.justfile_parse_header.specs.Tree.{parameter_tree, rules_of, value_tree};
+ghost use Rattle.justfile_parse_header.specs.ParameterResults.{ParsesParameters};
+ghost use Rattle.justfile_parse_header.specs.Tree.{rules_of, value_tree};
 
 use crate::arg_attribute::{copy_arg_attribute, find_bound_key, is_flag, is_multiple};
 use crate::arg_names::{ArgAttributes, find_firsts};
@@ -37,14 +36,9 @@ pub(crate) fn parse_parameters<'src, X: Expander>(
     numerator: &mut Numerator,
 ) -> Result<Vec<Parameter<'src>>, ParseError<'src>>
     requires { AreKeyed (attributes_of attributes.now) }
-    ensures reads { ParsesCounted X.answer (λ parameters. map parameter_tree parameters.items)
-        result numerator.new parser.old parser.new
-        (reader.parameters (rules_of attributes.now) (counters_of numerator.old)) }
-    ensures fields { IfOk result
-        (λ parameters. HaveDerivedParameterFields (rules_of attributes.now) parameters.items) }
-    ensures numbers { TookBindingNumbers numerator.old numerator.new
-        (identifiers_left (state_of X.answer parser.old))
-        (identifiers_left_after result (state_of X.answer parser.new)) }
+    ensures parses { ParsesParameters X.answer (rules_of attributes.now) (λ list. list.items)
+        result [] numerator.old numerator.new parser.old parser.new
+        (λ rules x. reader.parameters rules x.0.1 x.1) }
     ensures progress { OnOk result (tokens_left parser.new < tokens_left parser.old) }
 {
     let firsts = find_firsts(attributes, parser.alloc)?;
@@ -64,16 +58,9 @@ fn parse_singulars<'src, X: Expander>(
     parameters: &mut ReadParameters<'src>,
 ) -> Result<(), ParseError<'src>>
     requires { AreFirsts arg_attributes.now.firsts (rules_of arg_attributes.now.attributes.now) }
-    ensures reads { ParsesCounted X.answer (λ _. map parameter_tree parameters.new.list.items)
-        result numerator.new parser.old parser.new
-        (λ s. reader.singulars (rules_of arg_attributes.now.attributes.now)
-        ((map parameter_tree parameters.old.list.items, counters_of numerator.old), s)) }
-    ensures fields { OnOk result
-        (KeepsDerivedParameterFields (rules_of arg_attributes.now.attributes.now)
-        parameters.old.list.items parameters.new.list.items) }
-    ensures numbers { TookBindingNumbers numerator.old numerator.new
-        (identifiers_left (state_of X.answer parser.old))
-        (identifiers_left_after result (state_of X.answer parser.new)) }
+    ensures parses { ParsesParameters X.answer (rules_of arg_attributes.now.attributes.now)
+        (λ _. parameters.new.list.items) result parameters.old.list.items numerator.old
+        numerator.new parser.old parser.new reader.singulars }
     ensures progress { OnOk result (tokens_left parser.new ≤ tokens_left parser.old) }
 {
     'parameters: loop {
@@ -107,16 +94,9 @@ fn parse_last<'src, X: Expander>(
     parameters: &mut ReadParameters<'src>,
 ) -> Result<(), ParseError<'src>>
     requires { AreFirsts arg_attributes.now.firsts (rules_of arg_attributes.now.attributes.now) }
-    ensures reads { ParsesCounted X.answer (λ _. map parameter_tree parameters.new.list.items)
-        result numerator.new parser.old parser.new
-        (λ s. reader.last_parameter (rules_of arg_attributes.now.attributes.now)
-        ((map parameter_tree parameters.old.list.items, counters_of numerator.old), s)) }
-    ensures fields { OnOk result
-        (KeepsDerivedParameterFields (rules_of arg_attributes.now.attributes.now)
-        parameters.old.list.items parameters.new.list.items) }
-    ensures numbers { TookBindingNumbers numerator.old numerator.new
-        (identifiers_left (state_of X.answer parser.old))
-        (identifiers_left_after result (state_of X.answer parser.new)) }
+    ensures parses { ParsesParameters X.answer (rules_of arg_attributes.now.attributes.now)
+        (λ _. parameters.new.list.items) result parameters.old.list.items numerator.old
+        numerator.new parser.old parser.new reader.last_parameter }
     ensures progress { OnOk result (tokens_left parser.new ≤ tokens_left parser.old) }
 {
     if let Some(_plus) = parser.accept(TokenKind::Plus) {
@@ -150,16 +130,9 @@ fn parse_variadic<'src, X: Expander>(
     kind: ParameterKind,
 ) -> Result<(), ParseError<'src>>
     requires { AreFirsts arg_attributes.now.firsts (rules_of arg_attributes.now.attributes.now) }
-    ensures reads { ParsesCounted X.answer (λ _. map parameter_tree parameters.new.list.items)
-        result numerator.new parser.old parser.new
-        (λ s. reader.variadic (rules_of arg_attributes.now.attributes.now) kind
-        ((map parameter_tree parameters.old.list.items, counters_of numerator.old), s)) }
-    ensures fields { OnOk result
-        (KeepsDerivedParameterFields (rules_of arg_attributes.now.attributes.now)
-        parameters.old.list.items parameters.new.list.items) }
-    ensures numbers { TookBindingNumbers numerator.old numerator.new
-        (identifiers_left (state_of X.answer parser.old))
-        (identifiers_left_after result (state_of X.answer parser.new)) }
+    ensures parses { ParsesParameters X.answer (rules_of arg_attributes.now.attributes.now)
+        (λ _. parameters.new.list.items) result parameters.old.list.items numerator.old
+        numerator.new parser.old parser.new (λ rules. reader.variadic rules kind) }
     ensures progress { OnOk result (tokens_left parser.new < tokens_left parser.old) }
 {
     parse_parameter(arg_attributes, parser, numerator, parameters, kind)?;
@@ -198,16 +171,9 @@ fn parse_parameter<'src, X: Expander>(
     kind: ParameterKind,
 ) -> Result<(), ParseError<'src>>
     requires { AreFirsts arg_attributes.now.firsts (rules_of arg_attributes.now.attributes.now) }
-    ensures reads { ParsesCounted X.answer (λ _. map parameter_tree parameters.new.list.items)
-        result numerator.new parser.old parser.new
-        (λ s. reader.parameter (rules_of arg_attributes.now.attributes.now) kind
-        ((map parameter_tree parameters.old.list.items, counters_of numerator.old), s)) }
-    ensures fields { OnOk result
-        (KeepsDerivedParameterFields (rules_of arg_attributes.now.attributes.now)
-        parameters.old.list.items parameters.new.list.items) }
-    ensures numbers { TookBindingNumbers numerator.old numerator.new
-        (identifiers_left (state_of X.answer parser.old))
-        (identifiers_left_after result (state_of X.answer parser.new)) }
+    ensures parses { ParsesParameters X.answer (rules_of arg_attributes.now.attributes.now)
+        (λ _. parameters.new.list.items) result parameters.old.list.items numerator.old
+        numerator.new parser.old parser.new (λ rules. reader.parameter rules kind) }
     ensures progress { OnOk result (tokens_left parser.new < tokens_left parser.old) }
 {
     match parser.accept(TokenKind::Dollar) {
@@ -226,16 +192,10 @@ fn parse_named<'src, X: Expander>(
     export: bool,
 ) -> Result<(), ParseError<'src>>
     requires { AreFirsts arg_attributes.now.firsts (rules_of arg_attributes.now.attributes.now) }
-    ensures reads { ParsesCounted X.answer (λ _. map parameter_tree parameters.new.list.items)
-        result numerator.new parser.old parser.new
-        (reader.named_parameter (rules_of arg_attributes.now.attributes.now) kind export
-        (map parameter_tree parameters.old.list.items, counters_of numerator.old)) }
-    ensures fields { OnOk result
-        (KeepsDerivedParameterFields (rules_of arg_attributes.now.attributes.now)
-        parameters.old.list.items parameters.new.list.items) }
-    ensures numbers { TookBindingNumbers numerator.old numerator.new
-        (identifiers_left (state_of X.answer parser.old))
-        (identifiers_left_after result (state_of X.answer parser.new)) }
+    ensures parses { ParsesParameters X.answer (rules_of arg_attributes.now.attributes.now)
+        (λ _. parameters.new.list.items) result parameters.old.list.items numerator.old
+        numerator.new parser.old parser.new
+        (λ rules x. reader.named_parameter rules kind export x.0 x.1) }
     ensures progress { OnOk result (tokens_left parser.new < tokens_left parser.old) }
 {
     let name = parser.expect(TokenKind::Identifier)?;

@@ -16,6 +16,7 @@ use Rattle.justfile_parse_base.proofs.Fewer.{name_fewer, noted_names}
 use Rattle.justfile_parse_base.proofs.HeaderErrors.{failed, stopped}
 use Rattle.justfile_parse_header.proofs.HeaderFewer.{others_fewer, priors_fewer}
 use Rattle.justfile_parse_header.proofs.Headers.{Dependencies, header_read, name_fails, options_fail, others_fail, parameters_fail, priors_fail, priors_within, read_after, ruled, undefined_fail}
+use Rattle.justfile_parse_header.proofs.Parameters.{none_fields, then_fields}
 use Rattle.justfile_parse_header.proofs.header.parse_header.Given.{Over}
 use Rattle.justfile_parse_header.proofs.header.parse_header.Goals as goal
 use Rattle.justfile_parse_header.proofs.header.parse_header.Goals.{In_ok-note_arg_attributes, In_ok-parameters, In_ok-check_defined, In_ok-parse_dependencies}
@@ -28,7 +29,7 @@ parameters_are : (g : Over) (c : In_ok-parameters g) → reader.parameters (rule
 parameters_are g c =
     let found = Ok ((map parameter_tree c.in_ok-parameters.parameters.items, counters_of c.parse_parameters.new.numerator), state_of g.X.Expander.answer c.parse_parameters.new.parser) in
     let P : State → Type 0 = λ s. reader.parameters (rules_of c.args.attributes.now) (counters_of c.args.numerator.now) s ≡ found in
-    subst P c.in_ok-note_arg_attributes.ensures.notes c.in_ok-parameters.ensures.reads
+    subst P c.in_ok-note_arg_attributes.ensures.notes c.in_ok-parameters.ensures.parses.reads
 
 -- each parameter that an `arg` attribute names is among them
 all_defined : (g : Over) (c : In_ok-check_defined g)
@@ -65,7 +66,7 @@ numbers_taken g c =
     let first = name_fewer (state_of g.X.Expander.answer c.args.parser.now) (c.in_ok-name.name.now, s1) c.in_ok-name.ensures.reads in
     let same = noted_names _ s1 (state_of g.X.Expander.answer c.note_arg_attributes.new.parser) c.in_ok-note_arg_attributes.ensures.notes in
     within c.args.numerator.now c.parse_parameters.new.numerator (identifiers_left (state_of g.X.Expander.answer c.note_arg_attributes.new.parser))
-    (identifiers_left (state_of g.X.Expander.answer c.parse_parameters.new.parser)) (identifiers_left (state_of g.X.Expander.answer c.args.parser.now)) 0 c.in_ok-parameters.ensures.numbers
+    (identifiers_left (state_of g.X.Expander.answer c.parse_parameters.new.parser)) (identifiers_left (state_of g.X.Expander.answer c.args.parser.now)) 0 c.in_ok-parameters.ensures.parses.numbers
     (omega (arith, first, same)) (omega arith)
 
 -- ---- answers
@@ -124,7 +125,7 @@ returns-in_err-parameters-clause-reads g c =
     let fails = parameters_fail (rules_of c.args.attributes.now) (counters_of c.args.numerator.now) (state_of g.X.Expander.answer c.args.parser.now) c.in_ok-name.ensures.reads (c.in_ok-check_options.ensures (ruled (rules_of c.args.attributes.now) (state_of g.X.Expander.answer c.expect.new.self))) in
     rw (p.1, p.2)
     (failed (parameters (ruled (rules_of c.args.attributes.now) (state_of g.X.Expander.answer c.expect.new.self))) _ fails error left _ _ (fails wanting)
-    (subst P c.in_ok-note_arg_attributes.ensures.notes c.in_err-parameters.ensures.reads))
+    (subst P c.in_ok-note_arg_attributes.ensures.notes c.in_err-parameters.ensures.parses.reads))
 
 pub returns-in_err-parameters-clause-numbers : goal.returns-in_err-parameters-clause-numbers
 returns-in_err-parameters-clause-numbers g c =
@@ -132,7 +133,7 @@ returns-in_err-parameters-clause-numbers g c =
     let taken = name_taken g (goal.at.returns-in_err-parameters-clause-numbers g c).In_ok-note_arg_attributes in
     rw p.1
     (within c.args.numerator.now c.parse_parameters.new.numerator (identifiers_left (state_of g.X.Expander.answer c.note_arg_attributes.new.parser)) 0
-    (identifiers_left (state_of g.X.Expander.answer c.args.parser.now)) 0 c.in_err-parameters.ensures.numbers (omega (arith, taken)) (omega arith))
+    (identifiers_left (state_of g.X.Expander.answer c.args.parser.now)) 0 c.in_err-parameters.ensures.parses.numbers (omega (arith, taken)) (omega arith))
 
 pub returns-in_err-check_defined-clause-reads : goal.returns-in_err-check_defined-clause-reads
 returns-in_err-check_defined-clause-reads g c =
@@ -212,4 +213,7 @@ returns-clause-numbers g c =
     let before = priors_fewer _ _ s2 s3 c.in_ok-parse_dependencies.ensures.reads in
     let after = others_fewer _ _ s3 s4 c.in_ok-parse_subsequents.ensures.reads in
     took_in_header c.args.numerator.now c.parse_parameters.new.numerator (identifiers_left (state_of g.X.Expander.answer c.note_arg_attributes.new.parser)) (identifiers_left s2)
-    (identifiers_left (state_of g.X.Expander.answer c.args.parser.now)) (identifiers_left s4) c.in_ok-parameters.ensures.numbers (omega (arith, taken)) (omega (arith, before, after))
+    (identifiers_left (state_of g.X.Expander.answer c.args.parser.now)) (identifiers_left s4) c.in_ok-parameters.ensures.parses.numbers (omega (arith, taken)) (omega (arith, before, after))
+
+pub returns-clause-fields : goal.returns-clause-fields
+returns-clause-fields g c = then_fields (rules_of c.args.attributes.now) [] c.in_ok-parameters.parameters.items (none_fields (rules_of c.args.attributes.now)) c.in_ok-parameters.ensures.parses.fields

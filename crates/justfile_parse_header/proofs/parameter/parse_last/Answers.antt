@@ -1,28 +1,47 @@
-use Rattle.std.proofs.Common.{subst}
+use Rattle.std.proofs.Common.{◌≡◌, ◌∙◌, map, None, Some, Ok, subst, sym}
 use Rattle.justfile_vocabulary.specs.declared.token_kind.TokenKind.TheVariants as kinds
+use Rattle.justfile_model.specs.declared.parameter_kind.ParameterKind.TheVariants.{Plus, Star}
+use Rattle.justfile_parse_expression.specs.Significant.{TableEntry}
+use Rattle.justfile_parse_expression.specs.TableReader.{State, accept}
 use Rattle.justfile_parse_expression.specs.View.{state_of}
 use Rattle.justfile_parse_expression.specs.declared.token_cursor.TokenCursor.{TokenCursor}
-use Rattle.justfile_parse_base.specs.Counting.{TookBindingNumbers, identifiers_left, identifiers_left_after}
-use Rattle.justfile_parse_header.specs.Tree.{rules_of}
-use Rattle.justfile_parse_base.proofs.BindingNumbers.{took_after_token}
-use Rattle.justfile_parse_header.proofs.Parameters.{same_fields}
+use Rattle.justfile_parse_base.specs.Counting.{counters_of}
+use Rattle.justfile_parse_header.specs.HeaderTable as reader
+use Rattle.justfile_parse_header.specs.ParameterResults.{ReadsParameters}
+use Rattle.justfile_parse_header.specs.Tree.{parameter_tree, rules_of}
+use Rattle.justfile_parse_header.proofs.ParameterSteps.{after_token, no_last, plus_next, star_next}
 use Rattle.justfile_parse_header.proofs.parameter.parse_last.Goals as goal
 
-pub returns-in-Some-clause-numbers : goal.returns-in-Some-clause-numbers
-returns-in-Some-clause-numbers g c =
+pub returns-in-Some-clause-parses : goal.returns-in-Some-clause-parses
+returns-in-Some-clause-parses g c =
     let A = g.X.Expander.answer in
-    took_after_token c.args.numerator.now c.parse_variadic.new.numerator kinds.Plus (state_of A c.args.parser.now) (c.in-Some._plus.now, state_of A c.accept.new.self)
-    (identifiers_left_after c.parse_variadic.result (state_of A c.parse_variadic.new.parser)) c.in-Some.ensures.takes c.parse_variadic.ensures.numbers
+    let rules = rules_of c.args.arg_attributes.now.attributes.now in
+    let x : reader.Parameters = (map parameter_tree c.args.parameters.now.list.items, counters_of c.args.numerator.now) in
+    let s = state_of A c.args.parser.now in
+    let plus : TableEntry × State = (c.in-Some._plus.now, state_of A c.accept.new.self) in
+    after_token rules _ _ _ _ _ kinds.Plus s plus _ reader.last_parameter (λ rules. reader.variadic rules Plus) c.in-Some.ensures.takes
+    (plus_next rules x s plus c.in-Some.ensures.takes) c.parse_variadic.ensures.parses
 
-pub returns-in-Some-accept-clause-numbers : goal.returns-in-Some-accept-clause-numbers
-returns-in-Some-accept-clause-numbers g c =
+pub returns-in-Some-accept-clause-parses : goal.returns-in-Some-accept-clause-parses
+returns-in-Some-accept-clause-parses g c =
     let A = g.X.Expander.answer in
-    let call = c.parse_variadic-in-Some-accept in
-    let following = identifiers_left_after call.result (state_of A call.new.parser) in
-    let P : TokenCursor _ → Type 0 = λ p. TookBindingNumbers c.args.numerator.now call.new.numerator (identifiers_left (state_of A p)) following in
-    subst P c.in_default.ensures.moves
-    (took_after_token c.args.numerator.now call.new.numerator kinds.Asterisk (state_of A c.accept.new.self) (c.in-Some-accept._star.now, state_of A c.accept-2.new.self) following
-    c.in-Some-accept.ensures.takes call.ensures.numbers)
+    let rules = rules_of c.args.arg_attributes.now.attributes.now in
+    let x : reader.Parameters = (map parameter_tree c.args.parameters.now.list.items, counters_of c.args.numerator.now) in
+    let s = state_of A c.args.parser.now in
+    let star : TableEntry × State = (c.in-Some-accept._star.now, state_of A c.accept-2.new.self) in
+    let P : TokenCursor _ → Type 0 = λ p. accept kinds.Asterisk (state_of A p) ≡ Some star in
+    let found = subst P c.in_default.ensures.moves c.in-Some-accept.ensures.takes in
+    after_token rules _ _ _ _ _ kinds.Asterisk s star _ reader.last_parameter (λ rules. reader.variadic rules Star) found
+    (star_next rules x s c.in_default.ensures.takes star found) c.parse_variadic-in-Some-accept.ensures.parses
 
-pub returns-clause-fields : goal.returns-clause-fields
-returns-clause-fields g c = same_fields (rules_of c.args.arg_attributes.now.attributes.now) c.args.parameters.now.list.items
+pub returns-clause-parses : goal.returns-clause-parses
+returns-clause-parses g c =
+    let A = g.X.Expander.answer in
+    let rules = rules_of c.args.arg_attributes.now.attributes.now in
+    let before = c.args.parameters.now.list.items in
+    let n = c.args.numerator.now in
+    let s = state_of A c.args.parser.now in
+    let P : TokenCursor _ → Type 0 = λ p. ReadsParameters {X = Unit {0}} rules (λ _. before) (Ok tt) before n n s (state_of A p) reader.last_parameter in
+    let Q : TokenCursor _ → Type 0 = λ p. accept kinds.Asterisk (state_of A p) ≡ None in
+    let no_star = subst Q c.in_default.ensures.moves c.in_default-accept.ensures.takes in
+    subst P (sym (c.in_default-accept.ensures.moves ∙ c.in_default.ensures.moves)) (no_last rules before n s c.in_default.ensures.takes no_star)
