@@ -3,7 +3,7 @@ use Rattle.std.proofs.lemmas.Simd.{zip2_splat, length-chunk}
 use lib.Lanes.{chunk}
 use Rattle.justfile_vocabulary.specs.ByteClass.{class_of}
 use Rattle.justfile_model.specs.Bytes.{is_name_byte}
-use Rattle.justfile_lex.proofs.LaneLemmas.{joined, splat_is, itself, run_is}
+use Rattle.justfile_lex.proofs.LaneLemmas.{joined, splat_is, run_is}
 use Rattle.justfile_lex.proofs.lanes.word_run.Goals as goal
 
 pub returns : goal.returns
