@@ -35,6 +35,36 @@ module _ (l : Lexer) (kind : TokenKind) (len : ℕ) (t : Tok) (at : IsLexerToken
     column_is = at.column_is ∙ placed.place.column_is ∙ ap (column_at l.src.now) (sym at.offset_is);
   }
 
+-- two tokens of one kind and one length at one place are the same
+same_tok : (text : List ℕ) (offset : ℕ) (a b : Tok) → StandsAt text offset a → StandsAt text offset b → a.kind ≡ b.kind → length a.lexeme ≡ length b.lexeme → a ≡ b
+same_tok text offset a b p q kind_is long =
+    let offset_is = p.offset_is ∙ sym q.offset_is in
+    λ i. record {
+      kind = kind_is i;
+      lexeme = (p.lexeme_is ∙ (λ j. slice_of text (offset_is j) (long j)) ∙ sym q.lexeme_is) i;
+      offset = offset_is i;
+      line = (p.line_is ∙ ap (line_of_offset text) offset_is ∙ sym q.line_is) i;
+      column = (p.column_is ∙ ap (column_at text) offset_is ∙ sym q.column_is) i;
+    }
+
+-- a token that was made at the lexer's position is the one that was taken
+pub taken_as : (old new : Lexer) (s t : Token) → Takes old new t → StandsAt old.src.now old.offset (tok_of s) → length (tok_of s).lexeme ≡ s.length → IsFrom old.path.now old.src.now s → s.kind ≡ t.kind
+    → s.length ≡ t.length → Takes old new s
+taken_as old new s t p stands long from kind_is length_is =
+    let same : tok_of s ≡ tok_of t = same_tok old.src.now old.offset (tok_of s) (tok_of t) stands p.stands kind_is (long ∙ length_is ∙ sym p.length_is) in
+    record {
+      found = p.found ∙ (λ i. Ok (sym kind_is i, sym length_is i));
+      stands = stands;
+      length_is = long;
+      source = from;
+      mode_is = p.mode_is ∙ (λ i. mode_after (sym kind_is i) (sym same i) (mode_of old.mode));
+      interpolation_is = p.interpolation_is;
+      path_is = p.path_is;
+      src_is = p.src_is;
+      offset_is = p.offset_is ∙ ap (λ (n : ℕ). old.offset + n) (sym length_is);
+      placed = p.placed;
+    }
+
 -- a token adds at most one level
 tail_le : {A : Type 0} (xs : List A) → length (tail_of xs) ≤ length xs + 1
 tail_le [] = omega arith

@@ -1,4 +1,5 @@
 pub mod FeedLemmas
+pub mod LaneLemmas
 pub mod LexerLemmas
 pub mod Pieces
 pub mod PlaceLemmas

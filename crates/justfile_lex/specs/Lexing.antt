@@ -1,5 +1,5 @@
 -- The state of the lexer.
-use Rattle.std.specs.Prelude.{◌≡◌, ℕ, ◌+◌, ◌<◌, ◌==◌, Bool, true, false, not, slice_index, List, drop, length, Ok, IfSome}
+use Rattle.std.specs.Prelude.{◌≡◌, ℕ, ◌+◌, ◌<◌, ◌==◌, Bool, true, false, not, slice_index, List, [], ◌∷◌, ◌++◌, cond, drop, length, Ok, IfSome}
 use Rattle.std.specs.Str.{IsCharBoundary}
 use Rattle.justfile_vocabulary.specs.declared.token_kind.TokenKind.{TokenKind}
 use Rattle.justfile_vocabulary.specs.declared.token_kind.TokenKind.TheVariants.{Backtick, ByteOrderMark, Eol, FormatStringContinue, FormatStringEnd, FormatStringStart, InterpolationStart, StringToken, Whitespace}
@@ -14,6 +14,7 @@ use Rattle.justfile_model.specs.LexResult.{IsFrom}
 use Rattle.justfile_lex.specs.Modes.{mode_of}
 use Rattle.justfile_model.specs.Lexed.{end_of, Begins, StandsAt}
 use Rattle.justfile_model.specs.Next.{next}
+use Rattle.justfile_model.specs.SignificantTokens.{is_whitespace}
 use Rattle.justfile_token.specs.declared.token.Token.{Token}
 
 -- tokens of the kind are searched for line feeds: the other kinds have none
@@ -76,3 +77,12 @@ pub record Takes (old new : Lexer) (token : Token) : Type 0 where
   pub src_is : new.src ≡ old.src
   pub offset_is : new.offset ≡ old.offset + token.length
   pub placed : IsPlaced new
+
+-- The lexer has moved past the next token, which has this kind and length. A table has it now with the mark, unless it is whitespace.
+pub record TakesInto (old new : Lexer) (kind : TokenKind) (len : ℕ) (mark after : Bool) (so_far table : List (Token × Bool)) : Type 0 where
+  pub token : Token
+  pub takes : Takes old new token
+  pub kind_is : token.kind ≡ kind
+  pub length_is : token.length ≡ len
+  pub after_is : after ≡ not (is_whitespace token.kind)
+  pub table_is : table ≡ so_far ++ cond (is_whitespace token.kind) [] ((token, mark) ∷ [])

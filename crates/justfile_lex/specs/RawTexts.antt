@@ -6,11 +6,15 @@ use Rattle.justfile_token.specs.StringKind.{quote_of}
 use Rattle.justfile_model.specs.LiteralText.{raw_len}
 use Rattle.justfile_vocabulary.specs.ByteNames as byte
 
+-- the same in a literal with this quote
+abbrev pub is_plain_in : (quote : ℕ) → ℕ → Bool
+is_plain_in quote b = not (b == quote) && not (b == byte.backslash) && not (b == byte.brace_left)
+
 -- a byte that hides nothing and doesn't begin an end, whatever follows it
 abbrev pub is_plain : RawText → ℕ → Bool
 is_plain Comment b = nat_lt byte.carriage_return b
 is_plain Body b = nat_lt byte.carriage_return b && not (b == byte.brace_left)
-is_plain (Literal k format) b = not (b == quote_of k.delimiter) && not (b == byte.backslash) && not (b == byte.brace_left)
+is_plain (Literal k format) b = is_plain_in (quote_of k.delimiter) b
 
 -- a byte at which the text ends, whatever follows it
 abbrev pub is_plain_end : RawText → ℕ → Bool

@@ -4,6 +4,7 @@ ghost use Rattle.std.specs.List.{prefix_len, list_any, starts_with};
 ghost use Rattle.std.specs.Str.{IsCharBoundary};
 ghost use Rattle.justfile_model.specs.Bytes.{blank, in_word, white, line_feed, blank_len, word_len, is_line_end, is_interpolation_start, is_interpolation_end, is_interpolation_escape, is_mixed, first_char};
 
+use crate::lanes::{LANES, word_run};
 use justfile_vocabulary::ByteClass;
 use justfile_vocabulary::byte_class::byte_class;
 use justfile_vocabulary::bytes::byte_at;
@@ -29,10 +30,11 @@ pub(crate) fn is_line_feed(class: ByteClass) -> bool
 pub(crate) fn blank_len(bytes: &[u8]) -> usize
     ensures { result ≡ blank_len bytes.now }
 {
-    bytes
-        .iter()
-        .take_while(|byte| is_blank(byte_class(**byte)))
-        .count()
+    let mut at = 0;
+    while at < bytes.len() && is_blank(byte_class(bytes[at])) {
+        at += 1;
+    }
+    at
 }
 
 /// Whether a byte of the class is a space or a tab.
@@ -46,10 +48,21 @@ pub(crate) fn is_blank(class: ByteClass) -> bool
 pub(crate) fn word_len(bytes: &[u8]) -> usize
     ensures { result ≡ word_len bytes.now }
 {
-    bytes
-        .iter()
-        .take_while(|byte| is_word(byte_class(**byte)))
-        .count()
+    if !is_word(byte_class(byte_at(bytes, 1))) {
+        return usize::from(is_word(byte_class(byte_at(bytes, 0))));
+    }
+    let mut at = 0;
+    'loads: while bytes.len() - at >= LANES {
+        let run = word_run(bytes, at);
+        if run < LANES {
+            return at + run;
+        }
+        at += LANES;
+    }
+    while at < bytes.len() && is_word(byte_class(bytes[at])) {
+        at += 1;
+    }
+    at
 }
 
 /// Whether an identifier can contain a byte of the class after its first byte.

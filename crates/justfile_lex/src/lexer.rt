@@ -1,5 +1,5 @@
 //! The lexer: from a text to its tokens, or to its lexical fault.
-ghost use Rattle.std.specs.Prelude.{◌≡◌, ◌+◌, ◌≤◌, ◌||◌, ◌==◌, length, drop, map, Ok, Err, IfOk, OnOk, IfErr, All, MatchOption, None, Some, [], ◌∷◌, ◌++◌, cond, not};
+ghost use Rattle.std.specs.Prelude.{◌≡◌, ◌+◌, ◌≤◌, ◌||◌, ◌==◌, length, drop, map, Ok, Err, IfOk, IfErr, All, MatchOption, None, Some, []};
 ghost use Rattle.std.specs.Result.{result_ok};
 ghost use Rattle.std.specs.Str.{IsCharBoundary, IsUtf8};
 ghost use Rattle.std.specs.Char.{is_ascii_alphabetic, is_ascii_digit};
@@ -41,7 +41,7 @@ pub struct Lexer<'src> {
 }
 
 impl<'src> Lexer<'src> {
-    ghost use Rattle.justfile_lex.specs.Lexing.{IsLexerToken, IsLexing, IsPlaced, IsReading, Takes};
+    ghost use Rattle.justfile_lex.specs.Lexing.{IsLexerToken, IsLexing, IsPlaced, IsReading, Takes, TakesInto};
 
     /// Opens an interpolation.
     pub const INTERPOLATION_START: &'static str = interpolation::INTERPOLATION_START;
@@ -111,8 +111,7 @@ impl<'src> Lexer<'src> {
             let Some((kind, length)) = scanned.found() else {
                 return Err(lexer.make_fault(alloc));
             };
-            let token = lexer.take(kind, length)?;
-            glued = push_significant(&mut table, token, glued)?;
+            glued = lexer.take_into(&mut table, kind, length, glued)?;
             if kind == TokenKind::Eof {
                 return Ok(table);
             }
@@ -238,6 +237,36 @@ impl<'src> Lexer<'src> {
         }
     }
 
+    /// Moves past the next token, which has this kind and length, and appends it to a table of
+    /// significant tokens, unless it is whitespace. Returns whether it was appended, so whether a
+    /// token after it is glued to it.
+    ///
+    /// Whitespace has a branch of its own, without the work that other kinds need. The token is made
+    /// in the table, since one that `take` returned would be copied twice.
+    #[inline(always)]
+    fn take_into(
+        &mut self,
+        table: &mut Vec<(Token<'src>, bool)>,
+        kind: TokenKind,
+        length: usize,
+        glued: bool,
+    ) -> Result<bool, AllocError>
+        requires reading { IsReading self.old }
+        requires cut { IsCharBoundary (drop self.old.offset self.old.src.now) length }
+        requires found { next (mode_of self.old.mode) (drop self.old.offset self.old.src.now)
+            ≡ Ok (kind, length) }
+        ensures { IfOk result (λ after. TakesInto self.old self.new kind length
+            glued after table.old.items table.new.items) }
+    {
+        if is_whitespace(kind) {
+            let _ = self.take(kind, length)?;
+            return Ok(false);
+        }
+        table.push((self.make_token(kind, length), glued))?;
+        let _ = self.take(kind, length)?;
+        Ok(true)
+    }
+
     /// Returns the next token, which has this kind and length, and moves to its end.
     #[inline(always)]
     fn take(&mut self, kind: TokenKind, length: usize) -> Result<Token<'src>, AllocError>
@@ -258,6 +287,7 @@ impl<'src> Lexer<'src> {
     }
 
     /// Returns the token of this kind and length at the current position.
+    #[inline(always)]
     fn make_token(&self, kind: TokenKind, length: usize) -> Token<'src>
         requires { IsWithin self.now.src.now self.now.offset length }
         ensures at { IsLexerToken self.now kind length (tok_of result) }
@@ -276,6 +306,7 @@ impl<'src> Lexer<'src> {
     }
 
     /// Returns the position after the next token, which has this kind and length.
+    #[inline(always)]
     fn place_past(&self, kind: TokenKind, length: usize) -> Place
         requires placed { IsPlaced self.now }
         requires within { IsWithin self.now.src.now self.now.offset length }
@@ -307,25 +338,6 @@ fn is_on_line(kind: TokenKind, first: u8) -> bool
         TokenKind::Whitespace => is_blank(byte_class(first)),
         _ => !is_searched(kind),
     }
-}
-
-/// Appends a token to a table of significant tokens, unless it is whitespace. Returns whether it was
-/// appended, so whether a token after it is glued to it.
-#[inline(always)]
-fn push_significant<'src>(
-    table: &mut Vec<(Token<'src>, bool)>,
-    token: Token<'src>,
-    glued: bool,
-) -> Result<bool, AllocError>
-    ensures after { IfOk result (λ after. after ≡ not (is_whitespace token.entry.kind)) }
-    ensures pushed { OnOk result (table.new.items
-        ≡ table.old.items ++ cond (is_whitespace token.entry.kind) [] ((token.entry, glued) ∷ [])) }
-{
-    if is_whitespace(token.kind) {
-        return Ok(false);
-    }
-    table.push((token, glued))?;
-    Ok(true)
 }
 
 /// Whether tokens of the kind are whitespace.

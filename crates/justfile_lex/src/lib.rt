@@ -3,6 +3,7 @@
 
 mod bytes;
 mod explain;
+mod lanes;
 mod layout;
 mod lexer;
 mod lexical_fault;

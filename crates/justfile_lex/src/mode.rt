@@ -100,6 +100,7 @@ impl<'src> Mode<'src> {
     }
 
     /// Updates the mode with the next token.
+    #[inline(always)]
     pub(crate) fn note(&mut self, token: Token<'src>) -> Result<(), AllocError>
         requires { token.line ≤ token.offset }
         ensures mode { OnOk result (mode_of self.new

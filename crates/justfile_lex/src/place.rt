@@ -11,6 +11,7 @@ pub(crate) struct Place {
 }
 
 /// Returns the position of the offset `to`, from the position `start` of the offset `from`.
+#[inline(never)]
 pub(crate) fn place_after(bytes: &[u8], start: Place, from: usize, to: usize) -> Place
     requires order { from ≤ to }
     requires within { to ≤ length bytes.now }

@@ -1,5 +1,5 @@
 //! The lengths of comments, texts of bodies and insides of literals, up to their first end.
-ghost use Rattle.std.specs.Prelude.{◌≡◌};
+ghost use Rattle.std.specs.Prelude.{◌≡◌, ◌+◌, ◌≤◌, length, take, drop};
 ghost use Rattle.std.specs.List.{prefix_len};
 ghost use Rattle.justfile_model.specs.declared.raw_text.RawText.TheVariants.{Literal};
 ghost use Rattle.justfile_token.specs.StringKind.{quote_of};
@@ -7,6 +7,7 @@ ghost use Rattle.justfile_model.specs.LiteralText.{is_delimiter, hides, ends, ra
 ghost use Rattle.justfile_lex.specs.RawTexts.{is_plain, is_plain_end, IsScanStep};
 
 use crate::bytes::{is_interpolation_escape, is_interpolation_start, is_line_end, skip};
+use crate::lanes::{LANES, body_run, comment_run, literal_run};
 use justfile_model::RawText;
 use justfile_token::{StringDelimiter, StringKind};
 use justfile_vocabulary::bytes::byte_at;
@@ -48,10 +49,31 @@ fn plain_len(text: RawText, bytes: &[u8]) -> usize
 fn plain_len_of(text: RawText, bytes: &[u8]) -> usize
     ensures { result ≡ prefix_len (is_plain text) bytes.now }
 {
-    bytes
-        .iter()
-        .take_while(|byte| is_plain(text, **byte))
-        .count()
+    let mut at = 0;
+    'loads: while bytes.len() - at >= LANES {
+        let run = plain_run(text, bytes, at);
+        if run < LANES {
+            return at + run;
+        }
+        at += LANES;
+    }
+    while at < bytes.len() && is_plain(text, bytes[at]) {
+        at += 1;
+    }
+    at
+}
+
+/// Returns how many of the bytes from `at` on, of at most `LANES`, are plain.
+#[inline(always)]
+fn plain_run(text: RawText, bytes: &[u8], at: usize) -> usize
+    requires { at + LANES ≤ length bytes.now }
+    ensures { result ≡ prefix_len (is_plain text) (take LANES (drop at bytes.now)) }
+{
+    match text {
+        RawText::Comment => comment_run(bytes, at),
+        RawText::Body => body_run(bytes, at),
+        RawText::Literal { kind, .. } => literal_run(quote_of(kind.delimiter), bytes, at),
+    }
 }
 
 /// Whether a byte is known to hide nothing and to begin no end, whatever follows. The comparison

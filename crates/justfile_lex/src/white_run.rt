@@ -31,6 +31,7 @@ impl WhiteRun {
 
     /// Whether the run of white bytes at the start of the rest ends in a line feed, and another
     /// byte follows it.
+    #[inline(never)]
     pub(crate) fn closes_levels(&mut self, rest: &[u8]) -> bool
         requires { IsRunOf rest.now self.old }
         ensures answer { result ≡ closes_levels false rest.now }

@@ -21,29 +21,31 @@ returns-in_default-found-clause-fault c =
     subst (λ p. IsLexerFault p c.args.src.now c.make_fault.result) runs.path_is
     (subst (λ s. IsLexerFault c.tokens.lexer.path.now s c.make_fault.result) runs.src_is c.make_fault.ensures)
 
-pub take-requires-clause-found : goal.take-requires-clause-found
-take-requires-clause-found c = ap (next (mode_of c.tokens.lexer.mode)) (sym c.rest.ensures) ∙ found_is _ _ (c.in-Some-found.ensures ∙ c.scan_token-scanned.ensures.found)
+pub take_into-requires-clause-found : goal.take_into-requires-clause-found
+take_into-requires-clause-found c = ap (next (mode_of c.tokens.lexer.mode)) (sym c.rest.ensures) ∙ found_is _ _ (c.in-Some-found.ensures ∙ c.scan_token-scanned.ensures.found)
 
-pub take-requires-clause-cut : goal.take-requires-clause-cut
-take-requires-clause-cut c =
+pub take_into-requires-clause-cut : goal.take_into-requires-clause-cut
+take_into-requires-clause-cut c =
     let found = ap (next (mode_of c.tokens.lexer.mode)) (sym c.rest.ensures) ∙ found_is _ _ (c.in-Some-found.ensures ∙ c.scan_token-scanned.ensures.found) in
     (token_cut _ _ (subst IsUtf8 c.rest.ensures c.rest.utf8) _ _ found).0
 
 pub tokens-smaller : goal.tokens-smaller
 tokens-smaller c =
+    let taken = c.in_ok-glued.ensures in
     let ne : c.in-Some-found.kind ≢ Eof = search (rules, c.if-eq.ensures) in
-    shorter _ _ _ _ _ _ c.tokens.invariant.reads.runs c.in_ok-token.ensures.takes c.utf8.src (λ e. ne (sym c.in_ok-token.ensures.kind ∙ e))
+    shorter _ _ _ _ _ _ c.tokens.invariant.reads.runs taken.takes c.utf8.src (λ e. ne (sym taken.kind_is ∙ e))
 
 pub tokens-preserved : goal.tokens-preserved
 tokens-preserved c =
-    let taken = c.in_ok-token.ensures.takes in
+    let taken = c.in_ok-glued.ensures in
     let ne : c.in-Some-found.kind ≢ Eof = search (rules, c.if-eq.ensures) in
     record {
-      reads = reads_on _ _ _ _ _ taken _ _ _ _ c.tokens.invariant.reads c.in_ok-glued.ensures.after c.in_ok-glued.ensures.pushed (λ e. ne (sym c.in_ok-token.ensures.kind ∙ e));
-      run = white_after c.tokens.lexer c.take.new.self c.in_ok-token.token c.in-Some-found.length c.rest.result.now c.scan_token-scanned.new.run taken c.in_ok-token.ensures.length c.rest.ensures c.scan_token-scanned.ensures.run;
+      reads = reads_on _ _ _ _ _ taken.takes _ _ _ _ c.tokens.invariant.reads taken.after_is taken.table_is (λ e. ne (sym taken.kind_is ∙ e));
+      run = white_after c.tokens.lexer c.take_into.new.self taken.token c.in-Some-found.length c.rest.result.now c.scan_token-scanned.new.run taken.takes taken.length_is c.rest.ensures c.scan_token-scanned.ensures.run;
     }
 
 pub returns-then-eq-clause-table : goal.returns-then-eq-clause-table
 returns-then-eq-clause-table c =
+    let taken = c.in_ok-glued.ensures in
     let end : c.in-Some-found.kind ≡ Eof = search (rules, c.if-eq.ensures) in
-    ends _ _ _ _ _ c.in_ok-token.ensures.takes _ _ _ _ c.tokens.invariant.reads c.in_ok-glued.ensures.after c.in_ok-glued.ensures.pushed (c.in_ok-token.ensures.kind ∙ end)
+    ends _ _ _ _ _ taken.takes _ _ _ _ c.tokens.invariant.reads taken.after_is taken.table_is (taken.kind_is ∙ end)
