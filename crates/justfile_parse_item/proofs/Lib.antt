@@ -7,8 +7,6 @@ pub mod Loop
 pub mod CounterSteps
 pub mod CounterBounds
 pub mod ReadEquations
-pub mod NoKeyword
-pub mod Pushes
 pub mod Recipes
 pub mod Seen
 pub mod SeenAttributes

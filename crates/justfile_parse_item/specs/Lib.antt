@@ -1,6 +1,5 @@
 pub mod Exclusions
 pub mod Filled
-pub mod Pushes
 pub mod ExtraneousFault
 pub mod ItemTable
 pub mod MethodResults

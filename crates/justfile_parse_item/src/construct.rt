@@ -3,9 +3,9 @@ ghost use Rattle.std.specs.Prelude.{◌≡◌, ◌<◌, ◌≤◌, IfOk, OnOk, m
 ghost use Rattle.justfile_model.specs.SignificantTokens.{identifiers};
 ghost use Rattle.justfile_parse_item.specs.ItemTable as reader;
 ghost use Rattle.justfile_parse_item.specs.MethodResults.{CountersMoved};
-ghost use Rattle.justfile_parse_item.specs.Pushes.{AppendsItem, last_tree};
-ghost use Rattle.justfile_parse_item.specs.DerivedFields.{HaveDerivedPairFields};
-ghost use Rattle.justfile_parse_item.specs.ConstructKeywords.{begins_keyword, can_be_keyword, has_keyword_length, keyword_taken, after_keyword};
+ghost use Rattle.justfile_parse_item.specs.Tree.{item_tree};
+ghost use Rattle.justfile_parse_item.specs.DerivedFields.{HaveDerivedPairFields, HasDerivedItemFields};
+ghost use Rattle.justfile_parse_item.specs.ConstructKeywords.{keyword_taken, after_keyword};
 ghost use Rattle.justfile_parse_attribute.specs.Attributes.{entries_of};
 ghost use Rattle.justfile_parse_base.specs.ParseErrors.{ParsesRuled};
 ghost use Rattle.justfile_parse_expression.specs.MethodResults.{Takes};
@@ -41,23 +41,22 @@ pub(crate) enum ConstructKeyword {
     Unexport,
 }
 
-/// Parses a construct with its attributes, and appends it. Requires that no expression is open.
+/// Parses a construct with its attributes. Requires that no expression is open.
 #[tactic(auto, using(crate::proofs::CounterSteps::unmoved), unfolding(justfile_model::specs::Reader::construct))]
 pub(crate) fn parse_construct<'src, X: Expander>(
     parser: &mut TokenCursor<'_, 'src, X>,
-    items: &mut Vec<Item<'src>>,
     numerator: &mut Numerator,
-) -> Result<(), ParseError<'src>>
+) -> Result<Item<'src>, ParseError<'src>>
     requires { (state_of X.answer parser.old).depth ≡ 0 }
-    ensures reads { ParsesCounted X.answer (λ _. last_tree items.new.items) result numerator.new
-        parser.old parser.new (reader.construct (counters_of numerator.old)) }
-    ensures appended { OnOk result (AppendsItem items.old.items items.new.items) }
+    ensures reads { ParsesCounted X.answer item_tree result numerator.new parser.old parser.new
+        (reader.construct (counters_of numerator.old)) }
+    ensures fields { IfOk result HasDerivedItemFields }
     ensures progress { OnOk result (tokens_left parser.new < tokens_left parser.old) }
     ensures moved { CountersMoved numerator.old numerator.new
         (identifiers (map significant_of (state_of X.answer parser.old).left)) }
 {
     let attributes = parse_item_attributes(parser)?;
-    parse_content(parser, attributes, items, numerator)
+    parse_content(parser, attributes, numerator)
 }
 
 /// Parses the attributes before a construct. Refuses them if a blank line or a comment follows.
@@ -87,83 +86,33 @@ fn stands_alone<X: Expander>(parser: &TokenCursor<'_, '_, X>) -> bool
     parser.peek_kinds(&[TokenKind::Eol]) || parser.peek_kinds(&[TokenKind::Comment])
 }
 
-/// Parses a construct after its attributes, and appends it.
+/// Parses a construct after its attributes.
 #[tactic(auto, using(crate::proofs::ConstructKeywords::content_after_keyword, crate::proofs::ConstructKeywords::content_without_keyword))]
 fn parse_content<'src, X: Expander>(
     parser: &mut TokenCursor<'_, 'src, X>,
     attributes: Vec<(Attribute<'src>, Written<'src>)>,
-    items: &mut Vec<Item<'src>>,
     numerator: &mut Numerator,
-) -> Result<(), ParseError<'src>>
+) -> Result<Item<'src>, ParseError<'src>>
     requires { HaveDerivedPairFields attributes.items }
-    ensures reads { ParsesCounted X.answer (λ _. last_tree items.new.items) result numerator.new
-        parser.old parser.new (reader.content (entries_of attributes.entry.items)
-        (counters_of numerator.old)) }
-    ensures appended { OnOk result (AppendsItem items.old.items items.new.items) }
+    ensures reads { ParsesCounted X.answer item_tree result numerator.new parser.old parser.new
+        (reader.content (entries_of attributes.entry.items) (counters_of numerator.old)) }
+    ensures fields { IfOk result HasDerivedItemFields }
     ensures progress { OnOk result (tokens_left parser.new < tokens_left parser.old) }
     ensures moved { CountersMoved numerator.old numerator.new
         (identifiers (map significant_of (state_of X.answer parser.old).left)) }
 {
     match accept_construct_keyword(parser) {
-        Some(keyword) => parse_after_keyword(keyword, parser, attributes, items, numerator),
-        None => parse_without_keyword(parser, attributes, items, numerator),
+        Some(keyword) => parse_after_keyword(keyword, parser, attributes, numerator),
+        None => parse_without_keyword(parser, attributes, numerator),
     }
-}
-
-/// Takes the keyword that the construct begins with, if it begins with one. Looks at the word
-/// first: in most constructs it is another one.
-#[tactic(auto, using(crate::proofs::NoKeyword::unnamed, crate::proofs::NoKeyword::unlike))]
-fn accept_construct_keyword<X: Expander>(
-    parser: &mut TokenCursor<'_, '_, X>,
-) -> Option<ConstructKeyword>
-    ensures takes { Takes result (state_of X.answer parser.new)
-        (keyword_taken (state_of X.answer parser.old)) }
-    ensures moves { Moves result parser.old parser.new }
-{
-    let word = parser.probe_if(TokenKind::Identifier)?;
-    if !can_be_keyword(word.0.lexeme()) {
-        return None;
-    }
-    accept_any_keyword(parser)
-}
-
-/// Whether the first byte and the length of a word are those of a keyword that a construct begins
-/// with.
-#[inline(always)]
-fn can_be_keyword(word: &str) -> bool
-    ensures { result ≡ can_be_keyword word.now }
-{
-    match word.as_bytes() {
-        [first, ..] => begins_keyword(*first) && has_keyword_length(word.len()),
-        [] => false,
-    }
-}
-
-/// Whether a keyword that a construct begins with has this first byte.
-#[inline(always)]
-fn begins_keyword(first: u8) -> bool
-    ensures { result ≡ begins_keyword first }
-{
-    first == b'a'
-        || first == b'e'
-        || first == b'i'
-        || first == b'm'
-        || first == b's'
-        || first == b'u'
-}
-
-/// Whether a keyword that a construct begins with has this length.
-#[inline(always)]
-fn has_keyword_length(length: usize) -> bool
-    ensures { result ≡ has_keyword_length length }
-{
-    length == 3 || length == 5 || length == 6 || length == 8
 }
 
 /// Takes the keyword that the construct begins with, if it begins with one. A keyword is an
 /// ordinary name unless what follows it fits.
 #[tactic(auto, unfolding(crate::specs::ConstructKeywords::keyword_taken))]
-fn accept_any_keyword<X: Expander>(parser: &mut TokenCursor<'_, '_, X>) -> Option<ConstructKeyword>
+fn accept_construct_keyword<X: Expander>(
+    parser: &mut TokenCursor<'_, '_, X>,
+) -> Option<ConstructKeyword>
     ensures takes { Takes result (state_of X.answer parser.new)
         (keyword_taken (state_of X.answer parser.old)) }
     ensures moves { Moves result parser.old parser.new }
@@ -190,60 +139,55 @@ fn accept_any_keyword<X: Expander>(parser: &mut TokenCursor<'_, '_, X>) -> Optio
     Some(ConstructKeyword::Set)
 }
 
-/// Parses a construct after its attributes and this keyword, and appends it.
+/// Parses a construct after its attributes and this keyword.
 fn parse_after_keyword<'src, X: Expander>(
     keyword: ConstructKeyword,
     parser: &mut TokenCursor<'_, 'src, X>,
     attributes: Vec<(Attribute<'src>, Written<'src>)>,
-    items: &mut Vec<Item<'src>>,
     numerator: &mut Numerator,
-) -> Result<(), ParseError<'src>>
+) -> Result<Item<'src>, ParseError<'src>>
     requires { HaveDerivedPairFields attributes.items }
-    ensures reads { ParsesCounted X.answer (λ _. last_tree items.new.items) result numerator.new
-        parser.old parser.new (after_keyword keyword (entries_of attributes.entry.items)
+    ensures reads { ParsesCounted X.answer item_tree result numerator.new parser.old parser.new
+        (after_keyword keyword (entries_of attributes.entry.items)
         (counters_of numerator.old)) }
-    ensures appended { OnOk result (AppendsItem items.old.items items.new.items) }
+    ensures fields { IfOk result HasDerivedItemFields }
     ensures progress { OnOk result (tokens_left parser.new < tokens_left parser.old) }
     ensures moved { CountersMoved numerator.old numerator.new
         (identifiers (map significant_of (state_of X.answer parser.old).left)) }
 {
     match keyword {
-        ConstructKeyword::Alias => parse_alias(parser, attributes, items),
-        ConstructKeyword::Eager => parse_assignment(
-            parser, true, false, attributes, items, numerator,
-        ),
-        ConstructKeyword::Export => parse_assignment(
-            parser, false, true, attributes, items, numerator,
-        ),
-        ConstructKeyword::Import => parse_import(parser, attributes, items),
-        ConstructKeyword::Mod => parse_module(parser, attributes, items),
-        ConstructKeyword::Set => parse_set(parser, attributes, items),
-        ConstructKeyword::Unexport => parse_unexport(parser, attributes, items),
+        ConstructKeyword::Alias => parse_alias(parser, attributes),
+        ConstructKeyword::Eager => parse_assignment(parser, true, false, attributes, numerator),
+        ConstructKeyword::Export => parse_assignment(parser, false, true, attributes, numerator),
+        ConstructKeyword::Import => parse_import(parser, attributes),
+        ConstructKeyword::Mod => parse_module(parser, attributes),
+        ConstructKeyword::Set => parse_set(parser, attributes),
+        ConstructKeyword::Unexport => parse_unexport(parser, attributes),
     }
 }
 
-/// Parses a construct without a keyword, after its attributes, and appends it.
+/// Parses a construct without a keyword, after its attributes.
 #[tactic(auto, unfolding(justfile_model::specs::Reader::without_keyword))]
 fn parse_without_keyword<'src, X: Expander>(
     parser: &mut TokenCursor<'_, 'src, X>,
     attributes: Vec<(Attribute<'src>, Written<'src>)>,
-    items: &mut Vec<Item<'src>>,
     numerator: &mut Numerator,
-) -> Result<(), ParseError<'src>>
+) -> Result<Item<'src>, ParseError<'src>>
     requires { HaveDerivedPairFields attributes.items }
-    ensures reads { ParsesCounted X.answer (λ _. last_tree items.new.items) result numerator.new
-        parser.old parser.new (reader.without_keyword (entries_of attributes.entry.items)
+    ensures reads { ParsesCounted X.answer item_tree result numerator.new parser.old parser.new
+        (reader.without_keyword (entries_of attributes.entry.items)
         (counters_of numerator.old)) }
-    ensures appended { OnOk result (AppendsItem items.old.items items.new.items) }
+    ensures fields { IfOk result HasDerivedItemFields }
     ensures progress { OnOk result (tokens_left parser.new < tokens_left parser.old) }
     ensures moved { CountersMoved numerator.old numerator.new
         (identifiers (map significant_of (state_of X.answer parser.old).left)) }
 {
     if parser.peek_kinds(&[TokenKind::Identifier, TokenKind::ParenL]) {
-        return parse_function(parser, attributes, items, numerator);
+        return parse_function(parser, attributes, numerator);
     }
     if peek_assignment(parser) {
-        return parse_assignment(parser, false, false, attributes, items, numerator);
+        return parse_assignment(parser, false, false, attributes, numerator);
     }
-    parse_any_recipe(parser, attributes, items, numerator)
+    let recipe = parse_any_recipe(parser, attributes, numerator)?;
+    Ok(Item::Recipe(recipe))
 }

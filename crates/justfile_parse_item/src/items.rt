@@ -12,11 +12,10 @@ ghost use Rattle.justfile_model.specs.PartReader.{after_numbered};
 ghost use Rattle.justfile_item.specs.declared.item.Item.TheVariants as variants;
 ghost use Rattle.justfile_parse_item.specs.ItemTable as reader;
 ghost use Rattle.justfile_parse_item.specs.MethodResults.{CountersMoved};
-ghost use Rattle.justfile_parse_expression.specs.MethodResults.{Reads};
+ghost use Rattle.justfile_parse_expression.specs.MethodResults.{Reads, UnlessMemory};
 ghost use Rattle.justfile_parse_expression.specs.ParsedResults.{Parses};
 ghost use Rattle.justfile_parse_item.specs.DerivedFields.{HaveDerivedFields, HasDerivedItemFields, KeepsDerivedFields};
 ghost use Rattle.justfile_parse_expression.specs.Significant.{significant_of};
-ghost use Rattle.justfile_parse_item.specs.Pushes.{AppendsItem, Pushes, last_tree};
 ghost use Rattle.justfile_parse_item.specs.Tree.{item_tree};
 ghost use Rattle.justfile_parse_expression.specs.View.{tokens_left, state_of};
 
@@ -34,7 +33,7 @@ use std::alloc::AllocError;
 ///
 /// A `ParseError` if the rest of the table isn't a file, if the counter of bindings or of recipes
 /// has reached its maximum and a number is needed, or if memory runs out.
-#[tactic(auto, using(crate::proofs::CounterSteps::unmoved, crate::proofs::Loop::moved, crate::proofs::Loop::moved_on))]
+#[tactic(auto, using(crate::proofs::Loop::moved, crate::proofs::Loop::moved_on))]
 pub fn parse_items<'src, X: Expander>(
     parser: &mut TokenCursor<'_, 'src, X>,
     numerator: &mut Numerator,
@@ -46,7 +45,7 @@ pub fn parse_items<'src, X: Expander>(
     ensures moved { CountersMoved numerator.old numerator.new
         (identifiers (map significant_of (state_of X.answer parser.old).left)) }
 {
-    let mut items = Vec::with_capacity(parser.alloc, parser.tokens.len() / 8)?;
+    let mut items = Vec::new(parser.alloc);
     'lines: loop {
         if let Some(_end) = parser.accept(TokenKind::Eof) {
             expect_nothing(parser)?;
@@ -91,31 +90,30 @@ fn parse_line<'src, X: Expander>(
         push_line_end(items)?;
         return Ok(());
     }
-    parse_item(parser, items, numerator)?;
-    let has_body = ends_in_body(items.as_slice());
+    let item = parse_item(parser, numerator)?;
+    let has_body = push_parsed(items, item)?;
     parse_item_end(parser, has_body, items)?;
     Ok(())
 }
 
-/// Parses an item that begins a line, and appends it. Requires that no expression is open.
-#[tactic(auto, using(crate::proofs::CounterSteps::unmoved, crate::proofs::Pushes::reads, crate::proofs::Pushes::appends), unfolding(justfile_model::specs::Reader::any_item, justfile_parse_expression::specs::TableReader::leaves))]
+/// Parses an item that begins a line. Requires that no expression is open.
+#[tactic(auto, using(crate::proofs::CounterSteps::unmoved), unfolding(justfile_model::specs::Reader::any_item, justfile_parse_expression::specs::TableReader::leaves))]
 fn parse_item<'src, X: Expander>(
     parser: &mut TokenCursor<'_, 'src, X>,
-    items: &mut Vec<Item<'src>>,
     numerator: &mut Numerator,
-) -> Result<(), ParseError<'src>>
+) -> Result<Item<'src>, ParseError<'src>>
     requires { (state_of X.answer parser.old).depth ≡ 0 }
-    ensures reads { ParsesCounted X.answer (λ _. last_tree items.new.items) result numerator.new
-        parser.old parser.new (reader.any_item (counters_of numerator.old)) }
-    ensures appended { OnOk result (AppendsItem items.old.items items.new.items) }
+    ensures reads { ParsesCounted X.answer item_tree result numerator.new parser.old parser.new
+        (reader.any_item (counters_of numerator.old)) }
+    ensures fields { IfOk result HasDerivedItemFields }
     ensures progress { OnOk result (tokens_left parser.new < tokens_left parser.old) }
     ensures moved { CountersMoved numerator.old numerator.new
         (identifiers (map significant_of (state_of X.answer parser.old).left)) }
 {
     if let Some(comment) = parser.accept(TokenKind::Comment) {
-        return push_construct(items, make_comment(comment.0));
+        return Ok(make_comment(comment.0));
     }
-    parse_construct(parser, items, numerator)
+    parse_construct(parser, numerator)
 }
 
 /// Parses the end of an item, and appends the line end. After a body the next token begins a line
@@ -188,16 +186,36 @@ fn make_comment<'src>(comment: Token<'src>) -> Item<'src>
     Item::Comment(comment.lexeme().trim_end())
 }
 
-/// Whether the last item has a body.
-#[tactic(auto, using(crate::proofs::Pushes::last_at, crate::proofs::Pushes::last_none))]
-fn ends_in_body(items: &[Item<'_>]) -> bool
-    ensures { result ≡ has_body (last_tree items.now) }
+/// Appends an item, and returns whether it has a body. An `if` asks for that, because the checker
+/// reaches its limit at a `let` of it (`docs/TOOLCHAIN.md`, "could not tell").
+fn push_parsed<'src>(
+    items: &mut Vec<Item<'src>>,
+    item: Item<'src>,
+) -> Result<bool, ExpressionError<'src>>
+    ensures trees { UnlessMemory result (λ done. map item_tree items.new.items
+        ≡ map item_tree items.old.items ++ item_tree item.entry ∷ []) }
+    ensures pushed { OnOk result (items.new.items ≡ items.old.items ++ item.entry ∷ []) }
+    ensures body { IfOk result (λ answer. answer ≡ has_body (item_tree item.entry)) }
 {
-    let count = items.len();
-    if count == 0 {
-        return false;
+    if is_bodied(&item) {
+        return push_known(items, item, true);
     }
-    is_bodied(&items[count - 1])
+    push_known(items, item, false)
+}
+
+/// Appends an item, and returns `has_body`, which tells whether it has a body.
+fn push_known<'src>(
+    items: &mut Vec<Item<'src>>,
+    item: Item<'src>,
+    has_body: bool,
+) -> Result<bool, ExpressionError<'src>>
+    ensures trees { UnlessMemory result (λ done. map item_tree items.new.items
+        ≡ map item_tree items.old.items ++ item_tree item.entry ∷ []) }
+    ensures pushed { OnOk result (items.new.items ≡ items.old.items ++ item.entry ∷ []) }
+    ensures body { IfOk result (λ answer. answer ≡ has_body) }
+{
+    push_item(items, item)?;
+    Ok(has_body)
 }
 
 /// Whether the item is a recipe with a body. It wraps the method, to state the result over the tree
@@ -208,29 +226,12 @@ fn is_bodied(item: &Item<'_>) -> bool
     item.has_body()
 }
 
-/// Appends an item that was parsed.
-///
-/// # Errors
-///
-/// A `ParseError` if memory runs out.
-#[inline(always)]
-pub(crate) fn push_construct<'src>(
-    items: &mut Vec<Item<'src>>,
-    item: Item<'src>,
-) -> Result<(), ParseError<'src>>
-    ensures { Pushes item.entry items.old.items items.new.items result }
-{
-    push_item(items, item)?;
-    Ok(())
-}
-
 /// Appends an item. Reserves room first: a push that can fail would return the item on failure,
 /// which costs one more copy.
 ///
 /// # Errors
 ///
 /// `AllocError` if memory runs out.
-#[inline(always)]
 fn push_item<'src>(items: &mut Vec<Item<'src>>, item: Item<'src>) -> Result<(), AllocError>
     ensures trees { OnOk result (map item_tree items.new.items
         ≡ map item_tree items.old.items ++ item_tree item.entry ∷ []) }

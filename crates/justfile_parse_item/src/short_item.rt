@@ -1,14 +1,13 @@
 //! Aliases, settings and `unexport`s: a keyword, a name, and at most a target or a value.
-ghost use Rattle.std.specs.Prelude.{◌<◌, OnOk};
+ghost use Rattle.std.specs.Prelude.{◌<◌, IfOk, OnOk};
 ghost use Rattle.justfile_parse_item.specs.ItemTable as reader;
 ghost use Rattle.justfile_parse_item.specs.MethodResults.{ReadsUncounted};
-ghost use Rattle.justfile_parse_item.specs.Pushes.{AppendsItem, last_tree};
-ghost use Rattle.justfile_parse_item.specs.DerivedFields.{HaveDerivedPairFields};
+ghost use Rattle.justfile_parse_item.specs.Tree.{item_tree};
+ghost use Rattle.justfile_parse_item.specs.DerivedFields.{HaveDerivedPairFields, HasDerivedItemFields};
 ghost use Rattle.justfile_parse_attribute.specs.Attributes.{entries_of};
 ghost use Rattle.justfile_parse_expression.specs.View.{tokens_left, state_of};
 
 use crate::attribute_checks::check_allowed;
-use crate::items::push_construct;
 use justfile_attribute::Attribute;
 use justfile_item::{Alias, Item, Set};
 use justfile_parse_base::{ParseError, parse_namepath};
@@ -19,85 +18,70 @@ use justfile_vocabulary::{ItemKind, TokenKind};
 use justfile_written::Written;
 
 /// Parses an alias after its attributes and `alias`: a name, `:=`, and the path of a recipe.
-#[tactic(auto, using(crate::proofs::Pushes::reads_uncounted, crate::proofs::Pushes::appends), unfolding(crate::specs::MethodResults::ReadsUncounted, justfile_model::specs::Reader::alias, justfile_parse_expression::specs::TableReader::leaves))]
+#[tactic(auto, unfolding(crate::specs::MethodResults::ReadsUncounted, justfile_model::specs::Reader::alias, justfile_parse_expression::specs::TableReader::leaves))]
 pub(crate) fn parse_alias<'src, X: Expander>(
     parser: &mut TokenCursor<'_, 'src, X>,
     attributes: Vec<(Attribute<'src>, Written<'src>)>,
-    items: &mut Vec<Item<'src>>,
-) -> Result<(), ParseError<'src>>
+) -> Result<Item<'src>, ParseError<'src>>
     requires { HaveDerivedPairFields attributes.items }
-    ensures reads { ReadsUncounted (λ _. last_tree items.new.items) result
-        (state_of X.answer parser.new)
+    ensures reads { ReadsUncounted item_tree result (state_of X.answer parser.new)
         (λ n. reader.alias (entries_of attributes.entry.items) n
         (state_of X.answer parser.old)) }
-    ensures appended { OnOk result (AppendsItem items.old.items items.new.items) }
+    ensures fields { IfOk result HasDerivedItemFields }
     ensures progress { OnOk result (tokens_left parser.new < tokens_left parser.old) }
 {
     let name = parser.expect(TokenKind::Identifier)?;
     parser.expect(TokenKind::ColonEquals)?;
     let target = parse_namepath(parser)?;
     let attributes = check_allowed(parser.alloc, ItemKind::Alias, attributes, name)?;
-    push_construct(
-        items,
-        Item::Alias(Alias {
-            attributes,
-            name: Name::from_identifier(name.0),
-            target,
-        }),
-    )
+    Ok(Item::Alias(Alias {
+        attributes,
+        name: Name::from_identifier(name.0),
+        target,
+    }))
 }
 
 /// Parses a setting after its attributes and `set`: its name and its value.
-#[tactic(auto, using(crate::proofs::Pushes::reads_uncounted, crate::proofs::Pushes::appends), unfolding(crate::specs::MethodResults::ReadsUncounted, justfile_model::specs::Reader::setting, justfile_parse_expression::specs::TableReader::leaves))]
+#[tactic(auto, unfolding(crate::specs::MethodResults::ReadsUncounted, justfile_model::specs::Reader::setting, justfile_parse_expression::specs::TableReader::leaves))]
 pub(crate) fn parse_set<'src, X: Expander>(
     parser: &mut TokenCursor<'_, 'src, X>,
     attributes: Vec<(Attribute<'src>, Written<'src>)>,
-    items: &mut Vec<Item<'src>>,
-) -> Result<(), ParseError<'src>>
+) -> Result<Item<'src>, ParseError<'src>>
     requires { HaveDerivedPairFields attributes.items }
-    ensures reads { ReadsUncounted (λ _. last_tree items.new.items) result
-        (state_of X.answer parser.new)
+    ensures reads { ReadsUncounted item_tree result (state_of X.answer parser.new)
         (λ n. reader.setting (entries_of attributes.entry.items) n
         (state_of X.answer parser.old)) }
-    ensures appended { OnOk result (AppendsItem items.old.items items.new.items) }
+    ensures fields { IfOk result HasDerivedItemFields }
     ensures progress { OnOk result (tokens_left parser.new < tokens_left parser.old) }
 {
     let name = parser.expect(TokenKind::Identifier)?;
     let keyword = setting_keyword(parser.alloc, name)?;
     let attributes = check_allowed(parser.alloc, ItemKind::Setting, attributes, name)?;
     let value = parse_setting_value(parser, name, keyword)?;
-    push_construct(
-        items,
-        Item::Setting(Set {
-            attributes,
-            name: Name::from_identifier(name.0),
-            value,
-        }),
-    )
+    Ok(Item::Setting(Set {
+        attributes,
+        name: Name::from_identifier(name.0),
+        value,
+    }))
 }
 
 /// Parses an `unexport` after its attributes and the keyword: a name.
-#[tactic(auto, using(crate::proofs::Pushes::reads_uncounted, crate::proofs::Pushes::appends), unfolding(crate::specs::MethodResults::ReadsUncounted, justfile_model::specs::Reader::unexport, justfile_parse_expression::specs::TableReader::leaves))]
+#[tactic(auto, unfolding(crate::specs::MethodResults::ReadsUncounted, justfile_model::specs::Reader::unexport, justfile_parse_expression::specs::TableReader::leaves))]
 pub(crate) fn parse_unexport<'src, X: Expander>(
     parser: &mut TokenCursor<'_, 'src, X>,
     attributes: Vec<(Attribute<'src>, Written<'src>)>,
-    items: &mut Vec<Item<'src>>,
-) -> Result<(), ParseError<'src>>
+) -> Result<Item<'src>, ParseError<'src>>
     requires { HaveDerivedPairFields attributes.items }
-    ensures reads { ReadsUncounted (λ _. last_tree items.new.items) result
-        (state_of X.answer parser.new)
+    ensures reads { ReadsUncounted item_tree result (state_of X.answer parser.new)
         (λ n. reader.unexport (entries_of attributes.entry.items) n
         (state_of X.answer parser.old)) }
-    ensures appended { OnOk result (AppendsItem items.old.items items.new.items) }
+    ensures fields { IfOk result HasDerivedItemFields }
     ensures progress { OnOk result (tokens_left parser.new < tokens_left parser.old) }
 {
     let name = parser.expect(TokenKind::Identifier)?;
     let attributes = check_allowed(parser.alloc, ItemKind::Unexport, attributes, name)?;
-    push_construct(
-        items,
-        Item::Unexport {
-            attributes,
-            name: Name::from_identifier(name.0),
-        },
-    )
+    Ok(Item::Unexport {
+        attributes,
+        name: Name::from_identifier(name.0),
+    })
 }

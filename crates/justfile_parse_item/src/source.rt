@@ -1,15 +1,14 @@
 //! Imports and modules: the items that name another file.
-ghost use Rattle.std.specs.Prelude.{◌<◌, OnOk};
+ghost use Rattle.std.specs.Prelude.{◌<◌, IfOk, OnOk};
 ghost use Rattle.justfile_parse_item.specs.ItemTable as reader;
 ghost use Rattle.justfile_parse_item.specs.MethodResults.{ReadsUncounted};
-ghost use Rattle.justfile_parse_item.specs.Pushes.{AppendsItem, last_tree};
-ghost use Rattle.justfile_parse_item.specs.DerivedFields.{HaveDerivedPairFields};
+ghost use Rattle.justfile_parse_item.specs.Tree.{item_tree};
+ghost use Rattle.justfile_parse_item.specs.DerivedFields.{HaveDerivedPairFields, HasDerivedItemFields};
 ghost use Rattle.justfile_parse_attribute.specs.Attributes.{entries_of};
 ghost use Rattle.justfile_parse_expression.specs.View.{tokens_left, state_of};
 
 use crate::accept::accept_kind;
 use crate::attribute_checks::check_allowed;
-use crate::items::push_construct;
 use justfile_attribute::Attribute;
 use justfile_item::Item;
 use justfile_parse_base::ParseError;
@@ -24,46 +23,39 @@ use justfile_written::Written;
 pub(crate) fn parse_import<'src, X: Expander>(
     parser: &mut TokenCursor<'_, 'src, X>,
     attributes: Vec<(Attribute<'src>, Written<'src>)>,
-    items: &mut Vec<Item<'src>>,
-) -> Result<(), ParseError<'src>>
+) -> Result<Item<'src>, ParseError<'src>>
     requires { HaveDerivedPairFields attributes.items }
-    ensures reads { ReadsUncounted (λ _. last_tree items.new.items) result
-        (state_of X.answer parser.new)
+    ensures reads { ReadsUncounted item_tree result (state_of X.answer parser.new)
         (λ n. reader.import (entries_of attributes.entry.items) n
         (state_of X.answer parser.old)) }
-    ensures appended { OnOk result (AppendsItem items.old.items items.new.items) }
+    ensures fields { IfOk result HasDerivedItemFields }
     ensures progress { OnOk result (tokens_left parser.new < tokens_left parser.old) }
 {
     let optional = accept_kind(parser, TokenKind::QuestionMark);
-    parse_imported(parser, optional, attributes, items)
+    parse_imported(parser, optional, attributes)
 }
 
 /// Parses the path of an import.
-#[tactic(auto, using(crate::proofs::Pushes::reads_uncounted, crate::proofs::Pushes::appends), unfolding(crate::specs::MethodResults::ReadsUncounted, justfile_model::specs::Reader::imported, justfile_parse_expression::specs::TableReader::leaves))]
+#[tactic(auto, unfolding(crate::specs::MethodResults::ReadsUncounted, justfile_model::specs::Reader::imported, justfile_parse_expression::specs::TableReader::leaves))]
 fn parse_imported<'src, X: Expander>(
     parser: &mut TokenCursor<'_, 'src, X>,
     optional: bool,
     attributes: Vec<(Attribute<'src>, Written<'src>)>,
-    items: &mut Vec<Item<'src>>,
-) -> Result<(), ParseError<'src>>
+) -> Result<Item<'src>, ParseError<'src>>
     requires { HaveDerivedPairFields attributes.items }
-    ensures reads { ReadsUncounted (λ _. last_tree items.new.items) result
-        (state_of X.answer parser.new)
+    ensures reads { ReadsUncounted item_tree result (state_of X.answer parser.new)
         (λ n. reader.imported optional (entries_of attributes.entry.items) n
         (state_of X.answer parser.old)) }
-    ensures appended { OnOk result (AppendsItem items.old.items items.new.items) }
+    ensures fields { IfOk result HasDerivedItemFields }
     ensures progress { OnOk result (tokens_left parser.new < tokens_left parser.old) }
 {
     let (literal, relative) = parse_file_path(parser)?;
     let attributes = check_allowed(parser.alloc, ItemKind::Import, attributes, &literal)?;
-    push_construct(
-        items,
-        Item::Import {
-            attributes,
-            optional,
-            relative,
-        },
-    )
+    Ok(Item::Import {
+        attributes,
+        optional,
+        relative,
+    })
 }
 
 /// Parses a module after its attributes and `mod`: `?` if it is optional, a name, and a path if it
@@ -72,47 +64,40 @@ fn parse_imported<'src, X: Expander>(
 pub(crate) fn parse_module<'src, X: Expander>(
     parser: &mut TokenCursor<'_, 'src, X>,
     attributes: Vec<(Attribute<'src>, Written<'src>)>,
-    items: &mut Vec<Item<'src>>,
-) -> Result<(), ParseError<'src>>
+) -> Result<Item<'src>, ParseError<'src>>
     requires { HaveDerivedPairFields attributes.items }
-    ensures reads { ReadsUncounted (λ _. last_tree items.new.items) result
-        (state_of X.answer parser.new)
+    ensures reads { ReadsUncounted item_tree result (state_of X.answer parser.new)
         (λ n. reader.any_module (entries_of attributes.entry.items) n
         (state_of X.answer parser.old)) }
-    ensures appended { OnOk result (AppendsItem items.old.items items.new.items) }
+    ensures fields { IfOk result HasDerivedItemFields }
     ensures progress { OnOk result (tokens_left parser.new < tokens_left parser.old) }
 {
     let optional = accept_kind(parser, TokenKind::QuestionMark);
-    parse_named_module(parser, optional, attributes, items)
+    parse_named_module(parser, optional, attributes)
 }
 
 /// Parses the name of a module, and its path if it has one.
-#[tactic(auto, using(crate::proofs::Pushes::reads_uncounted, crate::proofs::Pushes::appends), unfolding(crate::specs::MethodResults::ReadsUncounted, justfile_model::specs::Reader::named_module, justfile_parse_expression::specs::TableReader::leaves))]
+#[tactic(auto, unfolding(crate::specs::MethodResults::ReadsUncounted, justfile_model::specs::Reader::named_module, justfile_parse_expression::specs::TableReader::leaves))]
 fn parse_named_module<'src, X: Expander>(
     parser: &mut TokenCursor<'_, 'src, X>,
     optional: bool,
     attributes: Vec<(Attribute<'src>, Written<'src>)>,
-    items: &mut Vec<Item<'src>>,
-) -> Result<(), ParseError<'src>>
+) -> Result<Item<'src>, ParseError<'src>>
     requires { HaveDerivedPairFields attributes.items }
-    ensures reads { ReadsUncounted (λ _. last_tree items.new.items) result
-        (state_of X.answer parser.new)
+    ensures reads { ReadsUncounted item_tree result (state_of X.answer parser.new)
         (λ n. reader.named_module optional (entries_of attributes.entry.items) n
         (state_of X.answer parser.old)) }
-    ensures appended { OnOk result (AppendsItem items.old.items items.new.items) }
+    ensures fields { IfOk result HasDerivedItemFields }
     ensures progress { OnOk result (tokens_left parser.new < tokens_left parser.old) }
 {
     let name = parser.expect(TokenKind::Identifier)?;
     let relative = parse_optional_path(parser)?;
     let attributes = check_allowed(parser.alloc, ItemKind::Module, attributes, name)?;
-    push_construct(
-        items,
-        Item::Module {
-            attributes,
-            doc: None,
-            name: Name::from_identifier(name.0),
-            optional,
-            relative,
-        },
-    )
+    Ok(Item::Module {
+        attributes,
+        doc: None,
+        name: Name::from_identifier(name.0),
+        optional,
+        relative,
+    })
 }
