@@ -7,6 +7,7 @@ pub mod Loop
 pub mod CounterSteps
 pub mod CounterBounds
 pub mod ReadEquations
+pub mod NoKeyword
 pub mod Recipes
 pub mod Seen
 pub mod SeenAttributes

@@ -1,5 +1,5 @@
 -- The keyword that a construct begins with, and what is read after it.
-use Rattle.std.specs.Prelude.{true, false, [], ◌∷◌, Option, Some, None, codes}
+use Rattle.std.specs.Prelude.{ℕ, Bool, true, false, ◌&&◌, ◌||◌, List, [], ◌∷◌, Option, Some, None, codes, length, nat_eq}
 use Rattle.justfile_vocabulary.specs.declared.token_kind.TokenKind.TheVariants as kinds
 use Rattle.justfile_model.specs.ReaderState.{Counters}
 use Rattle.justfile_parse_item.specs.ItemTable.{ReadItem, alias, any_module, assignment, import, setting, unexport, without_keyword}
@@ -30,6 +30,19 @@ keyword_taken s =
     (taken_as Mod (accept_keyword_before (codes "mod") is_module s)
     (taken_as Set (accept_keyword_before (codes "set") is_set s)
     None))))))
+
+-- the first bytes of these keywords
+abbrev pub begins_keyword : ℕ → Bool
+begins_keyword first = nat_eq first 97 || nat_eq first 101 || nat_eq first 105 || nat_eq first 109 || nat_eq first 115 || nat_eq first 117
+
+-- the lengths of these keywords
+abbrev pub has_keyword_length : ℕ → Bool
+has_keyword_length n = nat_eq n 3 || nat_eq n 5 || nat_eq n 6 || nat_eq n 8
+
+-- a word has the first byte and the length of one of these keywords
+abbrev pub can_be_keyword : List ℕ → Bool
+can_be_keyword [] = false
+can_be_keyword (first ∷ rest) = begins_keyword first && has_keyword_length (length (first ∷ rest))
 
 -- a construct after its attributes and its keyword
 abbrev pub after_keyword : ConstructKeyword → Entries → Counters → State → ReadItem

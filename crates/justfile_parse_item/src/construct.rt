@@ -5,7 +5,7 @@ ghost use Rattle.justfile_parse_item.specs.ItemTable as reader;
 ghost use Rattle.justfile_parse_item.specs.MethodResults.{CountersMoved};
 ghost use Rattle.justfile_parse_item.specs.Tree.{item_tree};
 ghost use Rattle.justfile_parse_item.specs.DerivedFields.{HaveDerivedPairFields, HasDerivedItemFields};
-ghost use Rattle.justfile_parse_item.specs.ConstructKeywords.{keyword_taken, after_keyword};
+ghost use Rattle.justfile_parse_item.specs.ConstructKeywords.{begins_keyword, can_be_keyword, has_keyword_length, keyword_taken, after_keyword};
 ghost use Rattle.justfile_parse_attribute.specs.Attributes.{entries_of};
 ghost use Rattle.justfile_parse_base.specs.ParseErrors.{ParsesRuled};
 ghost use Rattle.justfile_parse_expression.specs.MethodResults.{Takes};
@@ -107,12 +107,60 @@ fn parse_content<'src, X: Expander>(
     }
 }
 
-/// Takes the keyword that the construct begins with, if it begins with one. A keyword is an
-/// ordinary name unless what follows it fits.
-#[tactic(auto, unfolding(crate::specs::ConstructKeywords::keyword_taken))]
+/// Takes the keyword that the construct begins with, if it begins with one. Looks at the word
+/// first: in most constructs it is another one.
+#[tactic(auto, using(crate::proofs::NoKeyword::unnamed, crate::proofs::NoKeyword::unlike))]
 fn accept_construct_keyword<X: Expander>(
     parser: &mut TokenCursor<'_, '_, X>,
 ) -> Option<ConstructKeyword>
+    ensures takes { Takes result (state_of X.answer parser.new)
+        (keyword_taken (state_of X.answer parser.old)) }
+    ensures moves { Moves result parser.old parser.new }
+{
+    let word = parser.probe_if(TokenKind::Identifier)?;
+    if !can_be_keyword(word.0.lexeme()) {
+        return None;
+    }
+    accept_any_keyword(parser)
+}
+
+/// Whether the first byte and the length of a word are those of a keyword that a construct begins
+/// with.
+#[inline(always)]
+fn can_be_keyword(word: &str) -> bool
+    ensures { result ≡ can_be_keyword word.now }
+{
+    match word.as_bytes() {
+        [first, ..] => begins_keyword(*first) && has_keyword_length(word.len()),
+        [] => false,
+    }
+}
+
+/// Whether a keyword that a construct begins with has this first byte.
+#[inline(always)]
+fn begins_keyword(first: u8) -> bool
+    ensures { result ≡ begins_keyword first }
+{
+    first == b'a'
+        || first == b'e'
+        || first == b'i'
+        || first == b'm'
+        || first == b's'
+        || first == b'u'
+}
+
+/// Whether a keyword that a construct begins with has this length.
+#[inline(always)]
+fn has_keyword_length(length: usize) -> bool
+    ensures { result ≡ has_keyword_length length }
+{
+    length == 3 || length == 5 || length == 6 || length == 8
+}
+
+/// Takes the keyword that the construct begins with, if it begins with one. A keyword is an
+/// ordinary name unless what follows it fits.
+#[tactic(auto, unfolding(crate::specs::ConstructKeywords::keyword_taken))]
+fn accept_any_keyword<X: Expander>(parser: &mut TokenCursor<'_, '_, X>) -> Option<ConstructKeyword>
     ensures takes { Takes result (state_of X.answer parser.new)
         (keyword_taken (state_of X.answer parser.old)) }
     ensures moves { Moves result parser.old parser.new }
