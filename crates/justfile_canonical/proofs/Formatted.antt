@@ -21,8 +21,8 @@ use Rattle.justfile_canonical.specs.Root.{conditions}
 
 -- ---- indentations
 
-same_text : (r : Result (List ℕ) LiteralFault) (t u : List ℕ) → r ≡ Ok t → r ≡ Ok u → t ≡ u
-same_text r t u e f = ap within (sym e ∙ f)
+same_answer : (r : Result (List ℕ) LiteralFault) (t u : List ℕ) → r ≡ Ok t → r ≡ Ok u → t ≡ u
+same_answer r t u e f = ap within (sym e ∙ f)
   where
     within : Result (List ℕ) LiteralFault → List ℕ
     within (Ok x) = x
@@ -33,7 +33,7 @@ one_indentation : (l m : Option Tok) (i j : List ℕ) → option_map lexeme l �
 one_indentation None None i j e p q = p ∙ sym q
 one_indentation None (Some m) i j e p q = absurd (none-some _ e)
 one_indentation (Some l) None i j e p q = absurd (none-some _ (sym e))
-one_indentation (Some l) (Some m) i j e p q = same_text (string_text l.lexeme) i j p (ap string_text (same_Some _ _ e) ∙ q)
+one_indentation (Some l) (Some m) i j e p q = same_answer (string_text l.lexeme) i j p (ap string_text (same_Some _ _ e) ∙ q)
 
 also_indented : (l m : Option Tok) (i : List ℕ) → option_map lexeme l ≡ option_map lexeme m → IsIndentedBy l i → IsIndentedBy m i
 also_indented None None i e p = p

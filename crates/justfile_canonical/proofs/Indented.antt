@@ -92,7 +92,7 @@ module _ (IsToken : Token → Type 0) where
     holds_item (items.Module attributes doc name optional relative) given = tt
     holds_item items.Newline given = tt
     holds_item (items.Recipe r) given = tt
-    holds_item (items.Setting s) given = holds_if (are_enabled (attributes_of s.attributes)) s.value.value given.value
+    holds_item (items.Setting s) given = holds_if (are_enabled (attributes_of s.attributes)) s.value given.value
     holds_item (items.Unexport attributes name) given = tt
 
     holds_first : (o found : Option (StringLiteral × Indentation)) → IfSome o MatchesLiteral → IfSome found MatchesLiteral → IfSome (or_else o found) MatchesLiteral
