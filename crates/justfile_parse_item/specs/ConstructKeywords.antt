@@ -31,7 +31,7 @@ keyword_taken s =
     (taken_as Set (accept_keyword_before (codes "set") is_set s)
     None))))))
 
--- the first bytes of these keywords
+-- the first bytes of these keywords: a, e, i, m, s, u
 abbrev pub begins_keyword : ℕ → Bool
 begins_keyword first = nat_eq first 97 || nat_eq first 101 || nat_eq first 105 || nat_eq first 109 || nat_eq first 115 || nat_eq first 117
 
