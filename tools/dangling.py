@@ -33,7 +33,7 @@ def of_source(crate, parts):
 
 
 def missing(head, names):
-    """What is missing of a module, as `Rattle.justfile_model.specs.Next`, and of the names imported from it."""
+    """What is missing of a module, as `Rattle.justfile_model.specs.Lexing.Next`, and of the names imported from it."""
     found = re.match(r"Rattle\.(\w+)\.(specs|proofs)\.(.+)$", head)
     if not found or not (CRATES / found.group(1)).exists():
         return []

@@ -2,9 +2,9 @@
 use Rattle.std.specs.Prelude.{◌≡◌, ℕ, List, length}
 use Rattle.bench_lex.specs.declared.answer.Answer.{Answer}
 use Rattle.bench_lex.specs.declared.answer.Answer.TheVariants.{Tokens, Refused}
-use Rattle.justfile_model.specs.LexicalFault.{LexicalFault}
-use Rattle.justfile_model.specs.Lexed.{Lexed, IsFault}
-use Rattle.justfile_model.specs.Tok.{Tok}
+use Rattle.justfile_model.specs.Lexing.LexicalFault.{LexicalFault}
+use Rattle.justfile_model.specs.Lexing.Lexed.{Lexed, IsFault}
+use Rattle.justfile_model.specs.Lexing.Tok.{Tok}
 
 -- The text has `count` tokens.
 pub record IsCount (text : List ℕ) (count : ℕ) : Type 0 where

@@ -11,11 +11,11 @@ use Rattle.justfile_vocabulary.specs.declared.attribute_kind.AttributeKind.{Attr
 use Rattle.justfile_vocabulary.specs.declared.attribute_kind.AttributeKind.TheVariants as kinds
 use Rattle.justfile_vocabulary.specs.declared.indentation.Indentation.{Indentation}
 use Rattle.justfile_token.specs.declared.string_literal.StringLiteral.{StringLiteral}
-use Rattle.justfile_model.specs.ContentKeys.{has_attribute, kind_of_attribute}
-use Rattle.justfile_model.specs.Enabled.{indentation_literal, indentation_of, is_enabled}
-use Rattle.justfile_model.specs.RecipeRules.{or_else}
-use Rattle.justfile_model.specs.Tok.{Tok}
-use Rattle.justfile_model.specs.Tree as tree
+use Rattle.justfile_model.specs.Trees.ContentKeys.{has_attribute, kind_of_attribute}
+use Rattle.justfile_model.specs.Meanings.Enabled.{indentation_literal, indentation_of, is_enabled}
+use Rattle.justfile_model.specs.Meanings.RecipeRules.{or_else}
+use Rattle.justfile_model.specs.Lexing.Tok.{Tok}
+use Rattle.justfile_model.specs.Trees.Tree as tree
 use Rattle.justfile_attribute_set.specs.AttributeSet.{AttributeSet, attributes_of, entries_of, written_of}
 use Rattle.justfile_attribute_set.specs.Attributes.{are_enabled, is_of_kind, kind_of}
 use Rattle.justfile_attribute_set.specs.Keys.{firsts}

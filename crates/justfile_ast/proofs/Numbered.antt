@@ -2,7 +2,7 @@
 use Rattle.std.proofs.Common.{◌≡◌, ℕ, ◌+◌, List, [], ◌∷◌, ◌++◌, map, length, refl, sym, ap, ◌∙◌, arith}
 use Rattle.std.specs.List.{flat_map}
 use Rattle.std.proofs.lemmas.List.{length-append, length-map}
-use Rattle.justfile_model.specs.Files.{NumbersFrom, bindings, item_bindings, item_recipes, recipes}
+use Rattle.justfile_model.specs.Grammars.Files.{NumbersFrom, bindings, item_bindings, item_recipes, recipes}
 use Rattle.justfile_item.specs.Item.{function_parameter_number, function_parameter_of, item_numbers, item_of, item_recipe_numbers, parameter_number}
 use Rattle.justfile_item.specs.declared.item.Item.{Item}
 use Rattle.justfile_item.specs.declared.item.Item.TheVariants as items

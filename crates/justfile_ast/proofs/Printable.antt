@@ -2,8 +2,8 @@
 use Rattle.std.proofs.Common.{◌≡◌, ℕ, ◌+◌, ◌<◌, ◌≤◌, Bool, true, false, ◌&&◌, List, [], ◌∷◌, length, drop, map, get_or, refl, sym, ap, ◌∙◌}
 use Rattle.std.specs.List.{list_all}
 use Rattle.std.proofs.lemmas.List.{at_drop_more, drop_all}
-use Rattle.justfile_model.specs.Printing.{printable, printable_item}
-use Rattle.justfile_model.specs.Tree.{item_shape_of}
+use Rattle.justfile_model.specs.Printed.Printing.{printable, printable_item}
+use Rattle.justfile_model.specs.Trees.Tree.{item_shape_of}
 use Rattle.justfile_item.specs.Item.{item_of, item_shape}
 use Rattle.justfile_item.specs.declared.item.Item.{Item}
 

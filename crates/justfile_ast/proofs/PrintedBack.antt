@@ -1,9 +1,9 @@
 -- `PrintsBack` holds by the round trip.
 use Rattle.std.proofs.Common.{◌≡◌, ℕ, List, sym, ap, ◌∙◌, subst}
 use Rattle.justfile_vocabulary.specs.Indentation.{IsIndentation}
-use Rattle.justfile_model.specs.Tree.{Shape, shape_of}
-use Rattle.justfile_model.specs.NormalShape.{normal}
-use Rattle.justfile_model.specs.Printing.{printable}
+use Rattle.justfile_model.specs.Trees.Tree.{Shape, shape_of}
+use Rattle.justfile_model.specs.Printed.NormalShape.{normal}
+use Rattle.justfile_model.specs.Printed.Printing.{printable}
 use Rattle.justfile_round_trip.specs.RoundTrip.{ReadsBack, printed}
 use Rattle.justfile_round_trip.specs.Need.{TextNeeds}
 use Rattle.justfile_round_trip.proofs.LeastNeed.{least_need, text_need}
@@ -17,7 +17,7 @@ prints_back shape indentation bytes is e = record {
       (subst (λ (b : List ℕ). ReadsBack conditions (shape_of tree) features indentation b)
       (ap (λ s. printed s indentation) same ∙ sym e)
       (back conditions source tree features indentation is derives (ap printable same ∙ fine)));
-  apart = λ conditions limit source other tree twin features others derives same fine twins fine_too alike.
+  injective = λ conditions limit source other tree twin features others derives same fine twins fine_too alike.
       sym (apart conditions limit source other tree twin features others indentation is derives twins (ap printable same ∙ fine) fine_too
       (ap (λ s. printed s indentation) same ∙ sym e ∙ sym alike)) ∙ ap normal same;
   least = λ conditions source tree features derives same fine.

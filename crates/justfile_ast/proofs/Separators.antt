@@ -1,10 +1,10 @@
 -- Printing from left to right gives the text of the normal shape.
 use Rattle.std.proofs.Common.{◌≡◌, ℕ, true, false, ◌+◌, ◌<◌, List, [], ◌∷◌, ◌++◌, length, take, drop, get_or, map, codes, refl, sym, ap, ◌∙◌, subst, append_assoc, append-nil}
 use Rattle.std.proofs.lemmas.List.{take_more, map-append, take-append-drop}
-use Rattle.justfile_model.specs.Tree as tree
-use Rattle.justfile_model.specs.Tree.{Shape}
-use Rattle.justfile_model.specs.NormalShape.{after_newline, normal_rest, normal}
-use Rattle.justfile_model.specs.Printing.{fixed_text, item_text, item_end, text}
+use Rattle.justfile_model.specs.Trees.Tree as tree
+use Rattle.justfile_model.specs.Trees.Tree.{Shape}
+use Rattle.justfile_model.specs.Printed.NormalShape.{after_newline, normal_rest, normal}
+use Rattle.justfile_model.specs.Printed.Printing.{fixed_text, item_text, item_end, text}
 use Rattle.justfile_ast.specs.declared.separator.Separator.{Separator}
 use Rattle.justfile_ast.specs.declared.separator.Separator.TheVariants.{Start, Item, Line, Blank}
 use Rattle.justfile_ast.specs.Separator.{ItemShape, separator_text, is_line_end, next_separator, step_text, front_text, last_separator, end_text, with_line_end}

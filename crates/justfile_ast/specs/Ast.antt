@@ -2,9 +2,9 @@
 use Rattle.std.specs.Prelude.{ℕ, List, map}
 use Rattle.std.specs.List.{flat_map}
 use Rattle.justfile_token.specs.declared.token.Token.{Token}
-use Rattle.justfile_model.specs.Features.{Noted}
-use Rattle.justfile_model.specs.Tok.{Tok, tok_of}
-use Rattle.justfile_model.specs.Tree.{Tree, Shape, shape_of}
+use Rattle.justfile_model.specs.Grammars.Features.{Noted}
+use Rattle.justfile_model.specs.Lexing.Tok.{Tok, tok_of}
+use Rattle.justfile_model.specs.Trees.Tree.{Tree, Shape, shape_of}
 use Rattle.justfile_vocabulary.specs.declared.list_feature.ListFeature.{ListFeature}
 use Rattle.justfile_item.specs.Item.{item_of, item_cooked, item_numbers, item_recipe_numbers}
 use Rattle.justfile_ast.specs.declared.ast.Ast.{Ast}

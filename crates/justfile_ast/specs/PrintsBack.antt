@@ -1,11 +1,11 @@
 -- What holds for the printed text of a shape.
 use Rattle.std.specs.Prelude.{◌≡◌, ℕ, ◌≤◌, true, List}
-use Rattle.justfile_model.specs.Tok.{Tok}
-use Rattle.justfile_model.specs.Tree.{Tree, Shape, shape_of}
-use Rattle.justfile_model.specs.Features.{Noted}
-use Rattle.justfile_model.specs.NormalShape.{normal}
-use Rattle.justfile_model.specs.Printing.{printable}
-use Rattle.justfile_model.specs.Conditions.{Conditions, with_limit}
+use Rattle.justfile_model.specs.Lexing.Tok.{Tok}
+use Rattle.justfile_model.specs.Trees.Tree.{Tree, Shape, shape_of}
+use Rattle.justfile_model.specs.Grammars.Features.{Noted}
+use Rattle.justfile_model.specs.Printed.NormalShape.{normal}
+use Rattle.justfile_model.specs.Printed.Printing.{printable}
+use Rattle.justfile_model.specs.Grammars.Conditions.{Conditions, with_limit}
 use Rattle.justfile_round_trip.specs.Need.{TextNeeds}
 use Rattle.justfile_round_trip.specs.RoundTrip.{TextDerives, ReadsBack, printed}
 
@@ -16,7 +16,7 @@ pub record PrintsBack (shape : Shape) (indentation bytes : List ℕ) : Type 0 wh
   pub reads_back : (conditions : Conditions) (source : List ℕ) (tree : Tree) (features : List (Noted Tok)) → TextDerives conditions source tree features
       → shape_of tree ≡ shape → printable shape ≡ true
       → ReadsBack conditions shape features indentation bytes
-  pub apart : (conditions : Conditions) (limit : ℕ) (source other : List ℕ) (tree twin : Tree) (features others : List (Noted Tok))
+  pub injective : (conditions : Conditions) (limit : ℕ) (source other : List ℕ) (tree twin : Tree) (features others : List (Noted Tok))
       → TextDerives conditions source tree features → shape_of tree ≡ shape → printable shape ≡ true
       → TextDerives (with_limit limit conditions) other twin others → printable (shape_of twin) ≡ true
       → printed (shape_of twin) indentation ≡ bytes

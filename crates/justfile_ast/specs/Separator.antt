@@ -1,8 +1,8 @@
 -- Printing from left to right: the separators between items.
 use Rattle.std.specs.Prelude.{ℕ, Bool, true, false, List, [], ◌∷◌, ◌++◌, codes}
-use Rattle.justfile_model.specs.Tree as tree
-use Rattle.justfile_model.specs.Tree.{OrderedItem, Shape}
-use Rattle.justfile_model.specs.Printing.{item_text}
+use Rattle.justfile_model.specs.Trees.Tree as tree
+use Rattle.justfile_model.specs.Trees.Tree.{OrderedItem, Shape}
+use Rattle.justfile_model.specs.Printed.Printing.{item_text}
 use Rattle.justfile_ast.specs.declared.separator.Separator.{Separator}
 use Rattle.justfile_ast.specs.declared.separator.Separator.TheVariants.{Start, Item, Line, Blank}
 

@@ -2,7 +2,7 @@
 ghost use Rattle.std.specs.Prelude.{◌≡◌, ℕ};
 ghost use Rattle.justfile_ast.specs.Ast.{binding_numbers, recipe_numbers, tree_of};
 ghost use Rattle.justfile_ast.specs.declared.ast.Ast.{Ast};
-ghost use Rattle.justfile_model.specs.Files.{NumbersFrom, bindings, recipes};
+ghost use Rattle.justfile_model.specs.Grammars.Files.{NumbersFrom, bindings, recipes};
 
 /// Two files whose numbers count up from the same first number have the same numbers if their trees
 /// have equally many bindings. The same holds for recipes.

@@ -2,10 +2,10 @@
 use Rattle.std.proofs.Common.{◌≡◌, ◌∙◌, List, [], ◌∷◌, codes, Ok, refl, sym, subst}
 use Rattle.justfile_token.specs.declared.fault.Fault.{Fault}
 use Rattle.justfile_token.specs.declared.token.Token.{Token}
-use Rattle.justfile_model.specs.Meaning.{KeyArgument, at_key}
-use Rattle.justfile_model.specs.NewAttribute.{◌>>=◌, Made, if_given, new_cache, required}
-use Rattle.justfile_model.specs.Tree as tree
-use Rattle.justfile_model.specs.Tree.{Attribute}
+use Rattle.justfile_model.specs.Meanings.Meaning.{KeyArgument, at_key}
+use Rattle.justfile_model.specs.Readers.NewAttribute.{◌>>=◌, Made, if_given, new_cache, required}
+use Rattle.justfile_model.specs.Trees.Tree as tree
+use Rattle.justfile_model.specs.Trees.Tree.{Attribute}
 use Rattle.justfile_expression.specs.LeafViews.{views_leaves}
 use Rattle.justfile_expression.specs.LeafTree.{Leaf}
 use Rattle.justfile_attribute.specs.Cached.{cache_read}

@@ -8,10 +8,10 @@ use Rattle.justfile_vocabulary.specs.declared.attribute_kind.AttributeKind.TheVa
 use Rattle.justfile_token.specs.declared.string_literal.StringLiteral.{StringLiteral}
 use Rattle.justfile_token.specs.declared.token.Token.{Token}
 use Rattle.justfile_vocabulary.specs.declared.signal.Signal.{Signal}
-use Rattle.justfile_model.specs.Meaning.{KeyArgument, Placed, first_of, signal_set, texts_of}
-use Rattle.justfile_model.specs.NewAttribute.{◌>>=◌, Made, check_keys, from_expressions, make_all, new_continue, new_of_expressions, placed_literal}
-use Rattle.justfile_model.specs.Tree as tree
-use Rattle.justfile_model.specs.Tree.{Attribute, Quoted}
+use Rattle.justfile_model.specs.Meanings.Meaning.{KeyArgument, Placed, first_of, signal_set, texts_of}
+use Rattle.justfile_model.specs.Readers.NewAttribute.{◌>>=◌, Made, check_keys, from_expressions, make_all, new_continue, new_of_expressions, placed_literal}
+use Rattle.justfile_model.specs.Trees.Tree as tree
+use Rattle.justfile_model.specs.Trees.Tree.{Attribute, Quoted}
 use Rattle.justfile_expression.specs.LeafViews.{views_leaves}
 use Rattle.justfile_expression.specs.LeafTree.{Leaf, leaf_tree_of}
 use Rattle.justfile_expression.specs.declared.expression.Expression.{Expression}

@@ -1,6 +1,6 @@
 -- Attributes are equal exactly if their cases and fields are.
 use Rattle.std.proofs.Common.{◌≡◌, refl}
-use Rattle.justfile_model.specs.AttributeKinds.{same_attribute}
+use Rattle.justfile_model.specs.Meanings.AttributeKinds.{same_attribute}
 use Rattle.justfile_attribute.specs.Equal.{attribute_eq}
 use Rattle.justfile_attribute.specs.contracts.attribute.AttributePartialEq.TheImpl as equality
 use Rattle.justfile_attribute.specs.declared.attribute.Attribute.{Attribute}

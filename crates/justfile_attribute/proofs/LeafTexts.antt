@@ -5,9 +5,9 @@ use Rattle.std.specs.Global.{Box}
 use Rattle.std.specs.Option.{is_some, option_map}
 use Rattle.std.proofs.lemmas.List.Elements.{All-map}
 use Rattle.justfile_token.specs.declared.token.Token.{Token}
-use Rattle.justfile_model.specs.ArgumentTexts.{ValueHasText, HasText, HasTexts}
-use Rattle.justfile_model.specs.Meaning.{KeyArgument, Placed, quoted, quoted_text}
-use Rattle.justfile_model.specs.Tree.{Expr, Quoted}
+use Rattle.justfile_model.specs.Meanings.ArgumentTexts.{ValueHasText, HasText, HasTexts}
+use Rattle.justfile_model.specs.Meanings.Meaning.{KeyArgument, Placed, quoted, quoted_text}
+use Rattle.justfile_model.specs.Trees.Tree.{Expr, Quoted}
 use Rattle.justfile_expression.specs.LeafViews.{views_leaves}
 use Rattle.justfile_expression.specs.LeafTree.{Leaf, Literal, LiteralText, leaf_tree_of, literal_of}
 use Rattle.justfile_expression.specs.declared.expression.Expression.{Expression, StringLiteral}

@@ -10,19 +10,19 @@ use Rattle.std.specs.Cmp.Lexicographic.{slice_cmp}
 use Rattle.std.specs.declared.cmp.Ordering.{Ordering}
 use Rattle.std.specs.declared.cmp.Ordering.TheVariants.{Less, Equal, Greater}
 use Rattle.justfile_vocabulary.specs.contracts.attribute_kind.AttributeKind as attribute_kinds
-use Rattle.justfile_model.specs.KeyLaws.{then_end}
-use Rattle.justfile_model.specs.Tok.{tok_of}
+use Rattle.justfile_model.specs.Trees.KeyLaws.{then_end}
+use Rattle.justfile_model.specs.Lexing.Tok.{tok_of}
 use Rattle.justfile_expression.specs.Expression.{expr_of, literal_tok}
 use Rattle.justfile_token.specs.StringLiteral.{IsSameLiteral}
 use Rattle.justfile_token.specs.declared.name.Name.{Name}
 use Rattle.justfile_token.specs.declared.string_literal.StringLiteral.{StringLiteral}
 use Rattle.justfile_token.specs.declared.token.Token.{Token}
-use Rattle.justfile_model.specs.ContentKeys.{attribute_key, attribute_keys, kind_of_attribute, expr_key, bound_number_key, bound_word_key, option_name_key, own_name_key, quoted_key, word_key}
-use Rattle.justfile_model.specs.ContentKeys as keys
-use Rattle.justfile_model.specs.ContentLeaf as contents
-use Rattle.justfile_model.specs.ContentLeaf.{ContentLeaf, content_cmp}
-use Rattle.justfile_model.specs.Key.{Key, keys_cmp, leaf, node, end, next, row, keys_of, option_key, present_key}
-use Rattle.justfile_model.specs.Tree.{Expr, Quoted}
+use Rattle.justfile_model.specs.Trees.ContentKeys.{attribute_key, attribute_keys, kind_of_attribute, expr_key, bound_number_key, bound_word_key, option_name_key, own_name_key, quoted_key, word_key}
+use Rattle.justfile_model.specs.Trees.ContentKeys as keys
+use Rattle.justfile_model.specs.Trees.ContentLeaf as contents
+use Rattle.justfile_model.specs.Trees.ContentLeaf.{ContentLeaf, content_cmp}
+use Rattle.justfile_model.specs.Trees.Key.{Key, keys_cmp, leaf, node, end, next, row, keys_of, option_key, present_key}
+use Rattle.justfile_model.specs.Trees.Tree.{Expr, Quoted}
 use Rattle.justfile_expression.specs.Content.{expression_content_cmp, token_content}
 use Rattle.justfile_expression.specs.ContentLaws.{content_key_cmp}
 use Rattle.justfile_expression.specs.LeafViews.{views_leaves}

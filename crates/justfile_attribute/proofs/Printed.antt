@@ -14,11 +14,11 @@ use Rattle.justfile_token.specs.declared.name.Name.{Name}
 use Rattle.justfile_vocabulary.specs.declared.signal.Signal.{Signal}
 use Rattle.justfile_token.specs.declared.string_literal.StringLiteral.{StringLiteral}
 use Rattle.justfile_token.specs.declared.token.Token.{Token}
-use Rattle.justfile_model.specs.ContentKeys.{kind_of_attribute}
-use Rattle.justfile_model.specs.Printing.{fixed_text, mark_text, argument_text, arguments_text, parenthesized_arguments, attribute_arguments, attribute_text, quoted_argument, signal_argument, option_argument, keyed_if, bare_if, number_literal}
-use Rattle.justfile_model.specs.Tok.{Tok, tok_of}
-use Rattle.justfile_model.specs.Tree as tree
-use Rattle.justfile_model.specs.Tree.{Argument, Expr, Quoted, lexeme, nothing, over_attribute, over_quoted, over_option, over_property, over_bound, over_expr}
+use Rattle.justfile_model.specs.Trees.ContentKeys.{kind_of_attribute}
+use Rattle.justfile_model.specs.Printed.Printing.{fixed_text, mark_text, argument_text, arguments_text, parenthesized_arguments, attribute_arguments, attribute_text, quoted_argument, signal_argument, option_argument, keyed_if, bare_if, number_literal}
+use Rattle.justfile_model.specs.Lexing.Tok.{Tok, tok_of}
+use Rattle.justfile_model.specs.Trees.Tree as tree
+use Rattle.justfile_model.specs.Trees.Tree.{Argument, Expr, Quoted, lexeme, nothing, over_attribute, over_quoted, over_option, over_property, over_bound, over_expr}
 use Rattle.justfile_expression.specs.Expression.{expr_of, literal_tok}
 use Rattle.justfile_expression.specs.declared.expression.Expression.{Expression}
 use Rattle.justfile_attribute.specs.Attribute.{attribute_of, attribute_shape, bound_by, option_by, property_by, quoted_by, script_by, single_by}

@@ -7,9 +7,9 @@ use Rattle.justfile_vocabulary.specs.declared.attribute_kind.AttributeKind.TheVa
 use Rattle.justfile_token.specs.declared.name.Name.{Name}
 use Rattle.justfile_token.specs.declared.string_literal.StringLiteral.{StringLiteral}
 use Rattle.justfile_token.specs.declared.token.Token.{Token}
-use Rattle.justfile_model.specs.Tok.{Tok, tok_of}
-use Rattle.justfile_model.specs.Tree as tree
-use Rattle.justfile_model.specs.Tree.{Expr, Quoted, OptionName, Property, Bound, lexeme, nothing, over_attribute}
+use Rattle.justfile_model.specs.Lexing.Tok.{Tok, tok_of}
+use Rattle.justfile_model.specs.Trees.Tree as tree
+use Rattle.justfile_model.specs.Trees.Tree.{Expr, Quoted, OptionName, Property, Bound, lexeme, nothing, over_attribute}
 use Rattle.justfile_expression.specs.Expression.{expr_of, literal_tok}
 use Rattle.justfile_expression.specs.LeafTree.{Leaf, Literal, leaf_tree_of, literal_of}
 use Rattle.justfile_expression.specs.declared.expression.Expression.{Expression}

@@ -3,10 +3,10 @@ use Rattle.std.specs.Prelude.{codes, List, Ok}
 use Rattle.std.specs.Global.{Box}
 use Rattle.std.specs.Option.{option_map}
 use Rattle.justfile_token.specs.declared.token.Token.{Token}
-use Rattle.justfile_model.specs.Meaning.{KeyArgument}
-use Rattle.justfile_model.specs.NewAttribute.{◌>>=◌, Made, required_at}
-use Rattle.justfile_model.specs.Tree as tree
-use Rattle.justfile_model.specs.Tree.{Attribute}
+use Rattle.justfile_model.specs.Meanings.Meaning.{KeyArgument}
+use Rattle.justfile_model.specs.Readers.NewAttribute.{◌>>=◌, Made, required_at}
+use Rattle.justfile_model.specs.Trees.Tree as tree
+use Rattle.justfile_model.specs.Trees.Tree.{Attribute}
 use Rattle.justfile_expression.specs.LeafViews.{views_leaves}
 use Rattle.justfile_expression.specs.LeafTree.{Leaf, leaf_tree_of}
 use Rattle.justfile_expression.specs.declared.expression.Expression.{Expression}

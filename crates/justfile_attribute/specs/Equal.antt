@@ -8,7 +8,7 @@ use Rattle.std.specs.String.{string_eq}
 use Rattle.justfile_token.specs.declared.name.Name.{Name}
 use Rattle.justfile_vocabulary.specs.contracts.signal.SignalPartialEq.TheImpl as signals
 use Rattle.justfile_vocabulary.specs.declared.signal.Signal.{Signal}
-use Rattle.justfile_model.specs.AttributeKinds.{same_attribute}
+use Rattle.justfile_model.specs.Meanings.AttributeKinds.{same_attribute}
 use Rattle.justfile_expression.specs.Equal.{boxed_eq, literal_eq, name_eq, token_eq}
 use Rattle.justfile_expression.specs.declared.expression.Expression.{Expression}
 use Rattle.justfile_attribute.specs.InterpreterOrder.{interpreter_eq}

@@ -1,15 +1,17 @@
 -- Properties of the arguments of a new attribute.
 use Rattle.std.specs.Global.{Global}
-use Rattle.std.specs.Prelude.{◌≡◌, ℕ, Bool, true, false, List, map, Option, None, Ok, is_some, String}
+use Rattle.std.specs.Prelude.{◌≡◌, ◌&&◌, ℕ, suc, Bool, true, false, not, List, map, Option, Some, None, Ok, is_some, String}
+use Rattle.justfile_vocabulary.specs.AttributeKind.{takes_keys}
 use Rattle.justfile_vocabulary.specs.declared.attribute_kind.AttributeKind.{AttributeKind}
 use Rattle.justfile_vocabulary.specs.declared.attribute_kind.AttributeKind.TheVariants as kinds
 use Rattle.justfile_token.specs.declared.name.Name.{Name}
 use Rattle.justfile_token.specs.declared.string_literal.StringLiteral.{StringLiteral}
 use Rattle.justfile_token.specs.declared.token.Token.{Token}
-use Rattle.justfile_model.specs.Meaning.{Placed}
-use Rattle.justfile_model.specs.NewAttribute.{◌>>=◌, Made, check_count}
-use Rattle.justfile_model.specs.Tree as tree
-use Rattle.justfile_model.specs.Tree.{Attribute, Expr, Quoted}
+use Rattle.justfile_model.specs.Meanings.AttributeKinds.{most_count}
+use Rattle.justfile_model.specs.Meanings.Meaning.{Placed}
+use Rattle.justfile_model.specs.Readers.NewAttribute.{◌>>=◌, Made, check_count}
+use Rattle.justfile_model.specs.Trees.Tree as tree
+use Rattle.justfile_model.specs.Trees.Tree.{Attribute, Expr, Quoted}
 use Rattle.justfile_expression.specs.LeafViews.{views_leaves}
 use Rattle.justfile_expression.specs.LeafTree.{Leaf}
 use Rattle.justfile_attribute.specs.declared.attribute.Attribute as code
@@ -25,38 +27,14 @@ IsCounted at kind found = check_count views_leaves at kind found ≡ Ok tt
 abbrev pub values_of : List (Placed Leaf Token) → List (Expr Leaf Token)
 values_of = map (λ (p : Placed Leaf Token). p.value)
 
+abbrev pub is_zero : Option ℕ → Bool
+is_zero None = false
+is_zero (Some 0) = true
+is_zero (Some (suc n)) = false
+
 -- an attribute of this kind takes no arguments at all
 abbrev pub takes_no_arguments : AttributeKind → Bool
-takes_no_arguments kinds.Android = true
-takes_no_arguments kinds.Arg = false
-takes_no_arguments kinds.Cache = false
-takes_no_arguments kinds.Confirm = false
-takes_no_arguments kinds.Continue = false
-takes_no_arguments kinds.Default = true
-takes_no_arguments kinds.Doc = false
-takes_no_arguments kinds.Dragonfly = true
-takes_no_arguments kinds.Env = false
-takes_no_arguments kinds.ExitMessage = true
-takes_no_arguments kinds.Extension = false
-takes_no_arguments kinds.Freebsd = true
-takes_no_arguments kinds.Group = false
-takes_no_arguments kinds.Linux = true
-takes_no_arguments kinds.Macos = true
-takes_no_arguments kinds.Metadata = false
-takes_no_arguments kinds.Netbsd = true
-takes_no_arguments kinds.NoCd = true
-takes_no_arguments kinds.NoExitMessage = true
-takes_no_arguments kinds.NoQuiet = true
-takes_no_arguments kinds.Openbsd = true
-takes_no_arguments kinds.Parallel = true
-takes_no_arguments kinds.PositionalArguments = true
-takes_no_arguments kinds.Private = true
-takes_no_arguments kinds.Script = false
-takes_no_arguments kinds.Shell = true
-takes_no_arguments kinds.Timestamp = false
-takes_no_arguments kinds.Unix = true
-takes_no_arguments kinds.Windows = true
-takes_no_arguments kinds.WorkingDirectory = false
+takes_no_arguments kind = is_zero (most_count kind) && not (takes_keys kind)
 
 -- a `continue` attribute from the literals that name its signals, or the broken rule
 abbrev pub continue_made : List (Quoted Leaf) → Made Token (Attribute Leaf Token)
@@ -119,4 +97,32 @@ pub record HasDerivedArgumentFields (help : Option (String Global)) (name : Stri
 abbrev pub HasDerivedAttributeFields : code.Attribute → Type 0
 HasDerivedAttributeFields (attributes.Arg flag help help_property long long_key max max_key min min_key multiple name pattern short short_key value) =
     HasDerivedArgumentFields help name long_key long short_key short min_key min max_key max
-HasDerivedAttributeFields _ = Unit {0}
+HasDerivedAttributeFields attributes.Android = Unit {0}
+HasDerivedAttributeFields (attributes.Cache extra inputs outputs) = Unit {0}
+HasDerivedAttributeFields (attributes.Confirm value) = Unit {0}
+HasDerivedAttributeFields (attributes.Continue signals) = Unit {0}
+HasDerivedAttributeFields attributes.Default = Unit {0}
+HasDerivedAttributeFields (attributes.Doc value) = Unit {0}
+HasDerivedAttributeFields attributes.Dragonfly = Unit {0}
+HasDerivedAttributeFields (attributes.Env key value) = Unit {0}
+HasDerivedAttributeFields attributes.ExitMessage = Unit {0}
+HasDerivedAttributeFields (attributes.Extension literal) = Unit {0}
+HasDerivedAttributeFields attributes.Freebsd = Unit {0}
+HasDerivedAttributeFields (attributes.Group literal) = Unit {0}
+HasDerivedAttributeFields attributes.Linux = Unit {0}
+HasDerivedAttributeFields attributes.Macos = Unit {0}
+HasDerivedAttributeFields (attributes.Metadata literals) = Unit {0}
+HasDerivedAttributeFields attributes.Netbsd = Unit {0}
+HasDerivedAttributeFields attributes.NoCd = Unit {0}
+HasDerivedAttributeFields attributes.NoExitMessage = Unit {0}
+HasDerivedAttributeFields attributes.NoQuiet = Unit {0}
+HasDerivedAttributeFields attributes.Openbsd = Unit {0}
+HasDerivedAttributeFields attributes.Parallel = Unit {0}
+HasDerivedAttributeFields attributes.PositionalArguments = Unit {0}
+HasDerivedAttributeFields attributes.Private = Unit {0}
+HasDerivedAttributeFields (attributes.Script interpreter) = Unit {0}
+HasDerivedAttributeFields attributes.Shell = Unit {0}
+HasDerivedAttributeFields (attributes.Timestamp value) = Unit {0}
+HasDerivedAttributeFields attributes.Unix = Unit {0}
+HasDerivedAttributeFields attributes.Windows = Unit {0}
+HasDerivedAttributeFields (attributes.WorkingDirectory value) = Unit {0}

@@ -10,10 +10,10 @@ use Rattle.justfile_token.specs.declared.name.Name.{Name}
 use Rattle.justfile_vocabulary.specs.declared.signal.Signal.{Signal}
 use Rattle.justfile_token.specs.declared.string_literal.StringLiteral.{StringLiteral}
 use Rattle.justfile_token.specs.declared.token.Token.{Token}
-use Rattle.justfile_model.specs.ContentKeys.{expr_key}
-use Rattle.justfile_model.specs.ContentLeaf as contents
-use Rattle.justfile_model.specs.ContentLeaf.{ContentLeaf, content_cmp}
-use Rattle.justfile_model.specs.Key.{Key, Keys, leaf, node, end, next, row, keys_of, option_key, key_cmp}
+use Rattle.justfile_model.specs.Trees.ContentKeys.{expr_key}
+use Rattle.justfile_model.specs.Trees.ContentLeaf as contents
+use Rattle.justfile_model.specs.Trees.ContentLeaf.{ContentLeaf, content_cmp}
+use Rattle.justfile_model.specs.Trees.Key.{Key, Keys, leaf, node, end, next, row, keys_of, option_key, key_cmp}
 use Rattle.justfile_expression.specs.Content.{literal_content, token_content}
 use Rattle.justfile_expression.specs.LeafViews.{views_leaves}
 use Rattle.justfile_expression.specs.LeafTree.{leaf_tree_of}

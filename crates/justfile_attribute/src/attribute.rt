@@ -81,8 +81,8 @@ pub enum Attribute<'src> {
 impl<'src> Attribute<'src> {
     ghost use Rattle.std.specs.Prelude.{◌≡◌};
     ghost use Rattle.justfile_vocabulary.specs.AttributeKind.{attribute_name};
-    ghost use Rattle.justfile_model.specs.AttributeKinds.{is_repeatable};
-    ghost use Rattle.justfile_model.specs.ContentKeys.{kind_of_attribute};
+    ghost use Rattle.justfile_model.specs.Meanings.AttributeKinds.{is_repeatable};
+    ghost use Rattle.justfile_model.specs.Trees.ContentKeys.{kind_of_attribute};
     ghost use Rattle.justfile_attribute.specs.Attribute.{attribute_of};
 
     /// Returns the name of the attribute's kind.

@@ -3,11 +3,11 @@ ghost use Rattle.std.specs.Prelude.{◌≡◌, List, [], Contains, Some, Ok, Err
 ghost use Rattle.std.specs.Global.{Box};
 ghost use Rattle.justfile_vocabulary.specs.declared.attribute_kind.AttributeKind.{AttributeKind};
 ghost use Rattle.justfile_token.specs.declared.token.Token.{Token};
-ghost use Rattle.justfile_model.specs.AttributeRules.{arguments_broken};
-ghost use Rattle.justfile_model.specs.Meaning.{attribute_of};
-ghost use Rattle.justfile_model.specs.NewAttribute.{new_attribute};
-ghost use Rattle.justfile_model.specs.Rules.{Broken};
-ghost use Rattle.justfile_model.specs.Tree.{Attribute};
+ghost use Rattle.justfile_model.specs.Meanings.AttributeRules.{arguments_broken};
+ghost use Rattle.justfile_model.specs.Meanings.Meaning.{attribute_of};
+ghost use Rattle.justfile_model.specs.Readers.NewAttribute.{new_attribute};
+ghost use Rattle.justfile_model.specs.Meanings.Rules.{Broken};
+ghost use Rattle.justfile_model.specs.Trees.Tree.{Attribute};
 ghost use Rattle.justfile_expression.specs.LeafViews.{views_leaves};
 ghost use Rattle.justfile_expression.specs.LeafTree.{Leaf};
 ghost use Rattle.justfile_expression.specs.Orders.{IsOrder};

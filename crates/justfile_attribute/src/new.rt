@@ -3,10 +3,10 @@ ghost use Rattle.std.specs.Prelude.{◌≡◌, ◌≤◌, IfOk, IsTrue, [], ◌�
 ghost use Rattle.std.specs.Option.{option_map};
 ghost use Rattle.justfile_vocabulary.specs.declared.attribute_kind.AttributeKind.TheVariants as kinds;
 ghost use Rattle.justfile_token.specs.declared.token.Token.{Token};
-ghost use Rattle.justfile_model.specs.AttributeKinds.{takes_expressions};
-ghost use Rattle.justfile_model.specs.Meaning.{first_of, texts_of};
-ghost use Rattle.justfile_model.specs.NewAttribute as new;
-ghost use Rattle.justfile_model.specs.Tree as tree;
+ghost use Rattle.justfile_model.specs.Meanings.AttributeKinds.{takes_expressions};
+ghost use Rattle.justfile_model.specs.Meanings.Meaning.{first_of, texts_of};
+ghost use Rattle.justfile_model.specs.Readers.NewAttribute as new;
+ghost use Rattle.justfile_model.specs.Trees.Tree as tree;
 ghost use Rattle.justfile_expression.specs.LeafViews.{views_leaves};
 ghost use Rattle.justfile_expression.specs.LeafTree.{leaf_tree_of};
 ghost use Rattle.justfile_attribute.specs.Attribute.{leaf_attribute_of};
@@ -36,7 +36,7 @@ impl<'src> Attribute<'src> {
     /// # Errors
     ///
     /// `Compile` for the first broken rule; `Memory` if out of memory.
-    #[tactic(auto, using(justfile_attribute_rules::proofs::Refused::refused_first, crate::proofs::Counted::as_many), unfolding(justfile_model::specs::NewAttribute::new_attribute))]
+    #[tactic(auto, using(justfile_attribute_rules::proofs::Refused::refused_first, crate::proofs::Counted::as_many), unfolding(justfile_model::specs::Readers::NewAttribute::new_attribute))]
     pub fn new(
         alloc: Global,
         name: Name<'src>,

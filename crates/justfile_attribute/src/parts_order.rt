@@ -2,7 +2,7 @@
 ghost use Rattle.std.specs.Prelude.{◌≡◌};
 ghost use Rattle.std.specs.Cmp.Lexicographic.{slice_cmp};
 ghost use Rattle.std.specs.Ordering.{on, ordering_then};
-ghost use Rattle.justfile_model.specs.Key.{option_key};
+ghost use Rattle.justfile_model.specs.Trees.Key.{option_key};
 ghost use Rattle.justfile_attribute.specs.Order.{boxed_key, by_content, count_key, expression_key, interpreter_key, literal_key, name_key, property_key, text_key, token_key};
 
 use crate::interpreter::Interpreter;

@@ -3,7 +3,7 @@ ghost use Rattle.std.specs.Prelude.{◌≡◌, ◌∷◌, ◌++◌, ◌+◌, ◌
 ghost use Rattle.std.specs.Fmt.{decimal};
 ghost use Rattle.justfile_vocabulary.specs.ByteNames as byte;
 ghost use Rattle.justfile_token.specs.StringLiteral.{literal_text};
-ghost use Rattle.justfile_model.specs.Printing.{attribute_text};
+ghost use Rattle.justfile_model.specs.Printed.Printing.{attribute_text};
 ghost use Rattle.justfile_token.specs.Sink.{Puts};
 ghost use Rattle.justfile_attribute.specs.Attribute.{attribute_shape};
 ghost use Rattle.justfile_attribute.specs.Print.{closing, opening, part_text, quoted_number, slot_piece, slot_text, slots, slots_text, value_text};

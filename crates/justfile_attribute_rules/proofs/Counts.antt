@@ -1,7 +1,7 @@
 -- Too many arguments.
 use Rattle.std.proofs.Common.{◌≡◌, ℕ, ◌^◌, ◌<◌, nat_lt, Option, Some, None, sym, ap, arith}
 use Rattle.std.proofs.lemmas.Bool.{le-ltb}
-use Rattle.justfile_model.specs.AttributeRules.{has_more}
+use Rattle.justfile_model.specs.Meanings.AttributeRules.{has_more}
 use Rattle.justfile_attribute_rules.specs.RuleErrors.{IsMost}
 
 -- more arguments than the greatest number, if there is a limit

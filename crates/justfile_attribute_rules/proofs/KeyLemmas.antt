@@ -18,12 +18,12 @@ use denote.Ref.{Bor}
 use Rattle.justfile_token.specs.Token.{lexeme_of}
 use Rattle.justfile_vocabulary.specs.declared.attribute_kind.AttributeKind.{AttributeKind}
 use Rattle.justfile_token.specs.declared.token.Token.{Token}
-use Rattle.justfile_model.specs.AttributeRules.{is_known, least}
-use Rattle.justfile_model.specs.ContentLeaf.{text_cmp}
-use Rattle.justfile_model.specs.NewAttribute.{check_keys, refuse_key}
-use Rattle.justfile_model.specs.Meaning.{KeyArgument, at_key, first_of, is_key}
-use Rattle.justfile_model.proofs.OrderLaws.{Ascends, sorted_from_ascends}
-use Rattle.justfile_model.proofs.SameKeys.{least_first}
+use Rattle.justfile_model.specs.Meanings.AttributeRules.{is_known, least}
+use Rattle.justfile_model.specs.Trees.ContentLeaf.{text_cmp}
+use Rattle.justfile_model.specs.Readers.NewAttribute.{check_keys, refuse_key}
+use Rattle.justfile_model.specs.Meanings.Meaning.{KeyArgument, at_key, first_of, is_key}
+use Rattle.justfile_model.proofs.Lists.OrderLaws.{Ascends, sorted_from_ascends}
+use Rattle.justfile_model.proofs.Meanings.SameKeys.{least_first}
 use Rattle.justfile_expression.specs.LeafViews.{views_leaves}
 use Rattle.justfile_expression.specs.LeafTree.{Leaf}
 use Rattle.justfile_attribute_rules.specs.Keys.{AreKeyed, Given, IsTaken, KeyMap, key_argument, key_arguments, without}

@@ -12,9 +12,9 @@ use Rattle.justfile_vocabulary.specs.declared.signal.Signal.{Signal}
 use Rattle.justfile_vocabulary.specs.declared.signal.Signal.TheVariants.{Hangup, Interrupt, Quit}
 use Rattle.justfile_token.specs.declared.string_literal.StringLiteral.{StringLiteral}
 use Rattle.justfile_token.specs.declared.token.Token.{Token}
-use Rattle.justfile_model.specs.Meaning.{signal_set}
-use Rattle.justfile_model.specs.NewAttribute.{◌>>=◌, Made, make_all, placed_literal}
-use Rattle.justfile_model.specs.Tree.{Quoted}
+use Rattle.justfile_model.specs.Meanings.Meaning.{signal_set}
+use Rattle.justfile_model.specs.Readers.NewAttribute.{◌>>=◌, Made, make_all, placed_literal}
+use Rattle.justfile_model.specs.Trees.Tree.{Quoted}
 use Rattle.justfile_expression.specs.LeafViews.{views_leaves}
 use Rattle.justfile_expression.specs.LeafTree.{Leaf}
 use Rattle.justfile_expression.specs.declared.expression.Expression.{Expression}

@@ -2,7 +2,7 @@
 use mathlib.Core.Former.{Count}
 use Rattle.std.proofs.Common.{◌≡◌, None, refl}
 use Rattle.justfile_token.specs.declared.string_literal.StringLiteral as literals
-use Rattle.justfile_model.specs.Meaning.{quoted}
+use Rattle.justfile_model.specs.Meanings.Meaning.{quoted}
 use Rattle.justfile_expression.specs.LeafTree.{Leaf, leaf_tree_of, format_row_tree}
 use Rattle.justfile_expression.specs.declared.expression.Expression.{Expression, And', Assert', Backtick, Call', Comparison', Concatenation', Conditional', FormatString', Group', Join', List', ListConcatenation', Not', Or', StringLiteral, Variable, None', Some', Row_of-Expression-FormatString-1-2 as FormatRow, end_of-Expression-FormatString-1-2 as format_row_end, more_of-Expression-FormatString-1-2 as format_row_more}
 

@@ -3,7 +3,7 @@ use Rattle.std.proofs.Common.{Ok, Err}
 use Rattle.justfile_token.specs.declared.fault.Fault.{Fault}
 use Rattle.justfile_token.specs.declared.fault.Fault.TheVariants as faults
 use Rattle.justfile_token.specs.declared.token.Token.{Token}
-use Rattle.justfile_model.specs.NewAttribute.{◌>>=◌, Made}
+use Rattle.justfile_model.specs.Readers.NewAttribute.{◌>>=◌, Made}
 use Rattle.justfile_attribute_rules.specs.Made.{IsRefusedBy}
 
 -- an error of the first step is an error of both

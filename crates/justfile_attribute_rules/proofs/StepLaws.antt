@@ -8,12 +8,12 @@ use Rattle.std.proofs.lemmas.Slice.Eq.{bytes_eq-Decides}
 use Rattle.justfile_token.specs.declared.token.Token.{Token}
 use Rattle.justfile_token.specs.declared.fault.Fault.{Fault}
 use Rattle.justfile_token.specs.declared.string_literal.StringLiteral.{StringLiteral}
-use Rattle.justfile_model.specs.Literals.{string_of, token_of}
-use Rattle.justfile_model.specs.LeafView.{or_empty}
-use Rattle.justfile_model.specs.Meaning.{is_key, text_of}
-use Rattle.justfile_model.specs.NewAttribute as new
-use Rattle.justfile_model.specs.NewAttribute.{◌>>=◌, Made, if_given, new_rules}
-use Rattle.justfile_model.specs.Tree.{Bound, Expr, OptionName, Property, Quoted}
+use Rattle.justfile_model.specs.LiteralTexts.Literals.{string_of, token_of}
+use Rattle.justfile_model.specs.Trees.LeafView.{or_empty}
+use Rattle.justfile_model.specs.Meanings.Meaning.{is_key, text_of}
+use Rattle.justfile_model.specs.Readers.NewAttribute as new
+use Rattle.justfile_model.specs.Readers.NewAttribute.{◌>>=◌, Made, if_given, new_rules}
+use Rattle.justfile_model.specs.Trees.Tree.{Bound, Expr, OptionName, Property, Quoted}
 use Rattle.justfile_expression.specs.LeafViews.{leaf_cooked, views_leaves}
 use Rattle.justfile_expression.specs.LeafTree.{Leaf, Literal, literal_of}
 use Rattle.justfile_attribute_rules.specs.Keys.{without}

@@ -6,8 +6,8 @@ use Rattle.justfile_token.specs.StringLiteral.{IsSameLiteral}
 use Rattle.justfile_token.specs.declared.name.Name.{Name}
 use Rattle.justfile_token.specs.declared.string_literal.StringLiteral.{StringLiteral}
 use Rattle.justfile_token.specs.declared.token.Token.{Token}
-use Rattle.justfile_model.specs.Tree as tree
-use Rattle.justfile_model.specs.Tree.{OptionName, Property}
+use Rattle.justfile_model.specs.Trees.Tree as tree
+use Rattle.justfile_model.specs.Trees.Tree.{OptionName, Property}
 use Rattle.justfile_expression.specs.LeafTree.{Leaf, leaf_tree_of}
 use Rattle.justfile_expression.specs.declared.expression.Expression.{Expression}
 use Rattle.justfile_attribute_rules.specs.Made.{bound_at, quoted_leaf}

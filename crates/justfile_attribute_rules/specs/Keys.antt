@@ -12,7 +12,7 @@ use denote.Ref.{Bor}
 use Rattle.justfile_token.specs.Token.{lexeme_of}
 use Rattle.justfile_token.specs.declared.name.Name.{Name}
 use Rattle.justfile_token.specs.declared.token.Token.{Token}
-use Rattle.justfile_model.specs.Meaning.{KeyArgument, is_key}
+use Rattle.justfile_model.specs.Meanings.Meaning.{KeyArgument, is_key}
 use Rattle.justfile_expression.specs.LeafViews.{views_leaves}
 use Rattle.justfile_expression.specs.LeafTree.{Leaf, Named, leaf_tree_of}
 use Rattle.justfile_expression.specs.declared.expression.Expression.{Expression}

@@ -8,10 +8,10 @@ use Rattle.justfile_token.specs.declared.name.Name.{Name}
 use Rattle.justfile_vocabulary.specs.declared.signal.Signal.{Signal}
 use Rattle.justfile_token.specs.declared.string_literal.StringLiteral.{StringLiteral}
 use Rattle.justfile_token.specs.declared.token.Token.{Token}
-use Rattle.justfile_model.specs.Meaning.{Placed, count_of, is_count, signal_set, text_of}
-use Rattle.justfile_model.specs.NewAttribute.{◌>>=◌, Made, check, literal, make_all, or_refuse, refuse}
-use Rattle.justfile_model.specs.Rules.{ArgAttributeMinExceedsMax, ArgumentCountParse, ArgumentCountValue, InvalidSignal, Rule}
-use Rattle.justfile_model.specs.Tree.{Bound, Expr, Quoted}
+use Rattle.justfile_model.specs.Meanings.Meaning.{Placed, count_of, is_count, signal_set, text_of}
+use Rattle.justfile_model.specs.Readers.NewAttribute.{◌>>=◌, Made, check, literal, make_all, or_refuse, refuse}
+use Rattle.justfile_model.specs.Meanings.Rules.{ArgAttributeMinExceedsMax, ArgumentCountParse, ArgumentCountValue, InvalidSignal, Rule}
+use Rattle.justfile_model.specs.Trees.Tree.{Bound, Expr, Quoted}
 use Rattle.justfile_expression.specs.LeafViews.{views_leaves}
 use Rattle.justfile_expression.specs.LeafTree.{Leaf, Literal, Named, leaf_tree_of, literal_of}
 use Rattle.justfile_expression.specs.declared.expression.Expression.{Expression}

@@ -6,10 +6,10 @@ use Rattle.justfile_token.specs.declared.compile_error_kind.CompileErrorKind.{Co
 use Rattle.justfile_token.specs.declared.compile_error_kind.CompileErrorKind.TheVariants as errors
 use Rattle.justfile_vocabulary.specs.declared.switch.Switch.TheVariants as switches
 use Rattle.justfile_token.specs.declared.token.Token.{Token}
-use Rattle.justfile_model.specs.ContentLeaf.{literal_value}
-use Rattle.justfile_model.specs.Rules as rules
-use Rattle.justfile_model.specs.Rules.{Broken, Rule}
-use Rattle.justfile_model.specs.Versions.{version_numbers}
+use Rattle.justfile_model.specs.Trees.ContentLeaf.{literal_value}
+use Rattle.justfile_model.specs.Meanings.Rules as rules
+use Rattle.justfile_model.specs.Meanings.Rules.{Broken, Rule}
+use Rattle.justfile_model.specs.Meanings.Versions.{version_numbers}
 use Rattle.justfile_expression.specs.Content.{literal_content}
 
 -- the greatest number of arguments as the code has it, where 2^64 - 1 means no limit

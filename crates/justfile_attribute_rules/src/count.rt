@@ -1,7 +1,7 @@
 //! The number of positional arguments that each kind of attribute takes.
 ghost use Rattle.std.specs.Prelude.{◌≡◌};
-ghost use Rattle.justfile_model.specs.AttributeKinds.{least_count, most_count, takes_expressions};
-ghost use Rattle.justfile_model.specs.NewAttribute as new;
+ghost use Rattle.justfile_model.specs.Meanings.AttributeKinds.{least_count, most_count, takes_expressions};
+ghost use Rattle.justfile_model.specs.Readers.NewAttribute as new;
 ghost use Rattle.justfile_expression.specs.LeafViews.{views_leaves};
 ghost use Rattle.justfile_attribute_rules.specs.Made.{Makes};
 ghost use Rattle.justfile_attribute_rules.specs.RuleErrors.{IsMost};

@@ -3,14 +3,14 @@ ghost use Rattle.std.specs.Prelude.{◌≡◌, OnErr, OnOk, codes};
 ghost use Rattle.std.specs.List.{list_any};
 ghost use Rattle.std.specs.Option.{option_map};
 ghost use Rattle.std.specs.Str.{bytes_eq};
-ghost use Rattle.justfile_model.specs.AttributeKinds.{known_keys};
-ghost use Rattle.justfile_model.specs.Meaning.{at_key};
-ghost use Rattle.justfile_model.specs.NewAttribute as new;
+ghost use Rattle.justfile_model.specs.Meanings.AttributeKinds.{known_keys};
+ghost use Rattle.justfile_model.specs.Meanings.Meaning.{at_key};
+ghost use Rattle.justfile_model.specs.Readers.NewAttribute as new;
 ghost use Rattle.justfile_expression.specs.LeafViews.{views_leaves};
 ghost use Rattle.justfile_expression.specs.LeafTree.{leaf_tree_of};
 ghost use Rattle.justfile_attribute_rules.specs.ArgumentRules.{property_of};
 ghost use Rattle.justfile_attribute_rules.specs.Keys.{AreKeyed, IsInserted, IsTaken, key_argument, key_arguments};
-ghost use Rattle.justfile_model.specs.Rules.{AttributeKeyMissingValue};
+ghost use Rattle.justfile_model.specs.Meanings.Rules.{AttributeKeyMissingValue};
 ghost use Rattle.justfile_attribute_rules.specs.Made.{IsFaultOfRule, Makes};
 
 use justfile_expression::Expression;

@@ -1,9 +1,9 @@
 //! Arguments that must be literals.
 ghost use Rattle.std.specs.Prelude.{◌≡◌, None};
 ghost use Rattle.std.specs.Option.{option_map};
-ghost use Rattle.justfile_model.specs.Meaning.{quoted};
-ghost use Rattle.justfile_model.specs.NewAttribute as new;
-ghost use Rattle.justfile_model.specs.Rules.{AttributeArgumentExpression};
+ghost use Rattle.justfile_model.specs.Meanings.Meaning.{quoted};
+ghost use Rattle.justfile_model.specs.Readers.NewAttribute as new;
+ghost use Rattle.justfile_model.specs.Meanings.Rules.{AttributeArgumentExpression};
 ghost use Rattle.justfile_expression.specs.LeafViews.{views_leaves};
 ghost use Rattle.justfile_expression.specs.LeafTree.{Named, leaf_tree_of};
 ghost use Rattle.justfile_attribute_rules.specs.Made.{IsFaultOfRule, Makes, placed_leaf, placed_leaves, quoted_leaf, quoted_leaves};

@@ -2,10 +2,10 @@
 ghost use Rattle.std.specs.Prelude.{◌≡◌, IsTrue, [], string_bytes};
 ghost use Rattle.std.specs.List.{list_all};
 ghost use Rattle.std.specs.Option.{option_map};
-ghost use Rattle.justfile_model.proofs.CountLaws.{is_digit_byte};
-ghost use Rattle.justfile_model.specs.Meaning as means;
-ghost use Rattle.justfile_model.specs.Meaning.{at_key};
-ghost use Rattle.justfile_model.specs.NewAttribute as new;
+ghost use Rattle.justfile_model.proofs.Lists.CountLaws.{is_digit_byte};
+ghost use Rattle.justfile_model.specs.Meanings.Meaning as means;
+ghost use Rattle.justfile_model.specs.Meanings.Meaning.{at_key};
+ghost use Rattle.justfile_model.specs.Readers.NewAttribute as new;
 ghost use Rattle.justfile_expression.specs.LeafViews.{views_leaves};
 ghost use Rattle.justfile_expression.specs.LeafTree.{leaf_tree_of};
 ghost use Rattle.justfile_attribute_rules.specs.Keys.{AreKeyed, IsTaken, key_arguments};
@@ -97,7 +97,7 @@ fn read_count<'src>(
 }
 
 /// Whether the text is `0`, or digits without a leading `0`.
-#[tactic(auto, using(justfile_model::proofs::CountLaws::is_count_by))]
+#[tactic(auto, using(justfile_model::proofs::Lists::CountLaws::is_count_by))]
 fn is_count(text: &[u8]) -> bool
     ensures { result ≡ means.is_count text.now }
 {
@@ -105,7 +105,7 @@ fn is_count(text: &[u8]) -> bool
 }
 
 /// Whether all bytes are digits.
-#[tactic(auto, using(justfile_model::proofs::CountLaws::digits_are_ascii))]
+#[tactic(auto, using(justfile_model::proofs::Lists::CountLaws::digits_are_ascii))]
 fn are_digits(text: &[u8]) -> bool
     ensures { result ≡ list_all is_digit_byte text.now }
 {
@@ -113,7 +113,7 @@ fn are_digits(text: &[u8]) -> bool
 }
 
 /// Returns the number that a text of digits stands for, or `None` if it doesn't fit into 64 bits.
-#[tactic(auto, using(justfile_model::proofs::CountLaws::count_read))]
+#[tactic(auto, using(justfile_model::proofs::Lists::CountLaws::count_read))]
 fn parse_count(text: &str) -> Option<u64>
     requires { IsTrue (means.is_count text.now) }
     ensures { result ≡ means.count_of text.now }

@@ -2,8 +2,8 @@
 ghost use Rattle.std.specs.Prelude.{◌≡◌, ◌==◌, length, IfOk, OnOk, Some, None, string_bytes};
 ghost use Rattle.std.specs.Option.{option_map};
 ghost use Rattle.std.specs.Str.{chars};
-ghost use Rattle.justfile_model.specs.Meaning.{at_key};
-ghost use Rattle.justfile_model.specs.NewAttribute as new;
+ghost use Rattle.justfile_model.specs.Meanings.Meaning.{at_key};
+ghost use Rattle.justfile_model.specs.Readers.NewAttribute as new;
 ghost use Rattle.justfile_expression.specs.LeafViews.{views_leaves};
 ghost use Rattle.justfile_expression.specs.LeafTree.{Named, leaf_tree_of};
 ghost use Rattle.justfile_attribute_rules.specs.ArgumentRules.{IsNamedAs, option_of};

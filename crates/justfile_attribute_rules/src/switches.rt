@@ -1,9 +1,9 @@
 //! The keys `value`, `flag` and `multiple` of `arg`, which only options may have.
 ghost use Rattle.std.specs.Prelude.{◌≡◌, ◌&&◌, not, codes, string_bytes};
 ghost use Rattle.std.specs.Option.{is_some, option_map};
-ghost use Rattle.justfile_model.specs.Meaning.{at_key};
-ghost use Rattle.justfile_model.specs.NewAttribute as new;
-ghost use Rattle.justfile_model.specs.Rules as broken;
+ghost use Rattle.justfile_model.specs.Meanings.Meaning.{at_key};
+ghost use Rattle.justfile_model.specs.Readers.NewAttribute as new;
+ghost use Rattle.justfile_model.specs.Meanings.Rules as broken;
 ghost use Rattle.justfile_expression.specs.LeafViews.{views_leaves};
 ghost use Rattle.justfile_expression.specs.LeafTree.{leaf_tree_of};
 ghost use Rattle.justfile_attribute_rules.specs.ArgumentRules.{rules_of};

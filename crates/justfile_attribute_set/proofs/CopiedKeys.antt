@@ -7,10 +7,10 @@ use Rattle.justfile_token.specs.declared.string_literal.StringLiteral.{StringLit
 use Rattle.justfile_token.specs.declared.token.Token.{Token}
 use Rattle.justfile_vocabulary.specs.contracts.attribute_kind.AttributeKind.{the_type}
 use Rattle.justfile_vocabulary.specs.declared.attribute_kind.AttributeKind.TheVariants as kinds
-use Rattle.justfile_model.specs.ContentKeys.{attribute_key, expr_key, kind_of_attribute}
-use Rattle.justfile_model.specs.ContentLeaf as contents
-use Rattle.justfile_model.specs.ContentLeaf.{ContentLeaf}
-use Rattle.justfile_model.specs.Key.{Key, leaf, node, end, next, row, option_key, present_key}
+use Rattle.justfile_model.specs.Trees.ContentKeys.{attribute_key, expr_key, kind_of_attribute}
+use Rattle.justfile_model.specs.Trees.ContentLeaf as contents
+use Rattle.justfile_model.specs.Trees.ContentLeaf.{ContentLeaf}
+use Rattle.justfile_model.specs.Trees.Key.{Key, leaf, node, end, next, row, option_key, present_key}
 use Rattle.justfile_expression.specs.LeafViews.{views_leaves}
 use Rattle.justfile_expression.specs.LeafTree.{leaf_tree_of}
 use Rattle.justfile_expression.specs.declared.expression.Expression.{Expression}

@@ -4,8 +4,8 @@ use Rattle.std.specs.Cmp.{IsPartialEquivalence, per_alike}
 use Rattle.std.specs.List.{list_any}
 use Rattle.std.proofs.lemmas.List.{append_assoc, reverse-append}
 use Rattle.std.proofs.lemmas.List.Sorted.{IsPermutation-reverse, list_any-IsPermutation}
-use Rattle.justfile_model.specs.Distinct.{kept_last}
-use Rattle.justfile_model.proofs.DistinctLaws.{any_kept}
+use Rattle.justfile_model.specs.Lists.Distinct.{kept_last}
+use Rattle.justfile_model.proofs.Lists.DistinctLaws.{any_kept}
 
 module _ {X : Type 0} (same : X → X → Bool) where
   -- the elements visited so far are the end of the list, and `kept` has what is kept of them in reverse

@@ -3,9 +3,9 @@ use Rattle.std.proofs.Common.{◌≡◌, ◌∙◌, List, [], ◌∷◌, Bool, t
 use Rattle.std.specs.List.{find, list_any}
 use Rattle.std.specs.Option.{option_map}
 use Rattle.justfile_token.specs.declared.name.Name.{Name}
-use Rattle.justfile_model.specs.Distinct.{kept_last}
-use Rattle.justfile_model.specs.Order.{in_order}
-use Rattle.justfile_model.proofs.OrderMaps.{in_order_map}
+use Rattle.justfile_model.specs.Lists.Distinct.{kept_last}
+use Rattle.justfile_model.specs.Lists.Order.{in_order}
+use Rattle.justfile_model.proofs.Lists.OrderMaps.{in_order_map}
 use Rattle.justfile_attribute.specs.declared.attribute.Attribute.{Attribute}
 use Rattle.justfile_attribute_set.specs.AttributeSet.{AttributeSet, entries_with_comments, pairs_of, written_of}
 use Rattle.justfile_attribute_set.specs.Pairs.{CommentedName, NamedPair, Pair, commented_cmp, named, pair_cmp, same_attributes, same_commented, with_comment}

@@ -3,9 +3,9 @@ use Rattle.std.proofs.Common.{◌≡◌, ℕ, List, Option, sym, subst}
 use Rattle.std.specs.List.{AllZip}
 use Rattle.std.specs.List.Sorted.{IsSorted}
 use Rattle.justfile_vocabulary.specs.declared.number.Number.{Number}
-use Rattle.justfile_model.specs.ContentLeaf.{ContentLeaf}
-use Rattle.justfile_model.specs.Key.{Key}
-use Rattle.justfile_model.proofs.OrderMaps.{keys_sorted, sorted_from_keys}
+use Rattle.justfile_model.specs.Trees.ContentLeaf.{ContentLeaf}
+use Rattle.justfile_model.specs.Trees.Key.{Key}
+use Rattle.justfile_model.proofs.Lists.OrderMaps.{keys_sorted, sorted_from_keys}
 use Rattle.justfile_attribute.specs.Order.{attribute_content_cmp, by_content, content_key}
 use Rattle.justfile_attribute.proofs.ResolvedKeys.{kept_content}
 use Rattle.justfile_attribute_set.specs.InOrder.{AreInOrder}

@@ -8,9 +8,9 @@ use Rattle.justfile_token.specs.declared.compile_error.CompileError.{CompileErro
 use Rattle.justfile_token.specs.declared.compile_error_kind.CompileErrorKind.TheVariants.{InvalidAttribute}
 use Rattle.justfile_vocabulary.specs.declared.item_kind.ItemKind.{ItemKind}
 use Rattle.justfile_token.specs.declared.token.Token.{Token}
-use Rattle.justfile_model.specs.AttributeKinds.{is_allowed}
-use Rattle.justfile_model.specs.AttributeRules.{first_invalid}
-use Rattle.justfile_model.specs.ContentKeys.{kind_of_attribute}
+use Rattle.justfile_model.specs.Meanings.AttributeKinds.{is_allowed}
+use Rattle.justfile_model.specs.Meanings.AttributeRules.{first_invalid}
+use Rattle.justfile_model.specs.Trees.ContentKeys.{kind_of_attribute}
 use Rattle.justfile_expression.specs.LeafViews.{views_leaves}
 use Rattle.justfile_attribute.specs.Attribute.{leaf_attribute_of}
 use Rattle.justfile_attribute.specs.declared.attribute.Attribute.{Attribute}

@@ -3,12 +3,12 @@ use Rattle.std.proofs.Common.{◌≡◌, ◌∙◌, List, map, refl, sym, ap}
 use Rattle.std.specs.Cmp.{IsTotalOrder, on_total}
 use Rattle.std.specs.List.{All}
 use Rattle.std.specs.Prelude.{OnOk, Result, Ok, Err}
-use Rattle.justfile_model.specs.ContentKeys.{entry_cmp}
-use Rattle.justfile_model.specs.ContentLeafLaws.{content_total}
-use Rattle.justfile_model.specs.KeyLaws.{key_total}
-use Rattle.justfile_model.specs.Order.{in_order}
-use Rattle.justfile_model.proofs.OrderLaws.{sorted_from_order, sorted_stays}
-use Rattle.justfile_model.proofs.OrderMaps.{in_order_map_where}
+use Rattle.justfile_model.specs.Trees.ContentKeys.{entry_cmp}
+use Rattle.justfile_model.specs.Trees.ContentLeafLaws.{content_total}
+use Rattle.justfile_model.specs.Trees.KeyLaws.{key_total}
+use Rattle.justfile_model.specs.Lists.Order.{in_order}
+use Rattle.justfile_model.proofs.Lists.OrderLaws.{sorted_from_order, sorted_stays}
+use Rattle.justfile_model.proofs.Lists.OrderMaps.{in_order_map_where}
 use Rattle.justfile_expression.specs.LeafViews.{views_leaves}
 use Rattle.justfile_attribute.specs.New.{HasDerivedAttributeFields}
 use Rattle.justfile_attribute.specs.Order.{attribute_content_cmp, by_content, content_key}

@@ -9,9 +9,9 @@ use Rattle.justfile_vocabulary.specs.declared.item_kind.ItemKind.{ItemKind}
 use Rattle.justfile_vocabulary.specs.declared.item_kind.ItemKind.TheVariants as items
 use Rattle.justfile_token.specs.declared.name.Name.{Name}
 use Rattle.justfile_token.specs.declared.token.Token.{Token}
-use Rattle.justfile_model.specs.ContentKeys.{kind_of_attribute}
-use Rattle.justfile_model.specs.Tok.{Tok}
-use Rattle.justfile_model.specs.Tree.{Entry}
+use Rattle.justfile_model.specs.Trees.ContentKeys.{kind_of_attribute}
+use Rattle.justfile_model.specs.Lexing.Tok.{Tok}
+use Rattle.justfile_model.specs.Trees.Tree.{Entry}
 use Rattle.justfile_expression.specs.LeafTree.{Leaf}
 use Rattle.justfile_attribute.specs.declared.attribute.Attribute.{Attribute}
 use Rattle.justfile_attribute_set.specs.Keys.{firsts}

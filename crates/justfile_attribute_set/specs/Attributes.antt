@@ -5,8 +5,8 @@ use Rattle.justfile_vocabulary.specs.AttributeKind.{is_enabler_kind}
 use Rattle.justfile_vocabulary.specs.declared.attribute_kind.AttributeKind.{AttributeKind}
 use Rattle.justfile_vocabulary.specs.declared.attribute_kind.AttributeKind.TheVariants as kinds
 use Rattle.justfile_token.specs.declared.string_literal.StringLiteral.{StringLiteral}
-use Rattle.justfile_model.specs.AttributeKinds.{same_attribute}
-use Rattle.justfile_model.specs.ContentKeys.{kind_of_attribute}
+use Rattle.justfile_model.specs.Meanings.AttributeKinds.{same_attribute}
+use Rattle.justfile_model.specs.Trees.ContentKeys.{kind_of_attribute}
 use Rattle.justfile_attribute.specs.Attribute.{attribute_of}
 use Rattle.justfile_attribute.specs.declared.attribute.Attribute.{Attribute}
 use Rattle.justfile_attribute.specs.declared.attribute.Attribute.TheVariants as attributes

@@ -3,7 +3,7 @@ ghost use Rattle.std.specs.Prelude.{◌≡◌, ◌||◌, find, not};
 ghost use Rattle.std.specs.List.{list_any};
 ghost use Rattle.std.specs.Option.{option_copied};
 ghost use Rattle.justfile_vocabulary.specs.AttributeKind.{is_enabler_kind};
-ghost use Rattle.justfile_model.specs.AttributeKinds.{is_allowed};
+ghost use Rattle.justfile_model.specs.Meanings.AttributeKinds.{is_allowed};
 ghost use Rattle.justfile_attribute_set.specs.Attributes as definitions;
 
 use justfile_attribute::Attribute;
@@ -28,7 +28,7 @@ pub(crate) fn first_of_kind<'pairs, 'src>(
 }
 
 /// Whether an attribute is of this kind.
-#[tactic(auto, unfolding(justfile_model::specs::AttributeKinds::same_attribute))]
+#[tactic(auto, unfolding(justfile_model::specs::Meanings::AttributeKinds::same_attribute))]
 fn is_of_kind(attribute: &Attribute<'_>, kind: AttributeKind) -> bool
     ensures { result ≡ definitions.is_of_kind kind attribute.now }
 {

@@ -1,7 +1,7 @@
 //! Laws of sets of attributes. Each is the contract of a function that does nothing.
 ghost use Rattle.std.specs.Prelude.{◌≡◌, List};
 ghost use Rattle.std.specs.Cmp.{IsTotalOrder};
-ghost use Rattle.justfile_model.specs.Order.{IsStableSort, in_order};
+ghost use Rattle.justfile_model.specs.Lists.Order.{IsStableSort, in_order};
 ghost use Rattle.justfile_attribute.specs.Order.{attribute_content_cmp};
 ghost use Rattle.justfile_attribute.specs.declared.attribute.Attribute.{Attribute};
 ghost use Rattle.justfile_attribute_set.specs.Pairs.{pair_cmp};

@@ -6,7 +6,7 @@ use Rattle.justfile_vocabulary.specs.declared.numerator.Numerator.{Numerator}
 use Rattle.justfile_token.specs.declared.compile_error.CompileError.{CompileError}
 use Rattle.justfile_token.specs.declared.fault.Fault.{Fault}
 use Rattle.justfile_token.specs.declared.fault.Fault.TheVariants.{Compile, Numbers}
-use Rattle.justfile_model.specs.Files.{NumbersSuffice}
+use Rattle.justfile_model.specs.Grammars.Files.{NumbersSuffice}
 use Rattle.justfile_ast.specs.declared.ast.Ast.{Ast}
 use Rattle.justfile_parse.specs.Parsing.{HasNoTree, IsTreeless}
 use Rattle.justfile_canonical.specs.Fault.{IsFaultOf, IsFaultOfPrinting, IsRejectionFor}

@@ -5,15 +5,15 @@ use Rattle.std.specs.Option.{option_map}
 use Rattle.std.proofs.lemmas.Option.{none-some, same_Some}
 use Rattle.justfile_vocabulary.proofs.IndentationLemmas.{indentation_read}
 use Rattle.justfile_vocabulary.specs.Indentation.{IsIndentation}
-use Rattle.justfile_model.specs.Enabled.{indentation_of}
-use Rattle.justfile_model.specs.Features.{Noted}
-use Rattle.justfile_model.specs.Literals.{LiteralFault, string_text}
-use Rattle.justfile_model.specs.NormalShape.{normal}
-use Rattle.justfile_model.specs.Printing.{printable, text}
-use Rattle.justfile_model.specs.Tok.{Tok}
-use Rattle.justfile_model.specs.Tree.{Tree, lexeme, shape_of}
-use Rattle.justfile_model.proofs.IndentedShapes.{IsIndentationLiteral, indentation_normal, indentation_valid, indentation_shape}
-use Rattle.justfile_model.proofs.Normal.{normal_printable}
+use Rattle.justfile_model.specs.Meanings.Enabled.{indentation_of}
+use Rattle.justfile_model.specs.Grammars.Features.{Noted}
+use Rattle.justfile_model.specs.LiteralTexts.Literals.{LiteralFault, string_text}
+use Rattle.justfile_model.specs.Printed.NormalShape.{normal}
+use Rattle.justfile_model.specs.Printed.Printing.{printable, text}
+use Rattle.justfile_model.specs.Lexing.Tok.{Tok}
+use Rattle.justfile_model.specs.Trees.Tree.{Tree, lexeme, shape_of}
+use Rattle.justfile_model.proofs.Printed.IndentedShapes.{IsIndentationLiteral, indentation_normal, indentation_valid, indentation_shape}
+use Rattle.justfile_model.proofs.Printed.Normal.{normal_printable}
 use Rattle.justfile_round_trip.specs.RoundTrip.{ReadsBack, TextDerives, printed}
 use Rattle.justfile_round_trip.proofs.RoundTrip.{back, one_text, shape_derives}
 use Rattle.justfile_canonical.specs.Formatting.{HasNone, IsFormatted, IsIndentedBy, rejected, unprintable}

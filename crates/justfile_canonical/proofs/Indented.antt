@@ -12,9 +12,9 @@ use Rattle.justfile_vocabulary.specs.declared.indentation.Indentation.{Indentati
 use Rattle.justfile_token.specs.declared.fault.Fault.{Fault}
 use Rattle.justfile_token.specs.declared.string_literal.StringLiteral.{StringLiteral}
 use Rattle.justfile_token.specs.declared.token.Token.{Token}
-use Rattle.justfile_model.specs.Literals.{LiteralFault, cooked_text, expanded_text, string_of, string_text}
-use Rattle.justfile_model.specs.RecipeRules.{or_else}
-use Rattle.justfile_model.specs.Tok.{Tok}
+use Rattle.justfile_model.specs.LiteralTexts.Literals.{LiteralFault, cooked_text, expanded_text, string_of, string_text}
+use Rattle.justfile_model.specs.Meanings.RecipeRules.{or_else}
+use Rattle.justfile_model.specs.Lexing.Tok.{Tok}
 use Rattle.justfile_expression.specs.Expression.{literal_tok}
 use Rattle.justfile_attribute_set.specs.AttributeSet.{attributes_of}
 use Rattle.justfile_attribute_set.specs.Attributes.{are_enabled}

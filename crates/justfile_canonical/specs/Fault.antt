@@ -1,7 +1,7 @@
 -- Why a text isn't formatted.
 use Rattle.std.specs.Prelude.{◌≡◌, ℕ, false, List, codes, string_bytes}
 use Rattle.justfile_token.specs.declared.compile_error.CompileError.{CompileError}
-use Rattle.justfile_model.specs.Printing.{printable}
+use Rattle.justfile_model.specs.Printed.Printing.{printable}
 use Rattle.justfile_ast.specs.Ast.{ast_shape}
 use Rattle.justfile_ast.specs.declared.ast.Ast.{Ast}
 use Rattle.justfile_canonical.specs.Formatting.{IsRejection, IsUnprintable, LacksNumbers}

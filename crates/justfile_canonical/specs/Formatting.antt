@@ -7,15 +7,15 @@ use Rattle.justfile_vocabulary.specs.declared.indentation.Indentation.{Indentati
 use Rattle.justfile_vocabulary.specs.declared.numerator.Numerator.{Numerator}
 use Rattle.justfile_token.specs.declared.compile_error.CompileError.{CompileError}
 use Rattle.justfile_token.specs.declared.string_literal.StringLiteral.{StringLiteral}
-use Rattle.justfile_model.specs.LexResult.{IsFrom, IsLexicalError}
-use Rattle.justfile_model.specs.Conditions.{with_limit}
-use Rattle.justfile_model.specs.Enabled.{indentation_of}
-use Rattle.justfile_model.specs.Features.{Noted}
-use Rattle.justfile_model.specs.Files.{NumbersSuffice}
-use Rattle.justfile_model.specs.Literals.{string_text}
-use Rattle.justfile_model.specs.Printing.{printable}
-use Rattle.justfile_model.specs.Tok.{Tok}
-use Rattle.justfile_model.specs.Tree.{Tree, shape_of}
+use Rattle.justfile_model.specs.Lexing.LexResult.{IsFrom, IsLexicalError}
+use Rattle.justfile_model.specs.Grammars.Conditions.{with_limit}
+use Rattle.justfile_model.specs.Meanings.Enabled.{indentation_of}
+use Rattle.justfile_model.specs.Grammars.Features.{Noted}
+use Rattle.justfile_model.specs.Grammars.Files.{NumbersSuffice}
+use Rattle.justfile_model.specs.LiteralTexts.Literals.{string_text}
+use Rattle.justfile_model.specs.Printed.Printing.{printable}
+use Rattle.justfile_model.specs.Lexing.Tok.{Tok}
+use Rattle.justfile_model.specs.Trees.Tree.{Tree, shape_of}
 use Rattle.justfile_expression.specs.Expression.{literal_tok}
 use Rattle.justfile_item.specs.Indented.{items_indentation}
 use Rattle.justfile_ast.specs.Ast.{features_of, tree_of}

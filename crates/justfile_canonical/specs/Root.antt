@@ -4,8 +4,8 @@ use Rattle.justfile_vocabulary.specs.Numerator.{bindings_of, recipes_of}
 use Rattle.justfile_vocabulary.specs.declared.numerator.Numerator.{Numerator}
 use Rattle.justfile_token.specs.Modulepath.{names_of}
 use Rattle.justfile_token.specs.declared.fault.Fault.{Fault}
-use Rattle.justfile_model.specs.Conditions.{Conditions}
-use Rattle.justfile_model.specs.Literals.{Expansions}
+use Rattle.justfile_model.specs.Grammars.Conditions.{Conditions}
+use Rattle.justfile_model.specs.LiteralTexts.Literals.{Expansions}
 use Rattle.justfile_ast.specs.declared.ast.Ast.{Ast}
 use Rattle.justfile_parse.specs.Parsing.{HasNoTree, IsParsedText}
 

@@ -5,8 +5,8 @@ ghost use Rattle.justfile_canonical.specs.Fault.{IsFaultOf, IsFaultOfPrinting, I
 ghost use Rattle.justfile_canonical.specs.Formatting.{IsFileOf, IsFormatted, IsIndented, IsIndentedBy, IsPrinted};
 ghost use Rattle.justfile_vocabulary.specs.Indentation.{indentation_text};
 ghost use Rattle.justfile_ast.specs.Ast.{ast_shape, tree_of};
-ghost use Rattle.justfile_model.specs.Enabled.{indentation_of};
-ghost use Rattle.justfile_model.specs.Printing.{printable};
+ghost use Rattle.justfile_model.specs.Meanings.Enabled.{indentation_of};
+ghost use Rattle.justfile_model.specs.Printed.Printing.{printable};
 
 use crate::fault::FormatFault;
 use crate::root::parse_root;

@@ -1,10 +1,10 @@
 //! Laws of formatted texts. Each is the contract of a function that does nothing.
 ghost use Rattle.std.specs.Prelude.{◌≡◌, ℕ, true, List};
-ghost use Rattle.justfile_model.specs.Features.{Noted};
-ghost use Rattle.justfile_model.specs.NormalShape.{normal};
-ghost use Rattle.justfile_model.specs.Printing.{printable};
-ghost use Rattle.justfile_model.specs.Tok.{Tok};
-ghost use Rattle.justfile_model.specs.Tree.{Tree, shape_of};
+ghost use Rattle.justfile_model.specs.Grammars.Features.{Noted};
+ghost use Rattle.justfile_model.specs.Printed.NormalShape.{normal};
+ghost use Rattle.justfile_model.specs.Printed.Printing.{printable};
+ghost use Rattle.justfile_model.specs.Lexing.Tok.{Tok};
+ghost use Rattle.justfile_model.specs.Trees.Tree.{Tree, shape_of};
 ghost use Rattle.justfile_round_trip.specs.RoundTrip.{TextDerives};
 ghost use Rattle.justfile_canonical.specs.Formatting.{HasNone, IsFormatted};
 ghost use Rattle.justfile_canonical.specs.Root.{conditions};

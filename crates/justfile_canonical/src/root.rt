@@ -1,9 +1,9 @@
 //! Root files: a text without imports, parsed under the usual conditions.
 ghost use Rattle.std.specs.Prelude.{◌≡◌, List, IfOk, IfErr};
 ghost use Rattle.justfile_vocabulary.specs.Numerator.{constants_of};
-ghost use Rattle.justfile_model.specs.Lexed.{Lexed};
-ghost use Rattle.justfile_model.specs.SignificantTokens.{identifiers, significant_tokens};
-ghost use Rattle.justfile_model.specs.Tok.{Tok};
+ghost use Rattle.justfile_model.specs.Lexing.Lexed.{Lexed};
+ghost use Rattle.justfile_model.specs.Lexing.SignificantTokens.{identifiers, significant_tokens};
+ghost use Rattle.justfile_model.specs.Lexing.Tok.{Tok};
 ghost use Rattle.justfile_parse.specs.Parsing.{HasNoTree};
 ghost use Rattle.justfile_parse_item.specs.MethodResults.{CountersMoved};
 ghost use Rattle.justfile_canonical.specs.Formatting.{IsIndented};

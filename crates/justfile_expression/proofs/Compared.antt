@@ -10,8 +10,8 @@ use Rattle.std.proofs.lemmas.Bool.Decides.{nat_tests}
 use Rattle.justfile_token.specs.declared.name.Name.{Name}
 use Rattle.justfile_token.specs.declared.token.Token.{Token}
 use Rattle.justfile_token.specs.declared.string_literal.StringLiteral.{StringLiteral}
-use Rattle.justfile_model.specs.Key.{Key, label, node, end, next, row, keys_of, key_cmp, keys_cmp}
-use Rattle.justfile_model.specs.KeyLaws.{then_end}
+use Rattle.justfile_model.specs.Trees.Key.{Key, label, node, end, next, row, keys_of, key_cmp, keys_cmp}
+use Rattle.justfile_model.specs.Trees.KeyLaws.{then_end}
 use Rattle.justfile_model.specs.declared.conditional_operator.ConditionalOperator.{ConditionalOperator}
 use Rattle.justfile_expression.specs.Content.{leaf_order}
 use Rattle.justfile_expression.specs.Leaf.{KeyLeaf, operator, text, token, operator_cmp, text_cmp, token_key, literal_key}

@@ -2,9 +2,9 @@
 use mathlib.Core.Former.{Count}
 use Rattle.std.proofs.Common.{◌≡◌, false, Option, refl, sym}
 use Rattle.std.specs.Global.{Box}
-use Rattle.justfile_model.specs.Tok.{Tok, tok_of}
-use Rattle.justfile_model.specs.Tree.{over_expr, lexeme, nothing}
-use Rattle.justfile_model.specs.Printing.{is_conditional}
+use Rattle.justfile_model.specs.Lexing.Tok.{Tok, tok_of}
+use Rattle.justfile_model.specs.Trees.Tree.{over_expr, lexeme, nothing}
+use Rattle.justfile_model.specs.Printed.Printing.{is_conditional}
 use Rattle.justfile_expression.specs.Expression.{expr_shape, format_of}
 use Rattle.justfile_expression.specs.declared.expression.Expression.{Expression, Conditional, And', Assert', Backtick, Call', Comparison', Concatenation', Conditional', FormatString', Group', Join', List', ListConcatenation', Not', Or', StringLiteral, Variable, None', Some', Row_of-Expression-FormatString-1-2 as FormatRow, end_of-Expression-FormatString-1-2 as format_row_end, more_of-Expression-FormatString-1-2 as format_row_more, roll-Expression, out-Expression, roll-out-Expression}
 

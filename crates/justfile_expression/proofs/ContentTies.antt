@@ -2,8 +2,8 @@
 use Rattle.std.proofs.Common.{◌≡◌}
 use Rattle.std.specs.Prelude.{◌↔◌}
 use Rattle.std.specs.declared.cmp.Ordering.TheVariants.{Equal}
-use Rattle.justfile_model.proofs.KeyTies.{same_content}
-use Rattle.justfile_model.specs.Key.{Key, map_key}
+use Rattle.justfile_model.proofs.Lists.KeyTies.{same_content}
+use Rattle.justfile_model.specs.Trees.Key.{Key, map_key}
 use Rattle.justfile_expression.specs.Content.{content_key, content_of, content_order, expression_content_cmp}
 use Rattle.justfile_expression.specs.Leaf.{KeyLeaf}
 use Rattle.justfile_expression.specs.Order.{key}

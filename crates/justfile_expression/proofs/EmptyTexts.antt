@@ -1,7 +1,7 @@
 -- The text after a child is empty only for the last child of an expression.
 use Rattle.std.proofs.Common.{◌≡◌, ℕ, true, false, zero, suc, None, Some, List, [], ◌∷◌, ◌++◌, length, codes, refl}
 use Rattle.std.specs.List.{slice_get}
-use Rattle.justfile_model.specs.Printing.{fixed_text, is_conditional, operator_text}
+use Rattle.justfile_model.specs.Printed.Printing.{fixed_text, is_conditional, operator_text}
 use Rattle.justfile_model.specs.declared.conditional_operator.ConditionalOperator.{ConditionalOperator}
 use Rattle.justfile_model.specs.declared.conditional_operator.ConditionalOperator.TheVariants.{Equality, Inequality, RegexMatch, RegexMismatch}
 use Rattle.justfile_expression.specs.Children.{Child, children, row_children, before_other, then_text, then_part}

@@ -4,7 +4,7 @@ use Rattle.std.specs.List.{flat_map}
 use Rattle.justfile_token.specs.declared.string_literal.StringLiteral as literals
 use Rattle.justfile_token.specs.StringLiteral.{format_mark, literal_marks}
 use Rattle.justfile_token.specs.Token.{lexeme_of}
-use Rattle.justfile_model.specs.Printing.{fixed_text, is_conditional, mark_text, other_text}
+use Rattle.justfile_model.specs.Printed.Printing.{fixed_text, is_conditional, mark_text, other_text}
 use Rattle.justfile_expression.specs.Children.{Child, row_children, then_text, format_children, start_texts, children, opening_text, before_other, after_other}
 use Rattle.justfile_expression.specs.Expression.{expr_shape}
 use Rattle.justfile_expression.specs.Text.{text_of, separated, format_part_text}

@@ -6,8 +6,8 @@ use Rattle.std.specs.Option.{option_map}
 use Rattle.std.specs.Ordering.{ordering_then, is_ne}
 use Rattle.std.specs.declared.cmp.Ordering.{Ordering}
 use Rattle.std.specs.declared.cmp.Ordering.TheVariants.{Less, Equal, Greater}
-use Rattle.justfile_model.specs.Key.{key_cmp}
-use Rattle.justfile_model.specs.KeyLaws.{then_end}
+use Rattle.justfile_model.specs.Trees.Key.{key_cmp}
+use Rattle.justfile_model.specs.Trees.KeyLaws.{then_end}
 use Rattle.justfile_expression.specs.Leaf.{KeyLeaf, operator, token}
 use Rattle.justfile_expression.specs.Order.{key, optional_key}
 use Rattle.justfile_expression.specs.OrderSteps.{left_key, presence_key, token_after, both_cmp}

@@ -11,10 +11,10 @@ use Rattle.justfile_expression.specs.declared.parts.Start.{Start}
 use Rattle.justfile_expression.specs.declared.parts.Start.TheVariants as starts
 use Rattle.justfile_expression.specs.declared.words.Words.{Words}
 
--- there is no child at the place
-pub no_part : (e : Expression) (place : ℕ) (found : Option (Bor Expression × Words)) → found ≡ None → child_of found ≡ slice_get (children e) place → None ≡ slice_get (parts_of e) place
-no_part e place found is h =
-    ap (option_map (λ (c : Child). c.0)) (sym (ap child_of is) ∙ h) ∙ sym (slice_get-map (λ (c : Child). c.0) (children e) place)
+-- there is no child at the index
+pub no_part : (e : Expression) (index : ℕ) (found : Option (Bor Expression × Words)) → found ≡ None → child_of found ≡ slice_get (children e) index → None ≡ slice_get (parts_of e) index
+no_part e index found is h =
+    ap (option_map (λ (c : Child). c.0)) (sym (ap child_of is) ∙ h) ∙ sym (slice_get-map (λ (c : Child). c.0) (children e) index)
 
 -- what is left to follow: the size of the expression
 abbrev pub start_left : Start → ℕ

@@ -2,9 +2,9 @@
 use mathlib.Core.Former.{Count}
 use Rattle.std.proofs.Common.{◌≡◌, ◌∙◌, ℕ, List, Option, refl, sym}
 use Rattle.justfile_vocabulary.specs.declared.number.Number.{Number}
-use Rattle.justfile_model.specs.ContentKeys.{expr_key}
-use Rattle.justfile_model.specs.ContentLeaf.{unseen}
-use Rattle.justfile_model.specs.Key.{leaf, node, end, next, row, present_key, map_key, map_keys}
+use Rattle.justfile_model.specs.Trees.ContentKeys.{expr_key}
+use Rattle.justfile_model.specs.Trees.ContentLeaf.{unseen}
+use Rattle.justfile_model.specs.Trees.Key.{leaf, node, end, next, row, present_key, map_key, map_keys}
 use Rattle.justfile_expression.specs.Content.{content_key, content_of}
 use Rattle.justfile_expression.specs.Leaf.{literal_key, operator_key, text_key, token_key}
 use Rattle.justfile_expression.specs.LeafTree.{leaf_tree_of}

@@ -5,9 +5,9 @@ use Rattle.std.specs.List.{flat_map}
 use Rattle.justfile_token.specs.declared.token.Token.{Token}
 use Rattle.justfile_token.specs.StringLiteral.{literal_text}
 use Rattle.justfile_token.specs.Token.{lexeme_of}
-use Rattle.justfile_model.specs.Tok.{Tok, tok_of}
-use Rattle.justfile_model.specs.Tree.{over_expr, over_exprs, over_parts, lexeme, nothing}
-use Rattle.justfile_model.specs.Printing.{fixed_text, expr_text, exprs_text, parts_text}
+use Rattle.justfile_model.specs.Lexing.Tok.{Tok, tok_of}
+use Rattle.justfile_model.specs.Trees.Tree.{over_expr, over_exprs, over_parts, lexeme, nothing}
+use Rattle.justfile_model.specs.Printed.Printing.{fixed_text, expr_text, exprs_text, parts_text}
 use Rattle.justfile_expression.specs.Expression.{exprs_of_row, format_of, parts_of_row, part_tok}
 use Rattle.justfile_expression.specs.Text.{text_of, separated, format_part_text}
 use Rattle.justfile_expression.specs.declared.expression.Expression.{Row_of-Expression as ExpressionRow, end_of-Expression as row_end, more_of-Expression as row_more, Row_of-Expression-FormatString-1-2 as FormatRow, end_of-Expression-FormatString-1-2 as format_row_end, more_of-Expression-FormatString-1-2 as format_row_more, items-the_row-Expression, items-the_row-Expression-FormatString-1-2}

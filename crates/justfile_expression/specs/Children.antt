@@ -4,7 +4,7 @@ use Rattle.std.specs.Borrow.{Bor}
 use Rattle.std.specs.Global.{Box}
 use Rattle.justfile_token.specs.Token.{lexeme_of}
 use Rattle.justfile_token.specs.declared.string_literal.StringLiteral as literals
-use Rattle.justfile_model.specs.Printing.{is_conditional, operator_text}
+use Rattle.justfile_model.specs.Printed.Printing.{is_conditional, operator_text}
 use Rattle.justfile_expression.specs.Expression.{expr_shape}
 use Rattle.justfile_expression.specs.Texts.{Texts, text_alone, lexeme_alone, literal_texts, part_texts, texts_of}
 use Rattle.justfile_expression.specs.declared.words.Words.{Words}

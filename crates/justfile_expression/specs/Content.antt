@@ -4,9 +4,9 @@ use Rattle.std.specs.declared.cmp.Ordering.{Ordering}
 use Rattle.justfile_token.specs.declared.string_literal.StringLiteral.{StringLiteral}
 use Rattle.justfile_token.specs.declared.token.Token.{Token}
 use Rattle.justfile_token.specs.Token.{lexeme_of}
-use Rattle.justfile_model.specs.ContentLeaf as contents
-use Rattle.justfile_model.specs.ContentLeaf.{ContentLeaf, LiteralContent, TokenContent, content_cmp}
-use Rattle.justfile_model.specs.Key.{Key, key_cmp, map_key}
+use Rattle.justfile_model.specs.Trees.ContentLeaf as contents
+use Rattle.justfile_model.specs.Trees.ContentLeaf.{ContentLeaf, LiteralContent, TokenContent, content_cmp}
+use Rattle.justfile_model.specs.Trees.Key.{Key, key_cmp, map_key}
 use Rattle.justfile_expression.specs.Leaf.{KeyLeaf, token, literal, operator, number, text, leaf_cmp}
 use Rattle.justfile_expression.specs.Order.{key}
 use Rattle.justfile_expression.specs.declared.expression.Expression.{Expression}

@@ -1,10 +1,10 @@
 -- The order of expressions by content is total, and agrees with the order of their content keys.
 use Rattle.std.specs.Prelude.{◌≡◌}
 use Rattle.std.specs.Cmp.{IsTotalOrder, on_total}
-use Rattle.justfile_model.specs.ContentLeaf.{content_cmp}
-use Rattle.justfile_model.specs.ContentLeafLaws.{content_total}
-use Rattle.justfile_model.specs.Key.{key_cmp}
-use Rattle.justfile_model.specs.KeyLaws.{key_total, mapped_key_cmp}
+use Rattle.justfile_model.specs.Trees.ContentLeaf.{content_cmp}
+use Rattle.justfile_model.specs.Trees.ContentLeafLaws.{content_total}
+use Rattle.justfile_model.specs.Trees.Key.{key_cmp}
+use Rattle.justfile_model.specs.Trees.KeyLaws.{key_total, mapped_key_cmp}
 use Rattle.justfile_expression.specs.Content.{content_key, content_of, content_order, expression_content_cmp}
 use Rattle.justfile_expression.specs.Order.{key}
 use Rattle.justfile_expression.specs.declared.expression.Expression.{Expression}

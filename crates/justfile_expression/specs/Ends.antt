@@ -9,7 +9,7 @@ use Rattle.justfile_expression.specs.declared.expression.Expression.{Expression}
 
 -- a child with no text after it
 abbrev pub IsEnd : (last e : Expression) → Type 0
-IsEnd last e = (place : ℕ) × (after : Texts) × (slice_get (children e) place ≡ Some (last, after)) × (texts_joined after ≡ [])
+IsEnd last e = (index : ℕ) × (after : Texts) × (slice_get (children e) index ≡ Some (last, after)) × (texts_joined after ≡ [])
 
 -- a text is that of an expression, up to a child `last` that ends it
 abbrev pub IsCompleted : (text : List ℕ) → (last : Option (Bor Expression)) → Expression → Type 0

@@ -11,7 +11,7 @@ use Rattle.justfile_vocabulary.specs.contracts.format_string_part.FormatStringPa
 use Rattle.justfile_token.specs.contracts.string_kind.StringDelimiterOrd.TheImpl as delimiters
 use Rattle.justfile_vocabulary.specs.contracts.token_kind.TokenKindOrd.TheImpl as kinds
 use Rattle.justfile_model.specs.declared.conditional_operator.ConditionalOperator.{ConditionalOperator}
-use Rattle.justfile_model.specs.Key.{Key, leaf}
+use Rattle.justfile_model.specs.Trees.Key.{Key, leaf}
 use Rattle.justfile_model.specs.contracts.conditional_operator.ConditionalOperatorOrd.TheImpl as operators
 
 -- the order of texts, by their bytes
@@ -54,12 +54,12 @@ pub data KeyLeaf : Type 0 where
   text : List ℕ → KeyLeaf
 
 -- the index of a leaf's case in declared order
-abbrev pub place : KeyLeaf → ℕ
-place (token t) = 0
-place (literal l) = 1
-place (operator o) = 2
-place (number n) = 3
-place (text bytes) = 4
+abbrev pub rank : KeyLeaf → ℕ
+rank (token t) = 0
+rank (literal l) = 1
+rank (operator o) = 2
+rank (number n) = 3
+rank (text bytes) = 4
 
 abbrev pub leaf_cmp : KeyLeaf → KeyLeaf → Ordering
 leaf_cmp (token s) (token t) = token_cmp s t
@@ -67,7 +67,7 @@ leaf_cmp (literal k) (literal l) = literal_cmp k l
 leaf_cmp (operator o) (operator p) = operator_cmp o p
 leaf_cmp (number m) (number n) = number_cmp m n
 leaf_cmp (text xs) (text ys) = text_cmp xs ys
-leaf_cmp a b = nat_cmp (place a) (place b)
+leaf_cmp a b = nat_cmp (rank a) (rank b)
 
 abbrev pub token_key : Token → Key KeyLeaf
 token_key t = leaf (token t)

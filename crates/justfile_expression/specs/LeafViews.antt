@@ -3,9 +3,9 @@ use Rattle.std.specs.Prelude.{ℕ, false, List, [], Option, Some, None}
 use Rattle.justfile_token.specs.StringKind.{kind_of}
 use Rattle.justfile_token.specs.Token.{lexeme_of}
 use Rattle.justfile_token.specs.declared.token.Token.{Token}
-use Rattle.justfile_model.specs.ContentLeaf.{LiteralContent}
-use Rattle.justfile_model.specs.Literals.{token_of}
-use Rattle.justfile_model.specs.LeafView.{LeafView}
+use Rattle.justfile_model.specs.Trees.ContentLeaf.{LiteralContent}
+use Rattle.justfile_model.specs.LiteralTexts.Literals.{token_of}
+use Rattle.justfile_model.specs.Trees.LeafView.{LeafView}
 use Rattle.justfile_expression.specs.Content.{token_content}
 use Rattle.justfile_expression.specs.LeafTree as leaves
 use Rattle.justfile_expression.specs.LeafTree.{Leaf, LiteralText}

@@ -4,7 +4,7 @@ use Rattle.std.specs.Prelude.{Option, Some, None, string_bytes}
 use Rattle.std.specs.Global.{Box}
 use Rattle.std.specs.declared.cmp.Ordering.{Ordering}
 use Rattle.justfile_token.specs.declared.string_literal.StringLiteral as literals
-use Rattle.justfile_model.specs.Key.{Key, Keys, node, end, next, row, absent_key, present_key, key_cmp}
+use Rattle.justfile_model.specs.Trees.Key.{Key, Keys, node, end, next, row, absent_key, present_key, key_cmp}
 use Rattle.justfile_expression.specs.Leaf.{KeyLeaf, leaf_cmp, token_key, literal_key, operator_key, number_key, text_key}
 use Rattle.justfile_expression.specs.declared.expression.Expression.{Expression, And', Assert', Backtick, Call', Comparison', Concatenation', Conditional', FormatString', Group', Join', List', ListConcatenation', Not', Or', StringLiteral, Variable, Held-Expression-Assert-1 as OptionalExpression, None', Some', Row_of-Expression as ExpressionRow, end_of-Expression as row_end, more_of-Expression as row_more, Row_of-Expression-FormatString-1-2 as FormatRow, end_of-Expression-FormatString-1-2 as format_row_end, more_of-Expression-FormatString-1-2 as format_row_more}
 

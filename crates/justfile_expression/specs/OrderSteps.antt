@@ -4,7 +4,7 @@ use Rattle.std.specs.Global.{Box}
 use Rattle.std.specs.declared.cmp.Ordering.{Ordering}
 use Rattle.std.specs.declared.cmp.Ordering.TheVariants.{Equal}
 use Rattle.justfile_token.specs.declared.token.Token.{Token}
-use Rattle.justfile_model.specs.Key.{Key, node, end, next}
+use Rattle.justfile_model.specs.Trees.Key.{Key, node, end, next}
 use Rattle.justfile_expression.specs.Leaf.{KeyLeaf, token_key, operator_key}
 use Rattle.justfile_expression.specs.Order.{key, optional_key}
 use Rattle.justfile_expression.specs.declared.expression.Expression.{Expression, And', Comparison', Concatenation', Conditional', Join', ListConcatenation', Not', Or', Held-Expression-Assert-1 as OptionalExpression, None', Some'}

@@ -3,10 +3,10 @@ use mathlib.Core.Former.{Count}
 use Rattle.std.proofs.Common.{◌≡◌, Bool, true, false, refl}
 use Rattle.justfile_token.specs.declared.string_literal.StringLiteral as literals
 use Rattle.justfile_token.specs.declared.token.Token.{Token}
-use Rattle.justfile_model.specs.ContentLeaf.{ContentLeaf, token, literal, operator}
-use Rattle.justfile_model.specs.ContentKeys.{expr_key, exprs_keys, parts_keys, literal_key}
-use Rattle.justfile_model.specs.Key.{Key, leaf, node, end, next, row, absent_key, present_key, map_key, map_keys}
-use Rattle.justfile_model.specs.Literals.{string_of}
+use Rattle.justfile_model.specs.Trees.ContentLeaf.{ContentLeaf, token, literal, operator}
+use Rattle.justfile_model.specs.Trees.ContentKeys.{expr_key, exprs_keys, parts_keys, literal_key}
+use Rattle.justfile_model.specs.Trees.Key.{Key, leaf, node, end, next, row, absent_key, present_key, map_key, map_keys}
+use Rattle.justfile_model.specs.LiteralTexts.Literals.{string_of}
 use Rattle.justfile_expression.specs.Content.{content_of, literal_content, token_content}
 use Rattle.justfile_expression.specs.LeafViews.{views_leaves}
 use Rattle.justfile_expression.specs.LeafTree.{Leaf, Literal, literal_of, leaf_tree_of, assert_tree, conditional_tree, join_tree, trees_of_row, format_row_tree, parts_row_tree}

@@ -3,7 +3,7 @@ use Rattle.std.specs.Prelude.{ℕ, List, [], ◌∷◌, ◌++◌, codes}
 use Rattle.std.specs.List.{flat_map}
 use Rattle.justfile_token.specs.declared.string_literal.StringLiteral as literals
 use Rattle.justfile_token.specs.StringLiteral.{literal_text}
-use Rattle.justfile_model.specs.Printing.{fixed_text, expr_text}
+use Rattle.justfile_model.specs.Printed.Printing.{fixed_text, expr_text}
 use Rattle.justfile_expression.specs.declared.expression.Expression.{Expression}
 use Rattle.justfile_expression.specs.Expression.{expr_shape}
 

@@ -2,7 +2,7 @@
 ghost use Rattle.std.specs.Prelude.{◌≡◌, ◌∷◌, ◌<◌, [], IsSome, codes};
 ghost use Rattle.std.specs.List.{slice_get};
 ghost use Rattle.justfile_token.specs.Token.{lexeme_of};
-ghost use Rattle.justfile_model.specs.Printing.{is_conditional, operator_text};
+ghost use Rattle.justfile_model.specs.Printed.Printing.{is_conditional, operator_text};
 ghost use Rattle.justfile_expression.specs.Expression.{expr_shape};
 ghost use Rattle.justfile_expression.specs.Texts.{text_alone, texts_of};
 ghost use Rattle.justfile_expression.specs.Children.{assert_children, call_start, child_of, children, conditional_children, elements_to, format_children, format_start, join_children, join_start, list_start, of_option, start_texts, then_text, two_children};
@@ -88,44 +88,44 @@ fn list_start<'src>(elements: &Vec<Expression<'src>>) -> Words<'src>
     Words::piece(if elements.is_empty() { "[]" } else { "[" })
 }
 
-/// Returns the child with the index `place`, counted from 0, and what is written after it. Returns
+/// Returns the child with this index, counted from 0, and what is written after it. Returns
 /// `None` if there is no such child.
 #[inline(always)]
 pub fn child<'a, 'src>(
     expression: &'a Expression<'src>,
-    place: usize,
+    index: usize,
 ) -> Option<(&'a Expression<'src>, Words<'src>)>
-    ensures child { child_of result ≡ slice_get (children expression.now) place }
-    ensures bounded { IsSome result → place < usize.MAX }
+    ensures child { child_of result ≡ slice_get (children expression.now) index }
+    ensures bounded { IsSome result → index < usize.MAX }
 {
     match expression {
-        Expression::And { lhs, rhs } => either_child(lhs, " && ", rhs, "", place),
+        Expression::And { lhs, rhs } => either_child(lhs, " && ", rhs, "", index),
         Expression::Assert {
             condition,
             message,
             ..
-        } => assert_child(condition, message, place),
+        } => assert_child(condition, message, index),
         Expression::Backtick { .. } => None,
-        Expression::Call { arguments, .. } => element_child(arguments, ")", place),
+        Expression::Call { arguments, .. } => element_child(arguments, ")", index),
         Expression::Comparison {
             lhs,
             operator,
             rhs,
             ..
-        } => either_child(lhs, operator_piece(*operator), rhs, "", place),
-        Expression::Concatenation { lhs, rhs, .. } => either_child(lhs, " + ", rhs, "", place),
+        } => either_child(lhs, operator_piece(*operator), rhs, "", index),
+        Expression::Concatenation { lhs, rhs, .. } => either_child(lhs, " + ", rhs, "", index),
         Expression::Conditional {
             condition,
             then: branch,
             otherwise,
-        } => conditional_child(condition, branch, otherwise, place),
-        Expression::FormatString { expressions, .. } => format_child(expressions, place),
-        Expression::Group { contents } => only_child(contents, ")", place),
-        Expression::Join { lhs, rhs, .. } => join_child(lhs, rhs, place),
-        Expression::List { elements, .. } => element_child(elements, "]", place),
-        Expression::ListConcatenation { lhs, rhs, .. } => either_child(lhs, " ++ ", rhs, "", place),
-        Expression::Not { operand } => only_child(operand, "", place),
-        Expression::Or { lhs, rhs } => either_child(lhs, " || ", rhs, "", place),
+        } => conditional_child(condition, branch, otherwise, index),
+        Expression::FormatString { expressions, .. } => format_child(expressions, index),
+        Expression::Group { contents } => only_child(contents, ")", index),
+        Expression::Join { lhs, rhs, .. } => join_child(lhs, rhs, index),
+        Expression::List { elements, .. } => element_child(elements, "]", index),
+        Expression::ListConcatenation { lhs, rhs, .. } => either_child(lhs, " ++ ", rhs, "", index),
+        Expression::Not { operand } => only_child(operand, "", index),
+        Expression::Or { lhs, rhs } => either_child(lhs, " || ", rhs, "", index),
         Expression::StringLiteral { .. } => None,
         Expression::Variable { .. } => None,
     }
@@ -135,15 +135,15 @@ pub fn child<'a, 'src>(
 fn assert_child<'a, 'src>(
     condition: &'a Expression<'src>,
     message: &'a Option<Box<Expression<'src>>>,
-    place: usize,
+    index: usize,
 ) -> Option<(&'a Expression<'src>, Words<'src>)>
     ensures child { child_of result
-        ≡ slice_get (assert_children condition.now (of_option message.now)) place }
-    ensures bounded { IsSome result → place < usize.MAX }
+        ≡ slice_get (assert_children condition.now (of_option message.now)) index }
+    ensures bounded { IsSome result → index < usize.MAX }
 {
     match message {
-        None => only_child(condition, ")", place),
-        Some(message) => either_child(condition, ", ", message, ")", place),
+        None => only_child(condition, ")", index),
+        Some(message) => either_child(condition, ", ", message, ")", index),
     }
 }
 
@@ -153,22 +153,22 @@ fn conditional_child<'a, 'src>(
     condition: &'a Expression<'src>,
     branch: &'a Expression<'src>,
     otherwise: &'a Option<Box<Expression<'src>>>,
-    place: usize,
+    index: usize,
 ) -> Option<(&'a Expression<'src>, Words<'src>)>
     ensures child { child_of result ≡ slice_get
-        (conditional_children condition.now branch.now (of_option otherwise.now)) place }
-    ensures bounded { IsSome result → place < usize.MAX }
+        (conditional_children condition.now branch.now (of_option otherwise.now)) index }
+    ensures bounded { IsSome result → index < usize.MAX }
 {
     match otherwise {
-        None => either_child(condition, " { ", branch, " }", place),
+        None => either_child(condition, " { ", branch, " }", index),
         Some(other) => {
-            if place == 0 {
+            if index == 0 {
                 return Some((condition, Words::piece(" { ")));
             }
             if is_conditional(other) {
-                either_child(branch, " } else ", other, "", place - 1)
+                either_child(branch, " } else ", other, "", index - 1)
             } else {
-                either_child(branch, " } else { ", other, " }", place - 1)
+                either_child(branch, " } else { ", other, " }", index - 1)
             }
         }
     }
@@ -178,14 +178,14 @@ fn conditional_child<'a, 'src>(
 fn join_child<'a, 'src>(
     lhs: &'a Option<Box<Expression<'src>>>,
     rhs: &'a Expression<'src>,
-    place: usize,
+    index: usize,
 ) -> Option<(&'a Expression<'src>, Words<'src>)>
-    ensures child { child_of result ≡ slice_get (join_children (of_option lhs.now) rhs.now) place }
-    ensures bounded { IsSome result → place < usize.MAX }
+    ensures child { child_of result ≡ slice_get (join_children (of_option lhs.now) rhs.now) index }
+    ensures bounded { IsSome result → index < usize.MAX }
 {
     match lhs {
-        None => only_child(rhs, "", place),
-        Some(lhs) => either_child(lhs, " / ", rhs, "", place),
+        None => only_child(rhs, "", index),
+        Some(lhs) => either_child(lhs, " / ", rhs, "", index),
     }
 }
 
@@ -195,70 +195,70 @@ fn either_child<'a, 'src>(
     between: &'static str,
     rhs: &'a Expression<'src>,
     closing: &'static str,
-    place: usize,
+    index: usize,
 ) -> Option<(&'a Expression<'src>, Words<'src>)>
     ensures child { child_of result
-        ≡ slice_get (two_children lhs.now between.now rhs.now closing.now) place }
-    ensures bounded { IsSome result → place < usize.MAX }
+        ≡ slice_get (two_children lhs.now between.now rhs.now closing.now) index }
+    ensures bounded { IsSome result → index < usize.MAX }
 {
-    if place == 0 {
+    if index == 0 {
         Some((lhs, Words::piece(between)))
     } else {
-        only_child(rhs, closing, place - 1)
+        only_child(rhs, closing, index - 1)
     }
 }
 
-/// Returns the only child if `place` is 0, with `closing` after it.
+/// Returns the only child if `index` is 0, with `closing` after it.
 fn only_child<'a, 'src>(
     expression: &'a Expression<'src>,
     closing: &'static str,
-    place: usize,
+    index: usize,
 ) -> Option<(&'a Expression<'src>, Words<'src>)>
-    ensures child { child_of result ≡ slice_get (then_text closing.now expression.now ∷ []) place }
-    ensures bounded { IsSome result → place < usize.MAX }
+    ensures child { child_of result ≡ slice_get (then_text closing.now expression.now ∷ []) index }
+    ensures bounded { IsSome result → index < usize.MAX }
 {
-    if place == 0 {
+    if index == 0 {
         Some((expression, Words::piece(closing)))
     } else {
         None
     }
 }
 
-/// Returns the element with the index `place`, with a comma after it, or `closing` if it is the
+/// Returns the element with this index, with a comma after it, or `closing` if it is the
 /// last.
 fn element_child<'a, 'src>(
     expressions: &'a Vec<Expression<'src>>,
     closing: &'static str,
-    place: usize,
+    index: usize,
 ) -> Option<(&'a Expression<'src>, Words<'src>)>
     ensures child { child_of result
-        ≡ slice_get (elements_to closing.now expressions.now.items) place }
-    ensures bounded { IsSome result → place < usize.MAX }
+        ≡ slice_get (elements_to closing.now expressions.now.items) index }
+    ensures bounded { IsSome result → index < usize.MAX }
 {
-    if expressions.len() <= place {
+    if expressions.len() <= index {
         return None;
     }
-    let expression = &expressions[place];
-    if place + 1 == expressions.len() {
+    let expression = &expressions[index];
+    if index + 1 == expressions.len() {
         Some((expression, Words::piece(closing)))
     } else {
         Some((expression, Words::piece(", ")))
     }
 }
 
-/// Returns the expression with the index `place` of a format string, with the part after it.
+/// Returns the expression with this index of a format string, with the part after it.
 fn format_child<'a, 'src>(
     expressions: &'a Vec<(Expression<'src>, StringLiteral<'src>)>,
-    place: usize,
+    index: usize,
 ) -> Option<(&'a Expression<'src>, Words<'src>)>
-    ensures child { child_of result ≡ slice_get (format_children expressions.now.items) place }
-    ensures bounded { IsSome result → place < usize.MAX }
+    ensures child { child_of result ≡ slice_get (format_children expressions.now.items) index }
+    ensures bounded { IsSome result → index < usize.MAX }
 {
-    if expressions.len() <= place {
+    if expressions.len() <= index {
         return None;
     }
-    let (expression, literal) = &expressions[place];
-    if place + 1 == expressions.len() {
+    let (expression, literal) = &expressions[index];
+    if index + 1 == expressions.len() {
         Some((expression, Words::part(literal, "")))
     } else {
         Some((expression, Words::part(literal, " ")))
@@ -266,7 +266,7 @@ fn format_child<'a, 'src>(
 }
 
 /// Returns a comparison operator with the spaces around it.
-#[tactic(auto, unfolding(justfile_model::specs::Printing::fixed_text))]
+#[tactic(auto, unfolding(justfile_model::specs::Printed::Printing::fixed_text))]
 fn operator_piece(operator: ConditionalOperator) -> &'static str
     ensures { result.now ≡ operator_text operator }
 {

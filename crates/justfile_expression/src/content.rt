@@ -1,6 +1,6 @@
 //! Comparison of tokens and literals by content, ignoring their positions.
 ghost use Rattle.std.specs.Prelude.{◌≡◌};
-ghost use Rattle.justfile_model.specs.ContentLeaf as contents;
+ghost use Rattle.justfile_model.specs.Trees.ContentLeaf as contents;
 ghost use Rattle.justfile_expression.specs.Content.{literal_content, token_content};
 
 use justfile_token::{StringLiteral, Token};

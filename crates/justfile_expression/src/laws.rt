@@ -23,7 +23,7 @@ ghost use Rattle.justfile_token.specs.contracts.string_kind.StringKindPartialEq.
 ghost use Rattle.justfile_token.specs.declared.compile_error.CompileError.{CompileError};
 ghost use Rattle.justfile_token.specs.declared.compile_error_kind.CompileErrorKind.{CompileErrorKind};
 ghost use Rattle.justfile_token.specs.declared.delimiter.Delimiter.{Delimiter};
-ghost use Rattle.justfile_model.specs.ContentLeaf.{string_kind_cmp};
+ghost use Rattle.justfile_model.specs.Trees.ContentLeaf.{string_kind_cmp};
 ghost use Rattle.justfile_model.specs.contracts.conditional_operator.ConditionalOperatorOrd.TheImpl as operator_order;
 ghost use Rattle.justfile_model.specs.contracts.conditional_operator.ConditionalOperatorPartialEq.TheImpl as operator_equality;
 ghost use Rattle.justfile_model.specs.contracts.parameter_kind.ParameterKindPartialEq.TheImpl as parameter_equality;

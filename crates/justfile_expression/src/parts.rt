@@ -11,15 +11,15 @@ use crate::expression::Expression;
 use justfile_token::{StringLiteral, Token};
 
 impl<'src> Expression<'src> {
-    /// Returns the expression with the index `place` among those that are directly in this one,
+    /// Returns the expression with this index among those that are directly in this one,
     /// counted from 0 in the order in which they are written. Returns `None` if there is no such
     /// expression.
-    pub fn child(&self, place: usize) -> Option<&Expression<'src>>
-        ensures child { option_copied result ≡ slice_get (parts_of self.now) place }
+    pub fn child(&self, index: usize) -> Option<&Expression<'src>>
+        ensures child { option_copied result ≡ slice_get (parts_of self.now) index }
         ensures smaller { IfSome result (λ part. nodes part.now < nodes self.now) }
-        ensures bounded { IsSome result → place < usize.MAX }
+        ensures bounded { IsSome result → index < usize.MAX }
     {
-        match child(self, place) {
+        match child(self, index) {
             Some((part, _)) => Some(part),
             None => None,
         }

@@ -1,6 +1,6 @@
 //! Printing of expressions.
 ghost use Rattle.std.specs.Prelude.{◌≡◌, ℕ, List, IfOk, OnErr};
-ghost use Rattle.justfile_model.specs.Printing.{fixed_text};
+ghost use Rattle.justfile_model.specs.Printed.Printing.{fixed_text};
 ghost use Rattle.justfile_token.specs.Sink.{Puts};
 ghost use Rattle.justfile_expression.specs.Ends.{IsCompleted};
 ghost use Rattle.justfile_expression.specs.Text.{text_of};
@@ -53,14 +53,14 @@ fn write_to_last<'a, 'src, S: Sink>(
     ensures err { OnErr result (S.failed sink.old (text_of expression.now) sink.new) }
 {
     write_words(&start(expression), sink)?;
-    let mut place = 0;
-    while let Some((part, words)) = child(expression, place) {
+    let mut index = 0;
+    while let Some((part, words)) = child(expression, index) {
         if words.is_empty() {
             return Ok(Some(part));
         }
         write_expression(part, sink)?;
         write_words(&words, sink)?;
-        place += 1;
+        index += 1;
     }
     Ok(None)
 }

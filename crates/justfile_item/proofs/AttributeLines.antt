@@ -2,8 +2,8 @@
 use Rattle.std.proofs.Common.{◌≡◌, List, map, ◌∙◌}
 use Rattle.std.specs.List.{flat_map}
 use Rattle.std.proofs.lemmas.List.Folds.{flat_map-map}
-use Rattle.justfile_model.specs.Printing.{entry_text}
-use Rattle.justfile_model.specs.Tree.{lexeme, nothing, over_entry}
+use Rattle.justfile_model.specs.Printed.Printing.{entry_text}
+use Rattle.justfile_model.specs.Trees.Tree.{lexeme, nothing, over_entry}
 use Rattle.justfile_attribute_set.specs.Pairs.{Pair, entry_of}
 use Rattle.justfile_item.specs.Attributes.{attribute_line, lines_text}
 

@@ -10,10 +10,10 @@ use Rattle.justfile_token.specs.declared.name.Name.{Name}
 use Rattle.justfile_token.specs.declared.namepath.Namepath.{Namepath}
 use Rattle.justfile_vocabulary.specs.declared.number.Number.{Number}
 use Rattle.justfile_token.specs.declared.string_literal.StringLiteral.{StringLiteral}
-use Rattle.justfile_model.specs.Printing.{fixed_text, if_some, if_true, file_path_text, mark_text, setting_value_text}
-use Rattle.justfile_model.specs.Tok.{Tok}
-use Rattle.justfile_model.specs.Tree as tree
-use Rattle.justfile_model.specs.Tree.{SettingValue, lexeme, nothing, over_quoted, over_setting_value}
+use Rattle.justfile_model.specs.Printed.Printing.{fixed_text, if_some, if_true, file_path_text, mark_text, setting_value_text}
+use Rattle.justfile_model.specs.Lexing.Tok.{Tok}
+use Rattle.justfile_model.specs.Trees.Tree as tree
+use Rattle.justfile_model.specs.Trees.Tree.{SettingValue, lexeme, nothing, over_quoted, over_setting_value}
 use Rattle.justfile_setting.specs.Print.{setting_output, value_text}
 use Rattle.justfile_setting.specs.Setting.{is_default, value_of}
 use Rattle.justfile_setting.specs.declared.setting.Setting.{Setting}

@@ -6,11 +6,11 @@ use Rattle.std.specs.List.{list_any}
 use Rattle.std.specs.Option.{option_map}
 use Rattle.justfile_vocabulary.specs.declared.attribute_kind.AttributeKind.{AttributeKind}
 use Rattle.justfile_vocabulary.specs.declared.attribute_kind.AttributeKind.TheVariants as kinds
-use Rattle.justfile_model.specs.AttributeKinds.{same_attribute}
-use Rattle.justfile_model.specs.ContentKeys.{has_attribute, kind_of_attribute}
-use Rattle.justfile_model.specs.Printing.{doc_line, entries_text, if_some, item_text}
-use Rattle.justfile_model.specs.Tree.{Entry, lexeme, nothing, over_attribute, over_entry}
-use Rattle.justfile_model.proofs.SameViewRules.{kind_over}
+use Rattle.justfile_model.specs.Meanings.AttributeKinds.{same_attribute}
+use Rattle.justfile_model.specs.Trees.ContentKeys.{has_attribute, kind_of_attribute}
+use Rattle.justfile_model.specs.Printed.Printing.{doc_line, entries_text, if_some, item_text}
+use Rattle.justfile_model.specs.Trees.Tree.{Entry, lexeme, nothing, over_attribute, over_entry}
+use Rattle.justfile_model.proofs.Meanings.SameViewRules.{kind_over}
 use Rattle.justfile_attribute.specs.Attribute.{attribute_of}
 use Rattle.justfile_attribute.specs.declared.attribute.Attribute.{Attribute}
 use Rattle.justfile_attribute_set.specs.AttributeSet.{AttributeSet, attributes_of, written_of}

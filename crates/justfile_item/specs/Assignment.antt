@@ -1,6 +1,6 @@
 -- The text of an assignment.
 use Rattle.std.specs.Prelude.{ℕ, List}
-use Rattle.justfile_model.specs.Printing as printing
+use Rattle.justfile_model.specs.Printed.Printing as printing
 use Rattle.justfile_expression.specs.declared.expression.Expression.{Expression}
 use Rattle.justfile_item.specs.Item.{assignment_shape}
 use Rattle.justfile_item.specs.declared.binding.Binding.{Binding}

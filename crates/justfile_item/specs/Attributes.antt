@@ -4,8 +4,8 @@ use Rattle.std.specs.Global.{Box}
 use Rattle.std.specs.List.{flat_map}
 use Rattle.justfile_token.specs.declared.name.Name.{Name}
 use Rattle.justfile_token.specs.declared.string_literal.StringLiteral.{StringLiteral}
-use Rattle.justfile_model.specs.Printing.{entries_text, entry_text}
-use Rattle.justfile_model.specs.Tree.{Entry, lexeme, nothing, over_entry}
+use Rattle.justfile_model.specs.Printed.Printing.{entries_text, entry_text}
+use Rattle.justfile_model.specs.Trees.Tree.{Entry, lexeme, nothing, over_entry}
 use Rattle.justfile_attribute.specs.declared.attribute.Attribute.{Attribute}
 use Rattle.justfile_attribute.specs.declared.attribute.Attribute.TheVariants as attributes
 use Rattle.justfile_attribute.specs.declared.interpreter.Interpreter.{Interpreter}
@@ -68,7 +68,25 @@ attribute_cooked (attributes.Metadata literals) = flat_map literal_cooked litera
 attribute_cooked (attributes.Script interpreter) = optional script_cooked interpreter
 attribute_cooked (attributes.Timestamp value) = optional boxed_cooked value
 attribute_cooked (attributes.WorkingDirectory value) = boxed_cooked value
-attribute_cooked _ = []
+attribute_cooked attributes.Android = []
+attribute_cooked (attributes.Continue signals) = []
+attribute_cooked attributes.Default = []
+attribute_cooked attributes.Dragonfly = []
+attribute_cooked attributes.ExitMessage = []
+attribute_cooked attributes.Freebsd = []
+attribute_cooked attributes.Linux = []
+attribute_cooked attributes.Macos = []
+attribute_cooked attributes.Netbsd = []
+attribute_cooked attributes.NoCd = []
+attribute_cooked attributes.NoExitMessage = []
+attribute_cooked attributes.NoQuiet = []
+attribute_cooked attributes.Openbsd = []
+attribute_cooked attributes.Parallel = []
+attribute_cooked attributes.PositionalArguments = []
+attribute_cooked attributes.Private = []
+attribute_cooked attributes.Shell = []
+attribute_cooked attributes.Unix = []
+attribute_cooked attributes.Windows = []
 
 -- the texts of the literals of a set's attributes, in order
 abbrev pub attributes_cooked : AttributeSet → List (List ℕ)

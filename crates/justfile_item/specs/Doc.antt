@@ -3,8 +3,8 @@ use Rattle.std.specs.Prelude.{â„•, List, Option, None, String, string_bytes, ifâ
 use Rattle.std.specs.Global.{Global}
 use Rattle.std.specs.Option.{option_map}
 use Rattle.justfile_vocabulary.specs.declared.attribute_kind.AttributeKind.TheVariants.{Doc}
-use Rattle.justfile_model.specs.ContentKeys.{has_attribute}
-use Rattle.justfile_model.specs.Printing.{doc_line, if_some}
+use Rattle.justfile_model.specs.Trees.ContentKeys.{has_attribute}
+use Rattle.justfile_model.specs.Printed.Printing.{doc_line, if_some}
 use Rattle.justfile_attribute_set.specs.AttributeSet.{AttributeSet}
 use Rattle.justfile_item.specs.Attributes.{entry_shapes}
 

@@ -2,7 +2,7 @@
 use Rattle.std.specs.Prelude.{List, [], ◌∷◌, Option, None, Some, if◌then◌else◌}
 use Rattle.justfile_vocabulary.specs.declared.indentation.Indentation.{Indentation}
 use Rattle.justfile_token.specs.declared.string_literal.StringLiteral.{StringLiteral}
-use Rattle.justfile_model.specs.RecipeRules.{or_else}
+use Rattle.justfile_model.specs.Meanings.RecipeRules.{or_else}
 use Rattle.justfile_attribute_set.specs.AttributeSet.{attributes_of}
 use Rattle.justfile_attribute_set.specs.Attributes.{are_enabled}
 use Rattle.justfile_setting.specs.Setting.{HasDerivedSettingFields}

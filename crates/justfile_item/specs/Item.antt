@@ -8,9 +8,9 @@ use Rattle.justfile_token.specs.declared.name.Name.{Name}
 use Rattle.justfile_token.specs.declared.namepath.Namepath.{Namepath}
 use Rattle.justfile_vocabulary.specs.declared.number.Number.{Number}
 use Rattle.justfile_token.specs.declared.string_literal.StringLiteral.{StringLiteral}
-use Rattle.justfile_model.specs.Tok.{Tok, tok_of}
-use Rattle.justfile_model.specs.Tree as tree
-use Rattle.justfile_model.specs.Tree.{AliasParts, AssignmentParts, FunctionParts, Header, ImportParts, ModuleParts, OrderedItem, Quoted, RecipeParts, SettingParts, item_shape_of, lexeme, nothing, over_alias, over_assignment, over_function, over_header, over_import, over_module, over_recipe, over_setting}
+use Rattle.justfile_model.specs.Lexing.Tok.{Tok, tok_of}
+use Rattle.justfile_model.specs.Trees.Tree as tree
+use Rattle.justfile_model.specs.Trees.Tree.{AliasParts, AssignmentParts, FunctionParts, Header, ImportParts, ModuleParts, OrderedItem, Quoted, RecipeParts, SettingParts, item_shape_of, lexeme, nothing, over_alias, over_assignment, over_function, over_header, over_import, over_module, over_recipe, over_setting}
 use Rattle.justfile_expression.specs.Expression.{expr_of, expr_cooked, literal_tok}
 use Rattle.justfile_expression.specs.declared.expression.Expression.{Expression}
 use Rattle.justfile_attribute.specs.Attribute.{quoted_by}

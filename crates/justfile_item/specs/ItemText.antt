@@ -6,10 +6,10 @@ use Rattle.justfile_token.specs.declared.name.Name.{Name}
 use Rattle.justfile_token.specs.declared.namepath.Namepath.{Namepath}
 use Rattle.justfile_vocabulary.specs.declared.number.Number.{Number}
 use Rattle.justfile_token.specs.declared.string_literal.StringLiteral.{StringLiteral}
-use Rattle.justfile_model.specs.Printing as printing
-use Rattle.justfile_model.specs.Printing.{fixed_text}
-use Rattle.justfile_model.specs.Tok.{Tok}
-use Rattle.justfile_model.specs.Tree.{lexeme, nothing, over_quoted, over_setting_value}
+use Rattle.justfile_model.specs.Printed.Printing as printing
+use Rattle.justfile_model.specs.Printed.Printing.{fixed_text}
+use Rattle.justfile_model.specs.Lexing.Tok.{Tok}
+use Rattle.justfile_model.specs.Trees.Tree.{lexeme, nothing, over_quoted, over_setting_value}
 use Rattle.justfile_attribute_set.specs.AttributeSet.{AttributeSet}
 use Rattle.justfile_setting.specs.Setting.{value_of}
 use Rattle.justfile_setting.specs.declared.setting.Setting.{Setting}

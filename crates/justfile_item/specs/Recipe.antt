@@ -1,6 +1,6 @@
 -- The text of a recipe.
 use Rattle.std.specs.Prelude.{ℕ, List}
-use Rattle.justfile_model.specs.Printing as printing
+use Rattle.justfile_model.specs.Printed.Printing as printing
 use Rattle.justfile_item.specs.Item.{recipe_shape}
 use Rattle.justfile_item.specs.declared.recipe.UnresolvedRecipe.{UnresolvedRecipe}
 

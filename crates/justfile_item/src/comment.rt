@@ -1,6 +1,6 @@
 //! Comments at the ends of lines.
 ghost use Rattle.std.specs.Option.{option_copied};
-ghost use Rattle.justfile_model.specs.Printing.{comment_text};
+ghost use Rattle.justfile_model.specs.Printed.Printing.{comment_text};
 ghost use Rattle.justfile_token.specs.Sink.{Puts};
 
 use justfile_expression::put_piece;

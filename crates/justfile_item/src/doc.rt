@@ -2,7 +2,7 @@
 ghost use Rattle.std.specs.Prelude.{◌≡◌, string_bytes};
 ghost use Rattle.std.specs.Option.{option_copied, option_map};
 ghost use Rattle.justfile_item.specs.Doc.{doc_text_of, shown_doc_of};
-ghost use Rattle.justfile_model.specs.Printing.{doc_comment, doc_line};
+ghost use Rattle.justfile_model.specs.Printed.Printing.{doc_comment, doc_line};
 ghost use Rattle.justfile_token.specs.Sink.{Puts};
 
 use justfile_attribute_set::AttributeSet;

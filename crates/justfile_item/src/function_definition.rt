@@ -7,7 +7,7 @@ ghost use Rattle.justfile_attribute_set.specs.contracts.attribute_set.PairSetAtt
 ghost use Rattle.justfile_token.specs.contracts.name.NamePartialEq.TheImpl as names;
 ghost use Rattle.justfile_token.specs.contracts.name.NamePartialEq.TheImpl.Laws.{laws-law as name_per};
 ghost use Rattle.justfile_token.specs.Token.{lexeme_of};
-ghost use Rattle.justfile_model.specs.Printing.{fixed_text};
+ghost use Rattle.justfile_model.specs.Printed.Printing.{fixed_text};
 ghost use Rattle.justfile_token.specs.Sink.{Puts};
 ghost use Rattle.justfile_expression.specs.contracts.order.ExpressionPartialEq.TheImpl as expressions;
 ghost use Rattle.justfile_expression.specs.contracts.order.ExpressionPartialEq.TheImpl.Laws.{laws-law as expression_per};

@@ -2,7 +2,7 @@
 ghost use Rattle.std.specs.Prelude.{◌≡◌, IfOk, string_bytes};
 ghost use Rattle.std.specs.Option.{option_map};
 ghost use Rattle.justfile_vocabulary.specs.Indentation.{indentation_text};
-ghost use Rattle.justfile_model.specs.Printing.{if_some, item_text, printable_item};
+ghost use Rattle.justfile_model.specs.Printed.Printing.{if_some, item_text, printable_item};
 ghost use Rattle.justfile_token.specs.Sink.{Puts};
 ghost use Rattle.justfile_item.specs.Attributes.{attributes_text};
 ghost use Rattle.justfile_item.specs.Copies.{IsSameItem};
@@ -60,7 +60,7 @@ pub enum Item<'src> {
 }
 
 impl<'src> Item<'src> {
-    ghost use Rattle.justfile_model.specs.Reader.{has_body};
+    ghost use Rattle.justfile_model.specs.Readers.Reader.{has_body};
     ghost use Rattle.justfile_item.specs.Item.{is_item_enabled, item_of};
 
     /// Returns a copy of the item, or an error if out of memory.

@@ -1,7 +1,7 @@
 //! The paths of imports and modules, and how these items are printed.
 ghost use Rattle.std.specs.Prelude.{◌++◌, IfOk};
 ghost use Rattle.justfile_token.specs.StringLiteral.{IsSameLiteral};
-ghost use Rattle.justfile_model.specs.Printing.{mark_text};
+ghost use Rattle.justfile_model.specs.Printed.Printing.{mark_text};
 ghost use Rattle.justfile_token.specs.Sink.{Puts};
 ghost use Rattle.justfile_token.specs.Copies.{IsSameIfPresent};
 ghost use Rattle.justfile_item.specs.ItemText.{import_text_of, later_path_text, module_text_of, path_text_of, unexport_text_of};

@@ -20,13 +20,13 @@ use Rattle.justfile_token.specs.declared.string_kind.StringKind.{StringKind}
 use Rattle.justfile_token.specs.StringKind.{kind_of, token_kind_of}
 use Rattle.justfile_model.specs.declared.open_delimiter.OpenDelimiter.{OpenDelimiter}
 use Rattle.justfile_model.specs.declared.raw_text.RawText.TheVariants as raw_texts
-use Rattle.justfile_model.specs.Bytes.{blank, is_blank, is_name_byte, blank_len, word_len, is_interpolation_start, is_interpolation_end, is_mixed, closes_levels, first_char}
-use Rattle.justfile_model.specs.LexicalFault.{LexicalError}
-use Rattle.justfile_model.specs.LiteralText.{hides, ends, raw_len}
-use Rattle.justfile_model.specs.Modes.{Mode, head_of, is_empty, innermost, nested}
-use Rattle.justfile_model.specs.Tok.{Tok}
-use Rattle.justfile_model.specs.Next.{NextToken, doubled_token, fixed_token, opening, literal_part, literal_token, is_same, closing_delimiter, format_kind, brace_by, closing, line_end_token, escaped_line_end, token_by_class, text_or, body_token, at_end_by, Region, InText, InInterpolation, OutsideText, region_by, token_in_region, token_within_line, blanks_or, tested_blanks, is_level, begins_blank_line, layout, next_by, next}
-use Rattle.justfile_model.proofs.CutLemmas.{blank_no_newline, body_no_newline, comment_no_newline, escape_no_newline, word_no_newline, is_line_feed, no_newline_in_pieces, not_newline}
+use Rattle.justfile_model.specs.Lexing.Bytes.{blank, is_blank, is_name_byte, blank_len, word_len, is_interpolation_start, is_interpolation_end, is_mixed, closes_levels, first_char}
+use Rattle.justfile_model.specs.Lexing.LexicalFault.{LexicalError}
+use Rattle.justfile_model.specs.Lexing.LiteralText.{hides, ends, raw_len}
+use Rattle.justfile_model.specs.Lexing.Modes.{Mode, head_of, is_empty, innermost, nested}
+use Rattle.justfile_model.specs.Lexing.Tok.{Tok}
+use Rattle.justfile_model.specs.Lexing.Next.{NextToken, doubled_token, fixed_token, opening, literal_part, literal_token, is_same, closing_delimiter, format_kind, brace_by, closing, line_end_token, escaped_line_end, token_by_class, text_or, body_token, at_end_by, Region, InText, InInterpolation, OutsideText, region_by, token_in_region, token_within_line, blanks_or, tested_blanks, is_level, begins_blank_line, layout, next_by, next}
+use Rattle.justfile_model.proofs.Lexing.CutLemmas.{blank_no_newline, body_no_newline, comment_no_newline, escape_no_newline, word_no_newline, is_line_feed, no_newline_in_pieces, not_newline}
 use Rattle.justfile_lex.specs.Lexing.{is_on_line, HasNoFeed}
 
 -- ---- bytes without a line feed

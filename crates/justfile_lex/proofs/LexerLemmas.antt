@@ -5,19 +5,19 @@ use Rattle.std.proofs.lemmas.List.{map-append, reverse-append, length-take-le}
 use Rattle.justfile_vocabulary.specs.declared.token_kind.TokenKind.{TokenKind}
 use Rattle.justfile_token.specs.declared.token.Token.{Token}
 use Rattle.justfile_vocabulary.specs.declared.token_kind.TokenKind.TheVariants.{Eof, Dedent, Indent, InterpolationEnd, InterpolationStart}
-use Rattle.justfile_model.proofs.NextLaws.{Moves, token_cut}
+use Rattle.justfile_model.proofs.Lexing.NextLaws.{Moves, token_cut}
 use Rattle.std.specs.Str.{IsUtf8}
 use Rattle.std.proofs.lemmas.Str.{IsCharBoundary-from_rest, IsUtf8-drop}
 use Rattle.justfile_lex.specs.declared.lexer.Lexer.{Lexer}
 use Rattle.justfile_token.specs.Slice.{slice_of}
-use Rattle.justfile_model.specs.Places.{line_of_offset, column_at}
-use Rattle.justfile_model.specs.Tok.{Tok, tok_of}
-use Rattle.justfile_model.specs.Modes.{Mode, mode_after, tail_of}
-use Rattle.justfile_model.specs.LexResult.{IsFrom}
+use Rattle.justfile_model.specs.Lexing.Places.{line_of_offset, column_at}
+use Rattle.justfile_model.specs.Lexing.Tok.{Tok, tok_of}
+use Rattle.justfile_model.specs.Lexing.Modes.{Mode, mode_after, tail_of}
+use Rattle.justfile_model.specs.Lexing.LexResult.{IsFrom}
 use Rattle.justfile_lex.specs.Modes.{mode_of, interpolation_start_by}
-use Rattle.justfile_model.specs.LexicalFault.{Unclosed, UnterminatedInterpolation}
-use Rattle.justfile_model.specs.Next.{next, at_end_by}
-use Rattle.justfile_model.specs.Lexed.{next_of, Begins, IsFault, IsNext, Lexed, StandsAt}
+use Rattle.justfile_model.specs.Lexing.LexicalFault.{Unclosed, UnterminatedInterpolation}
+use Rattle.justfile_model.specs.Lexing.Next.{next, at_end_by}
+use Rattle.justfile_model.specs.Lexing.Lexed.{next_of, Begins, IsFault, IsNext, Lexed, StandsAt}
 use Rattle.justfile_lex.specs.Lexing.{IsLexerToken, IsLexing, IsPlaced, IsReading, Takes}
 
 pub earlier_push : (ts : List Token) (t : Token) → reverse (map tok_of (ts ++ t ∷ [])) ≡ tok_of t ∷ reverse (map tok_of ts)

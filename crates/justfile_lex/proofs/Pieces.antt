@@ -10,8 +10,8 @@ use Rattle.justfile_token.specs.declared.string_kind.StringDelimiter.TheVariants
 use Rattle.justfile_token.specs.StringKind.{quote_of, escapes}
 use Rattle.justfile_model.specs.declared.raw_text.RawText.{RawText}
 use Rattle.justfile_model.specs.declared.raw_text.RawText.TheVariants.{Comment, Body, Literal}
-use Rattle.justfile_model.specs.LiteralText.{hides, ends, pieces_len, raw_len}
-use Rattle.justfile_model.proofs.CutLemmas.{eq_from}
+use Rattle.justfile_model.specs.Lexing.LiteralText.{hides, ends, pieces_len, raw_len}
+use Rattle.justfile_model.proofs.Lexing.CutLemmas.{eq_from}
 use Rattle.justfile_lex.specs.RawTexts.{is_plain, is_plain_end, IsScanStep, IsWithinRaw}
 
 -- the text from a position is the byte there and the rest

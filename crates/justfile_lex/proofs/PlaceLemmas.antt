@@ -6,23 +6,23 @@ use Rattle.std.proofs.lemmas.Bool.{cases_lt, ne_eqb}
 use Rattle.std.proofs.lemmas.List.{take_more, take_all, length-take-le, length-take, get_or-take, reverse-append}
 use Rattle.std.proofs.lemmas.Bool.Decides.{nat_tests}
 use Rattle.std.proofs.lemmas.List.Sums.{count_by_more_yes, count_by_more_no, prefix_len-le-length, prefix_len_passes}
-use Rattle.justfile_model.proofs.CutLemmas.{ne_from}
+use Rattle.justfile_model.proofs.Lexing.CutLemmas.{ne_from}
 use Rattle.justfile_lex.specs.Lexing.{HasNoFeed}
-use Rattle.justfile_model.specs.Places.{is_newline, text_before, last_line_start, line_of_offset, column_at, IsPlace}
+use Rattle.justfile_model.specs.Lexing.Places.{is_line_feed, text_before, last_line_start, line_of_offset, column_at, IsPlace}
 
 abbrev is_other : ℕ → Bool
-is_other b = not (is_newline b)
+is_other b = not (is_line_feed b)
 
 abbrev counted : List ℕ → List ℕ
 counted text = take (length text - 1) text
 
-start_newline : (xs : List ℕ) (b : ℕ) → is_newline b ≡ true → last_line_start (xs ++ b ∷ []) ≡ length xs + 1
+start_newline : (xs : List ℕ) (b : ℕ) → is_line_feed b ≡ true → last_line_start (xs ++ b ∷ []) ≡ length xs + 1
 unfolding last_line_start
 start_newline xs b h =
     let e : prefix_len is_other (reverse (xs ++ b ∷ [])) ≡ 0 = ap (prefix_len is_other) (reverse-append xs (b ∷ [])) ∙ ap (λ v. cond (not v) (1 + prefix_len is_other (reverse xs)) 0) h in
     omega (arith, e, length-append xs (b ∷ []))
 
-start_other : (xs : List ℕ) (b : ℕ) → is_newline b ≡ false → last_line_start (xs ++ b ∷ []) ≡ last_line_start xs
+start_other : (xs : List ℕ) (b : ℕ) → is_line_feed b ≡ false → last_line_start (xs ++ b ∷ []) ≡ last_line_start xs
 unfolding last_line_start
 start_other xs b h =
     let e : prefix_len is_other (reverse (xs ++ b ∷ [])) ≡ 1 + prefix_len is_other (reverse xs) = ap (prefix_len is_other) (reverse-append xs (b ∷ [])) ∙ ap (λ v. cond (not v) (1 + prefix_len is_other (reverse xs)) 0) h in
@@ -53,9 +53,9 @@ pub place_newline : (text : List ℕ) (at line column : ℕ) → IsPlace text at
 unfolding line_of_offset column_at
 place_newline text at line column p l e =
     let inside : at < length (counted text) = omega (arith, length-take (length text - 1) text) in
-    let yes : is_newline (get_or text at 0) ≡ true = ap is_newline e in
+    let yes : is_line_feed (get_or text at 0) ≡ true = ap is_line_feed e in
     let same : get_or (counted text) at 0 ≡ get_or text at 0 = get_or-take (length text - 1) text at 0 (omega arith) in
-    let more = count_by_more_yes is_newline (counted text) at 0 inside (ap is_newline same ∙ yes) in
+    let more = count_by_more_yes is_line_feed (counted text) at 0 inside (ap is_line_feed same ∙ yes) in
     let start = ap last_line_start (before_more text at l) ∙ start_newline (text_before text at) (get_or text at 0) yes in
     let len = length_before text at (omega arith) in
     record {
@@ -82,12 +82,12 @@ place_other text at line column p l other =
     ⊎_elim
     (λ more.
     let inside : at < length (counted text) = omega (arith, length-take (length text - 1) text) in
-    let no : is_newline (get_or text at 0) ≡ false = ne_eqb (get_or text at 0) 10 (other more) in
+    let no : is_line_feed (get_or text at 0) ≡ false = ne_eqb (get_or text at 0) 10 (other more) in
     let same : get_or (counted text) at 0 ≡ get_or text at 0 = get_or-take (length text - 1) text at 0 (omega arith) in
     same_line text at line column p l
-    (count_by_more_no is_newline (counted text) at 0 inside (ap is_newline same ∙ no))
+    (count_by_more_no is_line_feed (counted text) at 0 inside (ap is_line_feed same ∙ no))
     (ap last_line_start (before_more text at more) ∙ start_other (text_before text at) (get_or text at 0) no))
-    (λ last. same_line text at line column p l (ap (count_by is_newline) (before_same text at last)) (ap last_line_start (before_same text at last)))
+    (λ last. same_line text at line column p l (ap (count_by is_line_feed) (before_same text at last)) (ap last_line_start (before_same text at last)))
     (cases_lt (at + 1) (length text))
 
 -- bytes without a line feed are on the same line

@@ -12,12 +12,12 @@ use Rattle.justfile_vocabulary.specs.ByteClass.{class_of}
 use Rattle.justfile_token.specs.declared.string_kind.StringKind.{StringKind}
 use Rattle.justfile_model.specs.declared.open_delimiter.OpenDelimiter.{OpenDelimiter}
 use Rattle.justfile_model.specs.declared.raw_text.RawText.TheVariants as raw_texts
-use Rattle.justfile_model.specs.Bytes.{blank, is_blank, blank_len, is_interpolation_start, is_interpolation_end, closes_levels, first_char}
-use Rattle.justfile_model.specs.LexicalFault.{LexicalError, Here, UnpairedCarriageReturn}
-use Rattle.justfile_model.specs.LiteralText.{raw_len}
-use Rattle.justfile_model.specs.Modes.{Mode, head_of, is_empty, innermost, nested}
-use Rattle.justfile_model.specs.Tok.{Tok}
-use Rattle.justfile_model.specs.Next.{NextToken, unknown, doubled_token, fixed_token, opening, literal_part, literal_token, unterminated, brace_by, closing, line_end_token, multibyte_token, other_token, token_by_class, text_or, body_token, at_end_by, Region, InText, InInterpolation, OutsideText, region_by, token_in_region, token_within_line, blanks_or, is_level, begins_blank_line, layout, next_by, next}
+use Rattle.justfile_model.specs.Lexing.Bytes.{blank, is_blank, blank_len, is_interpolation_start, is_interpolation_end, closes_levels, first_char}
+use Rattle.justfile_model.specs.Lexing.LexicalFault.{LexicalError, Here, UnpairedCarriageReturn}
+use Rattle.justfile_model.specs.Lexing.LiteralText.{raw_len}
+use Rattle.justfile_model.specs.Lexing.Modes.{Mode, head_of, is_empty, innermost, nested}
+use Rattle.justfile_model.specs.Lexing.Tok.{Tok}
+use Rattle.justfile_model.specs.Lexing.Next.{NextToken, unknown, doubled_token, fixed_token, opening, literal_part, literal_token, unterminated, brace_by, closing, line_end_token, multibyte_token, other_token, token_by_class, text_or, body_token, at_end_by, Region, InText, InInterpolation, OutsideText, region_by, token_in_region, token_within_line, blanks_or, is_level, begins_blank_line, layout, next_by, next}
 use Rattle.justfile_lex.specs.Explained.{undoubled}
 use Rattle.justfile_lex.specs.Layouts.{indent}
 

@@ -5,10 +5,10 @@ use Rattle.std.specs.Str.{IsUtf8}
 use Rattle.std.proofs.lemmas.List.Elements.{All-push}
 use Rattle.justfile_token.specs.declared.token.Token.{Token}
 use Rattle.justfile_vocabulary.specs.declared.token_kind.TokenKind.TheVariants.{Eof}
-use Rattle.justfile_model.specs.Lexed.{Lexed}
-use Rattle.justfile_model.specs.LexResult.{IsFrom}
-use Rattle.justfile_model.specs.SignificantTokens.{is_whitespace}
-use Rattle.justfile_model.specs.Tok.{tok_of}
+use Rattle.justfile_model.specs.Lexing.Lexed.{Lexed}
+use Rattle.justfile_model.specs.Lexing.LexResult.{IsFrom}
+use Rattle.justfile_model.specs.Lexing.SignificantTokens.{is_whitespace}
+use Rattle.justfile_model.specs.Lexing.Tok.{tok_of}
 use Rattle.justfile_lex.specs.Lexing.{IsLexing, Takes}
 use Rattle.justfile_lex.specs.SignificantTable.{IsTableOf}
 use Rattle.justfile_lex.specs.WhiteRun.{IsRunOf}

@@ -2,7 +2,7 @@
 use Rattle.std.proofs.Common.{◌≡◌, ℕ, ◌+◌, ◌-◌, ◌<◌, ◌≤◌, Bool, true, false, List, [], ◌∷◌, length, get_or, drop, refl, ap, subst, ◌∙◌, ⊎_elim, sym, arith, drop-drop, length-drop}
 use Rattle.std.proofs.lemmas.Bool.{cases_lt}
 use Rattle.justfile_vocabulary.specs.ByteClass.{class_of}
-use Rattle.justfile_model.specs.Bytes.{white, line_feed, closes_levels}
+use Rattle.justfile_model.specs.Lexing.Bytes.{white, line_feed, closes_levels}
 use Rattle.justfile_lex.specs.declared.white_run.WhiteRun.{WhiteRun}
 use Rattle.justfile_lex.specs.WhiteRun.{IsRunOf}
 use Rattle.justfile_lex.proofs.Pieces.{cell}

@@ -3,8 +3,8 @@ use Rattle.std.specs.Prelude.{ℕ, ◌==◌, List, [], ◌∷◌, length, drop, 
 use Rattle.std.specs.Char.{len_utf8}
 use Rattle.justfile_token.specs.declared.delimiter.Delimiter.{Delimiter}
 use Rattle.justfile_model.specs.declared.open_delimiter.OpenDelimiter.{OpenDelimiter}
-use Rattle.justfile_model.specs.Bytes.{first_char}
-use Rattle.justfile_model.specs.LexicalFault.{LexicalError, Here, MismatchedClosingDelimiter, UnexpectedCharacter, UnexpectedClosingDelimiter, UnexpectedEndOfToken}
+use Rattle.justfile_model.specs.Lexing.Bytes.{first_char}
+use Rattle.justfile_model.specs.Lexing.LexicalFault.{LexicalError, Here, MismatchedClosingDelimiter, UnexpectedCharacter, UnexpectedClosingDelimiter, UnexpectedEndOfToken}
 
 -- a closing delimiter that doesn't match the innermost open one
 abbrev pub unmatched : Option OpenDelimiter → (close : Delimiter) → LexicalError

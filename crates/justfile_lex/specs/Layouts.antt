@@ -2,10 +2,10 @@
 use Rattle.std.specs.Prelude.{ℕ, List, length, not, nat_eq, Ok, Err, if◌then◌else◌}
 use Rattle.std.specs.List.{starts_with}
 use Rattle.justfile_vocabulary.specs.declared.token_kind.TokenKind.TheVariants.{Indent}
-use Rattle.justfile_model.specs.Bytes.{is_mixed}
-use Rattle.justfile_model.specs.LexicalFault.{Here, InconsistentLeadingWhitespace, MixedLeadingWhitespace}
-use Rattle.justfile_model.specs.Modes.{Mode, innermost}
-use Rattle.justfile_model.specs.Next.{NextToken, tested_blanks}
+use Rattle.justfile_model.specs.Lexing.Bytes.{is_mixed}
+use Rattle.justfile_model.specs.Lexing.LexicalFault.{Here, InconsistentLeadingWhitespace, MixedLeadingWhitespace}
+use Rattle.justfile_model.specs.Lexing.Modes.{Mode, innermost}
+use Rattle.justfile_model.specs.Lexing.Next.{NextToken, tested_blanks}
 
 -- blanks that aren't a level and don't continue a body
 abbrev pub indent : Mode → List ℕ → NextToken

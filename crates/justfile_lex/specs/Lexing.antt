@@ -6,15 +6,15 @@ use Rattle.justfile_vocabulary.specs.declared.token_kind.TokenKind.TheVariants.{
 use Rattle.justfile_lex.specs.declared.lexer.Lexer.{Lexer}
 use Rattle.justfile_token.specs.Slice.{slice_of}
 use Rattle.justfile_vocabulary.specs.ByteNames as byte
-use Rattle.justfile_model.specs.Bytes.{is_blank}
-use Rattle.justfile_model.specs.Places.{IsPlace}
-use Rattle.justfile_model.specs.Tok.{Tok, tok_of}
-use Rattle.justfile_model.specs.Modes.{mode, mode_after}
-use Rattle.justfile_model.specs.LexResult.{IsFrom}
+use Rattle.justfile_model.specs.Lexing.Bytes.{is_blank}
+use Rattle.justfile_model.specs.Lexing.Places.{IsPlace}
+use Rattle.justfile_model.specs.Lexing.Tok.{Tok, tok_of}
+use Rattle.justfile_model.specs.Lexing.Modes.{mode, mode_after}
+use Rattle.justfile_model.specs.Lexing.LexResult.{IsFrom}
 use Rattle.justfile_lex.specs.Modes.{mode_of}
-use Rattle.justfile_model.specs.Lexed.{end_of, Begins, StandsAt}
-use Rattle.justfile_model.specs.Next.{next}
-use Rattle.justfile_model.specs.SignificantTokens.{is_whitespace}
+use Rattle.justfile_model.specs.Lexing.Lexed.{end_of, Begins, StandsAt}
+use Rattle.justfile_model.specs.Lexing.Next.{next}
+use Rattle.justfile_model.specs.Lexing.SignificantTokens.{is_whitespace}
 use Rattle.justfile_token.specs.declared.token.Token.{Token}
 
 -- tokens of the kind are searched for line feeds: the other kinds have none

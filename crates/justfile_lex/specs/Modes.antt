@@ -3,8 +3,8 @@ use Rattle.std.specs.Prelude.{map, reverse, option_map, Option, None, Some}
 use Rattle.justfile_token.specs.declared.token.Token.{Token}
 use Rattle.justfile_vocabulary.specs.declared.token_kind.TokenKind.{TokenKind}
 use Rattle.justfile_vocabulary.specs.declared.token_kind.TokenKind.TheVariants.{InterpolationStart, InterpolationEnd}
-use Rattle.justfile_model.specs.Tok.{tok_of}
-use Rattle.justfile_model.specs.Modes.{Mode}
+use Rattle.justfile_model.specs.Lexing.Tok.{tok_of}
+use Rattle.justfile_model.specs.Lexing.Modes.{Mode}
 use Rattle.justfile_lex.specs.declared.mode.Mode.{Mode as CodeMode}
 
 abbrev pub mode_of : CodeMode → Mode

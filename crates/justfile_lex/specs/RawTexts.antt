@@ -3,7 +3,7 @@ use Rattle.std.specs.Prelude.{◌≡◌, ℕ, ◌+◌, ◌≤◌, Bool, not, ◌
 use Rattle.justfile_model.specs.declared.raw_text.RawText.{RawText}
 use Rattle.justfile_model.specs.declared.raw_text.RawText.TheVariants.{Comment, Body, Literal}
 use Rattle.justfile_token.specs.StringKind.{quote_of}
-use Rattle.justfile_model.specs.LiteralText.{raw_len}
+use Rattle.justfile_model.specs.Lexing.LiteralText.{raw_len}
 use Rattle.justfile_vocabulary.specs.ByteNames as byte
 
 -- the same in a literal with this quote

@@ -6,7 +6,7 @@ use Rattle.justfile_lex.specs.declared.scan_error.Scanned.{Scanned}
 use Rattle.justfile_lex.specs.declared.scan_error.ScanError.{ScanError as ScanError}
 use Rattle.justfile_lex.specs.declared.lexical_fault.LexicalFault.{LexicalFault as CodeFault}
 use Rattle.justfile_lex.specs.declared.lexical_fault.LexicalFault.TheVariants as faults
-use Rattle.justfile_model.specs.LexicalFault.{LexicalFault, EscapeEndOfFile, InconsistentLeadingWhitespace, InvalidEscapeSequence, MismatchedClosingDelimiter, MixedLeadingWhitespace, UnexpectedCharacter, UnexpectedClosingDelimiter, UnexpectedEndOfToken, UnknownStartOfToken, UnpairedCarriageReturn, UnterminatedBacktick, UnterminatedString, LexicalError, Here}
+use Rattle.justfile_model.specs.Lexing.LexicalFault.{LexicalFault, EscapeEndOfFile, InconsistentLeadingWhitespace, InvalidEscapeSequence, MismatchedClosingDelimiter, MixedLeadingWhitespace, UnexpectedCharacter, UnexpectedClosingDelimiter, UnexpectedEndOfToken, UnknownStartOfToken, UnpairedCarriageReturn, UnterminatedBacktick, UnterminatedString, LexicalError, Here}
 
 abbrev pub scan_fault : CodeFault → LexicalFault
 scan_fault faults.EscapeEndOfFile = EscapeEndOfFile

@@ -2,10 +2,10 @@
 use Rattle.std.specs.Prelude.{◌≡◌, ℕ, Bool, List, map, not}
 use Rattle.std.specs.List.{All, filter}
 use Rattle.justfile_token.specs.declared.token.Token.{Token}
-use Rattle.justfile_model.specs.Lexed.{Lexed}
-use Rattle.justfile_model.specs.LexResult.{IsFrom}
-use Rattle.justfile_model.specs.SignificantTokens.{is_whitespace, significant_tokens}
-use Rattle.justfile_model.specs.Tok.{tok_of}
+use Rattle.justfile_model.specs.Lexing.Lexed.{Lexed}
+use Rattle.justfile_model.specs.Lexing.LexResult.{IsFrom}
+use Rattle.justfile_model.specs.Lexing.SignificantTokens.{is_whitespace, significant_tokens}
+use Rattle.justfile_model.specs.Lexing.Tok.{tok_of}
 
 -- The entries are the tokens that aren't whitespace, each with whether it is glued to the one before.
 pub record AreSignificant (tokens : List Token) (entries : List (Token × Bool)) : Type 0 where

@@ -2,7 +2,7 @@
 ghost use Rattle.std.specs.Prelude.{◌≡◌, ◌+◌, ◌<◌, ◌≤◌, ◌||◌, ◌&&◌, ◌==◌, nat_eq, false, length, take, drop, MatchOption};
 ghost use Rattle.std.specs.List.{prefix_len, list_any, starts_with};
 ghost use Rattle.std.specs.Str.{IsCharBoundary};
-ghost use Rattle.justfile_model.specs.Bytes.{blank, in_word, white, line_feed, blank_len, word_len, is_line_end, is_interpolation_start, is_interpolation_end, is_interpolation_escape, is_mixed, first_char};
+ghost use Rattle.justfile_model.specs.Lexing.Bytes.{blank, in_word, white, line_feed, blank_len, word_len, is_line_end, is_interpolation_start, is_interpolation_end, is_interpolation_escape, is_mixed, first_char};
 
 use crate::lanes::{LANES, word_run};
 use justfile_vocabulary::ByteClass;

@@ -3,8 +3,8 @@ ghost use Rattle.std.specs.Prelude.{◌≡◌, ◌<◌, Err, None, length, slice
 ghost use Rattle.std.specs.Result.{result_ok};
 ghost use Rattle.std.specs.Str.{IsCharBoundary};
 ghost use Rattle.justfile_vocabulary.specs.ByteClass.{class_of};
-ghost use Rattle.justfile_model.specs.Bytes.{blank_len};
-ghost use Rattle.justfile_model.specs.Next.{brace_by, closing, escaped_line_end, fixed_token, format_kind, literal_token, next, other_token, token_by_class, unknown};
+ghost use Rattle.justfile_model.specs.Lexing.Bytes.{blank_len};
+ghost use Rattle.justfile_model.specs.Lexing.Next.{brace_by, closing, escaped_line_end, fixed_token, format_kind, literal_token, next, other_token, token_by_class, unknown};
 ghost use Rattle.justfile_lex.specs.Explained.{undoubled, unmatched};
 ghost use Rattle.justfile_lex.specs.Layouts.{indent};
 ghost use Rattle.justfile_lex.specs.Modes.{mode_of};

@@ -3,7 +3,7 @@ ghost use Rattle.std.specs.Prelude.{◌≡◌, ◌+◌, ◌≤◌, ◌==◌, if�
 ghost use Rattle.std.specs.List.{prefix_len};
 ghost use Rattle.std.specs.Int.{w64, trailing_zeros};
 ghost use Rattle.justfile_model.specs.declared.raw_text.RawText.TheVariants.{Body, Comment};
-ghost use Rattle.justfile_model.specs.Bytes.{word_len};
+ghost use Rattle.justfile_model.specs.Lexing.Bytes.{word_len};
 ghost use Rattle.justfile_lex.specs.RawTexts.{is_plain, is_plain_in};
 
 use std::simd::prelude::*;

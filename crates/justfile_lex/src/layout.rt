@@ -2,8 +2,8 @@
 ghost use Rattle.std.specs.Prelude.{◌≡◌, ◌<◌, ◌&&◌, nat_eq, length, None};
 ghost use Rattle.std.specs.List.{starts_with};
 ghost use Rattle.std.specs.Result.{result_ok};
-ghost use Rattle.justfile_model.specs.Bytes.{blank_len};
-ghost use Rattle.justfile_model.specs.Next.{end_token, blanks_or, tested_blanks, begins_blank_line, layout, at_line_start, next};
+ghost use Rattle.justfile_model.specs.Lexing.Bytes.{blank_len};
+ghost use Rattle.justfile_model.specs.Lexing.Next.{end_token, blanks_or, tested_blanks, begins_blank_line, layout, at_line_start, next};
 ghost use Rattle.justfile_lex.specs.Layouts.{indent};
 ghost use Rattle.justfile_lex.specs.Modes.{mode_of};
 ghost use Rattle.justfile_lex.specs.Scanned.{found_of};
@@ -17,7 +17,7 @@ use crate::white_run::WhiteRun;
 use justfile_vocabulary::TokenKind;
 
 /// Scans the next token.
-#[tactic(auto, unfolding(justfile_model::specs::Next::next))]
+#[tactic(auto, unfolding(justfile_model::specs::Lexing::Next::next))]
 pub(crate) fn scan_token(mode: &Mode, run: &mut WhiteRun, rest: &str) -> Scanned
     requires closed { length rest.now ≡ 0 → (mode_of mode.now).interpolation ≡ None }
     requires run { IsRunOf rest.now run.old }
@@ -46,7 +46,7 @@ fn scan_end(mode: &Mode) -> Scanned
 }
 
 /// Scans the token at the start of a line.
-#[tactic(auto, unfolding(justfile_model::specs::Next::layout))]
+#[tactic(auto, unfolding(justfile_model::specs::Lexing::Next::layout))]
 fn scan_line_start(mode: &Mode, run: &mut WhiteRun, rest: &str) -> Scanned
     requires some { 0 < length rest.now }
     requires run { IsRunOf rest.now run.old }

@@ -1,6 +1,6 @@
 //! Why a text has no next token, and the error that reports it.
 ghost use Rattle.std.specs.Prelude.{◌≡◌, IfOk};
-ghost use Rattle.justfile_model.specs.LexicalFault.{lexical_fault_of};
+ghost use Rattle.justfile_model.specs.Lexing.LexicalFault.{lexical_fault_of};
 ghost use Rattle.justfile_lex.specs.Scanned.{scan_fault};
 
 use justfile_token::{CompileErrorKind, Delimiter};

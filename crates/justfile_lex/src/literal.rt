@@ -2,7 +2,7 @@
 ghost use Rattle.std.specs.Prelude.{◌≡◌, ◌≤◌, ◌<◌, ◌&&◌, length, true};
 ghost use Rattle.std.specs.Result.{result_ok};
 ghost use Rattle.justfile_token.specs.StringKind.{delimiter_len, kind_of};
-ghost use Rattle.justfile_model.specs.Next.{unterminated, is_backtick, literal_part, literal_token, is_same, closing_delimiter, format_string_kind, format_kind, brace_by, closing};
+ghost use Rattle.justfile_model.specs.Lexing.Next.{unterminated, is_backtick, literal_part, literal_token, is_same, closing_delimiter, format_string_kind, format_kind, brace_by, closing};
 ghost use Rattle.justfile_lex.specs.Modes.{mode_of};
 ghost use Rattle.justfile_lex.specs.Scanned.{found_of, names_token, scan_fault};
 
@@ -94,7 +94,7 @@ fn format_of(delimiter: Delimiter) -> Option<StringKind>
 
 /// Scans a literal or a part of a format string with an opener of `opener_len` bytes. Its kind is
 /// `continued` if an interpolation follows, and otherwise `ended`.
-#[tactic(auto, unfolding(justfile_model::specs::Next::literal_part))]
+#[tactic(auto, unfolding(justfile_model::specs::Lexing::Next::literal_part))]
 fn scan_literal_part(
     kind: StringKind,
     format: bool,

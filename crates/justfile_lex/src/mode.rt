@@ -2,8 +2,8 @@
 ghost use Rattle.std.specs.Prelude.{◌≡◌, ◌||◌, ◌+◌, ◌≤◌, map, not, length, ◌==◌, [], ◌∷◌, OnOk, None, true, false};
 ghost use Rattle.std.specs.List.{list_any, count_by};
 ghost use Rattle.std.specs.Str.{bytes_eq};
-ghost use Rattle.justfile_model.specs.Places.{is_newline};
-ghost use Rattle.justfile_model.specs.Modes.{ends_in_newline};
+ghost use Rattle.justfile_model.specs.Lexing.Places.{is_line_feed};
+ghost use Rattle.justfile_model.specs.Lexing.Modes.{ends_in_newline};
 
 use justfile_model::OpenDelimiter;
 use justfile_token::{Delimiter, StringKind, Token};
@@ -30,9 +30,9 @@ pub(crate) struct Mode<'src> {
 }
 
 impl<'src> Mode<'src> {
-    ghost use Rattle.justfile_model.specs.Modes.{mode, mode_after, innermost, nested, start_mode, is_empty, head_of, tail_of, opener};
-    ghost use Rattle.justfile_model.specs.Next.{is_level};
-    ghost use Rattle.justfile_model.specs.Tok.{tok_of};
+    ghost use Rattle.justfile_model.specs.Lexing.Modes.{mode, mode_after, innermost, nested, start_mode, is_empty, head_of, tail_of, opener};
+    ghost use Rattle.justfile_model.specs.Lexing.Next.{is_level};
+    ghost use Rattle.justfile_model.specs.Lexing.Tok.{tok_of};
     ghost use Rattle.justfile_lex.specs.Modes.{mode_of, interpolation_after};
 
     /// Returns the mode at the start of a text.
@@ -206,7 +206,7 @@ fn is_letter_f(text: &[u8]) -> bool
 
 /// Returns the number of line feeds.
 fn count_newlines(bytes: &[u8]) -> usize
-    ensures { result ≡ count_by is_newline bytes.now }
+    ensures { result ≡ count_by is_line_feed bytes.now }
 {
     bytes.iter().filter(|b| **b == b'\n').count()
 }

@@ -1,7 +1,7 @@
 //! Lines and columns of offsets.
 ghost use Rattle.std.specs.Prelude.{◌≡◌, ◌+◌, ◌<◌, ◌≤◌, length, not};
 ghost use Rattle.std.specs.List.{prefix_len};
-ghost use Rattle.justfile_model.specs.Places.{is_newline, IsPlace};
+ghost use Rattle.justfile_model.specs.Lexing.Places.{is_line_feed, IsPlace};
 
 /// A line and a column, both from 0. Columns are in bytes.
 #[derive(Clone, Copy, Debug, PartialEq, Eq)]
@@ -31,7 +31,7 @@ pub(crate) fn place_after(bytes: &[u8], start: Place, from: usize, to: usize) ->
 
 /// Returns the number of bytes before the first line feed.
 fn line_len(bytes: &[u8]) -> usize
-    ensures { result ≡ prefix_len (λ b. not (is_newline b)) bytes.now }
+    ensures { result ≡ prefix_len (λ b. not (is_line_feed b)) bytes.now }
 {
     bytes.iter().take_while(|byte| **byte != b'\n').count()
 }

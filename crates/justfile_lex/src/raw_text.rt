@@ -3,7 +3,7 @@ ghost use Rattle.std.specs.Prelude.{◌≡◌, ◌+◌, ◌≤◌, length, take,
 ghost use Rattle.std.specs.List.{prefix_len};
 ghost use Rattle.justfile_model.specs.declared.raw_text.RawText.TheVariants.{Literal};
 ghost use Rattle.justfile_token.specs.StringKind.{quote_of};
-ghost use Rattle.justfile_model.specs.LiteralText.{is_delimiter, hides, ends, raw_len};
+ghost use Rattle.justfile_model.specs.Lexing.LiteralText.{is_delimiter, hides, ends, raw_len};
 ghost use Rattle.justfile_lex.specs.RawTexts.{is_plain, is_plain_end, IsScanStep};
 
 use crate::bytes::{is_interpolation_escape, is_interpolation_start, is_line_end, skip};

@@ -2,7 +2,7 @@
 ghost use Rattle.std.specs.Prelude.{◌≡◌, ◌+◌, ◌<◌, ◌≤◌, length, slice_index, true};
 ghost use Rattle.std.specs.Result.{result_ok};
 ghost use Rattle.justfile_vocabulary.specs.ByteClass.{class_of};
-ghost use Rattle.justfile_model.specs.Next.{doubled_token, fixed_token, opening, line_end_token, escaped_line_end, multibyte_token, other_token, token_by_class, token_outside_text, body_token, interpolated, token_within_line};
+ghost use Rattle.justfile_model.specs.Lexing.Next.{doubled_token, fixed_token, opening, line_end_token, escaped_line_end, multibyte_token, other_token, token_by_class, token_outside_text, body_token, interpolated, token_within_line};
 ghost use Rattle.justfile_lex.specs.Modes.{mode_of};
 ghost use Rattle.justfile_lex.specs.Scanned.{found_of, names_token};
 
@@ -22,7 +22,7 @@ const BYTE_ORDER_MARK: char = '\u{feff}';
 
 /// Scans the next token, other than a dedent, an indent, or the blanks at the start of a line.
 #[inline(always)]
-#[tactic(auto, unfolding(justfile_model::specs::Next::token_within_line))]
+#[tactic(auto, unfolding(justfile_model::specs::Lexing::Next::token_within_line))]
 pub(crate) fn scan_within_line(mode: &Mode, rest: &str) -> Scanned
     requires { 0 < length rest.now }
     ensures { found_of result ≡ result_ok (token_within_line (mode_of mode.now) rest.now) }
@@ -63,7 +63,7 @@ fn scan_outside_text(mode: &Mode, rest: &str) -> Scanned
 
 /// Scans the next token outside of body text, by the class of its first byte.
 #[inline(always)]
-#[tactic(auto, unfolding(justfile_model::specs::Next::token_by_class))]
+#[tactic(auto, unfolding(justfile_model::specs::Lexing::Next::token_by_class))]
 fn scan_by_class(mode: &Mode, class: ByteClass, rest: &str) -> Scanned
     requires some { 0 < length rest.now }
     requires class { class ≡ class_of (slice_index rest.now 0) }
@@ -118,7 +118,7 @@ fn scan_opener(rest: &[u8]) -> Scanned
 
 /// Scans a token of fixed text other than a delimiter.
 #[inline(always)]
-#[tactic(auto, unfolding(justfile_model::specs::Next::fixed_token))]
+#[tactic(auto, unfolding(justfile_model::specs::Lexing::Next::fixed_token))]
 fn scan_fixed(byte: u8, rest: &[u8]) -> Scanned
     ensures { found_of result ≡ result_ok (fixed_token byte rest.now) }
 {
@@ -212,7 +212,7 @@ fn scan_escaped_line_end(rest: &[u8]) -> Scanned
 }
 
 /// Scans the next token of a body, outside of interpolations.
-#[tactic(auto, unfolding(justfile_model::specs::Next::body_token))]
+#[tactic(auto, unfolding(justfile_model::specs::Lexing::Next::body_token))]
 fn scan_body(bytes: &[u8]) -> Scanned
     ensures { found_of result ≡ result_ok (body_token bytes.now) }
 {

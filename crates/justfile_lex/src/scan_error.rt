@@ -1,6 +1,6 @@
 //! What a scan returns, and what its error says.
 ghost use Rattle.std.specs.Prelude.{◌≡◌, Option, None, Some, true};
-ghost use Rattle.justfile_model.specs.LexicalFault.{Here};
+ghost use Rattle.justfile_model.specs.Lexing.LexicalFault.{Here};
 ghost use Rattle.justfile_lex.specs.Scanned.{found_of, lexical_error_of, names_token, scan_fault};
 
 use crate::lexical_fault::LexicalFault;

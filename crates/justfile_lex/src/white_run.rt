@@ -1,6 +1,6 @@
 //! Whether levels close before blank lines, read once for each run of white bytes.
 ghost use Rattle.std.specs.Prelude.{◌≡◌, false};
-ghost use Rattle.justfile_model.specs.Bytes.{white, line_feed, closes_levels};
+ghost use Rattle.justfile_model.specs.Lexing.Bytes.{white, line_feed, closes_levels};
 
 use crate::bytes::{is_line_feed, is_white};
 use justfile_vocabulary::byte_class::byte_class;

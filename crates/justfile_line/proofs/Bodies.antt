@@ -4,8 +4,8 @@ use Rattle.std.proofs.Common.{slice_index, ◌==◌, ◌≡◌, ℕ, ◌-◌, Bo
 use Rattle.std.specs.List.{flat_map, list_all, slice_get}
 use Rattle.std.specs.Option.{option_and_then}
 use Rattle.std.proofs.lemmas.List.Folds.{flat_map-map}
-use Rattle.justfile_model.specs.Tree.{over_fragment, over_line, lexeme, nothing}
-use Rattle.justfile_model.specs.Printing.{fixed_text, fragment_text, line_text, body_text, ends_in_return, printable_fragments, printable_body}
+use Rattle.justfile_model.specs.Trees.Tree.{over_fragment, over_line, lexeme, nothing}
+use Rattle.justfile_model.specs.Printed.Printing.{fixed_text, fragment_text, line_text, body_text, ends_in_return, printable_fragments, printable_body}
 use Rattle.justfile_line.specs.declared.fragment.Fragment.{Fragment}
 use Rattle.justfile_line.specs.declared.fragment.Fragment.TheVariants.{Interpolation, Text}
 use Rattle.justfile_line.specs.declared.line.Line.{Line}

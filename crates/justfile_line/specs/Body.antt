@@ -1,10 +1,10 @@
 -- The trees of body lines and fragments, and their texts.
 use Rattle.std.specs.Prelude.{ℕ, List, [], map}
 use Rattle.std.specs.List.{flat_map}
-use Rattle.justfile_model.specs.Tok.{Tok, tok_of}
-use Rattle.justfile_model.specs.Tree as tree
-use Rattle.justfile_model.specs.Tree.{lexeme, nothing, over_fragment, over_line}
-use Rattle.justfile_model.specs.Printing.{fragment_text}
+use Rattle.justfile_model.specs.Lexing.Tok.{Tok, tok_of}
+use Rattle.justfile_model.specs.Trees.Tree as tree
+use Rattle.justfile_model.specs.Trees.Tree.{lexeme, nothing, over_fragment, over_line}
+use Rattle.justfile_model.specs.Printed.Printing.{fragment_text}
 use Rattle.justfile_expression.specs.Expression.{expr_of, expr_cooked}
 use Rattle.justfile_line.specs.declared.fragment.Fragment.{Fragment}
 use Rattle.justfile_line.specs.declared.fragment.Fragment.TheVariants.{Interpolation, Text}

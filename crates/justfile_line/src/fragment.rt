@@ -1,6 +1,6 @@
 //! Fragments of body lines: texts and interpolations.
 ghost use Rattle.std.specs.Prelude.{◌++◌, codes};
-ghost use Rattle.justfile_model.specs.Printing.{fixed_text, fragment_text};
+ghost use Rattle.justfile_model.specs.Printed.Printing.{fixed_text, fragment_text};
 ghost use Rattle.justfile_token.specs.Sink.{Puts};
 ghost use Rattle.justfile_line.specs.Body.{fragment_shape};
 
@@ -82,7 +82,7 @@ pub(crate) fn write_fragment<S: Sink>(fragment: &Fragment<'_>, sink: &mut S) -> 
 }
 
 /// Writes `{{` and a space.
-#[tactic(auto, unfolding(justfile_model::specs::Printing::fixed_text))]
+#[tactic(auto, unfolding(justfile_model::specs::Printed::Printing::fixed_text))]
 fn write_interpolation_start<S: Sink>(sink: &mut S) -> Result<(), S::Fault>
     ensures { Puts S.took S.failed sink.old result (fixed_text (codes "{{ ")) sink.new }
 {
@@ -90,7 +90,7 @@ fn write_interpolation_start<S: Sink>(sink: &mut S) -> Result<(), S::Fault>
 }
 
 /// Writes a space and `}}`.
-#[tactic(auto, unfolding(justfile_model::specs::Printing::fixed_text))]
+#[tactic(auto, unfolding(justfile_model::specs::Printed::Printing::fixed_text))]
 fn write_interpolation_end<S: Sink>(sink: &mut S) -> Result<(), S::Fault>
     ensures { Puts S.took S.failed sink.old result (fixed_text (codes " }}")) sink.new }
 {

@@ -3,7 +3,7 @@ ghost use Rattle.std.specs.Prelude.{◌≡◌, ◌↔◌, IfOk, IsTrue};
 ghost use Rattle.std.specs.List.{Contains};
 ghost use Rattle.std.specs.Option.{option_copied};
 ghost use Rattle.justfile_vocabulary.specs.Indentation.{indentation_text};
-ghost use Rattle.justfile_model.specs.Printing.{ends_in_return, line_text, printable_fragments};
+ghost use Rattle.justfile_model.specs.Printed.Printing.{ends_in_return, line_text, printable_fragments};
 ghost use Rattle.justfile_token.specs.Sink.{Puts};
 ghost use Rattle.justfile_line.specs.Copies.{IsSameLine};
 ghost use Rattle.justfile_line.specs.Body.{fragment_shapes, fragments_text, line_shape};

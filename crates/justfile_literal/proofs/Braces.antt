@@ -3,8 +3,8 @@ use Rattle.std.proofs.Common.{◌≡◌, ℕ, zero, suc, ◌<◌, ◌≤◌, Boo
 use Rattle.std.specs.Str.Pattern.{FindsText, LacksTextAt}
 use Rattle.std.specs.Str.Replace.{ReplacesMatches}
 use Rattle.std.proofs.lemmas.Bool.Decides.{nat_tests}
-use Rattle.justfile_model.specs.Bytes.{is_interpolation_escape, is_interpolation_start}
-use Rattle.justfile_model.specs.Literals.{unescaped_braces, unescaped_from}
+use Rattle.justfile_model.specs.Lexing.Bytes.{is_interpolation_escape, is_interpolation_start}
+use Rattle.justfile_model.specs.LiteralTexts.Literals.{unescaped_braces, unescaped_from}
 
 abbrev four : List ℕ
 four = codes "{{{{"

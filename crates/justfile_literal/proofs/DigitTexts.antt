@@ -11,9 +11,9 @@ use Rattle.std.proofs.lemmas.Bool.Decides.{nat_tests}
 use Rattle.std.proofs.lemmas.List.{length-take-le, take-append-drop}
 use Rattle.std.proofs.lemmas.Str.{IsCharBoundary-from_drop, chars-encodes, encode_ascii, encodes-chars, scalars-chars}
 use Rattle.std.proofs.lemmas.Str.Parse.{without_leading_plus_none}
-use Rattle.justfile_model.specs.Cook.{AreHex}
-use Rattle.justfile_model.specs.EscapeFault.{UnicodeEscapeLength}
-use Rattle.justfile_model.specs.FirstPiece.{closing_brace, digits, hex_len}
+use Rattle.justfile_model.specs.LiteralTexts.Cook.{AreHex}
+use Rattle.justfile_model.specs.LiteralTexts.EscapeFault.{UnicodeEscapeLength}
+use Rattle.justfile_model.specs.LiteralTexts.FirstPiece.{closing_brace, digits, hex_len}
 use Rattle.justfile_literal.proofs.Digits.{hex_front, hex_is, hex_upto, is_hex_head}
 
 -- ---- counting

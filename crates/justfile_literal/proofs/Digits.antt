@@ -2,7 +2,7 @@
 use Rattle.std.proofs.Common.{zero, suc, ◌≡◌, ℕ, ◌+◌, ◌<◌, ◌≤◌, Bool, true, false, cond, List, [], ◌∷◌, ◌++◌, length, take, drop, refl, ap, subst, arith}
 use Rattle.std.specs.List.{prefix_len}
 use Rattle.std.specs.Char.{is_ascii_hexdigit}
-use Rattle.justfile_model.specs.Cook.{AreHex}
+use Rattle.justfile_model.specs.LiteralTexts.Cook.{AreHex}
 
 -- the number of digits at the front, at most `most`
 abbrev pub hex_upto : ℕ → List ℕ → ℕ

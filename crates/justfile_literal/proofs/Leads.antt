@@ -2,9 +2,9 @@
 use Rattle.std.proofs.Common.{◌≡◌, ℕ, ◌<◌, List, [], ◌∷◌, ◌++◌, length, Option, Ok, Err, IsUtf8, sym, ap, subst, ◌∙◌, append_assoc, append-nil}
 use Rattle.std.specs.Prelude.{chars, encode_utf8_all, flat_map, option_to_list}
 use Rattle.std.proofs.lemmas.Str.{encodes-append, encodes-chars}
-use Rattle.justfile_model.specs.Cook.{Cooks, Refused, value_of}
-use Rattle.justfile_model.specs.EscapeFault.{EscapeFault}
-use Rattle.justfile_model.specs.FirstPiece.{first_escaped_piece}
+use Rattle.justfile_model.specs.LiteralTexts.Cook.{Cooks, Refused, value_of}
+use Rattle.justfile_model.specs.LiteralTexts.EscapeFault.{EscapeFault}
+use Rattle.justfile_model.specs.LiteralTexts.FirstPiece.{first_escaped_piece}
 use Rattle.justfile_literal.proofs.PieceSound.{Begins, Breaks, Means, piece_means}
 use Rattle.justfile_literal.proofs.Texts.{broken, cooks, made, refused}
 use Rattle.justfile_literal.proofs.PieceLists.{Made, begins_shorter, broken_first, made_empty, whole_more}

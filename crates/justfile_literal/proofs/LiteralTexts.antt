@@ -8,13 +8,13 @@ use Rattle.justfile_token.specs.declared.fault.Fault.TheVariants.{Compile, Memor
 use Rattle.justfile_token.specs.declared.string_kind.StringKind.{StringKind}
 use Rattle.justfile_token.specs.declared.token.Token.{Token}
 use Rattle.justfile_token.specs.StringKind.{escapes}
-use Rattle.justfile_model.specs.Cook.{Cooks, IsCookFault}
-use Rattle.justfile_model.specs.FirstPiece as pieces
-use Rattle.justfile_model.specs.Literals.{Escape, by_escapes, escaped}
+use Rattle.justfile_model.specs.LiteralTexts.Cook.{Cooks, IsCookFault}
+use Rattle.justfile_model.specs.LiteralTexts.FirstPiece as pieces
+use Rattle.justfile_model.specs.LiteralTexts.Literals.{Escape, by_escapes, escaped}
 use Rattle.justfile_literal.specs.Literal.{IsTextFault, is_framed, literal_fault_of}
 use Rattle.justfile_token.specs.declared.compile_error_kind.CompileErrorKind.{CompileErrorKind}
 use Rattle.justfile_token.specs.declared.compile_error_kind.CompileErrorKind.TheVariants as errors
-use Rattle.justfile_model.specs.EscapeFault.{EscapeFault, escape_fault_of}
+use Rattle.justfile_model.specs.LiteralTexts.EscapeFault.{EscapeFault, escape_fault_of}
 use Rattle.justfile_literal.proofs.Texts.{cooked_complete, fault_complete}
 
 -- without this many bytes at its two ends, the lexeme is a text between two ASCII bytes

@@ -2,9 +2,9 @@
 use Rattle.std.proofs.Common.{◌≡◌, ℕ, ◌≤◌, List, [], ◌∷◌, ◌++◌, length, Option, Ok, Err, sym, ap, ◌∙◌, arith, append_assoc, length-append}
 use Rattle.std.specs.Prelude.{encode_utf8_all, flat_map}
 use Rattle.std.proofs.lemmas.Str.{encodes_same}
-use Rattle.justfile_model.specs.Cook.{AreEscapedPieces, BadPiece, IsBad, Piece, Refused, bad_text, fault_of, raw_of}
-use Rattle.justfile_model.specs.EscapeFault.{EscapeFault}
-use Rattle.justfile_model.specs.FirstPiece.{PieceRead}
+use Rattle.justfile_model.specs.LiteralTexts.Cook.{AreEscapedPieces, BadPiece, IsBad, Piece, Refused, bad_text, fault_of, raw_of}
+use Rattle.justfile_model.specs.LiteralTexts.EscapeFault.{EscapeFault}
+use Rattle.justfile_model.specs.LiteralTexts.FirstPiece.{PieceRead}
 use Rattle.justfile_literal.proofs.Complete.{bad_front, front, good_front}
 
 abbrev rest_of : PieceRead → List ℕ

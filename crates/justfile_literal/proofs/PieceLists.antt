@@ -1,9 +1,9 @@
 -- Lists of pieces, parsed one after another.
 use Rattle.std.proofs.Common.{zero, suc, ◌≡◌, ℕ, ◌+◌, ◌<◌, ◌≤◌, List, [], ◌∷◌, ◌++◌, length, Option, Ok, Err, refl, sym, ap, subst, ◌∙◌, arith, append_assoc, append-nil, length-append}
 use Rattle.std.specs.Prelude.{flat_map, option_to_list}
-use Rattle.justfile_model.specs.Cook.{AreEscapedPieces, BadPiece, CarriageReturnLineFeed, Empty, EndsAtBackslash, EndsAtU, EndsInBraces, IsBad, LineFeed, Named, NoDigit, OutOfRange, Piece, Plain, TooLong, Unicode, Unknown, Unopened, bad_text, fault_of, raw_of, value_of}
-use Rattle.justfile_model.specs.EscapeFault.{EscapeFault}
-use Rattle.justfile_model.specs.FirstPiece.{Cooked, PieceRead, cook, cook_within, go_on, first_escaped_piece, with_value}
+use Rattle.justfile_model.specs.LiteralTexts.Cook.{AreEscapedPieces, BadPiece, CarriageReturnLineFeed, Empty, EndsAtBackslash, EndsAtU, EndsInBraces, IsBad, LineFeed, Named, NoDigit, OutOfRange, Piece, Plain, TooLong, Unicode, Unknown, Unopened, bad_text, fault_of, raw_of, value_of}
+use Rattle.justfile_model.specs.LiteralTexts.EscapeFault.{EscapeFault}
+use Rattle.justfile_model.specs.LiteralTexts.FirstPiece.{Cooked, PieceRead, cook, cook_within, go_on, first_escaped_piece, with_value}
 use Rattle.justfile_literal.proofs.Complete.{bad_front, front, good_front}
 use Rattle.justfile_literal.proofs.PieceSound.{Begins, Breaks, Means, piece_means}
 

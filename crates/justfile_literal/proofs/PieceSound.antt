@@ -5,9 +5,9 @@ use lib.Utf8.{scalar}
 use Rattle.std.specs.Str.Parse.{digits_value}
 use Rattle.std.proofs.lemmas.Bool.{cond_both, eqb-true, eqb-false, ltb-true, ltb-false, ne_eqb, both_ways}
 use Rattle.std.proofs.lemmas.List.{take-append-drop}
-use Rattle.justfile_model.specs.Cook.{AreHex, BadPiece, CarriageReturnLineFeed, Empty, EndsAtBackslash, EndsAtU, EndsInBraces, IsBad, IsPiece, LineFeed, Named, NoDigit, OutOfRange, Piece, Plain, TooLong, Unicode, Unknown, Unopened, bad_text, fault_of, named, raw_of, value_of}
-use Rattle.justfile_model.specs.EscapeFault.{EscapeFault, UnicodeEscapeRange}
-use Rattle.justfile_model.specs.FirstPiece.{PieceRead, closing_brace, digits, escape_piece, hex_len, known, line_feed_piece, number, first_escaped_piece, unicode}
+use Rattle.justfile_model.specs.LiteralTexts.Cook.{AreHex, BadPiece, CarriageReturnLineFeed, Empty, EndsAtBackslash, EndsAtU, EndsInBraces, IsBad, IsPiece, LineFeed, Named, NoDigit, OutOfRange, Piece, Plain, TooLong, Unicode, Unknown, Unopened, bad_text, fault_of, named, raw_of, value_of}
+use Rattle.justfile_model.specs.LiteralTexts.EscapeFault.{EscapeFault, UnicodeEscapeRange}
+use Rattle.justfile_model.specs.LiteralTexts.FirstPiece.{PieceRead, closing_brace, digits, escape_piece, hex_len, known, line_feed_piece, number, first_escaped_piece, unicode}
 use Rattle.justfile_literal.proofs.Digits.{hex_front, is_hex_head}
 
 -- a piece with this value is at the front

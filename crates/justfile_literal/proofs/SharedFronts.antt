@@ -13,7 +13,7 @@ use Rattle.std.proofs.lemmas.List.Elements.{All-from_recursion}
 use Rattle.std.proofs.lemmas.List.Prefix.{front_rest}
 use Rattle.std.proofs.lemmas.Str.{IsCharBoundary-start, IsCharBoundary-after_ascii, IsCharBoundary-from_ascii}
 use Rattle.justfile_vocabulary.specs.Indentation.{is_space_or_tab}
-use Rattle.justfile_model.specs.Unindent.{IsFront, IsIndented, is_first, common_front, indentation, is_blank_line, leading_blanks, lines_of_text, shared_front}
+use Rattle.justfile_model.specs.LiteralTexts.Unindent.{IsFront, IsIndented, is_first, common_front, indentation, is_blank_line, leading_blanks, lines_of_text, shared_front}
 
 -- ---- runs of blanks
 blank_ascii : (b : ℕ) → is_space_or_tab b ≡ true → b < 128

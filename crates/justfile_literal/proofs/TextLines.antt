@@ -12,7 +12,7 @@ use Rattle.std.proofs.lemmas.Iterator.Splits.{YieldsList-from_shown_while}
 use Rattle.std.proofs.lemmas.List.{append_cancel_left, get_or_default, nil_from_length, take-append-drop}
 use Rattle.std.proofs.lemmas.List.Elements.{All-head, All-tail}
 use Rattle.std.proofs.lemmas.Str.{NoCharPasses-byte, encode_ascii}
-use Rattle.justfile_model.specs.Unindent.{lines_of_text}
+use Rattle.justfile_model.specs.LiteralTexts.Unindent.{lines_of_text}
 
 lacks_feed : (bs : List ℕ) → NoCharPasses (λ d. d == 10) bs → All (λ b. (b == 10) ≡ false) bs
 lacks_feed bs h k d l = elim (cases_eq (get_or bs k d) 10) [

@@ -4,9 +4,9 @@ use Rattle.std.specs.Prelude.{chars, encode_utf8_all, flat_map}
 use Rattle.std.specs.Str.{all_scalars}
 use Rattle.std.proofs.lemmas.Bool.{and_parts, and_from}
 use Rattle.std.proofs.lemmas.Str.{encodes_same, encodes-chars}
-use Rattle.justfile_model.specs.Cook.{AreEscapedPieces, CarriageReturnLineFeed, Cooks, IsPiece, LineFeed, Named, Piece, Plain, Refused, Unicode, named, raw_of, value_of}
-use Rattle.justfile_model.specs.EscapeFault.{EscapeFault}
-use Rattle.justfile_model.specs.FirstPiece.{Cooked, as_text, cook, cooked_from_left}
+use Rattle.justfile_model.specs.LiteralTexts.Cook.{AreEscapedPieces, CarriageReturnLineFeed, Cooks, IsPiece, LineFeed, Named, Piece, Plain, Refused, Unicode, named, raw_of, value_of}
+use Rattle.justfile_model.specs.LiteralTexts.EscapeFault.{EscapeFault}
+use Rattle.justfile_model.specs.LiteralTexts.FirstPiece.{Cooked, as_text, cook, cooked_from_left}
 use Rattle.justfile_literal.proofs.PieceLists.{Broken, Made, Whole, broken_read, made_read, read_is}
 
 pub made : (text cooked cs : List ℕ) → encode_utf8_all cs ≡ text → (c : Cooks text cooked) → Made cs (flat_map value_of c.pieces)

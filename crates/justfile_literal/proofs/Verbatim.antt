@@ -5,10 +5,10 @@ use Rattle.std.specs.Str.{NonePass}
 use Rattle.std.specs.Str.Pattern.{FindsChar}
 use Rattle.justfile_token.specs.declared.string_kind.StringKind.{StringKind}
 use Rattle.justfile_token.specs.StringKind.{escapes, kind_of}
-use Rattle.justfile_model.specs.Cook.{AreEscapedPieces, Cooks, IsPiece, Piece, Plain, raw_of, value_of}
-use Rattle.justfile_model.specs.FirstPiece.{cooked_from_left}
-use Rattle.justfile_model.specs.Literals.{between_quotes, by_escapes, escaped, string_text}
-use Rattle.justfile_model.specs.Unindent.{unindented}
+use Rattle.justfile_model.specs.LiteralTexts.Cook.{AreEscapedPieces, Cooks, IsPiece, Piece, Plain, raw_of, value_of}
+use Rattle.justfile_model.specs.LiteralTexts.FirstPiece.{cooked_from_left}
+use Rattle.justfile_model.specs.LiteralTexts.Literals.{between_quotes, by_escapes, escaped, string_text}
+use Rattle.justfile_model.specs.LiteralTexts.Unindent.{unindented}
 use Rattle.justfile_vocabulary.specs.ByteNames as byte
 
 plain_raw : (cs : List ℕ) → flat_map raw_of (map Plain cs) ≡ cs

@@ -12,8 +12,8 @@ use Rattle.justfile_vocabulary.specs.declared.format_string_part.FormatStringPar
 use Rattle.justfile_token.specs.declared.string_kind.StringKind.{StringKind}
 use Rattle.justfile_token.specs.declared.string_literal.StringLiteral.{StringLiteral}
 use Rattle.justfile_token.specs.declared.token.Token.{Token}
-use Rattle.justfile_model.specs.EscapeFault.{escape_fault_of}
-use Rattle.justfile_model.specs.Literals.{Expansions, LiteralFault, Escape, Refused, Shebang, cooked_text, string_of, front_len, end_len, format_text}
+use Rattle.justfile_model.specs.LiteralTexts.EscapeFault.{escape_fault_of}
+use Rattle.justfile_model.specs.LiteralTexts.Literals.{Expansions, LiteralFault, Escape, Refused, Shebang, cooked_text, string_of, front_len, end_len, format_text}
 
 -- the lexeme has `front` bytes before its text and `end` bytes after it, and the bytes next to the text are ASCII
 abbrev pub is_framed : (front end : ℕ) → List ℕ → Bool

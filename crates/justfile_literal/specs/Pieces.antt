@@ -3,8 +3,8 @@ use Rattle.std.specs.Prelude.{ℕ, List, Option, Result, Ok, Err, chars}
 use denote.Ref.{Bor}
 use Rattle.justfile_literal.specs.declared.escape_fault.EscapeFault.{EscapeFault as CodeFault}
 use Rattle.justfile_literal.specs.declared.escape_fault.EscapeFault.TheVariants as faults
-use Rattle.justfile_model.specs.EscapeFault.{EscapeFault, InvalidEscapeSequence, UnicodeEscapeCharacter, UnicodeEscapeDelimiter, UnicodeEscapeEmpty, UnicodeEscapeLength, UnicodeEscapeRange, UnicodeEscapeUnterminated}
-use Rattle.justfile_model.specs.FirstPiece.{PieceRead}
+use Rattle.justfile_model.specs.LiteralTexts.EscapeFault.{EscapeFault, InvalidEscapeSequence, UnicodeEscapeCharacter, UnicodeEscapeDelimiter, UnicodeEscapeEmpty, UnicodeEscapeLength, UnicodeEscapeRange, UnicodeEscapeUnterminated}
+use Rattle.justfile_model.specs.LiteralTexts.FirstPiece.{PieceRead}
 
 abbrev pub piece_fault : CodeFault → EscapeFault
 piece_fault (faults.InvalidEscapeSequence character) = InvalidEscapeSequence character

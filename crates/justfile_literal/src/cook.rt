@@ -1,7 +1,7 @@
 //! The text of a literal with its escapes replaced.
 ghost use Rattle.std.specs.Prelude.{◌≡◌, ◌++◌, ℕ, List, IfErr, IfOk, Ok, OnOk, encode_utf8_all, option_to_list, string_bytes};
-ghost use Rattle.justfile_model.specs.Cook.{Cooks, IsCookFault, Refused};
-ghost use Rattle.justfile_model.specs.Literals.{escaped};
+ghost use Rattle.justfile_model.specs.LiteralTexts.Cook.{Cooks, IsCookFault, Refused};
+ghost use Rattle.justfile_model.specs.LiteralTexts.Literals.{escaped};
 ghost use Rattle.justfile_literal.specs.Literal.{IsTextFault};
 ghost use Rattle.justfile_literal.specs.Pieces.{piece_fault};
 

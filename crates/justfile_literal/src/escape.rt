@@ -2,8 +2,8 @@
 ghost use Rattle.std.specs.Prelude.{◌≡◌, ◌<◌, [], ◌∷◌, IfOk, IfSome, IsUtf8, MatchOption, SomeIff, chars, length};
 ghost use Rattle.std.specs.Char.{IsScalar};
 ghost use Rattle.std.specs.Str.Parse.{digits_value};
-ghost use Rattle.justfile_model.specs.Cook.{AreHex, named};
-ghost use Rattle.justfile_model.specs.FirstPiece.{closing_brace, digits, escape_piece, hex_len, line_feed_piece, number, first_escaped_piece, unicode};
+ghost use Rattle.justfile_model.specs.LiteralTexts.Cook.{AreHex, named};
+ghost use Rattle.justfile_model.specs.LiteralTexts.FirstPiece.{closing_brace, digits, escape_piece, hex_len, line_feed_piece, number, first_escaped_piece, unicode};
 ghost use Rattle.justfile_literal.specs.Pieces.{piece_answer};
 
 use crate::escape_fault::EscapeFault;

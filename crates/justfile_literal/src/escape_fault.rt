@@ -1,6 +1,6 @@
 //! Why an escape is invalid, and the error that reports it.
 ghost use Rattle.std.specs.Prelude.{◌≡◌, IfOk, Some};
-ghost use Rattle.justfile_model.specs.EscapeFault.{escape_fault_of};
+ghost use Rattle.justfile_model.specs.LiteralTexts.EscapeFault.{escape_fault_of};
 ghost use Rattle.justfile_literal.specs.Pieces.{piece_fault};
 
 use justfile_token::CompileErrorKind;

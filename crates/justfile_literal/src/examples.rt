@@ -1,9 +1,9 @@
 //! Examples of texts with escapes and indentation, checked by computation: their values, or why
 //! they are invalid.
 ghost use Rattle.std.specs.Prelude.{◌≡◌, [], ◌∷◌, codes};
-ghost use Rattle.justfile_model.specs.Cook.{Cooks, Refused};
-ghost use Rattle.justfile_model.specs.EscapeFault.{InvalidEscapeSequence, UnicodeEscapeCharacter, UnicodeEscapeDelimiter, UnicodeEscapeEmpty, UnicodeEscapeLength, UnicodeEscapeRange, UnicodeEscapeUnterminated};
-ghost use Rattle.justfile_model.specs.Unindent.{unindented};
+ghost use Rattle.justfile_model.specs.LiteralTexts.Cook.{Cooks, Refused};
+ghost use Rattle.justfile_model.specs.LiteralTexts.EscapeFault.{InvalidEscapeSequence, UnicodeEscapeCharacter, UnicodeEscapeDelimiter, UnicodeEscapeEmpty, UnicodeEscapeLength, UnicodeEscapeRange, UnicodeEscapeUnterminated};
+ghost use Rattle.justfile_model.specs.LiteralTexts.Unindent.{unindented};
 
 /// All escapes.
 pub fn cooked()
@@ -45,7 +45,7 @@ pub fn refused()
 {}
 
 /// A blank first or last line is removed, but not the line end before the last line.
-#[tactic(auto, unfolding(justfile_model::specs::Unindent::unindented))]
+#[tactic(auto, unfolding(justfile_model::specs::LiteralTexts::Unindent::unindented))]
 pub fn outer_lines()
     ensures empty { unindented [] ≡ [] }
     ensures first { unindented (codes "\n  foo\n    bar\n") ≡ codes "foo\n  bar\n" }
@@ -59,7 +59,7 @@ pub fn outer_lines()
 {}
 
 /// A blank line in the middle keeps its line end. Its blanks don't count for the indentation.
-#[tactic(auto, unfolding(justfile_model::specs::Unindent::unindented))]
+#[tactic(auto, unfolding(justfile_model::specs::LiteralTexts::Unindent::unindented))]
 pub fn middle_lines()
     ensures shorter_and_longer { unindented (codes "  a\n    \n \r\n  b") ≡ codes "a\n\n\r\nb" }
     ensures all_blank { unindented (codes " \n  \r\n\n") ≡ codes "\r\n" }
@@ -69,7 +69,7 @@ pub fn middle_lines()
 {}
 
 /// The run of spaces and tabs that the other lines share is removed.
-#[tactic(auto, unfolding(justfile_model::specs::Unindent::unindented))]
+#[tactic(auto, unfolding(justfile_model::specs::LiteralTexts::Unindent::unindented))]
 pub fn shared_runs()
     ensures none { unindented (codes "foo\nbar\nbaz\n") ≡ codes "foo\nbar\nbaz\n" }
     ensures one_line { unindented (codes "foo") ≡ codes "foo" }

@@ -1,7 +1,7 @@
 //! The texts of parts of format strings.
 ghost use Rattle.std.specs.Prelude.{◌≡◌, IfErr, IfOk, IsTrue, Ok, string_bytes};
 ghost use Rattle.justfile_token.specs.Token.{lexeme_of};
-ghost use Rattle.justfile_model.specs.Literals.{between, end_len, format_text, front_len, unescaped_braces};
+ghost use Rattle.justfile_model.specs.LiteralTexts.Literals.{between, end_len, format_text, front_len, unescaped_braces};
 ghost use Rattle.justfile_literal.specs.Literal.{IsPartOf, IsTextFault, is_part};
 
 use crate::cook::replace_escapes;

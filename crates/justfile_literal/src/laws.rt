@@ -3,10 +3,10 @@ ghost use Rattle.std.specs.Prelude.{◌≡◌, ◌≤◌, ◌++◌, ◌⊎◌, [
 ghost use Rattle.std.specs.List.{concat, list_all, list_any};
 ghost use Rattle.std.specs.Str.{IsUtf8};
 ghost use Rattle.justfile_vocabulary.specs.Indentation.{is_space_or_tab};
-ghost use Rattle.justfile_model.specs.Cook.{AreEscapedPieces, Cooks, Piece, Refused, raw_of};
-ghost use Rattle.justfile_model.specs.EscapeFault.{EscapeFault};
-ghost use Rattle.justfile_model.specs.FirstPiece.{cooked_from_left};
-ghost use Rattle.justfile_model.specs.Unindent.{IsLongestRun, is_first, indentation, is_blank_line, lines_of_text, unindented};
+ghost use Rattle.justfile_model.specs.LiteralTexts.Cook.{AreEscapedPieces, Cooks, Piece, Refused, raw_of};
+ghost use Rattle.justfile_model.specs.LiteralTexts.EscapeFault.{EscapeFault};
+ghost use Rattle.justfile_model.specs.LiteralTexts.FirstPiece.{cooked_from_left};
+ghost use Rattle.justfile_model.specs.LiteralTexts.Unindent.{IsLongestRun, is_first, indentation, is_blank_line, lines_of_text, unindented};
 
 /// A text has at most one cooked text or one fault, and never both.
 pub fn one_answer()
@@ -57,7 +57,7 @@ pub fn indentation_is_longest()
 
 /// The empty text is its own unindented text, and so is a text without blank lines whose lines
 /// don't all begin with the same blank.
-#[tactic(auto, unfolding(justfile_model::specs::Unindent::unindented))]
+#[tactic(auto, unfolding(justfile_model::specs::LiteralTexts::Unindent::unindented))]
 pub fn unindented_already()
     ensures empty { unindented [] ≡ [] }
     ensures nothing_shared { (text : List ℕ) → list_any is_blank_line (lines_of_text text) ≡ false

@@ -2,8 +2,8 @@
 ghost use Rattle.std.specs.Prelude.{◌≡◌, IfErr, IfOk, IfSome, IsFalse, IsTrue, Ok, string_bytes};
 ghost use Rattle.justfile_token.specs.StringKind.{kind_of};
 ghost use Rattle.justfile_token.specs.Token.{lexeme_of};
-ghost use Rattle.justfile_model.specs.Cook.{Cooks};
-ghost use Rattle.justfile_model.specs.Literals.{Expansions, Command, between_quotes, by_answer, cooked_text, flush_text, string_of, string_text};
+ghost use Rattle.justfile_model.specs.LiteralTexts.Cook.{Cooks};
+ghost use Rattle.justfile_model.specs.LiteralTexts.Literals.{Expansions, Command, between_quotes, by_answer, cooked_text, flush_text, string_of, string_text};
 ghost use Rattle.justfile_literal.specs.Literal.{IsStringOf, IsTextFault, answers_by, is_quoted};
 
 use crate::cook::replace_escapes;

@@ -2,7 +2,7 @@
 ghost use Rattle.std.specs.Prelude.{◌≡◌, [], ◌∷◌, ◌++◌, false, true, IfOk, OnOk, drop, length, map, nat_eq, string_bytes};
 ghost use Rattle.std.specs.List.{All, common_prefix_len, list_all, prefix_len};
 ghost use Rattle.justfile_vocabulary.specs.Indentation.{is_space_or_tab};
-ghost use Rattle.justfile_model.specs.Unindent.{IsFront, IsIndented, indentation, is_blank_line, is_white, joined, leading_blanks, kept_line_end, lines_of_text, later_lines, middle_line, outer_line, shared_front, unindented};
+ghost use Rattle.justfile_model.specs.LiteralTexts.Unindent.{IsFront, IsIndented, indentation, is_blank_line, is_white, joined, leading_blanks, kept_line_end, lines_of_text, later_lines, middle_line, outer_line, shared_front, unindented};
 
 use std::alloc::{AllocError, Global};
 
@@ -10,7 +10,7 @@ use std::alloc::{AllocError, Global};
 ///
 /// Lines of whitespace don't count for the indentation. Such a line is removed if it is the first
 /// or the last one, and otherwise keeps its line end.
-#[tactic(auto, using(crate::proofs::SharedFronts::all_indented), unfolding(justfile_model::specs::Unindent::unindented))]
+#[tactic(auto, using(crate::proofs::SharedFronts::all_indented), unfolding(justfile_model::specs::LiteralTexts::Unindent::unindented))]
 pub fn unindent(alloc: Global, text: &str) -> Result<String, AllocError>
     ensures { IfOk result (λ answer. string_bytes answer ≡ unindented text.now) }
 {

@@ -3,15 +3,15 @@
 ghost use Rattle.std.specs.Prelude.{◌≡◌, List, [], Contains, Some, Ok, Err};
 ghost use Rattle.std.specs.Cmp.{IsTotalOrder};
 ghost use Rattle.justfile_vocabulary.specs.declared.attribute_kind.AttributeKind.{AttributeKind};
-ghost use Rattle.justfile_model.specs.ArgumentTexts.{HasTexts};
-ghost use Rattle.justfile_model.specs.AttributeRules.{arguments_broken};
-ghost use Rattle.justfile_model.specs.ContentKeys.{entry_cmp};
-ghost use Rattle.justfile_model.specs.Meaning.{KeyArgument, Placed, attribute_of};
-ghost use Rattle.justfile_model.specs.NewAttribute.{new_attribute};
-ghost use Rattle.justfile_model.specs.Order.{IsStableSort, in_order};
-ghost use Rattle.justfile_model.specs.Rules.{Broken};
-ghost use Rattle.justfile_model.specs.LeafView.{LeafView};
-ghost use Rattle.justfile_model.specs.Tree.{Attribute, Entry};
+ghost use Rattle.justfile_model.specs.Meanings.ArgumentTexts.{HasTexts};
+ghost use Rattle.justfile_model.specs.Meanings.AttributeRules.{arguments_broken};
+ghost use Rattle.justfile_model.specs.Trees.ContentKeys.{entry_cmp};
+ghost use Rattle.justfile_model.specs.Meanings.Meaning.{KeyArgument, Placed, attribute_of};
+ghost use Rattle.justfile_model.specs.Readers.NewAttribute.{new_attribute};
+ghost use Rattle.justfile_model.specs.Lists.Order.{IsStableSort, in_order};
+ghost use Rattle.justfile_model.specs.Meanings.Rules.{Broken};
+ghost use Rattle.justfile_model.specs.Trees.LeafView.{LeafView};
+ghost use Rattle.justfile_model.specs.Trees.Tree.{Attribute, Entry};
 
 /// The content order of attributes is total. Sorting the attributes of a construct is stable, a
 /// stable sort is unique, and sorting twice changes nothing.

@@ -1,6 +1,6 @@
 //! The operators of comparisons.
 ghost use Rattle.std.specs.Prelude.{◌≡◌};
-ghost use Rattle.justfile_model.specs.ConditionalOperator.{operator_sign};
+ghost use Rattle.justfile_model.specs.Trees.ConditionalOperator.{operator_sign};
 
 use std::fmt;
 

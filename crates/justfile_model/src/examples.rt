@@ -3,9 +3,9 @@ ghost use Rattle.std.specs.Prelude.{false, [], ◌∷◌, codes};
 ghost use Rattle.justfile_token.specs.declared.delimiter.Delimiter.TheVariants.{Bracket, FormatString, Paren};
 ghost use Rattle.justfile_token.specs.declared.string_kind.StringDelimiter.TheVariants.{QuoteSingle};
 ghost use Rattle.justfile_vocabulary.specs.declared.token_kind.TokenKind.TheVariants.{AmpersandAmpersand, Asterisk, At, Backtick, Bang, BangEquals, BangTilde, BarBar, BraceL, BraceR, ByteOrderMark, Colon, ColonColon, ColonEquals, Comma, Comment, Dedent, Dollar, Eof, Eol, Equals, EqualsEquals, EqualsTilde, FormatStringContinue, FormatStringEnd, FormatStringStart, Identifier, Indent, InterpolationEnd, InterpolationStart, ParenL, ParenR, Plus, PlusPlus, QuestionMark, Slash, StringToken, Text, Unspecified, Whitespace};
-ghost use Rattle.justfile_model.specs.Tok.{tok};
-ghost use Rattle.justfile_model.specs.LexicalFault.{EscapeEndOfFile, InconsistentLeadingWhitespace, InvalidEscapeSequence, MismatchedClosingDelimiter, MixedLeadingWhitespace, UnexpectedCharacter, UnexpectedClosingDelimiter, UnexpectedEndOfToken, UnknownStartOfToken, UnpairedCarriageReturn, UnterminatedBacktick, UnterminatedInterpolation, UnterminatedString};
-ghost use Rattle.justfile_model.specs.Lexed.{IsFault, Lexed};
+ghost use Rattle.justfile_model.specs.Lexing.Tok.{tok};
+ghost use Rattle.justfile_model.specs.Lexing.LexicalFault.{EscapeEndOfFile, InconsistentLeadingWhitespace, InvalidEscapeSequence, MismatchedClosingDelimiter, MixedLeadingWhitespace, UnexpectedCharacter, UnexpectedClosingDelimiter, UnexpectedEndOfToken, UnknownStartOfToken, UnpairedCarriageReturn, UnterminatedBacktick, UnterminatedInterpolation, UnterminatedString};
+ghost use Rattle.justfile_model.specs.Lexing.Lexed.{IsFault, Lexed};
 
 /// Assignments, and all tokens of fixed text: the longest one is taken.
 pub fn one_line()

@@ -2,26 +2,26 @@
 ghost use Rattle.std.specs.Prelude.{◌≡◌, ◌<◌, ◌≤◌, ◌⊎◌, ℕ, ◌+◌, Bool, IsTrue, List, length, map, slice_index, Option, Some, IfSome, Ok, Err};
 ghost use Rattle.std.specs.Option.{option_map};
 ghost use Rattle.justfile_vocabulary.specs.Indentation.{IsIndentation};
-ghost use Rattle.justfile_model.specs.Conditions.{Conditions, with_expander, with_limit};
-ghost use Rattle.justfile_model.specs.Enabled.{indentation_of};
-ghost use Rattle.justfile_model.specs.Expressions.{BelowLimit, PastLimitAt};
-ghost use Rattle.justfile_model.specs.Features.{ConstructFeatures, Noted, over_noted};
-ghost use Rattle.justfile_model.specs.Files.{FileTree, FileDerives, NumbersFrom, Obeys, ShapeDerives, all_features, to_tokens, literals, ordered, bindings, recipes};
-ghost use Rattle.justfile_model.specs.Grammar.{File};
-ghost use Rattle.justfile_model.specs.Lexed.{Lexed};
-ghost use Rattle.justfile_model.specs.Literals.{Literal, Expansions, Within, AreCookedTexts, string_text};
-ghost use Rattle.justfile_model.specs.Need.{DerivesUnder, IsNeed};
-ghost use Rattle.justfile_model.specs.NormalShape.{normal};
-ghost use Rattle.justfile_model.specs.Printing.{printable, text};
-ghost use Rattle.justfile_model.specs.Reader.{items};
-ghost use Rattle.justfile_model.specs.ReaderState.{Counters, TooDeep};
-ghost use Rattle.justfile_model.specs.ReadErrors.{IsDue};
-ghost use Rattle.justfile_model.specs.LeafView.{views_tokens};
-ghost use Rattle.justfile_model.specs.SignificantTokens.{AllSpelled, SignificantToken, identifiers, significant_tokens};
-ghost use Rattle.justfile_model.specs.Tok.{Tok};
-ghost use Rattle.justfile_model.specs.Tree.{Tree, Shape, WrittenTree, lexeme, nothing, shape_of};
-ghost use Rattle.justfile_model.specs.Uncommented.{HasNoComments, uncommented_text};
-ghost use Rattle.justfile_model.specs.TreeReader.{ReadError, State, tree_of_tokens, token_attributes, token_leaves};
+ghost use Rattle.justfile_model.specs.Grammars.Conditions.{Conditions, with_expander, with_limit};
+ghost use Rattle.justfile_model.specs.Meanings.Enabled.{indentation_of};
+ghost use Rattle.justfile_model.specs.Grammars.Expressions.{BelowLimit, PastLimitAt};
+ghost use Rattle.justfile_model.specs.Grammars.Features.{ConstructFeatures, Noted, over_noted};
+ghost use Rattle.justfile_model.specs.Grammars.Files.{FileTree, FileDerives, NumbersFrom, Obeys, ShapeDerives, all_features, to_tokens, literals, ordered, bindings, recipes};
+ghost use Rattle.justfile_model.specs.Grammars.Grammar.{File};
+ghost use Rattle.justfile_model.specs.Lexing.Lexed.{Lexed};
+ghost use Rattle.justfile_model.specs.LiteralTexts.Literals.{Literal, Expansions, Within, AreCookedTexts, string_text};
+ghost use Rattle.justfile_model.specs.Grammars.Need.{DerivesUnder, IsNeed};
+ghost use Rattle.justfile_model.specs.Printed.NormalShape.{normal};
+ghost use Rattle.justfile_model.specs.Printed.Printing.{printable, text};
+ghost use Rattle.justfile_model.specs.Readers.Reader.{items};
+ghost use Rattle.justfile_model.specs.Readers.ReaderState.{Counters, TooDeep};
+ghost use Rattle.justfile_model.specs.Readers.ReadErrors.{IsDue};
+ghost use Rattle.justfile_model.specs.Trees.LeafView.{views_tokens};
+ghost use Rattle.justfile_model.specs.Lexing.SignificantTokens.{AllSpelled, SignificantToken, identifiers, significant_tokens};
+ghost use Rattle.justfile_model.specs.Lexing.Tok.{Tok};
+ghost use Rattle.justfile_model.specs.Trees.Tree.{Tree, Shape, WrittenTree, lexeme, nothing, shape_of};
+ghost use Rattle.justfile_model.specs.Printed.Uncommented.{HasNoComments, uncommented_text};
+ghost use Rattle.justfile_model.specs.Readers.TreeReader.{ReadError, State, tree_of_tokens, token_attributes, token_leaves};
 
 /// The parser and the grammar agree, and tokens derive at most one tree with its features.
 pub fn reads()
@@ -50,7 +50,7 @@ pub fn reads()
         × (tree_of_tokens C ts ≡ Ok (written, features)) }
     // If only expressions that begin at the given tokens exceed the limit, the tree is parsed, or
     // the error is the depth at one of these tokens.
-    ensures deep { (C : Conditions) (ts : List SignificantToken) (written : WrittenTree)
+    ensures past_limit { (C : Conditions) (ts : List SignificantToken) (written : WrittenTree)
         (fs : List (ConstructFeatures Tok))
         (Hit : Option SignificantToken → Bool)
         → File to_tokens (PastLimitAt C.limit (λ at. IsTrue (Hit at))) written fs ts
@@ -60,14 +60,14 @@ pub fn reads()
         × (tree_of_tokens C ts ≡ Err (TooDeep at))) }
     // If the grammar derives a tree without the limit, the tree is parsed, or the error is the
     // depth at some token.
-    ensures free { (C : Conditions) (ts : List SignificantToken) (written : WrittenTree)
+    ensures without_limit { (C : Conditions) (ts : List SignificantToken) (written : WrittenTree)
         (fs : List (ConstructFeatures Tok))
         → FileTree ts written fs → Obeys C written
         → (tree_of_tokens C ts ≡ Ok (written, all_features (views_tokens C.expander) written fs))
         ⊎ ((at : Option SignificantToken) × (tree_of_tokens C ts ≡ Err (TooDeep at))) }
     // If only expressions that begin at the given tokens exceed the limit, an error is the first
     // literal without a text, a broken rule, or the depth at one of these tokens.
-    ensures due { (C : Conditions) (ts : List SignificantToken) (written : WrittenTree)
+    ensures error_past_limit { (C : Conditions) (ts : List SignificantToken) (written : WrittenTree)
         (fs : List (ConstructFeatures Tok))
         (Hit : Option SignificantToken → Bool)
         → File to_tokens (PastLimitAt C.limit (λ at. IsTrue (Hit at))) written fs ts
@@ -75,7 +75,7 @@ pub fn reads()
         → IsDue C (λ at. IsTrue (Hit at)) written r }
     // By the grammar alone: an error is the first literal without a text, a broken rule, or the
     // depth at some token.
-    ensures refused { (C : Conditions) (ts : List SignificantToken) (written : WrittenTree)
+    ensures error_without_limit { (C : Conditions) (ts : List SignificantToken) (written : WrittenTree)
         (fs : List (ConstructFeatures Tok))
         → FileTree ts written fs
         → (r : ReadError) → tree_of_tokens C ts ≡ Err r → IsDue C (λ at. Unit {0}) written r }

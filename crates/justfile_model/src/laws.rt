@@ -3,11 +3,11 @@ ghost use Rattle.std.specs.Prelude.{◌≡◌, ℕ, ◌<◌, ◌&&◌, ◌==◌,
 ghost use Rattle.std.specs.List.{flat_map};
 ghost use Rattle.std.specs.List.Sorted.{IsNonDecreasingBy};
 ghost use Rattle.std.specs.Str.{IsUtf8};
-ghost use Rattle.justfile_model.specs.Tok.{Tok};
-ghost use Rattle.justfile_model.specs.LexicalFault.{LexicalFault};
-ghost use Rattle.justfile_model.specs.Modes.{mode};
-ghost use Rattle.justfile_model.specs.Places.{column_at};
-ghost use Rattle.justfile_model.specs.Lexed.{Begins, EndsInEof, Follows, IsAnswered, IsFault, Lexed, end_of};
+ghost use Rattle.justfile_model.specs.Lexing.Tok.{Tok};
+ghost use Rattle.justfile_model.specs.Lexing.LexicalFault.{LexicalFault};
+ghost use Rattle.justfile_model.specs.Lexing.Modes.{mode};
+ghost use Rattle.justfile_model.specs.Lexing.Places.{column_at};
+ghost use Rattle.justfile_model.specs.Lexing.Lexed.{Begins, EndsInEof, Follows, IsAnswered, IsFault, Lexed, end_of};
 
 /// A text has at most one list of tokens or one fault, and never both.
 pub fn one_answer()

@@ -6,16 +6,16 @@ ghost use Rattle.justfile_vocabulary.specs.declared.token_kind.TokenKind.{TokenK
 ghost use Rattle.justfile_vocabulary.specs.declared.token_kind.TokenKind.TheVariants.{Dedent};
 ghost use Rattle.justfile_model.specs.declared.open_delimiter.OpenDelimiter.{OpenDelimiter};
 ghost use Rattle.justfile_model.specs.declared.raw_text.RawText.{RawText};
-ghost use Rattle.justfile_model.specs.BlankLines.{BeginsWithBlankLine, BeginsWithWhiteLines, IsAtLineStart, LevelsClose};
-ghost use Rattle.justfile_model.specs.Bodies.{IsAfterColon, IsInBody};
-ghost use Rattle.justfile_model.specs.Lexed.{Begins, end_of};
-ghost use Rattle.justfile_model.specs.LiteralParts.{IsPart};
-ghost use Rattle.justfile_model.specs.LiteralText.{raw_len};
-ghost use Rattle.justfile_model.specs.Modes.{Mode, mode};
-ghost use Rattle.justfile_model.specs.Next.{NextToken, literal_part, next};
-ghost use Rattle.justfile_model.specs.Pieces.{HasNoEnd, IsInside};
-ghost use Rattle.justfile_model.specs.Tok.{Tok};
-ghost use Rattle.justfile_model.specs.Unclosed.{UnclosedDelimiters, UnclosedInterpolations, UnclosedLevels};
+ghost use Rattle.justfile_model.specs.Lexing.BlankLines.{BeginsWithBlankLine, BeginsWithWhiteLines, IsAtLineStart, LevelsClose};
+ghost use Rattle.justfile_model.specs.Lexing.Bodies.{IsAfterColon, IsInBody};
+ghost use Rattle.justfile_model.specs.Lexing.Lexed.{Begins, end_of};
+ghost use Rattle.justfile_model.specs.Lexing.LiteralParts.{IsPart};
+ghost use Rattle.justfile_model.specs.Lexing.LiteralText.{raw_len};
+ghost use Rattle.justfile_model.specs.Lexing.Modes.{Mode, mode};
+ghost use Rattle.justfile_model.specs.Lexing.Next.{NextToken, literal_part, next};
+ghost use Rattle.justfile_model.specs.Lexing.Pieces.{HasNoEnd, IsInside};
+ghost use Rattle.justfile_model.specs.Lexing.Tok.{Tok};
+ghost use Rattle.justfile_model.specs.Lexing.Unclosed.{UnclosedDelimiters, UnclosedInterpolations, UnclosedLevels};
 
 /// Comments, body text and the inside of literals are sequences of pieces up to the first end
 /// between two pieces. All of the text is read exactly if there is no such end.

@@ -1,8 +1,8 @@
 //! The kinds of parameters.
 ghost use Rattle.std.specs.Prelude.{◌≡◌};
 ghost use Rattle.std.specs.Option.{option_copied};
-ghost use Rattle.justfile_model.specs.ParameterKind.{kind_prefix};
-ghost use Rattle.justfile_model.specs.RecipeRules.{is_variadic};
+ghost use Rattle.justfile_model.specs.Trees.ParameterKind.{kind_prefix};
+ghost use Rattle.justfile_model.specs.Meanings.RecipeRules.{is_variadic};
 
 /// The number of arguments that a parameter takes.
 #[derive(Clone, Copy, Debug, PartialEq, Eq)]

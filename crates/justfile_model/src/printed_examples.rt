@@ -1,8 +1,8 @@
 //! Examples of printed headers and constructs, checked by computation.
 ghost use Rattle.std.specs.Prelude.{◌≡◌, false, true, [], ◌∷◌, None, Some, codes};
 ghost use Rattle.justfile_vocabulary.specs.declared.attribute_kind.AttributeKind.TheVariants.{Private};
-ghost use Rattle.justfile_model.specs.Printing.{content_text, header_text, item_text};
-ghost use Rattle.justfile_model.specs.Tree.{Assignment, Construct, Line, ListOf, Plain, Recipe, Root, StringLiteral, Text, Variable, bare_entry, bare_recipe, commented_entry, more, none};
+ghost use Rattle.justfile_model.specs.Printed.Printing.{content_text, header_text, item_text};
+ghost use Rattle.justfile_model.specs.Trees.Tree.{Assignment, Construct, Line, ListOf, Plain, Recipe, Root, StringLiteral, Text, Variable, bare_entry, bare_recipe, commented_entry, more, none};
 ghost use Rattle.justfile_model.specs.declared.parameter_kind.ParameterKind.TheVariants.{Plus, Singular, Star};
 
 /// A header has its parameters before the colon and its dependencies after it.

@@ -4,9 +4,9 @@ use Rattle.std.specs.Prelude.{nat_eq}
 use Rattle.std.specs.List.{starts_with}
 use Rattle.std.specs.Str.{IsUtf8}
 use Rattle.justfile_vocabulary.specs.declared.token_kind.TokenKind.TheVariants as kinds
-use Rattle.justfile_model.specs.Lexed.{Lexed}
-use Rattle.justfile_model.specs.SignificantTokens.{SignificantToken, significant_tokens}
-use Rattle.justfile_model.specs.Tok.{Tok}
+use Rattle.justfile_model.specs.Lexing.Lexed.{Lexed}
+use Rattle.justfile_model.specs.Lexing.SignificantTokens.{SignificantToken, significant_tokens}
+use Rattle.justfile_model.specs.Lexing.Tok.{Tok}
 use Rattle.justfile_round_trip.proofs.Values.TokenFacts.{Around, LexedComment, LexemeFact, Sound, around, is_comment, lexed_sound, outside}
 
 begins_with : (l : List ℕ) → get_or l 0 0 ≡ 35 → starts_with nat_eq l (codes "#") ≡ true

@@ -17,11 +17,11 @@ use Rattle.justfile_vocabulary.specs.declared.attribute_kind.AttributeKind.{Attr
 use Rattle.justfile_vocabulary.specs.declared.attribute_kind.AttributeKind.TheVariants as kinds
 use Rattle.justfile_item.specs.declared.item.Item.{Item}
 use Rattle.justfile_item.specs.declared.item.Item.TheVariants as items
-use Rattle.justfile_model.specs.AttributeKinds.{same_attribute}
-use Rattle.justfile_model.specs.ContentKeys.{kind_of_attribute}
-use Rattle.justfile_model.specs.Docs.{LineEnd, doc_in}
-use Rattle.justfile_model.specs.Files.{sets_doc}
-use Rattle.justfile_model.specs.Tree as tree
+use Rattle.justfile_model.specs.Meanings.AttributeKinds.{same_attribute}
+use Rattle.justfile_model.specs.Trees.ContentKeys.{kind_of_attribute}
+use Rattle.justfile_model.specs.Grammars.Docs.{LineEnd, doc_in}
+use Rattle.justfile_model.specs.Grammars.Files.{sets_doc}
+use Rattle.justfile_model.specs.Trees.Tree as tree
 use Rattle.justfile_parse.specs.Docs.{LeafItem, comment_of, doc_before, doc_first, is_line_end}
 use Rattle.justfile_parse_item.specs.Tree.{item_tree}
 use Rattle.justfile_parse_item.specs.DerivedFields.{HaveDerivedFields, HasDerivedItemFields}

@@ -9,13 +9,13 @@ use Rattle.justfile_token.specs.declared.name.Name.{Name}
 use Rattle.justfile_token.specs.declared.string_literal.StringLiteral.{StringLiteral}
 use Rattle.justfile_token.specs.declared.token.Token.{Token}
 use Rattle.justfile_literal.specs.Literal.{IsKindOf, literal_fault_of}
-use Rattle.justfile_model.specs.LexicalFault.{NotLexical, lexical_fault_of}
-use Rattle.justfile_model.specs.Literals.{LiteralFault}
-use Rattle.justfile_model.specs.Rules as rules
-use Rattle.justfile_model.specs.Rules.{Rule}
-use Rattle.justfile_model.specs.Tok.{Tok}
-use Rattle.justfile_model.proofs.AlikeRules as alike
-use Rattle.justfile_model.proofs.AlikeRules.{AlikeRule}
+use Rattle.justfile_model.specs.Lexing.LexicalFault.{NotLexical, lexical_fault_of}
+use Rattle.justfile_model.specs.LiteralTexts.Literals.{LiteralFault}
+use Rattle.justfile_model.specs.Meanings.Rules as rules
+use Rattle.justfile_model.specs.Meanings.Rules.{Rule}
+use Rattle.justfile_model.specs.Lexing.Tok.{Tok}
+use Rattle.justfile_model.proofs.Relations.AlikeRules as alike
+use Rattle.justfile_model.proofs.Relations.AlikeRules.{AlikeRule}
 use Rattle.justfile_parse.specs.Errors.{IsUnexpected}
 use Rattle.justfile_parse_base.specs.ParseErrors.{IsAfterVariadic, IsExpectedKeyword, IsExtraneous, IsUnknownSetting}
 use Rattle.justfile_vocabulary.specs.declared.keyword.Keyword.{Keyword}

@@ -14,29 +14,29 @@ use Rattle.justfile_token.specs.declared.token.Token.{Token}
 use Rattle.justfile_item.specs.Item.{function_parameter_of, item_of}
 use Rattle.justfile_item.specs.declared.item.Item.{Item}
 use Rattle.justfile_item.specs.declared.item.Item.TheVariants as items
-use Rattle.justfile_model.specs.Conditions.{Conditions, with_limit}
-use Rattle.justfile_model.specs.Expressions.{front}
-use Rattle.justfile_model.specs.Features.{Noted}
+use Rattle.justfile_model.specs.Grammars.Conditions.{Conditions, with_limit}
+use Rattle.justfile_model.specs.Grammars.Expressions.{front}
+use Rattle.justfile_model.specs.Grammars.Features.{Noted}
 use Rattle.justfile_recipe_header.specs.Header.{parameter_of}
-use Rattle.justfile_model.specs.Docs.{Nothing, documented}
-use Rattle.justfile_model.specs.Files.{NumbersSuffice, bindings, recipes, sets_doc}
-use Rattle.justfile_model.specs.Reader as files
-use Rattle.justfile_model.specs.ReaderState as reading
-use Rattle.justfile_model.specs.ReaderState.{Counters, NoNumber}
-use Rattle.justfile_model.specs.SignificantTokens.{SignificantToken}
-use Rattle.justfile_model.specs.Tok.{Tok, tok_of}
-use Rattle.justfile_model.specs.ReadAttribute.{ReadAttribute}
-use Rattle.justfile_model.specs.Tree.{Entry, OrderedItem, WrittenTree}
-use Rattle.justfile_model.specs.TreeReader as model
-use Rattle.justfile_model.specs.TreeReader.{start_state, token_attributes, token_leaves}
+use Rattle.justfile_model.specs.Grammars.Docs.{Nothing, documented}
+use Rattle.justfile_model.specs.Grammars.Files.{NumbersSuffice, bindings, recipes, sets_doc}
+use Rattle.justfile_model.specs.Readers.Reader as files
+use Rattle.justfile_model.specs.Readers.ReaderState as reading
+use Rattle.justfile_model.specs.Readers.ReaderState.{Counters, NoNumber}
+use Rattle.justfile_model.specs.Lexing.SignificantTokens.{SignificantToken}
+use Rattle.justfile_model.specs.Lexing.Tok.{Tok, tok_of}
+use Rattle.justfile_model.specs.Meanings.ReadAttribute.{ReadAttribute}
+use Rattle.justfile_model.specs.Trees.Tree.{Entry, OrderedItem, WrittenTree}
+use Rattle.justfile_model.specs.Readers.TreeReader as model
+use Rattle.justfile_model.specs.Readers.TreeReader.{start_state, token_attributes, token_leaves}
 use Rattle.justfile_vocabulary.specs.declared.list_feature.ListFeature.{ListFeature}
-use Rattle.justfile_model.proofs.Counters.{counted, counted_bindings, counted_recipes, items_count}
-use Rattle.justfile_model.proofs.DocsKept.{bindings_count, documented_counts, recipes_count}
-use Rattle.justfile_model.proofs.Natural as natural
-use Rattle.justfile_model.proofs.ReadingSteps.{known}
-use Rattle.justfile_model.proofs.Related as a
-use Rattle.justfile_model.proofs.Related.{AlikeItems, AlikeNext, Each, ReadErrors, Related, States}
-use Rattle.justfile_model.proofs.Renumbered.{file_by, whole}
+use Rattle.justfile_model.proofs.Readers.Counters.{counted, counted_bindings, counted_recipes, items_count}
+use Rattle.justfile_model.proofs.Printed.DocsKept.{bindings_count, documented_counts, recipes_count}
+use Rattle.justfile_model.proofs.Relations.Natural as natural
+use Rattle.justfile_model.proofs.Readers.ReadingSteps.{known}
+use Rattle.justfile_model.proofs.Relations.Related as a
+use Rattle.justfile_model.proofs.Relations.Related.{AlikeItems, AlikeNext, Each, ReadErrors, Related, States}
+use Rattle.justfile_model.proofs.Readers.Renumbered.{file_by, whole}
 use Rattle.justfile_token.specs.declared.compile_error_kind.CompileErrorKind.{CompileErrorKind}
 use Rattle.justfile_parse.specs.Errors.{IsAt, IsErrorOf}
 use Rattle.justfile_parse_base.specs.ParseErrors.{IsAfterVariadic, IsExpectedKeyword, IsExtraneous, IsUnknownSetting}

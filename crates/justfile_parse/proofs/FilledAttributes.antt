@@ -21,10 +21,10 @@ use Rattle.justfile_token.specs.declared.name.Name.{Name}
 use Rattle.justfile_token.specs.declared.string_literal.StringLiteral.{StringLiteral}
 use Rattle.justfile_token.specs.declared.token.Token.{Token}
 use Rattle.justfile_item.specs.Attributes.{attribute_cooked, boxed_cooked, literal_cooked, optional, option_cooked, property_cooked, attributes_cooked}
-use Rattle.justfile_model.specs.Files.{attribute_literals, entries_literals, expr_literals, optional_literals, option_literals, quoted_literals}
-use Rattle.justfile_model.specs.Literals.{AreCookedTexts, Expanded, Expansions, Literal, Plain, cooked_text, over_literal, string_of}
-use Rattle.justfile_model.specs.Tok.{Tok, tok_of}
-use Rattle.justfile_model.specs.Tree.{Expr, Quoted, lexeme}
+use Rattle.justfile_model.specs.Grammars.Files.{attribute_literals, entries_literals, expr_literals, optional_literals, option_literals, quoted_literals}
+use Rattle.justfile_model.specs.LiteralTexts.Literals.{AreCookedTexts, Expanded, Expansions, Literal, Plain, cooked_text, over_literal, string_of}
+use Rattle.justfile_model.specs.Lexing.Tok.{Tok, tok_of}
+use Rattle.justfile_model.specs.Trees.Tree.{Expr, Quoted, lexeme}
 use Rattle.justfile_parse_item.specs.Filled.{AreFilledAttributes, IsFilledAttribute, IsFilledBoxed, IsFilledCount, IsFilledExpression, IsFilledInterpreter, IsFilledLiteral, IsFilledOption, IsFilledProperty}
 use Rattle.justfile_expression.specs.Expression.{expr_cooked, expr_of, literal_tok}
 use Rattle.justfile_expression.specs.declared.expression.Expression.{Expression}

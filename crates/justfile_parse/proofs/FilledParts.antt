@@ -12,9 +12,9 @@ use Rattle.justfile_token.specs.declared.string_literal.StringLiteral.{StringLit
 use Rattle.justfile_token.specs.declared.token.Token.{Token}
 use Rattle.justfile_item.specs.Attributes.{literal_cooked, optional}
 use Rattle.justfile_item.specs.Item.{quoted_of}
-use Rattle.justfile_model.specs.Files.{expr_literals, exprs_literals, optional_literals, quoted_literals, setting_literals}
-use Rattle.justfile_model.specs.Literals.{AreCookedTexts, Expansions, Literal}
-use Rattle.justfile_model.specs.Tok.{Tok}
+use Rattle.justfile_model.specs.Grammars.Files.{expr_literals, exprs_literals, optional_literals, quoted_literals, setting_literals}
+use Rattle.justfile_model.specs.LiteralTexts.Literals.{AreCookedTexts, Expansions, Literal}
+use Rattle.justfile_model.specs.Lexing.Tok.{Tok}
 use Rattle.justfile_setting.specs.Setting.{interpreter_cooked, setting_cooked, value_of}
 use Rattle.justfile_setting.specs.declared.setting.Setting.{Setting}
 use Rattle.justfile_setting.specs.declared.setting.Setting.TheVariants as settings

@@ -7,12 +7,12 @@ use Rattle.justfile_token.specs.declared.token.Token.{Token}
 use Rattle.justfile_vocabulary.specs.declared.token_kind.TokenKind.TheVariants as kinds
 use Rattle.justfile_round_trip.proofs.LiteralTexts.FormatParts.{AreInFormat, InFormat, continue_inside, end_inside, expression_inside, lexed_inside}
 use Rattle.justfile_literal.specs.Literal.{is_part}
-use Rattle.justfile_model.specs.Expressions as grammar
-use Rattle.justfile_model.specs.Expressions.{AnyDepth, IsKind, Tokens}
-use Rattle.justfile_model.specs.Features.{Noted}
-use Rattle.justfile_model.specs.SignificantTokens.{SignificantToken, significant_tokens}
-use Rattle.justfile_model.specs.Tok.{Tok, tok_of}
-use Rattle.justfile_model.specs.Tree.{Parts, itself}
+use Rattle.justfile_model.specs.Grammars.Expressions as grammar
+use Rattle.justfile_model.specs.Grammars.Expressions.{AnyDepth, IsKind, Tokens}
+use Rattle.justfile_model.specs.Grammars.Features.{Noted}
+use Rattle.justfile_model.specs.Lexing.SignificantTokens.{SignificantToken, significant_tokens}
+use Rattle.justfile_model.specs.Lexing.Tok.{Tok, tok_of}
+use Rattle.justfile_model.specs.Trees.Tree.{Parts, itself}
 use Rattle.justfile_parse_expression.specs.FormatStrings.{AreEnded, IsEnded, IsEndedPastExpression, last_of}
 use Rattle.justfile_parse.specs.Parsing.{IsOneLex}
 use Rattle.justfile_parse_expression.specs.Significant.{significant_of}

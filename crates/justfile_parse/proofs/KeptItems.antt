@@ -9,9 +9,9 @@ use Rattle.std.proofs.lemmas.List.Elements.{All-set, All-take}
 use Rattle.std.proofs.lemmas.List.Sorted.{All-permutation, IsPermutation-swap}
 use Rattle.justfile_item.specs.declared.item.Item.{Item}
 use Rattle.justfile_item.specs.declared.item.Item.TheVariants as items
-use Rattle.justfile_model.specs.Docs.{Nothing, documented, item_with_doc, redocumented}
-use Rattle.justfile_model.specs.Files.{sets_doc}
-use Rattle.justfile_model.specs.Tree as tree
+use Rattle.justfile_model.specs.Grammars.Docs.{Nothing, documented, item_with_doc, redocumented}
+use Rattle.justfile_model.specs.Grammars.Files.{sets_doc}
+use Rattle.justfile_model.specs.Trees.Tree as tree
 use Rattle.justfile_parse.specs.Docs.{LeafItem, doc_before, doc_first, doc_taken, is_line_end, item_can_take_doc, taken_docs, with_doc, with_item, with_items}
 use Rattle.justfile_parse.proofs.DocSteps.{line_end}
 use Rattle.justfile_parse.proofs.TakenDocs.{from_first}

@@ -5,7 +5,7 @@ use Rattle.std.specs.List.{starts_with}
 use Rattle.std.specs.Str.{bytes_eq}
 use Rattle.justfile_token.specs.StringKind.{delimiter_len, kind_of, token_kind_of}
 use Rattle.justfile_vocabulary.specs.declared.token_kind.TokenKind.TheVariants.{FormatStringStart}
-use Rattle.justfile_model.specs.Bytes.{is_interpolation_start, is_interpolation_end, is_mixed, closes_levels, first_char}
+use Rattle.justfile_model.specs.Lexing.Bytes.{is_interpolation_start, is_interpolation_end, is_mixed, closes_levels, first_char}
 use Rattle.justfile_token.specs.CompileErrorKind.{internal_message}
 use Rattle.justfile_vocabulary.specs.declared.byte_class.ByteClass.{ByteClass}
 use Rattle.justfile_vocabulary.specs.declared.byte_class.ByteClass.TheVariants as classes
@@ -21,21 +21,21 @@ use Rattle.justfile_token.specs.declared.token.Token.{Token}
 use Rattle.justfile_vocabulary.specs.declared.token_kind.TokenKind.{TokenKind}
 use Rattle.justfile_literal.specs.Literal.{IsKindOf}
 use Rattle.justfile_vocabulary.specs.ByteClass.{class_of}
-use Rattle.justfile_model.specs.Lexed.{IsFault, IsSpan}
-use Rattle.justfile_model.specs.Literals as literals
-use Rattle.justfile_model.specs.ReaderState as reader
-use Rattle.justfile_model.specs.TreeReader as model
-use Rattle.justfile_model.specs.SignificantTokens.{SignificantToken}
+use Rattle.justfile_model.specs.Lexing.Lexed.{IsFault, IsSpan}
+use Rattle.justfile_model.specs.LiteralTexts.Literals as literals
+use Rattle.justfile_model.specs.Readers.ReaderState as reader
+use Rattle.justfile_model.specs.Readers.TreeReader as model
+use Rattle.justfile_model.specs.Lexing.SignificantTokens.{SignificantToken}
 use Rattle.justfile_attribute_rules.specs.RuleErrors.{IsKindOfRule}
-use Rattle.justfile_model.specs.Rules as rules
-use Rattle.justfile_model.specs.Rules.{Rule}
+use Rattle.justfile_model.specs.Meanings.Rules as rules
+use Rattle.justfile_model.specs.Meanings.Rules.{Rule}
 use Rattle.justfile_parse.specs.Errors.{IsErrorOf, IsUnexpected}
 use Rattle.justfile_parse_base.specs.ParseErrors.{IsAfterVariadic, IsExpectedKeyword, IsExtraneous, IsUnknownSetting}
-use Rattle.justfile_model.specs.LexicalFault.{LexicalFault, NotLexical, LexicalError, Here, Unclosed, lexical_fault_of}
-use Rattle.justfile_model.specs.LiteralText.{raw_len}
-use Rattle.justfile_model.specs.Modes.{Mode, head_of, innermost, is_empty, mode, nested}
-use Rattle.justfile_model.specs.Next.{NextToken, doubled_token, fixed_token, unterminated, literal_part, closing_delimiter, format_kind, brace_by, closing, escaped_line_end, token_by_class, text_or, body_token, at_end_by, Region, InText, InInterpolation, OutsideText, region_by, token_in_region, token_within_line, blanks_or, layout, next_by, next, is_same, is_backtick, begins_blank_line, is_level, tested_blanks}
-use Rattle.justfile_model.specs.Tok.{Tok}
+use Rattle.justfile_model.specs.Lexing.LexicalFault.{LexicalFault, NotLexical, LexicalError, Here, Unclosed, lexical_fault_of}
+use Rattle.justfile_model.specs.Lexing.LiteralText.{raw_len}
+use Rattle.justfile_model.specs.Lexing.Modes.{Mode, head_of, innermost, is_empty, mode, nested}
+use Rattle.justfile_model.specs.Lexing.Next.{NextToken, doubled_token, fixed_token, unterminated, literal_part, closing_delimiter, format_kind, brace_by, closing, escaped_line_end, token_by_class, text_or, body_token, at_end_by, Region, InText, InInterpolation, OutsideText, region_by, token_in_region, token_within_line, blanks_or, layout, next_by, next, is_same, is_backtick, begins_blank_line, is_level, tested_blanks}
+use Rattle.justfile_model.specs.Lexing.Tok.{Tok}
 use Rattle.justfile_model.specs.declared.open_delimiter.OpenDelimiter.{OpenDelimiter}
 use Rattle.justfile_model.specs.declared.raw_text.RawText.TheVariants as raw_texts
 

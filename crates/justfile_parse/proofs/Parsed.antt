@@ -42,27 +42,27 @@ use Rattle.justfile_item.specs.declared.item.Item.{Item}
 use Rattle.justfile_item.specs.declared.item.Item.TheVariants.{Alias, Assignment, Comment, Function, Import, Module, Newline, Recipe, Setting, Unexport}
 use Rattle.justfile_ast.specs.Ast.{features_of, tree_of}
 use Rattle.justfile_ast.specs.declared.ast.Ast.{Ast}
-use Rattle.justfile_model.specs.LexResult.{IsFrom, IsLexerFault}
-use Rattle.justfile_model.specs.Conditions.{Conditions, with_limit}
-use Rattle.justfile_model.specs.Files.{FileDerives, NumbersSuffice, body_literals, dependency_literals, entries_literals, expr_literals, exprs_literals, fragments_literals, header_literals, item_literals, literals, optional_literals, ordered, parameter_literals, parts_literals}
-use Rattle.justfile_model.specs.Lexed.{Lexed, IsFault}
-use Rattle.justfile_model.specs.LexicalFault.{LexicalFault, lexical_fault_of}
-use Rattle.justfile_model.specs.Features.{Noted}
-use Rattle.justfile_model.specs.Literals as lits
-use Rattle.justfile_model.specs.Literals.{Expansions, Expanded, Literal, Plain, over_literal, string_of, cooked_text, AreCookedTexts}
+use Rattle.justfile_model.specs.Lexing.LexResult.{IsFrom, IsLexerFault}
+use Rattle.justfile_model.specs.Grammars.Conditions.{Conditions, with_limit}
+use Rattle.justfile_model.specs.Grammars.Files.{FileDerives, NumbersSuffice, body_literals, dependency_literals, entries_literals, expr_literals, exprs_literals, fragments_literals, header_literals, item_literals, literals, optional_literals, ordered, parameter_literals, parts_literals}
+use Rattle.justfile_model.specs.Lexing.Lexed.{Lexed, IsFault}
+use Rattle.justfile_model.specs.Lexing.LexicalFault.{LexicalFault, lexical_fault_of}
+use Rattle.justfile_model.specs.Grammars.Features.{Noted}
+use Rattle.justfile_model.specs.LiteralTexts.Literals as lits
+use Rattle.justfile_model.specs.LiteralTexts.Literals.{Expansions, Expanded, Literal, Plain, over_literal, string_of, cooked_text, AreCookedTexts}
 use Rattle.justfile_vocabulary.specs.declared.list_feature.ListFeature.{ListFeature}
-use Rattle.justfile_model.specs.LeafView.{views_tokens}
-use Rattle.justfile_model.specs.TreeReader as model
-use Rattle.justfile_model.specs.SignificantTokens.{SignificantToken, is_whitespace, significant_from, significant_tokens}
-use Rattle.justfile_model.specs.Tok.{Tok, tok_of}
-use Rattle.justfile_model.specs.Tree as tree
-use Rattle.justfile_model.specs.Tree.{Tree, WrittenTree, lexeme}
-use Rattle.justfile_model.proofs.LexedLaws.{one_list, never_both}
+use Rattle.justfile_model.specs.Trees.LeafView.{views_tokens}
+use Rattle.justfile_model.specs.Readers.TreeReader as model
+use Rattle.justfile_model.specs.Lexing.SignificantTokens.{SignificantToken, is_whitespace, significant_from, significant_tokens}
+use Rattle.justfile_model.specs.Lexing.Tok.{Tok, tok_of}
+use Rattle.justfile_model.specs.Trees.Tree as tree
+use Rattle.justfile_model.specs.Trees.Tree.{Tree, WrittenTree, lexeme}
+use Rattle.justfile_model.proofs.Lexing.LexedLaws.{one_list, never_both}
 use Rattle.std.proofs.lemmas.Bool.{cases_order}
-use Rattle.justfile_model.proofs.Agreement.{complete, due, refused}
-use Rattle.justfile_model.proofs.Needs.{deep_at, only_deep, raised}
-use Rattle.justfile_model.proofs.FileObeys.{sound}
-use Rattle.justfile_model.proofs.Ordered.{ordered_bindings, ordered_recipes}
+use Rattle.justfile_model.proofs.Sound.Agreement.{complete, due, refused}
+use Rattle.justfile_model.proofs.Derivations.Needs.{deep_at, only_deep, raised}
+use Rattle.justfile_model.proofs.Sound.FileObeys.{sound}
+use Rattle.justfile_model.proofs.Meanings.Ordered.{ordered_bindings, ordered_recipes}
 use Rattle.justfile_parse_item.specs.Filled.{AreFilledExpressions, AreFilledParts, IsFilledArgument, IsFilledBoxed, IsFilledDependency, IsFilledName, IsFilledParameter, IsFilledRecipe, IsFilledFragment, IsFilledOptional, IsFilledItem, IsFilledExpression, IsFilledLine, IsFilledPart, IsInTable, first_part, later_part}
 use Rattle.justfile_literal.specs.Literal.{IsPartOf, is_framed, is_quoted}
 use Rattle.justfile_parse.specs.Errors.{IsErrorOf, IsTooDeepError}
@@ -71,7 +71,7 @@ use Rattle.justfile_parse.specs.Parsing.{HasNoTree, IsOneLex, IsParsed, IsParsed
 use Rattle.justfile_parse.specs.MethodResults.{IsRead, IsUnread}
 use Rattle.justfile_parse_expression.specs.Significant.{significant_of}
 use Rattle.justfile_parse_expression.specs.Significant.{TableEntry}
-use Rattle.justfile_model.specs.UnstableFeatures.{unstable_features}
+use Rattle.justfile_model.specs.Meanings.UnstableFeatures.{unstable_features}
 use Rattle.justfile_parse.specs.WantsNumber.{WantsNumber}
 use Rattle.justfile_parse.proofs.Comments.{AreComments, lexed_comments}
 use Rattle.justfile_parse.proofs.FilledAttributes.{given_set, joined_cook, lexemes, set_cooks, string_cooks, string_tok}

@@ -12,19 +12,19 @@ use Rattle.justfile_token.specs.declared.token.Token.{Token}
 use Rattle.justfile_item.specs.Item.{item_numbers, item_of, item_recipe_numbers}
 use Rattle.justfile_item.specs.declared.item.Item.{Item}
 use Rattle.justfile_item.specs.declared.item.Item.TheVariants as items
-use Rattle.justfile_model.specs.AttributeKinds.{same_attribute}
-use Rattle.justfile_model.specs.Conditions.{Conditions}
-use Rattle.justfile_model.specs.Docs.{Before, LineEnd, Nothing, Other, comment_taken, doc_in, doc_of, doc_or_comment, documented, redocumented, taken, takes_doc}
-use Rattle.justfile_model.specs.Files.{NumbersFrom, if_both, ordered, ordered_item, sets_doc, undocumented}
-use Rattle.justfile_model.specs.ReaderState.{Counters}
-use Rattle.justfile_model.specs.LeafView.{views_tokens}
-use Rattle.justfile_model.specs.Tok.{Tok}
-use Rattle.justfile_model.specs.Tree as tree
-use Rattle.justfile_model.specs.Tree.{Content, Entry, Item as AnyItem, OrderedItem, Tree, WrittenItem, WrittenTree}
-use Rattle.justfile_model.proofs.Binds.{some_back}
-use Rattle.justfile_model.proofs.Counters.{count, count_content}
-use Rattle.justfile_model.proofs.Related as a
-use Rattle.justfile_model.proofs.Related.{AlikeItem, AlikeItems}
+use Rattle.justfile_model.specs.Meanings.AttributeKinds.{same_attribute}
+use Rattle.justfile_model.specs.Grammars.Conditions.{Conditions}
+use Rattle.justfile_model.specs.Grammars.Docs.{Before, LineEnd, Nothing, Other, comment_taken, doc_in, doc_of, doc_or_comment, documented, redocumented, taken, takes_doc}
+use Rattle.justfile_model.specs.Grammars.Files.{NumbersFrom, if_both, ordered, ordered_item, sets_doc, undocumented}
+use Rattle.justfile_model.specs.Readers.ReaderState.{Counters}
+use Rattle.justfile_model.specs.Trees.LeafView.{views_tokens}
+use Rattle.justfile_model.specs.Lexing.Tok.{Tok}
+use Rattle.justfile_model.specs.Trees.Tree as tree
+use Rattle.justfile_model.specs.Trees.Tree.{Content, Entry, Item as AnyItem, OrderedItem, Tree, WrittenItem, WrittenTree}
+use Rattle.justfile_model.proofs.Lists.Binds.{some_back}
+use Rattle.justfile_model.proofs.Readers.Counters.{count, count_content}
+use Rattle.justfile_model.proofs.Relations.Related as a
+use Rattle.justfile_model.proofs.Relations.Related.{AlikeItem, AlikeItems}
 use Rattle.justfile_parse_item.specs.Filled.{IsFilledItem}
 use Rattle.justfile_parse_item.specs.Tree.{item_tree}
 use Rattle.justfile_parse_item.specs.DerivedFields.{HasDerivedItemFields}

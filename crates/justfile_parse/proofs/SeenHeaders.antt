@@ -13,16 +13,16 @@ use Rattle.justfile_recipe_header.specs.Header.{dependency_argument_of, dependen
 use Rattle.justfile_recipe_header.specs.declared.parameter.Parameter.{Parameter}
 use Rattle.justfile_recipe_header.specs.declared.unresolved_dependency.DependencyArgument.{DependencyArgument}
 use Rattle.justfile_recipe_header.specs.declared.unresolved_dependency.UnresolvedDependency.{UnresolvedDependency}
-use Rattle.justfile_model.specs.Conditions.{Conditions}
-use Rattle.justfile_model.specs.Files.{NumbersFrom}
-use Rattle.justfile_model.specs.HeaderReader.{with_bindings}
-use Rattle.justfile_model.specs.ReaderState.{Counters}
-use Rattle.justfile_model.specs.Tok.{Tok}
-use Rattle.justfile_model.specs.Tree as tree
-use Rattle.justfile_model.specs.Tree.{starless_argument, starless_dependency}
-use Rattle.justfile_model.proofs.Counters.{after_parameters}
-use Rattle.justfile_model.proofs.Related as a
-use Rattle.justfile_model.proofs.Related.{AlikeDependency, AlikeDependencyArgument, AlikeOption, AlikeParameter, AlikeParameters, Each, absent, present}
+use Rattle.justfile_model.specs.Grammars.Conditions.{Conditions}
+use Rattle.justfile_model.specs.Grammars.Files.{NumbersFrom}
+use Rattle.justfile_model.specs.Readers.HeaderReader.{with_bindings}
+use Rattle.justfile_model.specs.Readers.ReaderState.{Counters}
+use Rattle.justfile_model.specs.Lexing.Tok.{Tok}
+use Rattle.justfile_model.specs.Trees.Tree as tree
+use Rattle.justfile_model.specs.Trees.Tree.{starless_argument, starless_dependency}
+use Rattle.justfile_model.proofs.Readers.Counters.{after_parameters}
+use Rattle.justfile_model.proofs.Relations.Related as a
+use Rattle.justfile_model.proofs.Relations.Related.{AlikeDependency, AlikeDependencyArgument, AlikeOption, AlikeParameter, AlikeParameters, Each, absent, present}
 use Rattle.justfile_parse_item.specs.Filled.{IsFilledArgument, IsFilledDependency, IsFilledName, IsFilledParameter}
 use Rattle.justfile_parse_expression.proofs.Seen as table
 use Rattle.justfile_parse_expression.proofs.Seen.{Relates}

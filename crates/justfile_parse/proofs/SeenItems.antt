@@ -19,21 +19,21 @@ use Rattle.justfile_item.specs.declared.item.Item.TheVariants as items
 use Rattle.justfile_item.specs.declared.recipe.UnresolvedRecipe.{UnresolvedRecipe}
 use Rattle.justfile_item.specs.declared.set.Set.{Set}
 use Rattle.justfile_ast.specs.Ast.{noted_of}
-use Rattle.justfile_model.specs.Conditions.{Conditions}
-use Rattle.justfile_model.specs.Docs.{redocumented}
-use Rattle.justfile_model.specs.Features.{Noted}
-use Rattle.justfile_model.specs.Files.{NumbersFrom, ordered_item, with_entries}
-use Rattle.justfile_model.specs.Literals.{Expansions}
-use Rattle.justfile_model.specs.Meaning.{entries_of}
-use Rattle.justfile_model.specs.ReaderState.{Counters}
-use Rattle.justfile_model.specs.LeafView.{views_tokens}
-use Rattle.justfile_model.specs.Tok.{Tok, tok_of}
-use Rattle.justfile_model.specs.Tree as tree
-use Rattle.justfile_model.specs.Tree.{BodyLine, Content, Entry, Expr, Header, Item as AnyItem, Quoted, SettingValue, WrittenAttribute, WrittenItem, assignment_of, bare_module, bare_recipe, starless, starless_header}
+use Rattle.justfile_model.specs.Grammars.Conditions.{Conditions}
+use Rattle.justfile_model.specs.Grammars.Docs.{redocumented}
+use Rattle.justfile_model.specs.Grammars.Features.{Noted}
+use Rattle.justfile_model.specs.Grammars.Files.{NumbersFrom, ordered_item, with_entries}
+use Rattle.justfile_model.specs.LiteralTexts.Literals.{Expansions}
+use Rattle.justfile_model.specs.Meanings.Meaning.{entries_of}
+use Rattle.justfile_model.specs.Readers.ReaderState.{Counters}
+use Rattle.justfile_model.specs.Trees.LeafView.{views_tokens}
+use Rattle.justfile_model.specs.Lexing.Tok.{Tok, tok_of}
+use Rattle.justfile_model.specs.Trees.Tree as tree
+use Rattle.justfile_model.specs.Trees.Tree.{BodyLine, Content, Entry, Expr, Header, Item as AnyItem, Quoted, SettingValue, WrittenAttribute, WrittenItem, assignment_of, bare_module, bare_recipe, starless, starless_header}
 use Rattle.justfile_vocabulary.specs.declared.list_feature.ListFeature.{ListFeature}
-use Rattle.justfile_model.proofs.Counters.{count, parameters_recipes}
-use Rattle.justfile_model.proofs.Related as a
-use Rattle.justfile_model.proofs.Related.{Alike, AlikeHeader, AlikeItem, AlikeLine, AlikeNames, AlikeOption, AlikeQuoted, AlikeValue, Each}
+use Rattle.justfile_model.proofs.Readers.Counters.{count, parameters_recipes}
+use Rattle.justfile_model.proofs.Relations.Related as a
+use Rattle.justfile_model.proofs.Relations.Related.{Alike, AlikeHeader, AlikeItem, AlikeLine, AlikeNames, AlikeOption, AlikeQuoted, AlikeValue, Each}
 use Rattle.justfile_setting.specs.LeafSetting.{leaf_value_of}
 use Rattle.justfile_setting.specs.Setting.{keyword_of}
 use Rattle.justfile_expression.specs.LeafTree.{Assigned, AssignmentName, Headed, Leaf, Named, RecipeName, leaf_tree_of}

@@ -11,16 +11,16 @@ use Rattle.justfile_vocabulary.specs.declared.number.Number.{Number}
 use Rattle.justfile_token.specs.declared.string_literal.StringLiteral as strings
 use Rattle.justfile_token.specs.declared.token.Token.{Token}
 use Rattle.justfile_item.specs.Item.{function_parameter_number, function_parameter_of, quoted_of}
-use Rattle.justfile_model.specs.Conditions.{Conditions}
-use Rattle.justfile_model.specs.Files.{NumbersFrom}
-use Rattle.justfile_model.specs.HeaderReader.{with_bindings}
-use Rattle.justfile_model.specs.ReaderState.{Counters}
-use Rattle.justfile_model.specs.Tok.{Tok}
-use Rattle.justfile_model.specs.Tree as tree
-use Rattle.justfile_model.specs.Tree.{Exprs, Quoted, SettingValue}
-use Rattle.justfile_model.proofs.Counters.{after_parameters}
-use Rattle.justfile_model.proofs.Related as a
-use Rattle.justfile_model.proofs.Related.{AlikeAll, AlikeNames, AlikeOption, AlikeQuoted, AlikeValue}
+use Rattle.justfile_model.specs.Grammars.Conditions.{Conditions}
+use Rattle.justfile_model.specs.Grammars.Files.{NumbersFrom}
+use Rattle.justfile_model.specs.Readers.HeaderReader.{with_bindings}
+use Rattle.justfile_model.specs.Readers.ReaderState.{Counters}
+use Rattle.justfile_model.specs.Lexing.Tok.{Tok}
+use Rattle.justfile_model.specs.Trees.Tree as tree
+use Rattle.justfile_model.specs.Trees.Tree.{Exprs, Quoted, SettingValue}
+use Rattle.justfile_model.proofs.Readers.Counters.{after_parameters}
+use Rattle.justfile_model.proofs.Relations.Related as a
+use Rattle.justfile_model.proofs.Relations.Related.{AlikeAll, AlikeNames, AlikeOption, AlikeQuoted, AlikeValue}
 use Rattle.justfile_setting.specs.LeafSetting.{leaf_value_of}
 use Rattle.justfile_setting.specs.Setting.{HasDerivedSettingFields, boxed_by, interpreter_by, literal_by, value_of}
 use Rattle.justfile_setting.specs.declared.setting.Setting.{Setting}

@@ -1,11 +1,11 @@
 -- Rules broken by a table's tokens correspond to rules broken by the tokens that the definitions see.
 use Rattle.std.proofs.Common.{◌≡◌, ap, refl}
 use Rattle.justfile_token.specs.declared.token.Token.{Token}
-use Rattle.justfile_model.specs.Rules as rules
-use Rattle.justfile_model.specs.Rules.{Broken, Rule, over_broken, over_rule}
-use Rattle.justfile_model.specs.Tok.{Tok, tok_of}
-use Rattle.justfile_model.proofs.AlikeRules as alike
-use Rattle.justfile_model.proofs.AlikeRules.{AlikeBroken, AlikeRule}
+use Rattle.justfile_model.specs.Meanings.Rules as rules
+use Rattle.justfile_model.specs.Meanings.Rules.{Broken, Rule, over_broken, over_rule}
+use Rattle.justfile_model.specs.Lexing.Tok.{Tok, tok_of}
+use Rattle.justfile_model.proofs.Relations.AlikeRules as alike
+use Rattle.justfile_model.proofs.Relations.AlikeRules.{AlikeBroken, AlikeRule}
 
 module _ (Position : Token → Tok → Type 0) (is : (t : Token) (k : Tok) → Position t k → tok_of t ≡ k) where
   same_rule : {r : Rule Token} {s : Rule Tok} → AlikeRule Position r s → over_rule tok_of r ≡ s

@@ -3,10 +3,10 @@ use Rattle.std.proofs.Common.{◌≡◌, ◌∙◌, ℕ, Bool, true, false, cond
 use Rattle.std.proofs.lemmas.List.{append-nil, append_assoc, length-append, reverse-append}
 use Rattle.std.proofs.Math.Seq.{take-append_seam}
 use Rattle.justfile_token.specs.declared.token.Token.{Token}
-use Rattle.justfile_model.specs.Docs.{Before, LineEnd, Nothing, Other, after, comment_taken, doc_in, doc_or_comment, documented, item_with_doc, redocumented, taken, can_take_doc}
-use Rattle.justfile_model.specs.Files.{sets_doc}
-use Rattle.justfile_model.specs.Tree as tree
-use Rattle.justfile_model.specs.Tree.{Content, Entry, Comment, Construct, Newline}
+use Rattle.justfile_model.specs.Grammars.Docs.{Before, LineEnd, Nothing, Other, after, comment_taken, doc_in, doc_or_comment, documented, item_with_doc, redocumented, taken, can_take_doc}
+use Rattle.justfile_model.specs.Grammars.Files.{sets_doc}
+use Rattle.justfile_model.specs.Trees.Tree as tree
+use Rattle.justfile_model.specs.Trees.Tree.{Content, Entry, Comment, Construct, Newline}
 use Rattle.justfile_parse.specs.Docs.{LeafItem, doc_before, doc_first, doc_taken, with_doc, with_item, with_items}
 use Rattle.justfile_expression.specs.LeafTree.{Leaf}
 

@@ -10,9 +10,9 @@ use Rattle.justfile_vocabulary.specs.declared.unstable_feature.UnstableFeature.{
 use Rattle.justfile_vocabulary.specs.declared.unstable_feature.UnstableFeature.TheVariants.{CachedRecipes, ListsSetting, UserDefinedFunctions}
 use Rattle.justfile_item.specs.Item.{item_of}
 use Rattle.justfile_item.specs.declared.item.Item.{Item}
-use Rattle.justfile_model.specs.AttributeKinds.{same_attribute}
-use Rattle.justfile_model.specs.ContentKeys.{has_attribute}
-use Rattle.justfile_model.specs.UnstableFeatures.{uses}
+use Rattle.justfile_model.specs.Meanings.AttributeKinds.{same_attribute}
+use Rattle.justfile_model.specs.Trees.ContentKeys.{has_attribute}
+use Rattle.justfile_model.specs.Meanings.UnstableFeatures.{uses}
 use Rattle.justfile_parse.specs.Unstable.{unstable_of, uses_feature, with_used}
 
 -- the kinds of attributes are those of their entries

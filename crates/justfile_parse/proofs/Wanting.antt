@@ -1,21 +1,21 @@
 -- Where a number is needed and there is none, in the form that callers use.
 use Rattle.std.proofs.Common.{◌≡◌, ℕ, zero, suc, ◌+◌, ◌<◌, ◌≤◌, Bool, true, false, cond, List, [], length, Ok, Err, IfOk, IsOk, refl, sym, ap, ◌∙◌, subst, arith}
 use Rattle.std.specs.Prelude.{◌-◌, ◌^◌}
-use Rattle.justfile_model.specs.HeaderReader as r
-use Rattle.justfile_model.specs.ReadAttribute.{ReadAttribute, token_view}
-use Rattle.justfile_model.specs.Reader.{any_recipe, with_recipes}
-use Rattle.justfile_model.specs.ReaderState.{◌>>=◌, Counters}
-use Rattle.justfile_model.specs.Tok.{Tok}
-use Rattle.justfile_model.specs.Tree.{WrittenItem}
-use Rattle.justfile_model.specs.TreeReader.{Read, State, token_attributes, token_leaves}
+use Rattle.justfile_model.specs.Readers.HeaderReader as r
+use Rattle.justfile_model.specs.Meanings.ReadAttribute.{ReadAttribute, token_view}
+use Rattle.justfile_model.specs.Readers.Reader.{any_recipe, with_recipes}
+use Rattle.justfile_model.specs.Readers.ReaderState.{◌>>=◌, Counters}
+use Rattle.justfile_model.specs.Lexing.Tok.{Tok}
+use Rattle.justfile_model.specs.Trees.Tree.{WrittenItem}
+use Rattle.justfile_model.specs.Readers.TreeReader.{Read, State, token_attributes, token_leaves}
 use Rattle.justfile_model.specs.declared.parameter_kind.ParameterKind.{ParameterKind}
 use Rattle.justfile_model.specs.declared.parameter_kind.ParameterKind.TheVariants.{Plus, Singular, Star}
-use Rattle.justfile_model.proofs.HeaderReading.{parameter_goes, singulars_is}
-use Rattle.justfile_model.proofs.NaturalHeaders as natural
-use Rattle.justfile_model.proofs.NaturalHeaders.{LacksHeader, LacksLast, LacksParameter, LacksSingular}
-use Rattle.justfile_model.proofs.NaturalParts as parts
-use Rattle.justfile_model.proofs.NaturalParts.{LacksName}
-use Rattle.justfile_model.proofs.ReadingSteps.{past}
+use Rattle.justfile_model.proofs.Readers.HeaderReading.{parameter_goes, singulars_is}
+use Rattle.justfile_model.proofs.Relations.NaturalHeaders as natural
+use Rattle.justfile_model.proofs.Relations.NaturalHeaders.{LacksHeader, LacksLast, LacksParameter, LacksSingular}
+use Rattle.justfile_model.proofs.Relations.NaturalParts as parts
+use Rattle.justfile_model.proofs.Relations.NaturalParts.{LacksName}
+use Rattle.justfile_model.proofs.Readers.ReadingSteps.{past}
 use Rattle.justfile_parse.specs.WantsNumber.{AreNamed, AreNumbered, HeaderLacks, IsAfterPrefix, LacksRecipe, NamePlace, Place, Rules, a_name, attributes_at, more, no_name, none, nothing, numbered_name, parameter, plus, star}
 
 module _ (rules : Rules) where

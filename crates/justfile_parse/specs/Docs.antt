@@ -2,10 +2,10 @@
 use Rattle.std.specs.Prelude.{ℕ, Bool, true, false, ◌-◌, List, [], ◌∷◌, ◌++◌, drop, length, map, take, Option, Some, None, reverse}
 use Rattle.justfile_token.specs.declared.token.Token.{Token}
 use Rattle.justfile_item.specs.declared.item.Item.{Item}
-use Rattle.justfile_model.specs.Docs.{LineEnd, Nothing, doc_in, item_with_doc, can_take_doc}
-use Rattle.justfile_model.specs.Files.{sets_doc}
-use Rattle.justfile_model.specs.Tree as tree
-use Rattle.justfile_model.specs.Tree.{OrderedItem}
+use Rattle.justfile_model.specs.Grammars.Docs.{LineEnd, Nothing, doc_in, item_with_doc, can_take_doc}
+use Rattle.justfile_model.specs.Grammars.Files.{sets_doc}
+use Rattle.justfile_model.specs.Trees.Tree as tree
+use Rattle.justfile_model.specs.Trees.Tree.{OrderedItem}
 use Rattle.justfile_parse_item.specs.Tree.{item_tree}
 use Rattle.justfile_expression.specs.LeafTree.{Leaf}
 

@@ -6,18 +6,18 @@ use Rattle.justfile_token.specs.declared.compile_error_kind.CompileErrorKind.{Co
 use Rattle.justfile_token.specs.declared.compile_error_kind.CompileErrorKind.TheVariants as kinds
 use Rattle.justfile_token.specs.declared.token.Token.{Token}
 use Rattle.justfile_literal.specs.Literal.{IsKindOf}
-use Rattle.justfile_model.specs.Conditions.{Conditions}
-use Rattle.justfile_model.specs.Expressions.{PastLimitAt}
-use Rattle.justfile_model.specs.Features.{ConstructFeatures}
-use Rattle.justfile_model.specs.Files.{FileTree, to_tokens}
-use Rattle.justfile_model.specs.Grammar.{File}
-use Rattle.justfile_model.specs.ReaderState as reading
-use Rattle.justfile_model.specs.ReadErrors.{IsDue}
-use Rattle.justfile_model.specs.Rules.{Broken, over_broken}
-use Rattle.justfile_model.specs.SignificantTokens.{SignificantToken}
-use Rattle.justfile_model.specs.Tok.{Tok, tok_of}
-use Rattle.justfile_model.specs.Tree.{WrittenTree}
-use Rattle.justfile_model.specs.TreeReader.{ReadError, tree_of_tokens}
+use Rattle.justfile_model.specs.Grammars.Conditions.{Conditions}
+use Rattle.justfile_model.specs.Grammars.Expressions.{PastLimitAt}
+use Rattle.justfile_model.specs.Grammars.Features.{ConstructFeatures}
+use Rattle.justfile_model.specs.Grammars.Files.{FileTree, to_tokens}
+use Rattle.justfile_model.specs.Grammars.Grammar.{File}
+use Rattle.justfile_model.specs.Readers.ReaderState as reading
+use Rattle.justfile_model.specs.Readers.ReadErrors.{IsDue}
+use Rattle.justfile_model.specs.Meanings.Rules.{Broken, over_broken}
+use Rattle.justfile_model.specs.Lexing.SignificantTokens.{SignificantToken}
+use Rattle.justfile_model.specs.Lexing.Tok.{Tok, tok_of}
+use Rattle.justfile_model.specs.Trees.Tree.{WrittenTree}
+use Rattle.justfile_model.specs.Readers.TreeReader.{ReadError, tree_of_tokens}
 use Rattle.justfile_parse_base.specs.ParseErrors.{IsAfterVariadic, IsExpectedKeyword, IsExtraneous, IsUnknownSetting}
 
 -- the token is `t`, or the last of the tokens if there is none

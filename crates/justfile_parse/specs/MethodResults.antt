@@ -12,14 +12,14 @@ use Rattle.justfile_token.specs.declared.token.Token.{Token}
 use Rattle.justfile_item.specs.Item.{item_of}
 use Rattle.justfile_item.specs.declared.item.Item.{Item}
 use Rattle.justfile_ast.specs.Ast.{noted_of}
-use Rattle.justfile_model.specs.Features.{Noted}
-use Rattle.justfile_model.specs.Conditions.{Conditions, with_limit}
-use Rattle.justfile_model.specs.Files.{NumbersSuffice, ordered}
-use Rattle.justfile_model.specs.LeafView.{views_tokens}
-use Rattle.justfile_model.specs.SignificantTokens.{SignificantToken}
-use Rattle.justfile_model.specs.Tok.{Tok}
-use Rattle.justfile_model.specs.Tree.{WrittenTree}
-use Rattle.justfile_model.specs.TreeReader as tree
+use Rattle.justfile_model.specs.Grammars.Features.{Noted}
+use Rattle.justfile_model.specs.Grammars.Conditions.{Conditions, with_limit}
+use Rattle.justfile_model.specs.Grammars.Files.{NumbersSuffice, ordered}
+use Rattle.justfile_model.specs.Trees.LeafView.{views_tokens}
+use Rattle.justfile_model.specs.Lexing.SignificantTokens.{SignificantToken}
+use Rattle.justfile_model.specs.Lexing.Tok.{Tok}
+use Rattle.justfile_model.specs.Trees.Tree.{WrittenTree}
+use Rattle.justfile_model.specs.Readers.TreeReader as tree
 use Rattle.justfile_vocabulary.specs.declared.list_feature.ListFeature.{ListFeature}
 use Rattle.justfile_parse.specs.Errors.{IsAt, IsErrorOf, IsUnexpected}
 use Rattle.justfile_parse_item.specs.Filled.{AreNotedIn, IsFilledItems, IsInTable}

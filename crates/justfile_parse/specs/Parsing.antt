@@ -11,16 +11,16 @@ use Rattle.justfile_token.specs.declared.token.Token.{Token}
 use Rattle.justfile_round_trip.specs.RoundTrip.{TextDerives}
 use Rattle.justfile_ast.specs.Ast.{tree_of, features_of, cooked_texts, binding_numbers, recipe_numbers}
 use Rattle.justfile_ast.specs.declared.ast.Ast.{Ast}
-use Rattle.justfile_model.specs.LexResult.{IsFrom, IsLexicalError}
-use Rattle.justfile_model.specs.Conditions.{Conditions, with_limit}
-use Rattle.justfile_model.specs.Features.{Noted}
-use Rattle.justfile_model.specs.Files.{FileDerives, NumbersFrom, NumbersSuffice, bindings, recipes, literals}
-use Rattle.justfile_model.specs.Lexed.{Lexed}
-use Rattle.justfile_model.specs.Literals.{over_literal, Expansions, AreCookedTexts}
-use Rattle.justfile_model.specs.SignificantTokens.{significant_tokens}
-use Rattle.justfile_model.specs.Tok.{Tok, tok_of}
-use Rattle.justfile_model.specs.Tree.{Tree, lexeme}
-use Rattle.justfile_model.specs.UnstableFeatures.{unstable_features}
+use Rattle.justfile_model.specs.Lexing.LexResult.{IsFrom, IsLexicalError}
+use Rattle.justfile_model.specs.Grammars.Conditions.{Conditions, with_limit}
+use Rattle.justfile_model.specs.Grammars.Features.{Noted}
+use Rattle.justfile_model.specs.Grammars.Files.{FileDerives, NumbersFrom, NumbersSuffice, bindings, recipes, literals}
+use Rattle.justfile_model.specs.Lexing.Lexed.{Lexed}
+use Rattle.justfile_model.specs.LiteralTexts.Literals.{over_literal, Expansions, AreCookedTexts}
+use Rattle.justfile_model.specs.Lexing.SignificantTokens.{significant_tokens}
+use Rattle.justfile_model.specs.Lexing.Tok.{Tok, tok_of}
+use Rattle.justfile_model.specs.Trees.Tree.{Tree, lexeme}
+use Rattle.justfile_model.specs.Meanings.UnstableFeatures.{unstable_features}
 use Rattle.justfile_vocabulary.specs.declared.list_feature.ListFeature.{ListFeature}
 use Rattle.justfile_parse.specs.Errors.{IsRefused, IsTooDeepError}
 use Rattle.justfile_parse_item.specs.Filled.{IsFilledItem}

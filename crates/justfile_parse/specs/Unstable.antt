@@ -5,7 +5,7 @@ use Rattle.justfile_vocabulary.specs.contracts.unstable_feature.UnstableFeatureO
 use Rattle.justfile_vocabulary.specs.declared.unstable_feature.UnstableFeature.{UnstableFeature}
 use Rattle.justfile_item.specs.Item.{item_of}
 use Rattle.justfile_item.specs.declared.item.Item.{Item}
-use Rattle.justfile_model.specs.UnstableFeatures.{unstable_features, uses}
+use Rattle.justfile_model.specs.Meanings.UnstableFeatures.{unstable_features, uses}
 
 -- whether the item uses the feature
 abbrev pub uses_feature : UnstableFeature → Item → Bool

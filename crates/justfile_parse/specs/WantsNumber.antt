@@ -4,18 +4,18 @@ use Rattle.justfile_vocabulary.specs.declared.numerator.Numerator.{Numerator}
 use Rattle.justfile_vocabulary.specs.declared.item_kind.ItemKind.TheVariants as item_kinds
 use Rattle.justfile_vocabulary.specs.declared.token_kind.TokenKind.{TokenKind}
 use Rattle.justfile_vocabulary.specs.declared.token_kind.TokenKind.TheVariants as kinds
-use Rattle.justfile_model.specs.Conditions.{Conditions}
-use Rattle.justfile_model.specs.HeaderReader as headers
-use Rattle.justfile_model.specs.PartReader as parts
-use Rattle.justfile_model.specs.ReadAttribute.{ReadAttribute, token_view}
-use Rattle.justfile_model.specs.Reader as files
-use Rattle.justfile_model.specs.Reader.{after_mark, any_recipe, argument_rules, assignment, line, with_recipes}
-use Rattle.justfile_model.specs.ReaderState as reading
-use Rattle.justfile_model.specs.ReaderState.{Counters}
-use Rattle.justfile_model.specs.SignificantTokens.{SignificantToken}
-use Rattle.justfile_model.specs.Tok.{Tok}
-use Rattle.justfile_model.specs.Tree.{ArgumentRules, WrittenItem, WrittenTree}
-use Rattle.justfile_model.specs.TreeReader.{Read, State, Taken, start_state, token_attributes, token_leaves}
+use Rattle.justfile_model.specs.Grammars.Conditions.{Conditions}
+use Rattle.justfile_model.specs.Readers.HeaderReader as headers
+use Rattle.justfile_model.specs.Readers.PartReader as parts
+use Rattle.justfile_model.specs.Meanings.ReadAttribute.{ReadAttribute, token_view}
+use Rattle.justfile_model.specs.Readers.Reader as files
+use Rattle.justfile_model.specs.Readers.Reader.{after_mark, any_recipe, argument_rules, assignment, line, with_recipes}
+use Rattle.justfile_model.specs.Readers.ReaderState as reading
+use Rattle.justfile_model.specs.Readers.ReaderState.{Counters}
+use Rattle.justfile_model.specs.Lexing.SignificantTokens.{SignificantToken}
+use Rattle.justfile_model.specs.Lexing.Tok.{Tok}
+use Rattle.justfile_model.specs.Trees.Tree.{ArgumentRules, WrittenItem, WrittenTree}
+use Rattle.justfile_model.specs.Readers.TreeReader.{Read, State, Taken, start_state, token_attributes, token_leaves}
 use Rattle.justfile_model.specs.declared.parameter_kind.ParameterKind.{ParameterKind}
 use Rattle.justfile_model.specs.declared.parameter_kind.ParameterKind.TheVariants.{Plus, Singular, Star}
 use Rattle.justfile_parse_base.specs.Counting.{counters_of}

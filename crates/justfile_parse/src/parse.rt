@@ -2,10 +2,10 @@
 ghost use Rattle.std.specs.Prelude.{◌≡◌, ◌<◌, ◌≤◌, All, List, length, map, Contains, IfOk, IfErr, OnErr, string_bytes};
 ghost use Rattle.justfile_token.specs.Modulepath.{module_names, names_of};
 ghost use Rattle.justfile_vocabulary.specs.Numerator.{constants_of};
-ghost use Rattle.justfile_model.specs.Lexed.{Lexed};
-ghost use Rattle.justfile_model.specs.SignificantTokens.{identifiers, significant_tokens};
-ghost use Rattle.justfile_model.specs.Tok.{Tok, tok_of};
-ghost use Rattle.justfile_model.specs.UnstableFeatures.{unstable_features};
+ghost use Rattle.justfile_model.specs.Lexing.Lexed.{Lexed};
+ghost use Rattle.justfile_model.specs.Lexing.SignificantTokens.{identifiers, significant_tokens};
+ghost use Rattle.justfile_model.specs.Lexing.Tok.{Tok, tok_of};
+ghost use Rattle.justfile_model.specs.Meanings.UnstableFeatures.{unstable_features};
 ghost use Rattle.justfile_ast.specs.Ast.{tree_of};
 ghost use Rattle.justfile_parse.specs.Parsing.{HasNoTree, IsOneLex, IsParsed, IsParsedText, IsUnparsed};
 ghost use Rattle.justfile_parse_expression.specs.Conditions.{conditions_of};

@@ -4,8 +4,8 @@ ghost use Rattle.std.specs.List.{list_any};
 ghost use Rattle.justfile_attribute_set.specs.AttributeSet.{entries_of};
 ghost use Rattle.justfile_vocabulary.specs.declared.attribute_kind.AttributeKind.TheVariants as kinds;
 ghost use Rattle.justfile_vocabulary.specs.declared.unstable_feature.UnstableFeature.TheVariants as features;
-ghost use Rattle.justfile_model.specs.ContentKeys.{has_attribute};
-ghost use Rattle.justfile_model.specs.UnstableFeatures.{is_lists};
+ghost use Rattle.justfile_model.specs.Trees.ContentKeys.{has_attribute};
+ghost use Rattle.justfile_model.specs.Meanings.UnstableFeatures.{is_lists};
 ghost use Rattle.justfile_parse.specs.Unstable.{unstable_of, uses_feature, with_used};
 ghost use Rattle.justfile_setting.specs.Setting.{keyword_of};
 

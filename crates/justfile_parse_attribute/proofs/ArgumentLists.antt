@@ -8,10 +8,10 @@ use Rattle.std.proofs.lemmas.Bool.Decides.{nat_tests}
 use Rattle.std.proofs.lemmas.List.Folds.{list_any-append}
 use Rattle.std.proofs.lemmas.List.{append-nil, append_assoc, map-append}
 use Rattle.justfile_token.specs.declared.token.Token.{Token}
-use Rattle.justfile_model.specs.AttributeReader as attributes
-use Rattle.justfile_model.specs.Meaning.{KeyArgument, at_key, by_key}
-use Rattle.justfile_model.specs.Tree as tree
-use Rattle.justfile_model.specs.Tree.{Argument, Expr}
+use Rattle.justfile_model.specs.Readers.AttributeReader as attributes
+use Rattle.justfile_model.specs.Meanings.Meaning.{KeyArgument, at_key, by_key}
+use Rattle.justfile_model.specs.Trees.Tree as tree
+use Rattle.justfile_model.specs.Trees.Tree.{Argument, Expr}
 use Rattle.justfile_attribute_rules.specs.Keys.{key_text}
 use Rattle.justfile_parse_attribute.specs.ArgumentKeys.{Given, are_distinct, are_keys_distinct}
 use Rattle.justfile_parse_attribute.specs.AttributeTable.{meaning_in, meaning_kept, some_key}

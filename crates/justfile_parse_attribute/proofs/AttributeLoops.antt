@@ -3,10 +3,10 @@ use Rattle.std.proofs.Common.{◌≡◌, ◌∙◌, Bool, true, false, cond, Lis
 use Rattle.justfile_token.specs.declared.token.Token.{Token}
 use Rattle.justfile_vocabulary.specs.declared.token_kind.TokenKind.{TokenKind}
 use Rattle.justfile_vocabulary.specs.declared.token_kind.TokenKind.TheVariants as kinds
-use Rattle.justfile_model.specs.AttributeReader as attributes
-use Rattle.justfile_model.specs.ReaderState.{◌>>=◌, choose}
-use Rattle.justfile_model.specs.Tree.{Argument, Entry, commented_entry}
-use Rattle.justfile_model.proofs.AttributeReading as laws
+use Rattle.justfile_model.specs.Readers.AttributeReader as attributes
+use Rattle.justfile_model.specs.Readers.ReaderState.{◌>>=◌, choose}
+use Rattle.justfile_model.specs.Trees.Tree.{Argument, Entry, commented_entry}
+use Rattle.justfile_model.proofs.Readers.AttributeReading as laws
 use Rattle.justfile_parse_attribute.specs.AttributeTable as r
 use Rattle.justfile_parse_attribute.specs.AttributeTable.{Arguments, meaning_in, meaning_kept, then_last}
 use Rattle.justfile_parse_base.specs.SharedTable.{view_of}

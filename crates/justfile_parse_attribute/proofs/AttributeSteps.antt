@@ -11,17 +11,17 @@ use Rattle.justfile_token.specs.declared.fault.Fault.{Fault}
 use Rattle.justfile_token.specs.declared.fault.Fault.TheVariants as faults
 use Rattle.justfile_token.specs.declared.token.Token.{Token}
 use Rattle.justfile_vocabulary.specs.declared.token_kind.TokenKind.TheVariants as kinds
-use Rattle.justfile_model.specs.AttributeReader as attributes
-use Rattle.justfile_model.specs.Expressions.{front}
-use Rattle.justfile_model.specs.Meaning.{by_key, by_position}
-use Rattle.justfile_model.specs.NewAttribute as new
-use Rattle.justfile_model.specs.NewAttribute.{Made, check_repeated, new_attribute, new_entry}
-use Rattle.justfile_model.specs.ReaderState as reading
-use Rattle.justfile_model.specs.ReaderState.{◌>>=◌, choose}
-use Rattle.justfile_model.specs.Rules.{Rule}
-use Rattle.justfile_model.specs.Tree as tree
-use Rattle.justfile_model.specs.Tree.{Argument, Entry, bare_entry}
-use Rattle.justfile_model.proofs.AttributeReading as laws
+use Rattle.justfile_model.specs.Readers.AttributeReader as attributes
+use Rattle.justfile_model.specs.Grammars.Expressions.{front}
+use Rattle.justfile_model.specs.Meanings.Meaning.{by_key, by_position}
+use Rattle.justfile_model.specs.Readers.NewAttribute as new
+use Rattle.justfile_model.specs.Readers.NewAttribute.{Made, check_repeated, new_attribute, new_entry}
+use Rattle.justfile_model.specs.Readers.ReaderState as reading
+use Rattle.justfile_model.specs.Readers.ReaderState.{◌>>=◌, choose}
+use Rattle.justfile_model.specs.Meanings.Rules.{Rule}
+use Rattle.justfile_model.specs.Trees.Tree as tree
+use Rattle.justfile_model.specs.Trees.Tree.{Argument, Entry, bare_entry}
+use Rattle.justfile_model.proofs.Readers.AttributeReading as laws
 use Rattle.justfile_parse_attribute.specs.AttributeTable as r
 use Rattle.justfile_parse_attribute.specs.AttributeTable.{Arguments, meaning_in, meaning_kept, then_last}
 use Rattle.justfile_parse_base.specs.SharedTable.{view_of}

@@ -3,7 +3,7 @@ use Rattle.std.proofs.Common.{◌≡◌, ◌∙◌, All, List, [], ◌∷◌, ma
 use Rattle.std.specs.Option.{option_copied, option_map}
 use Rattle.justfile_attribute.specs.New.{HasDerivedAttributeFields}
 use Rattle.justfile_attribute.specs.declared.attribute.Attribute.{Attribute}
-use Rattle.justfile_model.specs.Tree.{at_last, commented, commented_entry}
+use Rattle.justfile_model.specs.Trees.Tree.{at_last, commented, commented_entry}
 use Rattle.justfile_parse_attribute.specs.AttributeTable as reader
 use Rattle.justfile_parse_attribute.specs.Attributes.{entry_of_pair}
 use Rattle.justfile_parse_attribute.specs.DerivedAttributeFields.{HaveDerivedAttributeFields, KeepsDerivedPairFields}

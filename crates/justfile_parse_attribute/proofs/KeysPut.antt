@@ -17,10 +17,10 @@ use Rattle.justfile_attribute_rules.specs.Made.{placed_leaf, placed_leaves}
 use Rattle.justfile_attribute_rules.proofs.PutKeys.{IsKeyed, Stored, none_keyed, stays_keyed, tied}
 use Rattle.justfile_vocabulary.specs.declared.attribute_kind.AttributeKind.{AttributeKind}
 use Rattle.justfile_token.specs.declared.token.Token.{Token}
-use Rattle.justfile_model.specs.Meaning.{KeyArgument, Placed, by_key, by_position}
-use Rattle.justfile_model.specs.NewAttribute.{new_attribute}
-use Rattle.justfile_model.proofs.NewAttributeSteps.{contains_first, nothing_in}
-use Rattle.justfile_model.proofs.SameKeys.{SameKeys, attribute_same}
+use Rattle.justfile_model.specs.Meanings.Meaning.{KeyArgument, Placed, by_key, by_position}
+use Rattle.justfile_model.specs.Readers.NewAttribute.{new_attribute}
+use Rattle.justfile_model.proofs.Meanings.NewAttributeSteps.{contains_first, nothing_in}
+use Rattle.justfile_model.proofs.Meanings.SameKeys.{SameKeys, attribute_same}
 use Rattle.justfile_parse_attribute.specs.ArgumentKeys.{Given, HasKeys, are_distinct, are_keys_distinct}
 use Rattle.justfile_parse_attribute.specs.Attributes.{arguments_of, keyed_of, positional_of}
 use Rattle.justfile_parse_attribute.specs.declared.arguments.Arguments.{Arguments}

@@ -22,15 +22,15 @@ use Rattle.justfile_token.specs.declared.fault.Fault.TheVariants as faults
 use Rattle.justfile_token.specs.declared.name.Name.{Name}
 use Rattle.justfile_token.specs.declared.string_literal.StringLiteral.{StringLiteral}
 use Rattle.justfile_token.specs.declared.token.Token.{Token}
-use Rattle.justfile_model.specs.AttributeKinds.{is_repeatable, same_attribute}
-use Rattle.justfile_model.specs.AttributeRules.{duplicate_rule, excludes, label_of, same_label, same_text}
-use Rattle.justfile_model.specs.ContentKeys.{kind_of_attribute}
-use Rattle.justfile_model.specs.Meaning.{quoted_text}
-use Rattle.justfile_model.specs.NewAttribute as new
-use Rattle.justfile_model.specs.NewAttribute.{Made, check_repeated}
-use Rattle.justfile_model.specs.Rules.{Rule}
-use Rattle.justfile_model.specs.Tree as tree
-use Rattle.justfile_model.specs.Tree.{ArgumentRules, Entry, Quoted}
+use Rattle.justfile_model.specs.Meanings.AttributeKinds.{is_repeatable, same_attribute}
+use Rattle.justfile_model.specs.Meanings.AttributeRules.{duplicate_rule, excludes, label_of, same_label, same_text}
+use Rattle.justfile_model.specs.Trees.ContentKeys.{kind_of_attribute}
+use Rattle.justfile_model.specs.Meanings.Meaning.{quoted_text}
+use Rattle.justfile_model.specs.Readers.NewAttribute as new
+use Rattle.justfile_model.specs.Readers.NewAttribute.{Made, check_repeated}
+use Rattle.justfile_model.specs.Meanings.Rules.{Rule}
+use Rattle.justfile_model.specs.Trees.Tree as tree
+use Rattle.justfile_model.specs.Trees.Tree.{ArgumentRules, Entry, Quoted}
 use Rattle.justfile_parse_attribute.specs.AddedAttributes.{IsAdded}
 use Rattle.justfile_parse_attribute.specs.Attributes.{entry_of_pair}
 use Rattle.justfile_parse_attribute.specs.Labels.{AreKnown, AreKnownBefore, AreSame, ChecksLabel, ChecksLine, IsLabelNoted, IsNoted, Seen, arg_label, first_line, group_label, has_text, label_rule}

@@ -14,17 +14,17 @@ use Rattle.justfile_token.specs.declared.fault.Fault.{Fault}
 use Rattle.justfile_token.specs.declared.name.Name.{Name}
 use Rattle.justfile_token.specs.declared.string_literal.StringLiteral.{StringLiteral}
 use Rattle.justfile_token.specs.declared.token.Token.{Token}
-use Rattle.justfile_model.specs.AttributeRules.{duplicate_rule, excludes, label_of, quoted_value}
-use Rattle.justfile_model.specs.ContentKeys.{kind_of_attribute}
-use Rattle.justfile_model.specs.ContentLeaf.{LiteralValue, literal_value}
-use Rattle.justfile_model.specs.Literals.{string_of, token_of}
-use Rattle.justfile_model.specs.Meaning.{quoted_text, text_of}
-use Rattle.justfile_model.specs.NewAttribute as new
-use Rattle.justfile_model.specs.NewAttribute.{Made, check_repeated}
-use Rattle.justfile_model.specs.LeafView.{or_empty}
-use Rattle.justfile_model.specs.Rules.{DuplicateAttribute, DuplicateArgAttribute, DuplicateGroupAttribute}
-use Rattle.justfile_model.specs.Tree as tree
-use Rattle.justfile_model.specs.Tree.{Entry, Quoted}
+use Rattle.justfile_model.specs.Meanings.AttributeRules.{duplicate_rule, excludes, label_of, quoted_value}
+use Rattle.justfile_model.specs.Trees.ContentKeys.{kind_of_attribute}
+use Rattle.justfile_model.specs.Trees.ContentLeaf.{LiteralValue, literal_value}
+use Rattle.justfile_model.specs.LiteralTexts.Literals.{string_of, token_of}
+use Rattle.justfile_model.specs.Meanings.Meaning.{quoted_text, text_of}
+use Rattle.justfile_model.specs.Readers.NewAttribute as new
+use Rattle.justfile_model.specs.Readers.NewAttribute.{Made, check_repeated}
+use Rattle.justfile_model.specs.Trees.LeafView.{or_empty}
+use Rattle.justfile_model.specs.Meanings.Rules.{DuplicateAttribute, DuplicateArgAttribute, DuplicateGroupAttribute}
+use Rattle.justfile_model.specs.Trees.Tree as tree
+use Rattle.justfile_model.specs.Trees.Tree.{Entry, Quoted}
 use Rattle.justfile_written.specs.Written.{uncommented}
 use Rattle.justfile_written.specs.declared.written.Written.{Written}
 use Rattle.justfile_parse_attribute.specs.AddedAttributes.{ChecksLast, IsAdded}

@@ -4,12 +4,12 @@ use Rattle.justfile_vocabulary.specs.declared.attribute_kind.AttributeKind.{Attr
 use Rattle.justfile_token.specs.declared.token.Token.{Token}
 use Rattle.justfile_vocabulary.specs.declared.token_kind.TokenKind.{TokenKind}
 use Rattle.justfile_vocabulary.specs.declared.token_kind.TokenKind.TheVariants as kinds
-use Rattle.justfile_model.specs.AttributeReader as attributes
-use Rattle.justfile_model.specs.Meaning.{by_key, by_position}
-use Rattle.justfile_model.specs.NewAttribute.{new_entry}
-use Rattle.justfile_model.specs.ReaderState as reading
-use Rattle.justfile_model.specs.ReaderState.{◌>>=◌, choose}
-use Rattle.justfile_model.specs.Tree.{Argument, Entry, Expr, WrittenAttribute, commented_entry}
+use Rattle.justfile_model.specs.Readers.AttributeReader as attributes
+use Rattle.justfile_model.specs.Meanings.Meaning.{by_key, by_position}
+use Rattle.justfile_model.specs.Readers.NewAttribute.{new_entry}
+use Rattle.justfile_model.specs.Readers.ReaderState as reading
+use Rattle.justfile_model.specs.Readers.ReaderState.{◌>>=◌, choose}
+use Rattle.justfile_model.specs.Trees.Tree.{Argument, Entry, Expr, WrittenAttribute, commented_entry}
 pub use Rattle.justfile_parse_base.specs.SharedTable.{comment_in, view_of}
 unfoldable pub use Rattle.justfile_parse_base.specs.SharedTable.{separator}
 use Rattle.justfile_parse_expression.specs.TableReader.{Read, Run, State, accept, expect, leaves}

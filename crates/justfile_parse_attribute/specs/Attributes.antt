@@ -5,8 +5,8 @@ use Rattle.std.specs.Option.{option_copied, option_map}
 use Rattle.justfile_attribute.specs.Attribute.{leaf_attribute_of}
 use Rattle.justfile_attribute.specs.declared.attribute.Attribute.{Attribute}
 use Rattle.justfile_token.specs.declared.token.Token.{Token}
-use Rattle.justfile_model.specs.Tree as tree
-use Rattle.justfile_model.specs.Tree.{Argument, Entry}
+use Rattle.justfile_model.specs.Trees.Tree as tree
+use Rattle.justfile_model.specs.Trees.Tree.{Argument, Entry}
 use Rattle.justfile_parse_attribute.specs.ArgumentKeys.{Given}
 use Rattle.justfile_parse_attribute.specs.AttributeTable.{argument_of_key}
 use Rattle.justfile_expression.specs.LeafTree.{Leaf, Named, leaf_tree_of}

@@ -9,13 +9,13 @@ use Rattle.justfile_attribute_rules.specs.Made.{Makes}
 use Rattle.justfile_token.specs.declared.fault.Fault.{Fault}
 use Rattle.justfile_token.specs.declared.string_literal.StringLiteral.{StringLiteral}
 use Rattle.justfile_token.specs.declared.token.Token.{Token}
-use Rattle.justfile_model.specs.AttributeRules.{same_text}
-use Rattle.justfile_model.specs.ContentLeaf.{literal_value}
-use Rattle.justfile_model.specs.Meaning.{first_of, quoted_text}
-use Rattle.justfile_model.specs.NewAttribute.{refuse}
-use Rattle.justfile_model.specs.Rules.{Rule, DuplicateArgAttribute, DuplicateGroupAttribute}
-use Rattle.justfile_model.specs.Tree as tree
-use Rattle.justfile_model.specs.Tree.{Entry, Quoted}
+use Rattle.justfile_model.specs.Meanings.AttributeRules.{same_text}
+use Rattle.justfile_model.specs.Trees.ContentLeaf.{literal_value}
+use Rattle.justfile_model.specs.Meanings.Meaning.{first_of, quoted_text}
+use Rattle.justfile_model.specs.Readers.NewAttribute.{refuse}
+use Rattle.justfile_model.specs.Meanings.Rules.{Rule, DuplicateArgAttribute, DuplicateGroupAttribute}
+use Rattle.justfile_model.specs.Trees.Tree as tree
+use Rattle.justfile_model.specs.Trees.Tree.{Entry, Quoted}
 use Rattle.justfile_parse_attribute.specs.Attributes.{entry_of_pair}
 use Rattle.justfile_parse_attribute.specs.declared.labels.Labels.{Labels}
 use Rattle.justfile_expression.specs.Content.{literal_content}

@@ -28,8 +28,8 @@ impl<'src> Arguments<'src> {
     ghost use Rattle.std.specs.Prelude.{◌≡◌, [], ◌∷◌, ◌++◌, None, false};
     ghost use Rattle.std.specs.Option.{is_some, option_map};
     ghost use Rattle.justfile_token.specs.Token.{lexeme_of};
-    ghost use Rattle.justfile_model.specs.Meaning.{at_key, by_key};
-    ghost use Rattle.justfile_model.specs.Tree as tree;
+    ghost use Rattle.justfile_model.specs.Meanings.Meaning.{at_key, by_key};
+    ghost use Rattle.justfile_model.specs.Trees.Tree as tree;
     ghost use Rattle.justfile_parse_attribute.specs.Attributes.{arguments_of};
     ghost use Rattle.justfile_parse_expression.specs.MethodResults.{UnlessMemory};
     ghost use Rattle.justfile_parse_attribute.specs.AttributeTable as reader;

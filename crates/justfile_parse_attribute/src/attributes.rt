@@ -2,9 +2,9 @@
 ghost use Rattle.std.specs.Prelude.{◌≡◌, ◌<◌, ◌≤◌, [], false, IfOk, OnOk};
 ghost use Rattle.std.specs.Option.{option_map};
 ghost use Rattle.justfile_attribute_rules.specs.Made.{IsFaultOfRule};
-ghost use Rattle.justfile_model.specs.NewAttribute as new;
-ghost use Rattle.justfile_model.specs.Rules.{AttributePositionalFollowsKeyword, DuplicateAttributeKey, UnknownAttribute};
-ghost use Rattle.justfile_model.specs.Tree as tree;
+ghost use Rattle.justfile_model.specs.Readers.NewAttribute as new;
+ghost use Rattle.justfile_model.specs.Meanings.Rules.{AttributePositionalFollowsKeyword, DuplicateAttributeKey, UnknownAttribute};
+ghost use Rattle.justfile_model.specs.Trees.Tree as tree;
 ghost use Rattle.justfile_parse_attribute.specs.Attributes.{arguments_of, entries_of};
 ghost use Rattle.justfile_parse_base.specs.ParseErrors.{ReadsRuled, ParsesRuled};
 ghost use Rattle.justfile_parse_attribute.specs.DerivedAttributeFields.{HaveDerivedPairFields, KeepsDerivedPairFields};
@@ -141,7 +141,7 @@ fn parse_next_attribute<'src, X: Expander>(
 }
 
 /// Parses the end of a line of attributes, and returns the comment before it, if there is one.
-#[tactic(auto, unfolding(justfile_model::specs::AttributeReader::attributes_end))]
+#[tactic(auto, unfolding(justfile_model::specs::Readers::AttributeReader::attributes_end))]
 fn parse_attributes_end<'src, X: Expander>(
     parser: &mut TokenCursor<'_, 'src, X>,
 ) -> Result<Option<SignificantToken<'src>>, ExpressionError<'src>>
@@ -157,7 +157,7 @@ fn parse_attributes_end<'src, X: Expander>(
 
 /// Parses the end of a line of attributes after its comment, if it has one, and returns the
 /// comment. The end of the file isn't allowed here.
-#[tactic(auto, unfolding(justfile_model::specs::AttributeReader::line_end_after))]
+#[tactic(auto, unfolding(justfile_model::specs::Readers::AttributeReader::line_end_after))]
 fn parse_line_end_after<'src, X: Expander>(
     parser: &mut TokenCursor<'_, 'src, X>,
     comment: Option<SignificantToken<'src>>,
@@ -346,7 +346,7 @@ fn parse_argument<'src, X: Expander>(
 }
 
 /// Parses a keyword argument, and appends it to `arguments`.
-#[tactic(auto, using(justfile_parse_base::proofs::RuleSteps::fails_for), unfolding(justfile_parse_expression::specs::TableReader::leaves, crate::specs::AttributeTable::one_keyed, justfile_model::specs::AttributeReader::keyed))]
+#[tactic(auto, using(justfile_parse_base::proofs::RuleSteps::fails_for), unfolding(justfile_parse_expression::specs::TableReader::leaves, crate::specs::AttributeTable::one_keyed, justfile_model::specs::Readers::AttributeReader::keyed))]
 fn parse_keyed<'src, X: Expander>(
     parser: &mut TokenCursor<'_, 'src, X>,
     name: &SignificantToken<'src>,
@@ -366,7 +366,7 @@ fn parse_keyed<'src, X: Expander>(
 }
 
 /// Parses what follows a key: `=` and its value, or nothing.
-#[tactic(auto, unfolding(justfile_model::specs::AttributeReader::key_value))]
+#[tactic(auto, unfolding(justfile_model::specs::Readers::AttributeReader::key_value))]
 fn parse_key_value<'src, X: Expander>(
     parser: &mut TokenCursor<'_, 'src, X>,
 ) -> Result<Option<Box<Expression<'src>>>, ExpressionError<'src>>
@@ -381,7 +381,7 @@ fn parse_key_value<'src, X: Expander>(
 }
 
 /// Parses a positional argument, and appends it to `arguments`. It can't follow a keyword argument.
-#[tactic(auto, using(justfile_parse_base::proofs::RuleSteps::fails_for), unfolding(crate::specs::AttributeTable::one_positional, justfile_model::specs::AttributeReader::positional))]
+#[tactic(auto, using(justfile_parse_base::proofs::RuleSteps::fails_for), unfolding(crate::specs::AttributeTable::one_positional, justfile_model::specs::Readers::AttributeReader::positional))]
 fn parse_positional<'src, X: Expander>(
     parser: &mut TokenCursor<'_, 'src, X>,
     arguments: &mut Arguments<'src>,
@@ -399,7 +399,7 @@ fn parse_positional<'src, X: Expander>(
 }
 
 /// Parses an expression, and returns it with its first token.
-#[tactic(auto, using(crate::proofs::AttributeSteps::none_before), unfolding(justfile_model::specs::AttributeReader::placed, justfile_parse_expression::specs::TableReader::leaves))]
+#[tactic(auto, using(crate::proofs::AttributeSteps::none_before), unfolding(justfile_model::specs::Readers::AttributeReader::placed, justfile_parse_expression::specs::TableReader::leaves))]
 fn parse_placed<'src, X: Expander>(
     parser: &mut TokenCursor<'_, 'src, X>,
 ) -> Result<(Token<'src>, Box<Expression<'src>>), ExpressionError<'src>>

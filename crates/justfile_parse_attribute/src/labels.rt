@@ -5,7 +5,7 @@ ghost use Rattle.std.specs.BTreeMap.{get_by_text};
 ghost use Rattle.std.specs.Option.{option_map};
 ghost use Rattle.justfile_attribute.specs.Attribute.{leaf_attribute_of};
 ghost use Rattle.justfile_attribute_rules.specs.Made.{quoted_leaf};
-ghost use Rattle.justfile_model.specs.AttributeRules.{label_of};
+ghost use Rattle.justfile_model.specs.Meanings.AttributeRules.{label_of};
 ghost use Rattle.justfile_parse_attribute.specs.Labels.{IsNoted};
 ghost use Rattle.justfile_expression.specs.LeafViews.{views_leaves};
 

@@ -1,7 +1,7 @@
 //! The attributes of an item while they are parsed.
 ghost use Rattle.std.specs.Prelude.{◌≡◌, OnErr, OnOk, length, take};
-ghost use Rattle.justfile_model.specs.Meaning.{by_key, by_position};
-ghost use Rattle.justfile_model.specs.NewAttribute.{new_entry};
+ghost use Rattle.justfile_model.specs.Meanings.Meaning.{by_key, by_position};
+ghost use Rattle.justfile_model.specs.Readers.NewAttribute.{new_entry};
 ghost use Rattle.justfile_parse_attribute.specs.AddedAttributes.{AddsEntry};
 ghost use Rattle.justfile_parse_attribute.specs.Attributes.{arguments_of, entries_of};
 ghost use Rattle.justfile_parse_attribute.specs.Labels.{AreKnown, AreSame, prop_known};
@@ -31,8 +31,8 @@ pub(crate) struct ReadAttributes<'src> {
 
 impl<'src> ReadAttributes<'src> {
     ghost use Rattle.std.specs.Prelude.{◌≡◌, [], OnOk};
-    ghost use Rattle.justfile_model.specs.Meaning.{by_key, by_position};
-    ghost use Rattle.justfile_model.specs.NewAttribute.{new_entry};
+    ghost use Rattle.justfile_model.specs.Meanings.Meaning.{by_key, by_position};
+    ghost use Rattle.justfile_model.specs.Readers.NewAttribute.{new_entry};
     ghost use Rattle.justfile_parse_attribute.specs.AddedAttributes.{AddsEntry};
     ghost use Rattle.justfile_parse_attribute.specs.Attributes.{arguments_of, entries_of};
     ghost use Rattle.justfile_parse_attribute.specs.DerivedAttributeFields.{KeepsDerivedPairFields};

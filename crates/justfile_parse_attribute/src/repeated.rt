@@ -3,12 +3,12 @@ ghost use Rattle.std.specs.Prelude.{◌≡◌, ◌∷◌, ◌++◌, [], false, N
 ghost use Rattle.justfile_attribute.specs.Attribute.{leaf_attribute_of};
 ghost use Rattle.justfile_attribute_rules.specs.Made.{IsFaultOfRule, Makes};
 ghost use Rattle.justfile_token.specs.declared.token.Token.{Token};
-ghost use Rattle.justfile_model.specs.AttributeKinds.{is_repeatable, same_attribute};
-ghost use Rattle.justfile_model.specs.AttributeRules.{excludes, label_of};
-ghost use Rattle.justfile_model.specs.ContentKeys.{kind_of_attribute};
-ghost use Rattle.justfile_model.specs.ContentLeaf.{literal_value};
-ghost use Rattle.justfile_model.specs.NewAttribute.{check_repeated};
-ghost use Rattle.justfile_model.specs.Rules.{DuplicateArgAttribute, DuplicateAttribute, DuplicateGroupAttribute};
+ghost use Rattle.justfile_model.specs.Meanings.AttributeKinds.{is_repeatable, same_attribute};
+ghost use Rattle.justfile_model.specs.Meanings.AttributeRules.{excludes, label_of};
+ghost use Rattle.justfile_model.specs.Trees.ContentKeys.{kind_of_attribute};
+ghost use Rattle.justfile_model.specs.Trees.ContentLeaf.{literal_value};
+ghost use Rattle.justfile_model.specs.Readers.NewAttribute.{check_repeated};
+ghost use Rattle.justfile_model.specs.Meanings.Rules.{DuplicateArgAttribute, DuplicateAttribute, DuplicateGroupAttribute};
 ghost use Rattle.justfile_parse_attribute.specs.AddedAttributes.{ChecksLast};
 ghost use Rattle.justfile_parse_attribute.specs.Attributes.{entries_of, entry_of_pair};
 ghost use Rattle.justfile_parse_attribute.specs.Labels.{AreKnown, AreKnownBefore, AreSame, ChecksLabel, IsLabelNoted, label_rule};
@@ -184,7 +184,7 @@ fn repeated_group_error<'src>(
 }
 
 /// Whether the attribute is an `arg`.
-#[tactic(auto, using(justfile_attribute::proofs::Ordered::kind_seen), unfolding(justfile_model::specs::AttributeKinds::same_attribute))]
+#[tactic(auto, using(justfile_attribute::proofs::Ordered::kind_seen), unfolding(justfile_model::specs::Meanings::AttributeKinds::same_attribute))]
 fn is_arg(attribute: &Attribute<'_>) -> bool
     ensures { result ≡ same_attribute (kind_of_attribute (leaf_attribute_of attribute.now)) Arg }
 {
@@ -237,7 +237,7 @@ fn check_once<'src>(
 }
 
 /// Whether an attribute has the same kind as one that is allowed only once.
-#[tactic(auto, using(justfile_attribute::proofs::Ordered::kind_seen, crate::proofs::KnownLabels::excludes_kind), unfolding(justfile_model::specs::AttributeKinds::same_attribute))]
+#[tactic(auto, using(justfile_attribute::proofs::Ordered::kind_seen, crate::proofs::KnownLabels::excludes_kind), unfolding(justfile_model::specs::Meanings::AttributeKinds::same_attribute))]
 fn is_same_kind(first: &Attribute<'_>, second: &Attribute<'_>) -> bool
     requires { is_repeatable (kind_of_attribute (leaf_attribute_of second.now)) ≡ false }
     ensures { result

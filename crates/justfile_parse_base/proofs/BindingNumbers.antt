@@ -2,9 +2,9 @@
 use Rattle.std.proofs.Common.{◌≡◌, ℕ, ◌+◌, ◌≤◌, Bool, true, false, cond, Some, Ok, Err, refl, sym, ap, subst, ◌∙◌, arith}
 use Rattle.justfile_vocabulary.specs.declared.numerator.Numerator.{Numerator}
 use Rattle.justfile_vocabulary.specs.declared.token_kind.TokenKind.{TokenKind}
-use Rattle.justfile_model.specs.HeaderReader as headers
-use Rattle.justfile_model.specs.HeaderReader.{with_bindings}
-use Rattle.justfile_model.specs.ReaderState.{Counters, NoNumber}
+use Rattle.justfile_model.specs.Readers.HeaderReader as headers
+use Rattle.justfile_model.specs.Readers.HeaderReader.{with_bindings}
+use Rattle.justfile_model.specs.Readers.ReaderState.{Counters, NoNumber}
 use Rattle.justfile_parse_expression.specs.TableReader.{Read, State, accept, expect, leaves}
 use Rattle.justfile_parse_expression.specs.Significant.{TableEntry}
 use Rattle.justfile_parse_base.specs.Counting.{TookBindingNumbers, counters_of, identifiers_left}

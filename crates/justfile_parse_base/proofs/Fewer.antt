@@ -3,24 +3,24 @@ use Rattle.std.proofs.Common.{◌≡◌, ◌+◌, ◌≤◌, false, List, ◌∷
 use Rattle.justfile_token.specs.declared.token.Token.{Token}
 use Rattle.justfile_vocabulary.specs.declared.token_kind.TokenKind.{TokenKind}
 use Rattle.justfile_vocabulary.specs.declared.token_kind.TokenKind.TheVariants as kinds
-use Rattle.justfile_model.specs.ExpressionReader as expressions
-use Rattle.justfile_model.specs.ReaderState.{◌>>=◌, choose, prepend, with}
-use Rattle.justfile_model.specs.SignificantTokens.{identifiers}
-use Rattle.justfile_model.specs.Expressions.{Tokens, BelowLimit}
-use Rattle.justfile_model.specs.Tok.{Tok}
-use Rattle.justfile_model.specs.Tree.{Expr, itself}
-use Rattle.justfile_model.specs.TreeReader as model
-use Rattle.justfile_model.specs.TreeReader.{token_leaves}
+use Rattle.justfile_model.specs.Readers.ExpressionReader as expressions
+use Rattle.justfile_model.specs.Readers.ReaderState.{◌>>=◌, choose, prepend, with}
+use Rattle.justfile_model.specs.Lexing.SignificantTokens.{identifiers}
+use Rattle.justfile_model.specs.Grammars.Expressions.{Tokens, BelowLimit}
+use Rattle.justfile_model.specs.Lexing.Tok.{Tok}
+use Rattle.justfile_model.specs.Trees.Tree.{Expr, itself}
+use Rattle.justfile_model.specs.Readers.TreeReader as model
+use Rattle.justfile_model.specs.Readers.TreeReader.{token_leaves}
 use Rattle.justfile_model.specs.declared.level.Level.TheVariants as levels
 use Rattle.justfile_vocabulary.specs.declared.list_feature.ListFeature.{ListFeature}
-use Rattle.justfile_model.proofs.ExpressionProgress.{expression_counts, value_counts}
-use Rattle.justfile_model.proofs.ExpressionSound.{expression_derives, level_at, sound}
-use Rattle.justfile_model.proofs.HeaderProgress.{counts_one}
-use Rattle.justfile_model.proofs.HeaderReading.{value_is}
-use Rattle.justfile_model.proofs.NaturalExpressions.{expression_natural, value_natural}
-use Rattle.justfile_model.proofs.ReadingSteps.{known}
-use Rattle.justfile_model.proofs.Related as a
-use Rattle.justfile_model.proofs.Related.{Never, Related}
+use Rattle.justfile_model.proofs.Derivations.ExpressionProgress.{expression_counts, value_counts}
+use Rattle.justfile_model.proofs.Sound.ExpressionSound.{expression_derives, level_at, sound}
+use Rattle.justfile_model.proofs.Derivations.HeaderProgress.{counts_one}
+use Rattle.justfile_model.proofs.Readers.HeaderReading.{value_is}
+use Rattle.justfile_model.proofs.Relations.NaturalExpressions.{expression_natural, value_natural}
+use Rattle.justfile_model.proofs.Readers.ReadingSteps.{known}
+use Rattle.justfile_model.proofs.Relations.Related as a
+use Rattle.justfile_model.proofs.Relations.Related.{Never, Related}
 use Rattle.justfile_parse_expression.specs.Significant.{significant_of}
 use Rattle.justfile_parse_expression.specs.TableReader.{At, Read, ReadExpr, State, accept, expect, leaves, read, value}
 use Rattle.justfile_parse_expression.specs.Significant.{TableEntry}

@@ -1,8 +1,8 @@
 -- If a part of a header can't be read or breaks a rule, neither can the header with the parts before and after it.
 use Rattle.std.proofs.Common.{◌≡◌, Ok, Err, refl, sym, ap, subst}
 use Rattle.justfile_token.specs.declared.compile_error.CompileError.{CompileError}
-use Rattle.justfile_model.specs.ReaderState as reading
-use Rattle.justfile_model.specs.ReaderState.{◌>>=◌}
+use Rattle.justfile_model.specs.Readers.ReaderState as reading
+use Rattle.justfile_model.specs.Readers.ReaderState.{◌>>=◌}
 use Rattle.justfile_parse_base.specs.ParseErrors.{IsParseError, IsErrorOfRead}
 use Rattle.justfile_parse_expression.specs.MethodResults.{IsExpressionError, literal_read_error, read_error_at}
 use Rattle.justfile_parse_expression.specs.TableReader.{Read, ReadError, State}

@@ -4,9 +4,9 @@ use Rattle.std.proofs.lemmas.List.{map-append}
 use Rattle.justfile_token.specs.declared.name.Name.{Name}
 use Rattle.justfile_token.specs.declared.token.Token.{Token}
 use Rattle.justfile_vocabulary.specs.declared.token_kind.TokenKind.TheVariants as kinds
-use Rattle.justfile_model.specs.HeaderReader as headers
-use Rattle.justfile_model.specs.ReaderState.{prepend}
-use Rattle.justfile_model.proofs.HeaderReading as laws
+use Rattle.justfile_model.specs.Readers.HeaderReader as headers
+use Rattle.justfile_model.specs.Readers.ReaderState.{prepend}
+use Rattle.justfile_model.proofs.Readers.HeaderReading as laws
 use Rattle.justfile_parse_expression.specs.MethodResults.{IsExpressionError, literal_read_error, read_error_at}
 use Rattle.justfile_parse_expression.specs.TableReader.{State, accept, expect, leaves}
 use Rattle.justfile_parse_expression.specs.Significant.{TableEntry}

@@ -5,9 +5,9 @@ use Rattle.justfile_token.specs.declared.compile_error.CompileError.{CompileErro
 use Rattle.justfile_token.specs.declared.fault.Fault.{Fault}
 use Rattle.justfile_token.specs.declared.fault.Fault.TheVariants as faults
 use Rattle.justfile_token.specs.declared.token.Token.{Token}
-use Rattle.justfile_model.specs.ReaderState as reading
-use Rattle.justfile_model.specs.ReaderState.{◌>>=◌}
-use Rattle.justfile_model.specs.Rules.{Rule}
+use Rattle.justfile_model.specs.Readers.ReaderState as reading
+use Rattle.justfile_model.specs.Readers.ReaderState.{◌>>=◌}
+use Rattle.justfile_model.specs.Meanings.Rules.{Rule}
 use Rattle.justfile_parse_base.specs.ParseErrors.{IsParseError, IsErrorOfFault, IsErrorOfRead}
 use Rattle.justfile_parse_base.specs.declared.parse_error.ParseError.{ParseError}
 use Rattle.justfile_parse_base.specs.declared.parse_error.ParseError.TheVariants.{Expression, Compile}

@@ -2,9 +2,9 @@
 use Rattle.std.specs.Prelude.{◌≡◌, ℕ, ◌≤◌, ◌+◌, List, Result, Ok, Err, map}
 use Rattle.justfile_vocabulary.specs.Numerator.{bindings_of, constants_of, recipes_of}
 use Rattle.justfile_vocabulary.specs.declared.numerator.Numerator.{Numerator}
-use Rattle.justfile_model.specs.ReaderState as reading
-use Rattle.justfile_model.specs.ReaderState.{Counters}
-use Rattle.justfile_model.specs.SignificantTokens.{identifiers}
+use Rattle.justfile_model.specs.Readers.ReaderState as reading
+use Rattle.justfile_model.specs.Readers.ReaderState.{Counters}
+use Rattle.justfile_model.specs.Lexing.SignificantTokens.{identifiers}
 use Rattle.justfile_parse_base.specs.ParseErrors.{IsParseError}
 use Rattle.justfile_parse_base.specs.declared.parse_error.ParseError.{ParseError}
 use Rattle.justfile_parse_expression.specs.MethodResults.{IsExpressionError}

@@ -7,9 +7,9 @@ use Rattle.justfile_attribute_rules.specs.RuleErrors.{IsErrorOfRule}
 use Rattle.justfile_token.specs.Token.{lexeme_of}
 use Rattle.justfile_vocabulary.specs.declared.keyword.Keyword.{Keyword}
 use Rattle.justfile_token.specs.declared.token.Token.{Token}
-use Rattle.justfile_model.specs.HeaderReader.{obeying}
-use Rattle.justfile_model.specs.ReaderState as reading
-use Rattle.justfile_model.specs.Rules.{Broken}
+use Rattle.justfile_model.specs.Readers.HeaderReader.{obeying}
+use Rattle.justfile_model.specs.Readers.ReaderState as reading
+use Rattle.justfile_model.specs.Meanings.Rules.{Broken}
 use Rattle.justfile_parse_expression.specs.MethodResults.{IsExpressionError}
 use Rattle.justfile_parse_expression.specs.View.{state_of}
 use Rattle.justfile_parse_expression.specs.declared.token_cursor.TokenCursor.{TokenCursor}

@@ -12,7 +12,7 @@ use justfile_vocabulary::{Number, Numerator};
 /// # Errors
 ///
 /// `Numbers` if the counter has reached its maximum.
-#[tactic(auto, unfolding(justfile_model::specs::HeaderReader::next_binding_number, justfile_parse_expression::specs::TableReader::leaves))]
+#[tactic(auto, unfolding(justfile_model::specs::Readers::HeaderReader::next_binding_number, justfile_parse_expression::specs::TableReader::leaves))]
 pub fn next_binding_number<'src>(numerator: &mut Numerator) -> Result<Number, ExpressionError<'src>>
     ensures reads { (s : State) → ReadsCountedExpression (λ number. number.0) result numerator.new s
         (reader.next_binding_number (counters_of numerator.old) s) }

@@ -1,22 +1,22 @@
 -- What the reader of tables reads from any position corresponds to what the definitions read of the table's tokens.
 use Rattle.std.proofs.Common.{◌≡◌, false, List, [], ◌∷◌, map, Ok, Err, refl, sym, ap, ◌∙◌, subst, arith}
 use Rattle.justfile_token.specs.declared.token.Token.{Token}
-use Rattle.justfile_model.specs.ExpressionReader as expressions
-use Rattle.justfile_model.specs.Expressions as grammar
-use Rattle.justfile_model.specs.Expressions.{AnyDepth}
-use Rattle.justfile_model.specs.Features.{Noted}
-use Rattle.justfile_model.specs.SignificantTokens.{SignificantToken}
-use Rattle.justfile_model.specs.Tok.{Tok, tok_of}
-use Rattle.justfile_model.specs.Tree.{Expr, itself}
-use Rattle.justfile_model.specs.TreeReader as model
-use Rattle.justfile_model.specs.TreeReader.{token_leaves}
+use Rattle.justfile_model.specs.Readers.ExpressionReader as expressions
+use Rattle.justfile_model.specs.Grammars.Expressions as grammar
+use Rattle.justfile_model.specs.Grammars.Expressions.{AnyDepth}
+use Rattle.justfile_model.specs.Grammars.Features.{Noted}
+use Rattle.justfile_model.specs.Lexing.SignificantTokens.{SignificantToken}
+use Rattle.justfile_model.specs.Lexing.Tok.{Tok, tok_of}
+use Rattle.justfile_model.specs.Trees.Tree.{Expr, itself}
+use Rattle.justfile_model.specs.Readers.TreeReader as model
+use Rattle.justfile_model.specs.Readers.TreeReader.{token_leaves}
 use Rattle.justfile_model.specs.declared.level.Level.TheVariants as levels
 use Rattle.justfile_vocabulary.specs.declared.list_feature.ListFeature.{ListFeature}
-use Rattle.justfile_model.proofs.Depth.{expression_freed}
-use Rattle.justfile_model.proofs.ExpressionSound.{expression_derives}
-use Rattle.justfile_model.proofs.NaturalExpressions.{expression_natural}
-use Rattle.justfile_model.proofs.Related as a
-use Rattle.justfile_model.proofs.Related.{Each, Never, Related, States}
+use Rattle.justfile_model.proofs.Derivations.Depth.{expression_freed}
+use Rattle.justfile_model.proofs.Sound.ExpressionSound.{expression_derives}
+use Rattle.justfile_model.proofs.Relations.NaturalExpressions.{expression_natural}
+use Rattle.justfile_model.proofs.Relations.Related as a
+use Rattle.justfile_model.proofs.Relations.Related.{Each, Never, Related, States}
 use Rattle.justfile_parse_expression.specs.TableReader.{At, ReadExpr, ReadError, Run, State, leaves, read}
 use Rattle.justfile_parse_expression.specs.Significant.{significant_of}
 use Rattle.justfile_expression.specs.LeafTree.{Leaf}

@@ -1,9 +1,9 @@
 -- The loop that parses the branches of a conditional reads what the definitions read recursively.
 use Rattle.std.proofs.Common.{◌≡◌, List, [], ◌∷◌, ◌++◌, Option, Some, None, Ok, Err, codes, refl, sym, ap, ◌∙◌}
-use Rattle.justfile_model.specs.ExpressionReader as expressions
-use Rattle.justfile_model.specs.ExpressionReader.{closed}
-use Rattle.justfile_model.specs.ReaderState.{◌>>=◌, choose}
-use Rattle.justfile_model.specs.Tree as t
+use Rattle.justfile_model.specs.Readers.ExpressionReader as expressions
+use Rattle.justfile_model.specs.Readers.ExpressionReader.{closed}
+use Rattle.justfile_model.specs.Readers.ReaderState.{◌>>=◌, choose}
+use Rattle.justfile_model.specs.Trees.Tree as t
 use Rattle.justfile_model.specs.declared.level.Level.TheVariants.{Conjunct}
 use Rattle.justfile_parse_expression.specs.Chains.{BranchTree, ElseIf, End, Tree, branch, branches, last_branch, link_of, row_closed, row_tree}
 use Rattle.justfile_parse_expression.specs.TableReader as r

@@ -1,11 +1,11 @@
 -- The loop that parses a row reads what the definitions read recursively.
 use Rattle.std.proofs.Common.{◌≡◌, false, List, [], ◌∷◌, ◌++◌, Option, Some, None, Ok, Err, refl, sym, ap, ◌∙◌, codes}
 use Rattle.justfile_vocabulary.specs.declared.token_kind.TokenKind.TheVariants as kinds
-use Rattle.justfile_model.specs.ExpressionReader as expressions
-use Rattle.justfile_model.specs.ExpressionReader.{closed, opened}
-use Rattle.justfile_model.specs.Operators.{right}
-use Rattle.justfile_model.specs.Tree as t
-use Rattle.justfile_model.specs.ReaderState.{◌>>=◌, choose}
+use Rattle.justfile_model.specs.Readers.ExpressionReader as expressions
+use Rattle.justfile_model.specs.Readers.ExpressionReader.{closed, opened}
+use Rattle.justfile_model.specs.Trees.Operators.{right}
+use Rattle.justfile_model.specs.Trees.Tree as t
+use Rattle.justfile_model.specs.Readers.ReaderState.{◌>>=◌, choose}
 use Rattle.justfile_model.specs.declared.level.Level.{Level}
 use Rattle.justfile_model.specs.declared.level.Level.TheVariants.{Expression, Disjunct, Compared, Conjunct, Value}
 use Rattle.justfile_model.specs.declared.operator.Operator.{Operator}
@@ -17,7 +17,7 @@ use Rattle.justfile_parse_expression.specs.declared.expression.Link.{Link}
 use Rattle.justfile_parse_expression.specs.Significant.{TableEntry}
 use Rattle.justfile_parse_expression.specs.declared.expression_error.ExpressionError.{ExpressionError}
 use Rattle.justfile_parse_expression.specs.declared.expression_error.ExpressionError.TheVariants.{Refused, Literal, Memory, Numbers}
-use Rattle.justfile_model.proofs.ExpressionReading as laws
+use Rattle.justfile_model.proofs.Readers.ExpressionReading as laws
 use Rattle.justfile_parse_expression.proofs.Operators.{conjunct_is, opened_by}
 use Rattle.justfile_parse_expression.proofs.Rules.{bind_alike, bound}
 

@@ -14,14 +14,14 @@ use Rattle.justfile_token.specs.declared.token.Token.{Token}
 use Rattle.justfile_vocabulary.specs.declared.token_kind.TokenKind.{TokenKind}
 use Rattle.justfile_vocabulary.specs.declared.token_kind.TokenKind.TheVariants as kinds
 use Rattle.justfile_literal.specs.Literal.{IsKindOf, IsPartOf, IsStringOf, IsTextFault, answers_by, is_part, is_quoted, literal_fault_of}
-use Rattle.justfile_model.specs.ExpressionReader as expressions
-use Rattle.justfile_model.specs.ExpressionReader.{by_text}
-use Rattle.justfile_model.specs.ReaderState.{NotCooked}
+use Rattle.justfile_model.specs.Readers.ExpressionReader as expressions
+use Rattle.justfile_model.specs.Readers.ExpressionReader.{by_text}
+use Rattle.justfile_model.specs.Readers.ReaderState.{NotCooked}
 use Rattle.justfile_parse_expression.specs.TableReader as reader
 use Rattle.justfile_parse_expression.specs.TableReader.{ReadError, State, leaves, part_by, string_leaf}
-use Rattle.justfile_model.specs.Literals as literal
-use Rattle.justfile_model.specs.Literals.{Expansions, LiteralFault, Unasked, cooked_text, format_text, string_of, string_text}
-use Rattle.justfile_model.specs.Tree as tree
+use Rattle.justfile_model.specs.LiteralTexts.Literals as literal
+use Rattle.justfile_model.specs.LiteralTexts.Literals.{Expansions, LiteralFault, Unasked, cooked_text, format_text, string_of, string_text}
+use Rattle.justfile_model.specs.Trees.Tree as tree
 use Rattle.justfile_parse_expression.specs.Fault.{IsLiteralFault, is_literal_kind, literal_fault}
 use Rattle.justfile_parse_expression.specs.Literal.{is_delimited, is_sound}
 use Rattle.justfile_parse_expression.specs.MethodResults.{IsExpressionError, IsErrorOfLiteral, literal_read_error}

@@ -2,10 +2,10 @@
 use Rattle.std.proofs.Common.{◌≡◌, Bool, true, false, List, [], ◌∷◌, ◌++◌, Some, None, Ok, Err, refl, sym, ap, ◌∙◌}
 use Rattle.justfile_token.specs.declared.token.Token.{Token}
 use Rattle.justfile_vocabulary.specs.declared.token_kind.TokenKind.{TokenKind}
-use Rattle.justfile_model.specs.Tree.{Expr, Exprs, none, more}
+use Rattle.justfile_model.specs.Trees.Tree.{Expr, Exprs, none, more}
 use Rattle.justfile_expression.specs.declared.expression.Expression.{Expression}
-use Rattle.justfile_model.specs.ExpressionReader as expressions
-use Rattle.justfile_model.specs.ReaderState.{◌>>=◌, choose}
+use Rattle.justfile_model.specs.Readers.ExpressionReader as expressions
+use Rattle.justfile_model.specs.Readers.ReaderState.{◌>>=◌, choose}
 use Rattle.justfile_parse_expression.specs.TableReader as r
 use Rattle.justfile_parse_expression.specs.TableReader.{Read, ReadError, State, accept, element, leaves, read}
 use Rattle.justfile_parse_expression.specs.MethodResults.{IsExpressionError, literal_read_error, read_error_at}
@@ -13,7 +13,7 @@ use Rattle.justfile_expression.specs.LeafTree.{Leaf, leaf_tree_of, trees_of}
 use Rattle.justfile_parse_expression.specs.Significant.{TableEntry}
 use Rattle.justfile_parse_expression.specs.declared.expression_error.ExpressionError.{ExpressionError}
 use Rattle.justfile_parse_expression.specs.declared.expression_error.ExpressionError.TheVariants.{Refused, Literal, Memory, Numbers}
-use Rattle.justfile_model.proofs.ExpressionReading.{sequence_is}
+use Rattle.justfile_model.proofs.Readers.ExpressionReading.{sequence_is}
 use Rattle.justfile_parse_expression.proofs.Rules.{then_made}
 
 abbrev joined : List Expression → Exprs Leaf Token → Exprs Leaf Token

@@ -11,22 +11,22 @@ use Rattle.justfile_vocabulary.specs.declared.token_kind.TokenKind.{TokenKind}
 use Rattle.justfile_token.specs.declared.token.Token.{Token}
 use Rattle.justfile_vocabulary.specs.declared.token_kind.TokenKind.TheVariants as kinds
 use Rattle.justfile_literal.specs.Literal.{is_part}
-use Rattle.justfile_model.specs.Expressions as grammar
-use Rattle.justfile_model.specs.Literals.{LiteralFault, format_text}
-use Rattle.justfile_model.specs.Tok.{tok_of}
-use Rattle.justfile_model.specs.Tree.{Expr, Last, Continue}
+use Rattle.justfile_model.specs.Grammars.Expressions as grammar
+use Rattle.justfile_model.specs.LiteralTexts.Literals.{LiteralFault, format_text}
+use Rattle.justfile_model.specs.Lexing.Tok.{tok_of}
+use Rattle.justfile_model.specs.Trees.Tree.{Expr, Last, Continue}
 use Rattle.justfile_parse_expression.specs.FormatStrings.{AreEnded, IsEnded, IsEndedAt, IsEndedPastExpression, IsEndedFrom}
-use Rattle.justfile_model.specs.ExpressionReader as expressions
-use Rattle.justfile_model.specs.ReaderState as reading
-use Rattle.justfile_model.specs.ReaderState.{◌>>=◌, accept_by, at, choose, marked_by, marks, same_kind}
+use Rattle.justfile_model.specs.Readers.ExpressionReader as expressions
+use Rattle.justfile_model.specs.Readers.ReaderState as reading
+use Rattle.justfile_model.specs.Readers.ReaderState.{◌>>=◌, accept_by, at, choose, marked_by, marks, same_kind}
 use Rattle.justfile_parse_expression.specs.TableReader.{At, Read, ReadExpr, State, accept, accept_marked, expect, leaves, pair, part, part_by, read}
 use Rattle.justfile_parse_expression.specs.Significant.{significant_of}
 use Rattle.justfile_expression.specs.LeafTree.{Leaf}
 use Rattle.justfile_parse_expression.specs.View.{state_at, state_of}
 use Rattle.justfile_model.specs.declared.level.Level.TheVariants as levels
 use Rattle.justfile_parse_expression.specs.Significant.{TableEntry}
-use Rattle.justfile_model.proofs.ExpressionReading.{advances}
-use Rattle.justfile_model.proofs.ReadingSteps.{known}
+use Rattle.justfile_model.proofs.Readers.ExpressionReading.{advances}
+use Rattle.justfile_model.proofs.Readers.ReadingSteps.{known}
 use Rattle.justfile_parse_expression.proofs.Anywhere.{derives}
 use Rattle.justfile_parse_expression.proofs.Rules.{part_is}
 use Rattle.justfile_parse_expression.specs.declared.token_cursor.TokenCursor.{TokenCursor}

@@ -2,9 +2,9 @@
 use Rattle.std.proofs.Common.{◌≡◌, ℕ, zero, suc, Some, None, Ok, Err, refl, sym, ap}
 use Rattle.justfile_vocabulary.specs.declared.token_kind.TokenKind.TheVariants as kinds
 use Rattle.justfile_vocabulary.specs.declared.list_feature.ListFeature.TheVariants as features
-use Rattle.justfile_model.specs.Features.{noted}
-use Rattle.justfile_model.specs.ReaderState.{◌>>=◌, with}
-use Rattle.justfile_model.specs.Tree as t
+use Rattle.justfile_model.specs.Grammars.Features.{noted}
+use Rattle.justfile_model.specs.Readers.ReaderState.{◌>>=◌, with}
+use Rattle.justfile_model.specs.Trees.Tree as t
 use Rattle.justfile_parse_expression.specs.Chains.{Tree, bare, negated, negation}
 use Rattle.justfile_parse_expression.specs.TableReader.{ReadExpr, State, accept, value}
 use Rattle.justfile_parse_expression.specs.Significant.{TableEntry}

@@ -2,13 +2,13 @@
 use Rattle.std.proofs.Common.{◌≡◌, Bool, true, false, List, [], ◌∷◌, Option, None, Ok, Err, IsTrue, if◌then◌else◌, codes, refl, ap, ◌∙◌}
 use Rattle.justfile_token.specs.declared.token.Token.{Token}
 use Rattle.justfile_vocabulary.specs.declared.token_kind.TokenKind.TheVariants as kinds
-use Rattle.justfile_model.specs.ExpressionReader as expressions
-use Rattle.justfile_model.specs.ExpressionReader.{Met, closed, met_at, opened, operator_by}
-use Rattle.justfile_model.specs.Operators.{is_binary}
-use Rattle.justfile_model.specs.ReaderState.{◌>>=◌, choose, with}
-use Rattle.justfile_model.specs.Features.{noted}
-use Rattle.justfile_model.specs.Tree as t
-use Rattle.justfile_model.specs.Tree.{Expr}
+use Rattle.justfile_model.specs.Readers.ExpressionReader as expressions
+use Rattle.justfile_model.specs.Readers.ExpressionReader.{Met, closed, met_at, opened, operator_by}
+use Rattle.justfile_model.specs.Trees.Operators.{is_binary}
+use Rattle.justfile_model.specs.Readers.ReaderState.{◌>>=◌, choose, with}
+use Rattle.justfile_model.specs.Grammars.Features.{noted}
+use Rattle.justfile_model.specs.Trees.Tree as t
+use Rattle.justfile_model.specs.Trees.Tree.{Expr}
 use Rattle.justfile_model.specs.declared.level.Level.{Level}
 use Rattle.justfile_model.specs.declared.level.Level.TheVariants.{Expression, Disjunct, Compared, Conjunct, Value}
 use Rattle.justfile_vocabulary.specs.declared.list_feature.ListFeature.TheVariants as features
@@ -18,7 +18,7 @@ use Rattle.justfile_parse_expression.specs.TableReader as r
 use Rattle.justfile_parse_expression.specs.TableReader.{At, Read, ReadExpr, ReadError, State, accept, accept_keyword, enter, front_operator, is_within, leaves, literal, operation, operations, read, value}
 use Rattle.justfile_expression.specs.LeafTree.{Leaf}
 use Rattle.justfile_parse_expression.specs.Significant.{TableEntry}
-use Rattle.justfile_model.proofs.ExpressionReading as laws
+use Rattle.justfile_model.proofs.Readers.ExpressionReading as laws
 use Rattle.justfile_parse_expression.proofs.Rules.{bind_alike, choose_alike, then_made}
 
 abbrev Lhs : Type 0

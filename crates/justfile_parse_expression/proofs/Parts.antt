@@ -2,18 +2,18 @@
 use Rattle.std.proofs.Common.{◌≡◌, ℕ, Bool, true, false, List, [], ◌∷◌, ◌++◌, Ok, Err, refl, sym, ap, ◌∙◌}
 use Rattle.justfile_token.specs.declared.string_literal.StringLiteral.{StringLiteral}
 use Rattle.justfile_token.specs.declared.token.Token.{Token}
-use Rattle.justfile_model.specs.Tree as tree
-use Rattle.justfile_model.specs.Tree.{Expr, Parts}
+use Rattle.justfile_model.specs.Trees.Tree as tree
+use Rattle.justfile_model.specs.Trees.Tree.{Expr, Parts}
 use Rattle.justfile_expression.specs.declared.expression.Expression.{Expression}
-use Rattle.justfile_model.specs.ExpressionReader as expressions
-use Rattle.justfile_model.specs.ReaderState.{◌>>=◌}
+use Rattle.justfile_model.specs.Readers.ExpressionReader as expressions
+use Rattle.justfile_model.specs.Readers.ReaderState.{◌>>=◌}
 use Rattle.justfile_parse_expression.specs.TableReader.{At, Read, ReadExpr, ReadError, State, format_parts, leaves, pair, part, read}
 use Rattle.justfile_parse_expression.specs.MethodResults.{IsExpressionError, literal_read_error, read_error_at}
 use Rattle.justfile_expression.specs.LeafTree.{Leaf, Literal, format_string_tree, literal_of, parts_tree, leaf_tree_of}
 use Rattle.justfile_model.specs.declared.level.Level.TheVariants as levels
 use Rattle.justfile_parse_expression.specs.declared.expression_error.ExpressionError.{ExpressionError}
 use Rattle.justfile_parse_expression.specs.declared.expression_error.ExpressionError.TheVariants as causes
-use Rattle.justfile_model.proofs.ExpressionReading.{parts_is}
+use Rattle.justfile_model.proofs.Readers.ExpressionReading.{parts_is}
 use Rattle.justfile_parse_expression.proofs.Rules.{then_made}
 
 -- an expression, and the parts after it

@@ -9,8 +9,8 @@ use Rattle.justfile_vocabulary.specs.declared.token_kind.TokenKind.{TokenKind}
 use Rattle.justfile_vocabulary.specs.declared.list_feature.ListFeature.{ListFeature}
 use Rattle.justfile_parse_expression.specs.Literal.{is_sound}
 use Rattle.justfile_parse_expression.specs.Significant.{TableEntry}
-use Rattle.justfile_model.specs.ReaderState.{with_next, marked_by, marks, with}
-use Rattle.justfile_model.specs.ReaderState as reading
+use Rattle.justfile_model.specs.Readers.ReaderState.{with_next, marked_by, marks, with}
+use Rattle.justfile_model.specs.Readers.ReaderState as reading
 use Rattle.justfile_parse_expression.specs.TableReader.{Run, State, accept_marked, begin, leaves}
 use Rattle.justfile_parse_expression.specs.Significant.{significant_of}
 use Rattle.justfile_parse_expression.specs.View.{tokens_left, run_of, state_at, state_from, state_of}

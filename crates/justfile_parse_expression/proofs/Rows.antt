@@ -5,7 +5,7 @@ use Rattle.std.specs.declared.alloc.Global.{Global}
 use Rattle.justfile_token.specs.declared.name.Name.{Name}
 use Rattle.justfile_token.specs.declared.string_literal.StringLiteral.{StringLiteral}
 use Rattle.justfile_token.specs.declared.token.Token.{Token}
-use Rattle.justfile_model.specs.Tree as tree
+use Rattle.justfile_model.specs.Trees.Tree as tree
 use Rattle.justfile_expression.specs.LeafTree.{Leaf, Literal, Named, format_row_tree, format_string_tree, literal_of, parts_tree, parts_row_tree, leaf_tree_of, trees_of, trees_of_row}
 use Rattle.justfile_expression.specs.declared.expression.Expression.{Expression, Row_of-Expression as ExpressionRow, end_of-Expression as row_end, more_of-Expression as row_more, items-the_row-Expression, items_hidden-the_row-Expression-0, Row_of-Expression-FormatString-1-2 as FormatRow, end_of-Expression-FormatString-1-2 as format_row_end, more_of-Expression-FormatString-1-2 as format_row_more, items-the_row-Expression-FormatString-1-2, items_hidden-the_row-Expression-FormatString-1-2-1}
 use Rattle.justfile_expression.specs.declared.expression.Expression.TheVariants as e

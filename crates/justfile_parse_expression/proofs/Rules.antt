@@ -6,19 +6,19 @@ use Rattle.justfile_vocabulary.specs.declared.format_string_part.FormatStringPar
 use Rattle.justfile_token.specs.declared.token.Token.{Token}
 use Rattle.justfile_vocabulary.specs.declared.token_kind.TokenKind.{TokenKind}
 use Rattle.justfile_vocabulary.specs.declared.token_kind.TokenKind.TheVariants as kinds
-use Rattle.justfile_model.specs.Expressions.{front}
-use Rattle.justfile_model.specs.Literals.{LiteralFault, cooked_text, format_text, string_of}
-use Rattle.justfile_model.specs.Tree as t
-use Rattle.justfile_model.specs.Tree.{Expr, Parts}
-use Rattle.justfile_model.specs.ExpressionReader as expressions
-use Rattle.justfile_model.specs.ExpressionReader.{by_text}
-use Rattle.justfile_model.specs.ReaderState.{◌>>=◌, choose}
+use Rattle.justfile_model.specs.Grammars.Expressions.{front}
+use Rattle.justfile_model.specs.LiteralTexts.Literals.{LiteralFault, cooked_text, format_text, string_of}
+use Rattle.justfile_model.specs.Trees.Tree as t
+use Rattle.justfile_model.specs.Trees.Tree.{Expr, Parts}
+use Rattle.justfile_model.specs.Readers.ExpressionReader as expressions
+use Rattle.justfile_model.specs.Readers.ExpressionReader.{by_text}
+use Rattle.justfile_model.specs.Readers.ReaderState.{◌>>=◌, choose}
 use Rattle.justfile_parse_expression.specs.TableReader as r
 use Rattle.justfile_parse_expression.specs.TableReader.{At, Read, ReadExpr, State, accept, accept_keyword, assert, braced, condition, enclosed, expect, format_parts, format_string, group, leaves, list, literal_string, name, note_first, part, part_by, read, string_leaf, whole_format_string}
 use Rattle.justfile_expression.specs.LeafTree.{Leaf}
 use Rattle.justfile_model.specs.declared.level.Level.TheVariants.{Expression}
 use Rattle.justfile_parse_expression.specs.Significant.{TableEntry}
-use Rattle.justfile_model.proofs.ExpressionReading as laws
+use Rattle.justfile_model.proofs.Readers.ExpressionReading as laws
 
 pub conditional_is : (w : TableEntry) (s : State) → read (r.Conditional w s) ≡ expressions.conditional_rule leaves read w s
 conditional_is w s = laws.conditional_is leaves w s

@@ -4,14 +4,14 @@ use Rattle.std.proofs.Math.Nat.{eq-or-lt_of_le}
 use Rattle.justfile_vocabulary.specs.Numerator.{number_of}
 use Rattle.justfile_token.specs.Token.{lexeme_of}
 use Rattle.justfile_token.specs.declared.token.Token.{Token}
-use Rattle.justfile_model.specs.Conditions.{Conditions, with_limit}
-use Rattle.justfile_model.specs.Literals as literals
-use Rattle.justfile_model.specs.Literals.{cooked_text, token_of}
-use Rattle.justfile_model.specs.SignificantTokens.{SignificantToken}
-use Rattle.justfile_model.specs.Tok.{Tok, tok_of}
-use Rattle.justfile_model.specs.Tree.{Entry, WrittenAttribute}
-use Rattle.justfile_model.specs.TreeReader.{token_leaves}
-use Rattle.justfile_model.proofs.Related.{AlikeConditions, Relations, Respects}
+use Rattle.justfile_model.specs.Grammars.Conditions.{Conditions, with_limit}
+use Rattle.justfile_model.specs.LiteralTexts.Literals as literals
+use Rattle.justfile_model.specs.LiteralTexts.Literals.{cooked_text, token_of}
+use Rattle.justfile_model.specs.Lexing.SignificantTokens.{SignificantToken}
+use Rattle.justfile_model.specs.Lexing.Tok.{Tok, tok_of}
+use Rattle.justfile_model.specs.Trees.Tree.{Entry, WrittenAttribute}
+use Rattle.justfile_model.specs.Readers.TreeReader.{token_leaves}
+use Rattle.justfile_model.proofs.Relations.Related.{AlikeConditions, Relations, Respects}
 use Rattle.justfile_parse_expression.specs.TableReader.{Run, assigned_leaf, headed_leaf, leaves, literal_leaf}
 use Rattle.justfile_parse_expression.specs.Significant.{significant_of}
 use Rattle.justfile_expression.specs.LeafTree.{Leaf, Named, Text}

@@ -1,10 +1,10 @@
 -- The form of an expression, from its tree.
 use Rattle.std.proofs.Common.{◌≡◌, false, Some, refl}
-use Rattle.justfile_model.specs.Expressions.{ends_open}
+use Rattle.justfile_model.specs.Grammars.Expressions.{ends_open}
 use Rattle.justfile_token.specs.declared.token.Token.{Token}
-use Rattle.justfile_model.specs.Tree.{Expr}
+use Rattle.justfile_model.specs.Trees.Tree.{Expr}
 use Rattle.justfile_vocabulary.specs.declared.list_feature.ListFeature.TheVariants as features
-use Rattle.justfile_model.specs.Features.{uncompared_feature}
+use Rattle.justfile_model.specs.Grammars.Features.{uncompared_feature}
 use Rattle.justfile_expression.specs.LeafTree.{Leaf, assert_tree, conditional_tree, join_tree, format_row_tree}
 use Rattle.justfile_expression.specs.declared.expression.Expression.{Held-Expression-Assert-1 as OptionalExpression, None', Some', Row_of-Expression-FormatString-1-2 as FormatRow, end_of-Expression-FormatString-1-2 as format_row_end, more_of-Expression-FormatString-1-2 as format_row_more}
 

@@ -7,9 +7,9 @@ use Rattle.justfile_vocabulary.specs.contracts.token_kind.TokenKind.{the_type}
 use Rattle.justfile_vocabulary.specs.declared.list_feature.ListFeature.{ListFeature}
 use Rattle.justfile_vocabulary.specs.declared.token_kind.TokenKind.{TokenKind}
 use Rattle.justfile_vocabulary.specs.declared.token_kind.TokenKind.TheVariants as kinds
-use Rattle.justfile_model.specs.ExpressionReader as expressions
-use Rattle.justfile_model.specs.ReaderState as reading
-use Rattle.justfile_model.specs.ReaderState.{at, is_word, marks, same_kind, with_next}
+use Rattle.justfile_model.specs.Readers.ExpressionReader as expressions
+use Rattle.justfile_model.specs.Readers.ReaderState as reading
+use Rattle.justfile_model.specs.Readers.ReaderState.{at, is_word, marks, same_kind, with_next}
 use Rattle.justfile_parse_expression.specs.Chains.{bare}
 use Rattle.justfile_parse_expression.specs.SimpleValues.{is_markable, is_opening, begins_simple_value, is_unmarking}
 use Rattle.justfile_parse_expression.specs.Significant.{significant_of}

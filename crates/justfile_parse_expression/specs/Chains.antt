@@ -3,14 +3,14 @@ use Rattle.std.specs.Prelude.{ℕ, zero, suc, Bool, false, List, [], ◌∷◌, 
 use Rattle.justfile_token.specs.declared.token.Token.{Token}
 use Rattle.justfile_vocabulary.specs.declared.list_feature.ListFeature.TheVariants as features
 use Rattle.justfile_vocabulary.specs.declared.token_kind.TokenKind.TheVariants as kinds
-use Rattle.justfile_model.specs.ExpressionReader as expressions
-use Rattle.justfile_model.specs.ExpressionReader.{closed}
-use Rattle.justfile_model.specs.Expressions.{ends_open}
-use Rattle.justfile_model.specs.Features.{noted, noted_if}
-use Rattle.justfile_model.specs.Operators.{binary, feature_of, operand, right}
-use Rattle.justfile_model.specs.ReaderState.{◌>>=◌, choose, with}
-use Rattle.justfile_model.specs.Tree as tree
-use Rattle.justfile_model.specs.Tree.{Expr}
+use Rattle.justfile_model.specs.Readers.ExpressionReader as expressions
+use Rattle.justfile_model.specs.Readers.ExpressionReader.{closed}
+use Rattle.justfile_model.specs.Grammars.Expressions.{ends_open}
+use Rattle.justfile_model.specs.Grammars.Features.{noted, noted_if}
+use Rattle.justfile_model.specs.Trees.Operators.{binary, feature_of, operand, right}
+use Rattle.justfile_model.specs.Readers.ReaderState.{◌>>=◌, choose, with}
+use Rattle.justfile_model.specs.Trees.Tree as tree
+use Rattle.justfile_model.specs.Trees.Tree.{Expr}
 use Rattle.justfile_model.specs.declared.level.Level.{Level}
 use Rattle.justfile_model.specs.declared.level.Level.TheVariants.{Compared, Conjunct, Value}
 use Rattle.justfile_model.specs.declared.operator.Operator.{Operator}

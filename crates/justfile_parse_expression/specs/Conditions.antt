@@ -2,8 +2,8 @@
 use Rattle.std.specs.Prelude.{ℕ, List, Result}
 use Rattle.justfile_vocabulary.specs.declared.version.Version.{Version}
 use Rattle.justfile_literal.specs.Literal.{answers_by}
-use Rattle.justfile_model.specs.Conditions.{Conditions}
-use Rattle.justfile_model.specs.Versions.{version_numbers}
+use Rattle.justfile_model.specs.Grammars.Conditions.{Conditions}
+use Rattle.justfile_model.specs.Meanings.Versions.{version_numbers}
 
 -- the results of an expander, the running version, and how many expressions may be nested
 abbrev pub conditions_of : {X : Type 0} → (answer : X → List ℕ → Result (List ℕ) (List ℕ)) → (expander : X) → (current : Version) → (limit : ℕ) → Conditions

@@ -7,12 +7,12 @@ use Rattle.justfile_vocabulary.specs.declared.format_string_part.FormatStringPar
 use Rattle.justfile_token.specs.declared.string_kind.StringKind.{StringKind}
 use Rattle.justfile_vocabulary.specs.declared.token_kind.TokenKind.TheVariants.{FormatStringStart}
 use Rattle.justfile_literal.specs.Literal.{is_part}
-use Rattle.justfile_model.specs.Expressions as grammar
-use Rattle.justfile_model.specs.Expressions.{AnyDepth, IsKind, Tokens}
-use Rattle.justfile_model.specs.Features.{Noted}
-use Rattle.justfile_model.specs.SignificantTokens.{SignificantToken}
-use Rattle.justfile_model.specs.Tok.{Tok}
-use Rattle.justfile_model.specs.Tree.{Expr, Parts, Last, Continue, itself}
+use Rattle.justfile_model.specs.Grammars.Expressions as grammar
+use Rattle.justfile_model.specs.Grammars.Expressions.{AnyDepth, IsKind, Tokens}
+use Rattle.justfile_model.specs.Grammars.Features.{Noted}
+use Rattle.justfile_model.specs.Lexing.SignificantTokens.{SignificantToken}
+use Rattle.justfile_model.specs.Lexing.Tok.{Tok}
+use Rattle.justfile_model.specs.Trees.Tree.{Expr, Parts, Last, Continue, itself}
 use Rattle.justfile_parse_expression.specs.Literal.{is_sound}
 use Rattle.justfile_parse_expression.specs.Significant.{significant_of}
 use Rattle.justfile_parse_expression.specs.Significant.{TableEntry}

@@ -5,8 +5,8 @@ use Rattle.justfile_token.specs.declared.compile_error.CompileError.{CompileErro
 use Rattle.justfile_token.specs.declared.fault.Fault.{Fault}
 use Rattle.justfile_token.specs.declared.fault.Fault.TheVariants as faults
 use Rattle.justfile_parse_expression.specs.Fault.{literal_fault}
-use Rattle.justfile_model.specs.ReaderState as state
-use Rattle.justfile_model.specs.ReaderState.{refused}
+use Rattle.justfile_model.specs.Readers.ReaderState as state
+use Rattle.justfile_model.specs.Readers.ReaderState.{refused}
 use Rattle.justfile_parse_expression.specs.TableReader as table
 use Rattle.justfile_parse_expression.specs.TableReader.{Read, State}
 use Rattle.justfile_parse_expression.specs.Significant.{TableEntry}

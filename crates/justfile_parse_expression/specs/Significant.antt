@@ -2,8 +2,8 @@
 use Rattle.std.specs.Prelude.{Bool, List, not}
 use Rattle.std.specs.List.{filter}
 use Rattle.justfile_token.specs.declared.token.Token.{Token}
-use Rattle.justfile_model.specs.Tok.{tok_of}
-use Rattle.justfile_model.specs.SignificantTokens.{SignificantToken, is_whitespace}
+use Rattle.justfile_model.specs.Lexing.Tok.{tok_of}
+use Rattle.justfile_model.specs.Lexing.SignificantTokens.{SignificantToken, is_whitespace}
 
 -- an entry of the table: a token, and whether it directly follows the token before
 abbrev pub TableEntry : Type 0

@@ -1,7 +1,7 @@
 //! How conditionals are parsed, and the conditions of `if` and `assert`.
 ghost use Rattle.std.specs.Prelude.{◌≡◌, ◌<◌, OnOk};
-ghost use Rattle.justfile_model.specs.Expressions.{ends_open};
-ghost use Rattle.justfile_model.specs.Tree as tree;
+ghost use Rattle.justfile_model.specs.Grammars.Expressions.{ends_open};
+ghost use Rattle.justfile_model.specs.Trees.Tree as tree;
 ghost use Rattle.justfile_parse_expression.specs.Chains as chains;
 ghost use Rattle.justfile_parse_expression.specs.Chains.{branch_of, link_of};
 ghost use Rattle.justfile_parse_expression.specs.TableReader as reader;
@@ -150,7 +150,7 @@ impl<'run, 'src, X: Expander> TokenCursor<'run, 'src, X> {
 
     /// Parses the condition of an `if` or `assert`.
     #[cycle(expression)]
-    #[tactic(auto, using(crate::proofs::Rules::note_is), unfolding(justfile_model::specs::ExpressionReader::condition_rule))]
+    #[tactic(auto, using(crate::proofs::Rules::note_is), unfolding(justfile_model::specs::Readers::ExpressionReader::condition_rule))]
     pub(crate) fn parse_condition(&mut self) -> Result<Box<Expression<'src>>, ExpressionError<'src>>
         ensures reads { Parses X.answer (λ e. leaf_tree_of e.value) result self.old self.new
             reader.condition }
@@ -175,7 +175,7 @@ impl<'run, 'src, X: Expander> TokenCursor<'run, 'src, X> {
     }
 
     /// Refuses an `else` after a branch that ends in a conditional without `else`.
-    #[tactic(auto, unfolding(justfile_model::specs::ReaderState::accept_keyword, justfile_model::specs::ReaderState::refused, crate::specs::TableReader::leaves))]
+    #[tactic(auto, unfolding(justfile_model::specs::Readers::ReaderState::accept_keyword, justfile_model::specs::Readers::ReaderState::refused, crate::specs::TableReader::leaves))]
     fn expect_closed(&self, branch: &Expression<'src>) -> Result<(), ExpressionError<'src>>
         ensures reads { Reads (λ _. leaf_tree_of branch.now) result (state_of X.answer self.now)
             (reader.ended_by (ends_open (leaf_tree_of branch.now)) (leaf_tree_of branch.now)

@@ -3,8 +3,8 @@
 //! Constructs that can nest to the right without limit are parsed in loops, as a row of links: each
 //! link holds what comes before its right side.
 ghost use Rattle.std.specs.Prelude.{◌≡◌, ◌<◌, ◌≤◌, IsTrue, false, Ok, OnOk, IfSome, IfNone, Some, None};
-ghost use Rattle.justfile_model.specs.ExpressionReader.{closed};
-ghost use Rattle.justfile_model.specs.Operators.{is_binary};
+ghost use Rattle.justfile_model.specs.Readers.ExpressionReader.{closed};
+ghost use Rattle.justfile_model.specs.Trees.Operators.{is_binary};
 ghost use Rattle.justfile_parse_expression.specs.Chains as chains;
 ghost use Rattle.justfile_parse_expression.specs.Chains.{link_of, row_closed, row_tree, step_of};
 ghost use Rattle.justfile_parse_expression.specs.TableReader as reader;
@@ -366,7 +366,7 @@ impl<'run, 'src, X: Expander> TokenCursor<'run, 'src, X> {
     }
 
     /// Takes the next token if it is an operator of the level.
-    #[tactic(auto, unfolding(justfile_model::specs::ExpressionReader::accept_operator, crate::specs::TableReader::leaves, crate::specs::View::state_of, crate::specs::View::tokens_left))]
+    #[tactic(auto, unfolding(justfile_model::specs::Readers::ExpressionReader::accept_operator, crate::specs::TableReader::leaves, crate::specs::View::state_of, crate::specs::View::tokens_left))]
     #[inline(always)]
     fn accept_operator(&mut self, level: Level) -> Option<(Operator, &'run SignificantToken<'src>)>
         ensures some { IfSome result (λ found. reader.accept_operator level

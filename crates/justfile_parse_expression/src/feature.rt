@@ -1,7 +1,7 @@
 //! How the parser notes features that need the setting `lists`.
 ghost use Rattle.std.specs.Prelude.{◌≡◌};
-ghost use Rattle.justfile_model.specs.Features.{function_feature, noted, noted_if, uncompared_feature};
-ghost use Rattle.justfile_model.specs.ReaderState.{with};
+ghost use Rattle.justfile_model.specs.Grammars.Features.{function_feature, noted, noted_if, uncompared_feature};
+ghost use Rattle.justfile_model.specs.Readers.ReaderState.{with};
 ghost use Rattle.justfile_parse_expression.specs.TableReader.{note_first};
 ghost use Rattle.justfile_expression.specs.LeafTree.{leaf_tree_of};
 ghost use Rattle.justfile_parse_expression.specs.MethodResults.{UnlessMemory};

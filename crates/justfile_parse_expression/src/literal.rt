@@ -3,7 +3,7 @@ ghost use Rattle.std.specs.Prelude.{◌≡◌, IsTrue, IfOk, Ok, false, option_m
 ghost use Rattle.justfile_token.specs.StringKind.{kind_of};
 ghost use Rattle.justfile_token.specs.Token.{lexeme_of};
 ghost use Rattle.justfile_vocabulary.specs.declared.token_kind.TokenKind.TheVariants as kinds;
-ghost use Rattle.justfile_model.specs.Literals.{string_text};
+ghost use Rattle.justfile_model.specs.LiteralTexts.Literals.{string_text};
 ghost use Rattle.justfile_literal.specs.Literal.{is_part};
 ghost use Rattle.justfile_parse_expression.specs.Fault.{IsLiteralFault};
 ghost use Rattle.justfile_parse_expression.specs.Literal.{IsOf};
@@ -26,7 +26,7 @@ impl<'run, 'src, X: Expander> TokenCursor<'run, 'src, X> {
     ghost use Rattle.justfile_parse_expression.specs.View.{Moves, state_of};
 
     /// Parses a literal, if one comes next.
-    #[tactic(auto, unfolding(justfile_model::specs::ExpressionReader::literal))]
+    #[tactic(auto, unfolding(justfile_model::specs::Readers::ExpressionReader::literal))]
     pub(crate) fn parse_literal(
         &mut self,
     ) -> Result<Option<Box<Expression<'src>>>, ExpressionError<'src>>

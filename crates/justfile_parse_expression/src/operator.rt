@@ -1,7 +1,7 @@
 //! The operators between two expressions, and how tightly they bind.
 ghost use Rattle.std.specs.Prelude.{◌≡◌, ◌<◌, IsTrue};
-ghost use Rattle.justfile_model.specs.Operators as operators;
-ghost use Rattle.justfile_model.specs.Operators.{is_binary, rank};
+ghost use Rattle.justfile_model.specs.Trees.Operators as operators;
+ghost use Rattle.justfile_model.specs.Trees.Operators.{is_binary, rank};
 ghost use Rattle.justfile_expression.specs.LeafTree.{leaf_tree_of};
 
 use justfile_expression::{ConditionalOperator, Expression, ListFeature};

@@ -1,7 +1,7 @@
 //! The tokens that the parser reads: all but whitespace.
 ghost use Rattle.std.specs.Prelude.{◌≡◌, [], ◌∷◌, ◌++◌, map, IfOk, OnOk};
-ghost use Rattle.justfile_model.specs.SignificantTokens.{is_whitespace, significant_tokens};
-ghost use Rattle.justfile_model.specs.Tok.{tok_of};
+ghost use Rattle.justfile_model.specs.Lexing.SignificantTokens.{is_whitespace, significant_tokens};
+ghost use Rattle.justfile_model.specs.Lexing.Tok.{tok_of};
 ghost use Rattle.justfile_parse_expression.specs.Significant.{significant_of, without_whitespace};
 
 use justfile_token::Token;

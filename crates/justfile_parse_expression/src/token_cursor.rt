@@ -4,13 +4,13 @@ ghost use Rattle.std.specs.Prelude.{◌≡◌, ◌<◌, ◌≤◌, ◌+◌, ℕ,
 ghost use Rattle.std.specs.List.{list_all};
 ghost use Rattle.justfile_vocabulary.specs.Keyword.{keyword_text};
 ghost use Rattle.justfile_vocabulary.specs.declared.token_kind.TokenKind.TheVariants as kinds;
-ghost use Rattle.justfile_model.specs.Expressions.{front};
+ghost use Rattle.justfile_model.specs.Grammars.Expressions.{front};
 ghost use Rattle.justfile_parse_expression.specs.Conditions.{conditions_of};
 ghost use Rattle.justfile_parse_expression.specs.FormatStrings.{AreEnded, IsTable, prop_ended};
 ghost use Rattle.justfile_parse_expression.specs.Literal.{IsOf, is_sound};
 ghost use Rattle.justfile_parse_expression.specs.SimpleValues.{begins_simple_value, is_markable};
-ghost use Rattle.justfile_model.specs.ReaderState.{at, is_word, marks};
-ghost use Rattle.justfile_model.specs.Versions.{version_numbers};
+ghost use Rattle.justfile_model.specs.Readers.ReaderState.{at, is_word, marks};
+ghost use Rattle.justfile_model.specs.Meanings.Versions.{version_numbers};
 ghost use Rattle.justfile_parse_expression.specs.TableReader as reader;
 ghost use Rattle.justfile_parse_expression.specs.MethodResults.{Peeks, Reads, TakesEntry};
 ghost use Rattle.justfile_parse_expression.specs.Significant.{significant_of};
@@ -135,7 +135,7 @@ impl<'run, 'src, X: Expander> TokenCursor<'run, 'src, X> {
     }
 
     /// Takes the next token if it is this keyword.
-    #[tactic(auto, unfolding(crate::specs::TableReader::leaves, justfile_model::specs::ReaderState::accept_keyword, crate::specs::View::state_of, crate::specs::View::tokens_left))]
+    #[tactic(auto, unfolding(crate::specs::TableReader::leaves, justfile_model::specs::Readers::ReaderState::accept_keyword, crate::specs::View::state_of, crate::specs::View::tokens_left))]
     #[inline(always)]
     pub fn accept_keyword(&mut self, keyword: Keyword) -> Option<&'run SignificantToken<'src>>
         ensures takes { TakesEntry result (state_of X.answer self.new)
@@ -154,7 +154,7 @@ impl<'run, 'src, X: Expander> TokenCursor<'run, 'src, X> {
     }
 
     /// Whether the next token is this keyword.
-    #[tactic(auto, unfolding(crate::specs::TableReader::leaves, justfile_model::specs::ReaderState::accept_keyword))]
+    #[tactic(auto, unfolding(crate::specs::TableReader::leaves, justfile_model::specs::Readers::ReaderState::accept_keyword))]
     #[inline(always)]
     pub fn peek_keyword(&self, keyword: Keyword) -> bool
         ensures { result
@@ -265,7 +265,7 @@ impl<'run, 'src, X: Expander> TokenCursor<'run, 'src, X> {
     /// # Errors
     ///
     /// It is of another kind.
-    #[tactic(auto, unfolding(justfile_model::specs::ReaderState::expect))]
+    #[tactic(auto, unfolding(justfile_model::specs::Readers::ReaderState::expect))]
     pub fn expect(
         &mut self,
         kind: TokenKind,
@@ -315,7 +315,7 @@ impl<'run, 'src, X: Expander> TokenCursor<'run, 'src, X> {
 
     /// Returns the next token if it is of this kind, without taking it. Doesn't add the kind to the
     /// expected tokens.
-    #[tactic(auto, unfolding(crate::specs::TableReader::leaves, justfile_model::specs::ReaderState::accept, justfile_model::specs::ReaderState::same_kind))]
+    #[tactic(auto, unfolding(crate::specs::TableReader::leaves, justfile_model::specs::Readers::ReaderState::accept, justfile_model::specs::Readers::ReaderState::same_kind))]
     pub fn probe_if(&self, kind: TokenKind) -> Option<&'run SignificantToken<'src>>
         ensures within { OnSome result (self.now.next < length self.now.tokens.now) }
         ensures takes { TakesEntry result (state_from X.answer self.now (self.now.next + 1))
@@ -401,7 +401,7 @@ impl<'run, 'src, X: Expander> TokenCursor<'run, 'src, X> {
 }
 
 /// Whether the token is a string of this kind that is glued to a mark with this word.
-#[tactic(auto, unfolding(justfile_model::specs::ReaderState::same_kind))]
+#[tactic(auto, unfolding(justfile_model::specs::Readers::ReaderState::same_kind))]
 pub(crate) fn is_marked(
     mark: &SignificantToken<'_>,
     word: &str,
@@ -417,7 +417,7 @@ pub(crate) fn is_marked(
 
 /// Whether a token with one of this kind after it begins a value that is neither a literal nor an
 /// assertion, and has no `!` before it.
-#[tactic(auto, unfolding(crate::specs::SimpleValues::begins_simple_value, justfile_model::specs::ReaderState::same_kind))]
+#[tactic(auto, unfolding(crate::specs::SimpleValues::begins_simple_value, justfile_model::specs::Readers::ReaderState::same_kind))]
 #[inline(always)]
 fn begins_simple_value(entry: &SignificantToken<'_>, second: TokenKind) -> bool
     ensures { result ≡ begins_simple_value entry.now second }
@@ -431,7 +431,7 @@ fn begins_simple_value(entry: &SignificantToken<'_>, second: TokenKind) -> bool
 
 /// Whether the token is this word. Compares the lengths first, because most names differ in length
 /// from the word.
-#[tactic(auto, using(crate::proofs::Lengths::unequal), unfolding(justfile_model::specs::ReaderState::is_word, justfile_model::specs::ReaderState::same_kind))]
+#[tactic(auto, using(crate::proofs::Lengths::unequal), unfolding(justfile_model::specs::Readers::ReaderState::is_word, justfile_model::specs::Readers::ReaderState::same_kind))]
 #[inline(always)]
 pub fn is_word(entry: &SignificantToken<'_>, word: &str) -> bool
     ensures word { result ≡ is_word word.now (significant_of entry.now) }
@@ -445,7 +445,7 @@ pub fn is_word(entry: &SignificantToken<'_>, word: &str) -> bool
 }
 
 /// Whether a token of this kind may have a mark before it.
-#[tactic(auto, unfolding(justfile_model::specs::ReaderState::same_kind))]
+#[tactic(auto, unfolding(justfile_model::specs::Readers::ReaderState::same_kind))]
 #[inline(always)]
 fn is_markable(kind: TokenKind) -> bool
     ensures { result ≡ is_markable kind }

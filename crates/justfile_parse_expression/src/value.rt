@@ -4,7 +4,7 @@ ghost use Rattle.std.specs.Prelude.{◌≡◌, ◌<◌, ◌≤◌, OnOk, None};
 ghost use Rattle.justfile_token.specs.StringKind.{kind_of};
 ghost use Rattle.justfile_token.specs.Token.{lexeme_of};
 ghost use Rattle.justfile_vocabulary.specs.declared.token_kind.TokenKind.TheVariants as kinds;
-ghost use Rattle.justfile_model.specs.Tree as tree;
+ghost use Rattle.justfile_model.specs.Trees.Tree as tree;
 ghost use Rattle.justfile_parse_expression.specs.FormatStrings.{IsEndedAt, IsEndedFrom};
 ghost use Rattle.justfile_parse_expression.specs.Literal.{IsOf};
 ghost use Rattle.justfile_parse_expression.specs.Chains as chains;
@@ -127,7 +127,7 @@ impl<'run, 'src, X: Expander> TokenCursor<'run, 'src, X> {
 
     /// Parses a format string with interpolations, or another value.
     #[cycle(expression)]
-    #[tactic(auto, unfolding(justfile_model::specs::ExpressionReader::format_rule))]
+    #[tactic(auto, unfolding(justfile_model::specs::Readers::ExpressionReader::format_rule))]
     #[inline(never)]
     fn parse_format(&mut self) -> Result<Box<Expression<'src>>, ExpressionError<'src>>
         ensures reads { Parses X.answer (λ e. leaf_tree_of e.value) result self.old self.new
@@ -255,7 +255,7 @@ impl<'run, 'src, X: Expander> TokenCursor<'run, 'src, X> {
 
     /// Parses a call or a variable, or another value.
     #[cycle(expression)]
-    #[tactic(auto, unfolding(justfile_model::specs::ExpressionReader::name_rule, crate::specs::TableReader::call, crate::specs::TableReader::leaves))]
+    #[tactic(auto, unfolding(justfile_model::specs::Readers::ExpressionReader::name_rule, crate::specs::TableReader::call, crate::specs::TableReader::leaves))]
     #[inline(always)]
     fn parse_name(&mut self) -> Result<Box<Expression<'src>>, ExpressionError<'src>>
         ensures reads { Parses X.answer (λ e. leaf_tree_of e.value) result self.old self.new
@@ -324,7 +324,7 @@ impl<'run, 'src, X: Expander> TokenCursor<'run, 'src, X> {
 
     /// Parses a list.
     #[cycle(expression)]
-    #[tactic(auto, unfolding(justfile_model::specs::ExpressionReader::list_rule, crate::specs::TableReader::leaves))]
+    #[tactic(auto, unfolding(justfile_model::specs::Readers::ExpressionReader::list_rule, crate::specs::TableReader::leaves))]
     fn parse_list(&mut self) -> Result<Box<Expression<'src>>, ExpressionError<'src>>
         ensures reads { Parses X.answer (λ e. leaf_tree_of e.value) result self.old self.new
             reader.list }
@@ -375,7 +375,7 @@ impl<'run, 'src, X: Expander> TokenCursor<'run, 'src, X> {
     ///
     /// The tokens are refused, a literal has no text, or memory runs out.
     #[cycle(expression)]
-    #[tactic(auto, unfolding(justfile_model::specs::ExpressionReader::element_rule))]
+    #[tactic(auto, unfolding(justfile_model::specs::Readers::ExpressionReader::element_rule))]
     #[inline(always)]
     pub fn parse_element(
         &mut self,

@@ -6,9 +6,9 @@ use Rattle.justfile_attribute.specs.Attribute.{leaf_attribute_of}
 use Rattle.justfile_attribute.specs.declared.attribute.Attribute.{Attribute}
 use Rattle.justfile_attribute_set.specs.Keys.{firsts}
 use Rattle.justfile_attribute_set.specs.Pairs.{Pair, leaf_entry_of}
-use Rattle.justfile_model.specs.AttributeRules.{arg_rules, rules_in}
-use Rattle.justfile_model.specs.Features.{rules_features}
-use Rattle.justfile_model.specs.ReaderState.{with}
+use Rattle.justfile_model.specs.Meanings.AttributeRules.{arg_rules, rules_in}
+use Rattle.justfile_model.specs.Grammars.Features.{rules_features}
+use Rattle.justfile_model.specs.Readers.ReaderState.{with}
 use Rattle.justfile_attribute.specs.KeyedBounds.{AreKeyed, IsKeyed}
 use Rattle.justfile_parse_expression.proofs.Rest.{with_none}
 use Rattle.justfile_parse_expression.specs.TableReader.{State}

@@ -3,12 +3,12 @@ use Rattle.std.proofs.Common.{◌≡◌, ◌∙◌, true, false, List, [], ◌�
 use Rattle.std.proofs.lemmas.List.{length-append, length-map, map-append}
 use Rattle.justfile_vocabulary.specs.declared.token_kind.TokenKind.TheVariants as kinds
 use Rattle.justfile_recipe_header.specs.declared.unresolved_dependency.UnresolvedDependency.{UnresolvedDependency}
-use Rattle.justfile_model.specs.HeaderReader as headers
-use Rattle.justfile_model.specs.HeaderReader.{obeying}
-use Rattle.justfile_model.specs.ReaderState.{◌>>=◌, Unexpected, prepend, refused}
-use Rattle.justfile_model.specs.Tree.{over_dependency_argument}
-use Rattle.justfile_model.proofs.HeaderReading as laws
-use Rattle.justfile_model.proofs.Prepended.{after_nothing}
+use Rattle.justfile_model.specs.Readers.HeaderReader as headers
+use Rattle.justfile_model.specs.Readers.HeaderReader.{obeying}
+use Rattle.justfile_model.specs.Readers.ReaderState.{◌>>=◌, Unexpected, prepend, refused}
+use Rattle.justfile_model.specs.Trees.Tree.{over_dependency_argument}
+use Rattle.justfile_model.proofs.Readers.HeaderReading as laws
+use Rattle.justfile_model.proofs.Lists.Prepended.{after_nothing}
 use Rattle.justfile_parse_base.specs.ParseErrors.{IsParseError}
 use Rattle.justfile_parse_base.specs.declared.parse_error.ParseError.{ParseError}
 use Rattle.justfile_parse_expression.specs.TableReader.{Read, ReadError, State, accept, expect, leaves}

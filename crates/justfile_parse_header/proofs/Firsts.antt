@@ -18,8 +18,8 @@ use Rattle.justfile_attribute_set.specs.Pairs.{Pair, leaf_entry_of}
 use Rattle.justfile_token.specs.Token.{lexeme_of}
 use Rattle.justfile_token.specs.declared.token.Token.{Token}
 use Rattle.justfile_recipe_header.specs.declared.parameter.Parameter.{Parameter}
-use Rattle.justfile_model.specs.AttributeRules.{arg_rules, rules_in}
-use Rattle.justfile_model.specs.RecipeRules.{rules_for}
+use Rattle.justfile_model.specs.Meanings.AttributeRules.{arg_rules, rules_in}
+use Rattle.justfile_model.specs.Meanings.RecipeRules.{rules_for}
 use Rattle.justfile_attribute.specs.KeyedBounds.{AreKeyed, IsKeyed}
 use Rattle.justfile_parse_base.specs.TextSets.{texts_in}
 use Rattle.justfile_parse_header.specs.Arguments.{AreNames, IsKeyedOption, is_of, rules_by, rules_named}

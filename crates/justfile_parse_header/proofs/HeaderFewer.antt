@@ -2,14 +2,14 @@
 use Rattle.std.proofs.Common.{◌≡◌, ◌≤◌, false, List, [], ◌∷◌, ◌++◌, length, Option, Some, None, Ok, arith}
 use Rattle.justfile_token.specs.declared.token.Token.{Token}
 use Rattle.justfile_vocabulary.specs.declared.token_kind.TokenKind.TheVariants as kinds
-use Rattle.justfile_model.specs.HeaderReader as headers
-use Rattle.justfile_model.specs.HeaderReader.{obeying}
-use Rattle.justfile_model.specs.ReaderState.{prepend}
-use Rattle.justfile_model.specs.Rules.{Broken}
-use Rattle.justfile_model.specs.Tree.{Expr}
+use Rattle.justfile_model.specs.Readers.HeaderReader as headers
+use Rattle.justfile_model.specs.Readers.HeaderReader.{obeying}
+use Rattle.justfile_model.specs.Readers.ReaderState.{prepend}
+use Rattle.justfile_model.specs.Meanings.Rules.{Broken}
+use Rattle.justfile_model.specs.Trees.Tree.{Expr}
 use Rattle.justfile_model.specs.declared.level.Level.TheVariants as levels
-use Rattle.justfile_model.proofs.ReadingSteps.{after_test}
-use Rattle.justfile_model.proofs.Turns.{recursive_keeps}
+use Rattle.justfile_model.proofs.Readers.ReadingSteps.{after_test}
+use Rattle.justfile_model.proofs.Lists.Turns.{recursive_keeps}
 use Rattle.justfile_parse_expression.specs.TableReader.{At, Read, State, expect, leaves, next_are, read, value}
 use Rattle.justfile_parse_expression.specs.Significant.{TableEntry}
 use Rattle.justfile_parse_base.specs.Counting.{identifiers_left}

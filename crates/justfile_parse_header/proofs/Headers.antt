@@ -5,11 +5,11 @@ use Rattle.std.proofs.Math.Seq.{drop-append_seam, take-append_seam}
 use Rattle.std.specs.List.{flat_map}
 use Rattle.justfile_vocabulary.specs.declared.token_kind.TokenKind.TheVariants as kinds
 use Rattle.justfile_recipe_header.specs.declared.unresolved_dependency.UnresolvedDependency.{UnresolvedDependency}
-use Rattle.justfile_model.proofs.Prepended.{after_begin}
-use Rattle.justfile_model.specs.Features.{rules_features}
-use Rattle.justfile_model.specs.HeaderReader as headers
-use Rattle.justfile_model.specs.HeaderReader.{obeying}
-use Rattle.justfile_model.specs.ReaderState.{Counters, prepend, with}
+use Rattle.justfile_model.proofs.Lists.Prepended.{after_begin}
+use Rattle.justfile_model.specs.Grammars.Features.{rules_features}
+use Rattle.justfile_model.specs.Readers.HeaderReader as headers
+use Rattle.justfile_model.specs.Readers.HeaderReader.{obeying}
+use Rattle.justfile_model.specs.Readers.ReaderState.{Counters, prepend, with}
 use Rattle.justfile_parse_expression.specs.TableReader.{Read, ReadError, State, expect, leaves}
 use Rattle.justfile_parse_expression.specs.Significant.{TableEntry}
 use Rattle.justfile_parse_header.specs.HeaderTable as reader

@@ -11,11 +11,11 @@ use Rattle.justfile_attribute.specs.Attribute.{leaf_attribute_of}
 use Rattle.justfile_attribute.specs.declared.attribute.Attribute.{Attribute}
 use Rattle.justfile_attribute_set.specs.Keys.{firsts}
 use Rattle.justfile_attribute_set.specs.Pairs.{Pair, leaf_entry_of}
-use Rattle.justfile_model.specs.AttributeRules.{arg_rules, least, lesser, rules_in}
-use Rattle.justfile_model.specs.ContentLeaf.{text_cmp}
-use Rattle.justfile_model.specs.Meaning.{text_of}
-use Rattle.justfile_model.specs.RecipeRules.{is_parameter}
-use Rattle.justfile_model.specs.Tree.{Quoted}
+use Rattle.justfile_model.specs.Meanings.AttributeRules.{arg_rules, least, lesser, rules_in}
+use Rattle.justfile_model.specs.Trees.ContentLeaf.{text_cmp}
+use Rattle.justfile_model.specs.Meanings.Meaning.{text_of}
+use Rattle.justfile_model.specs.Meanings.RecipeRules.{is_parameter}
+use Rattle.justfile_model.specs.Trees.Tree.{Quoted}
 use Rattle.justfile_parse_header.specs.Arguments.{least_undefined, lesser_of, undefined_in}
 use Rattle.justfile_parse_header.specs.HeaderTable.{LeafParameter, Rules}
 use Rattle.justfile_parse_header.specs.Options.{of_rules}

@@ -12,9 +12,9 @@ use Rattle.justfile_token.specs.declared.string_literal.StringLiteral.{StringLit
 use Rattle.justfile_token.specs.declared.token.Token.{Token}
 use Rattle.justfile_vocabulary.specs.declared.list_feature.ListFeature.{ListFeature}
 use Rattle.justfile_vocabulary.specs.declared.list_feature.ListFeature.TheVariants as features
-use Rattle.justfile_model.specs.Features.{Noted, bound_place, noted_at, rules_features}
-use Rattle.justfile_model.specs.ReaderState.{with}
-use Rattle.justfile_model.specs.Tree as tree
+use Rattle.justfile_model.specs.Grammars.Features.{Noted, bound_place, noted_at, rules_features}
+use Rattle.justfile_model.specs.Readers.ReaderState.{with}
+use Rattle.justfile_model.specs.Trees.Tree as tree
 use Rattle.justfile_parse_expression.specs.MethodResults.{UnlessMemory}
 use Rattle.justfile_parse_expression.specs.TableReader.{State}
 use Rattle.justfile_parse_expression.specs.declared.expression_error.ExpressionError.{ExpressionError}

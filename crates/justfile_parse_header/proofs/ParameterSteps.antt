@@ -5,8 +5,8 @@ use Rattle.justfile_vocabulary.specs.declared.numerator.Numerator.{Numerator}
 use Rattle.justfile_vocabulary.specs.declared.token_kind.TokenKind.{TokenKind}
 use Rattle.justfile_vocabulary.specs.declared.token_kind.TokenKind.TheVariants as kinds
 use Rattle.justfile_recipe_header.specs.declared.parameter.Parameter.{Parameter}
-use Rattle.justfile_model.specs.HeaderReader as headers
-use Rattle.justfile_model.specs.ReaderState.{NoNumber}
+use Rattle.justfile_model.specs.Readers.HeaderReader as headers
+use Rattle.justfile_model.specs.Readers.ReaderState.{NoNumber}
 use Rattle.justfile_model.specs.declared.parameter_kind.ParameterKind.{ParameterKind}
 use Rattle.justfile_model.specs.declared.parameter_kind.ParameterKind.TheVariants.{Plus, Star}
 use Rattle.justfile_parse_base.specs.ParseErrors.{ReadsRuled}

@@ -8,12 +8,12 @@ use Rattle.justfile_vocabulary.specs.declared.numerator.Numerator.{Numerator}
 use Rattle.justfile_token.specs.declared.token.Token.{Token}
 use Rattle.justfile_vocabulary.specs.declared.token_kind.TokenKind.TheVariants as kinds
 use Rattle.justfile_recipe_header.specs.declared.parameter.Parameter.{Parameter}
-use Rattle.justfile_model.proofs.HeaderReading as laws
-use Rattle.justfile_model.specs.HeaderReader as headers
-use Rattle.justfile_model.specs.HeaderReader.{obeying}
-use Rattle.justfile_model.specs.ReaderState.{accepted}
-use Rattle.justfile_model.specs.RecipeRules.{rules_for}
-use Rattle.justfile_model.specs.Rules.{Broken}
+use Rattle.justfile_model.proofs.Readers.HeaderReading as laws
+use Rattle.justfile_model.specs.Readers.HeaderReader as headers
+use Rattle.justfile_model.specs.Readers.HeaderReader.{obeying}
+use Rattle.justfile_model.specs.Readers.ReaderState.{accepted}
+use Rattle.justfile_model.specs.Meanings.RecipeRules.{rules_for}
+use Rattle.justfile_model.specs.Meanings.Rules.{Broken}
 use Rattle.justfile_model.specs.declared.parameter_kind.ParameterKind.{ParameterKind}
 use Rattle.justfile_model.specs.declared.parameter_kind.ParameterKind.TheVariants.{Singular}
 use Rattle.justfile_parse_base.specs.SharedTable.{view_of}

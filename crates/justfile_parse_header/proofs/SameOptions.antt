@@ -10,13 +10,13 @@ use Rattle.justfile_attribute_set.specs.Pairs.{Pair, leaf_entry_of}
 use Rattle.justfile_attribute_rules.specs.Made.{IsFaultOfRule}
 use Rattle.justfile_token.specs.declared.fault.Fault.{Fault}
 use Rattle.justfile_token.specs.declared.token.Token.{Token}
-use Rattle.justfile_model.specs.AttributeRules.{arg_rules, rules_in}
-use Rattle.justfile_model.specs.HeaderReader.{obeying}
-use Rattle.justfile_model.specs.NewAttribute as new
-use Rattle.justfile_model.specs.ReaderState.{◌>>=◌}
-use Rattle.justfile_model.specs.RecipeRules.{first_character, long_options, option_of, repeated_broken, short_options, with_text}
-use Rattle.justfile_model.specs.Rules.{Broken, DuplicateLongOption, DuplicateShortOption, Rule, broken_if}
-use Rattle.justfile_model.specs.Tree.{Quoted}
+use Rattle.justfile_model.specs.Meanings.AttributeRules.{arg_rules, rules_in}
+use Rattle.justfile_model.specs.Readers.HeaderReader.{obeying}
+use Rattle.justfile_model.specs.Readers.NewAttribute as new
+use Rattle.justfile_model.specs.Readers.ReaderState.{◌>>=◌}
+use Rattle.justfile_model.specs.Meanings.RecipeRules.{first_character, long_options, option_of, repeated_broken, short_options, with_text}
+use Rattle.justfile_model.specs.Meanings.Rules.{Broken, DuplicateLongOption, DuplicateShortOption, Rule, broken_if}
+use Rattle.justfile_model.specs.Trees.Tree.{Quoted}
 use Rattle.justfile_parse_base.specs.ParseErrors.{IsParseError, IsErrorOfFault}
 use Rattle.justfile_parse_base.specs.TextSets.{HaveSame}
 use Rattle.justfile_parse_base.specs.declared.parse_error.ParseError.{ParseError}

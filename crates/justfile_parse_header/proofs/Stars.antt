@@ -11,14 +11,14 @@ use Rattle.justfile_token.specs.declared.fault.Fault.TheVariants as faults
 use Rattle.justfile_token.specs.declared.token.Token.{Token}
 use Rattle.justfile_recipe_header.specs.Header.{star_of}
 use Rattle.justfile_recipe_header.specs.declared.unresolved_dependency.DependencyArgument.{DependencyArgument}
-use Rattle.justfile_model.specs.HeaderReader.{obeying}
-use Rattle.justfile_model.specs.Meaning.{first_of}
-use Rattle.justfile_model.specs.ReaderState.{BreaksRule}
-use Rattle.justfile_model.specs.RecipeRules.{misplaced_broken, second_broken, stars}
-use Rattle.justfile_model.specs.Rules.{Rule, MappedDependencyMultipleStarredArguments, MappedDependencyWithoutStarredArgument, StarredArgumentOutsideMappedDependency}
-use Rattle.justfile_model.specs.Tree as tree
-use Rattle.justfile_model.specs.Tree.{over_dependency_argument}
-use Rattle.justfile_model.proofs.Unchanged.{argument_kept, arguments_are}
+use Rattle.justfile_model.specs.Readers.HeaderReader.{obeying}
+use Rattle.justfile_model.specs.Meanings.Meaning.{first_of}
+use Rattle.justfile_model.specs.Readers.ReaderState.{BreaksRule}
+use Rattle.justfile_model.specs.Meanings.RecipeRules.{misplaced_broken, second_broken, stars}
+use Rattle.justfile_model.specs.Meanings.Rules.{Rule, MappedDependencyMultipleStarredArguments, MappedDependencyWithoutStarredArgument, StarredArgumentOutsideMappedDependency}
+use Rattle.justfile_model.specs.Trees.Tree as tree
+use Rattle.justfile_model.specs.Trees.Tree.{over_dependency_argument}
+use Rattle.justfile_model.proofs.Lists.Unchanged.{argument_kept, arguments_are}
 use Rattle.justfile_parse_base.specs.ParseErrors.{IsParseError, IsErrorOfFault}
 use Rattle.justfile_parse_base.specs.declared.parse_error.ParseError.{ParseError}
 use Rattle.justfile_parse_base.proofs.RuleSteps.{fails_for}

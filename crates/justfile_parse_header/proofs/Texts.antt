@@ -15,11 +15,11 @@ use Rattle.justfile_token.specs.declared.name.Name.{Name}
 use Rattle.justfile_token.specs.declared.string_literal.StringLiteral.{StringLiteral}
 use Rattle.justfile_token.specs.declared.token.Token.{Token}
 use Rattle.justfile_recipe_header.specs.declared.parameter.Parameter.{Parameter}
-use Rattle.justfile_model.specs.Literals.{string_of}
-use Rattle.justfile_model.specs.Meaning.{first_of, text_of}
-use Rattle.justfile_model.specs.RecipeRules.{option_of, with_text}
-use Rattle.justfile_model.specs.LeafView.{or_empty}
-use Rattle.justfile_model.specs.Tree.{OptionName}
+use Rattle.justfile_model.specs.LiteralTexts.Literals.{string_of}
+use Rattle.justfile_model.specs.Meanings.Meaning.{first_of, text_of}
+use Rattle.justfile_model.specs.Meanings.RecipeRules.{option_of, with_text}
+use Rattle.justfile_model.specs.Trees.LeafView.{or_empty}
+use Rattle.justfile_model.specs.Trees.Tree.{OptionName}
 use Rattle.justfile_parse_base.specs.TextSets.{HaveSame, texts_in}
 use Rattle.justfile_parse_base.proofs.TextSetLemmas.{same_more, same_then}
 use Rattle.justfile_parse_header.specs.Arguments.{AreNames}

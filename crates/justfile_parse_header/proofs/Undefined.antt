@@ -5,12 +5,12 @@ use Rattle.std.specs.Option.{option_map}
 use Rattle.justfile_attribute_rules.specs.Made.{IsFaultOfRule, quoted_leaf}
 use Rattle.justfile_token.specs.declared.fault.Fault.{Fault}
 use Rattle.justfile_token.specs.declared.string_literal.StringLiteral.{StringLiteral}
-use Rattle.justfile_model.specs.AttributeRules.{least, of_some}
-use Rattle.justfile_model.specs.HeaderReader.{obeying}
-use Rattle.justfile_model.specs.Meaning.{text_of}
-use Rattle.justfile_model.specs.ReaderState as reading
-use Rattle.justfile_model.specs.RecipeRules.{is_parameter}
-use Rattle.justfile_model.specs.Rules.{UndefinedArgAttribute}
+use Rattle.justfile_model.specs.Meanings.AttributeRules.{least, of_some}
+use Rattle.justfile_model.specs.Readers.HeaderReader.{obeying}
+use Rattle.justfile_model.specs.Meanings.Meaning.{text_of}
+use Rattle.justfile_model.specs.Readers.ReaderState as reading
+use Rattle.justfile_model.specs.Meanings.RecipeRules.{is_parameter}
+use Rattle.justfile_model.specs.Meanings.Rules.{UndefinedArgAttribute}
 use Rattle.justfile_parse_base.specs.ParseErrors.{IsParseError, IsErrorOfFault}
 use Rattle.justfile_parse_base.specs.declared.parse_error.ParseError.{ParseError}
 use Rattle.justfile_parse_base.proofs.RuleSteps.{fails_for}

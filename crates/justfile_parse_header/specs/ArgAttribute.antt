@@ -3,10 +3,10 @@ use Rattle.std.specs.Prelude.{◌≡◌, ℕ, Bool, false, List, [], ◌∷◌, 
 use Rattle.std.specs.Option.{is_some, option_map}
 use Rattle.justfile_token.specs.declared.token.Token.{Token}
 use Rattle.justfile_recipe_header.specs.declared.parameter.Parameter.{Parameter}
-use Rattle.justfile_model.specs.AttributeRules.{of_some}
-use Rattle.justfile_model.specs.RecipeRules.{bound_key, is_variadic, rules_for}
-use Rattle.justfile_model.specs.Rules.{ArgAttributeRequiresMultipleOrVariadic, Broken, FlagWithDefault, broken_if}
-use Rattle.justfile_model.specs.Tree.{Bound}
+use Rattle.justfile_model.specs.Meanings.AttributeRules.{of_some}
+use Rattle.justfile_model.specs.Meanings.RecipeRules.{bound_key, is_variadic, rules_for}
+use Rattle.justfile_model.specs.Meanings.Rules.{ArgAttributeRequiresMultipleOrVariadic, Broken, FlagWithDefault, broken_if}
+use Rattle.justfile_model.specs.Trees.Tree.{Bound}
 use Rattle.justfile_model.specs.declared.parameter_kind.ParameterKind.{ParameterKind}
 use Rattle.justfile_parse_header.specs.Options.{called, character_of, of_rules}
 use Rattle.justfile_parse_header.specs.declared.arg_attribute.ArgAttribute.{ArgAttribute}

@@ -9,10 +9,10 @@ use denote.Ref.{Bor}
 use Rattle.justfile_attribute.specs.Attribute.{leaf_attribute_of}
 use Rattle.justfile_attribute.specs.declared.attribute.Attribute as attributes
 use Rattle.justfile_token.specs.declared.token.Token.{Token}
-use Rattle.justfile_model.specs.AttributeRules.{least, lesser, rules_in}
-use Rattle.justfile_model.specs.Meaning.{text_of}
-use Rattle.justfile_model.specs.RecipeRules.{is_parameter}
-use Rattle.justfile_model.specs.Tree.{Attribute, Quoted}
+use Rattle.justfile_model.specs.Meanings.AttributeRules.{least, lesser, rules_in}
+use Rattle.justfile_model.specs.Meanings.Meaning.{text_of}
+use Rattle.justfile_model.specs.Meanings.RecipeRules.{is_parameter}
+use Rattle.justfile_model.specs.Trees.Tree.{Attribute, Quoted}
 pub use Rattle.justfile_attribute.specs.KeyedBounds.{IsKeyed}
 unfoldable pub use Rattle.justfile_attribute.specs.KeyedBounds.{AreKeyed}
 use Rattle.justfile_parse_base.specs.TextSets.{texts_in}

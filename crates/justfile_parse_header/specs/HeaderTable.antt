@@ -2,12 +2,12 @@
 use Rattle.std.specs.Prelude.{ℕ, Bool, true, false, List, [], ◌∷◌, ◌++◌, map, Option, Some, None}
 use Rattle.std.specs.Option.{option_map}
 use Rattle.justfile_token.specs.declared.token.Token.{Token}
-use Rattle.justfile_model.specs.HeaderReader as headers
-use Rattle.justfile_model.specs.ReaderState.{Counters}
-use Rattle.justfile_model.specs.RecipeRules.{misplaced_broken, options_broken, parameter_broken, second_broken, stars, undefined_broken}
-use Rattle.justfile_model.specs.Rules.{Broken}
-use Rattle.justfile_model.specs.Tree as tree
-use Rattle.justfile_model.specs.Tree.{ArgumentRules, Dependency, Expr, Parameter}
+use Rattle.justfile_model.specs.Readers.HeaderReader as headers
+use Rattle.justfile_model.specs.Readers.ReaderState.{Counters}
+use Rattle.justfile_model.specs.Meanings.RecipeRules.{misplaced_broken, options_broken, parameter_broken, second_broken, stars, undefined_broken}
+use Rattle.justfile_model.specs.Meanings.Rules.{Broken}
+use Rattle.justfile_model.specs.Trees.Tree as tree
+use Rattle.justfile_model.specs.Trees.Tree.{ArgumentRules, Dependency, Expr, Parameter}
 use Rattle.justfile_model.specs.declared.parameter_kind.ParameterKind.{ParameterKind}
 use Rattle.justfile_parse_base.specs.SharedTable.{view_of}
 pub use Rattle.justfile_parse_base.specs.SharedTable.{next_binding_number, path, path_rest}

@@ -4,12 +4,12 @@ use Rattle.std.specs.List.{list_any}
 use Rattle.std.specs.Str.{bytes_eq}
 use Rattle.justfile_token.specs.declared.name.Name.{Name}
 use Rattle.justfile_token.specs.declared.token.Token.{Token}
-use Rattle.justfile_model.specs.AttributeRules.{rules_in}
-use Rattle.justfile_model.specs.Features.{Noted, rules_features}
-use Rattle.justfile_model.specs.HeaderReader.{obeying}
-use Rattle.justfile_model.specs.ReaderState.{◌>>=◌}
-use Rattle.justfile_model.specs.RecipeRules.{long_options, repeated_broken, short_options}
-use Rattle.justfile_model.specs.Rules.{Broken, DuplicateLongOption, DuplicateShortOption, Rule, broken_if}
+use Rattle.justfile_model.specs.Meanings.AttributeRules.{rules_in}
+use Rattle.justfile_model.specs.Grammars.Features.{Noted, rules_features}
+use Rattle.justfile_model.specs.Readers.HeaderReader.{obeying}
+use Rattle.justfile_model.specs.Readers.ReaderState.{◌>>=◌}
+use Rattle.justfile_model.specs.Meanings.RecipeRules.{long_options, repeated_broken, short_options}
+use Rattle.justfile_model.specs.Meanings.Rules.{Broken, DuplicateLongOption, DuplicateShortOption, Rule, broken_if}
 use Rattle.justfile_parse_expression.specs.TableReader.{Read, State}
 use Rattle.justfile_parse_header.specs.HeaderTable.{Rules}
 use Rattle.justfile_parse_header.specs.Options.{Meant, long_in, of_rules, short_in}

@@ -4,10 +4,10 @@ use Rattle.std.specs.Option.{is_some, option_map}
 use Rattle.justfile_token.specs.declared.name.Name.{Name}
 use Rattle.justfile_token.specs.declared.string_literal.StringLiteral.{StringLiteral}
 use Rattle.justfile_token.specs.declared.token.Token.{Token}
-use Rattle.justfile_model.specs.AttributeRules.{rules_in}
-use Rattle.justfile_model.specs.RecipeRules.{bound_key, first_character, option_of, with_text}
-use Rattle.justfile_model.specs.Tree as tree
-use Rattle.justfile_model.specs.Tree.{OptionName}
+use Rattle.justfile_model.specs.Meanings.AttributeRules.{rules_in}
+use Rattle.justfile_model.specs.Meanings.RecipeRules.{bound_key, first_character, option_of, with_text}
+use Rattle.justfile_model.specs.Trees.Tree as tree
+use Rattle.justfile_model.specs.Trees.Tree.{OptionName}
 use Rattle.justfile_parse_header.specs.HeaderTable.{Rules}
 use Rattle.justfile_expression.specs.LeafViews.{views_leaves}
 use Rattle.justfile_expression.specs.LeafTree.{Leaf}

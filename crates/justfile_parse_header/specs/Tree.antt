@@ -11,9 +11,9 @@ use Rattle.justfile_recipe_header.specs.declared.unresolved_dependency.Dependenc
 use Rattle.justfile_recipe_header.specs.Header.{is_starred, star_of}
 use Rattle.justfile_recipe_header.specs.declared.unresolved_dependency.UnresolvedDependency.{UnresolvedDependency}
 use Rattle.justfile_recipe_header.specs.declared.parameter.Parameter as header_parameters
-use Rattle.justfile_model.specs.AttributeRules.{arg_rules}
-use Rattle.justfile_model.specs.Tree as tree
-use Rattle.justfile_model.specs.Tree.{Expr}
+use Rattle.justfile_model.specs.Meanings.AttributeRules.{arg_rules}
+use Rattle.justfile_model.specs.Trees.Tree as tree
+use Rattle.justfile_model.specs.Trees.Tree.{Expr}
 use Rattle.justfile_parse_header.specs.HeaderTable as reader
 use Rattle.justfile_parse_base.specs.Trees.{path_tree}
 use Rattle.justfile_parse_header.specs.declared.dependency.ReadArgument.{ReadArgument}

@@ -3,8 +3,8 @@ ghost use Rattle.std.specs.Prelude.{◌≡◌, IfOk, List, None, map, string_byt
 ghost use Rattle.std.specs.Option.{option_map};
 ghost use Rattle.justfile_attribute.specs.Attribute.{leaf_attribute_of};
 ghost use Rattle.justfile_attribute_rules.specs.Made.{IsFaultOfRule, quoted_leaf};
-ghost use Rattle.justfile_model.specs.RecipeRules.{rules_for};
-ghost use Rattle.justfile_model.specs.Rules.{UndefinedArgAttribute};
+ghost use Rattle.justfile_model.specs.Meanings.RecipeRules.{rules_for};
+ghost use Rattle.justfile_model.specs.Meanings.Rules.{UndefinedArgAttribute};
 ghost use Rattle.justfile_parse_base.specs.ParseErrors.{ChecksRules};
 ghost use Rattle.justfile_parse_header.specs.HeaderTable as reader;
 ghost use Rattle.justfile_parse_header.specs.HeaderTable.{LeafParameter};

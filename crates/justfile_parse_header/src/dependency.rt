@@ -1,9 +1,9 @@
 //! The dependencies of a recipe.
 ghost use Rattle.std.specs.Prelude.{◌≡◌, false, ◌<◌, ◌≤◌, ◌∷◌, ◌++◌, [], OnOk, IfOk, map};
-ghost use Rattle.justfile_model.specs.Meaning.{first_of};
-ghost use Rattle.justfile_model.specs.ReaderState.{prepend};
-ghost use Rattle.justfile_model.specs.RecipeRules.{stars};
-ghost use Rattle.justfile_model.specs.Tree.{over_dependency_argument};
+ghost use Rattle.justfile_model.specs.Meanings.Meaning.{first_of};
+ghost use Rattle.justfile_model.specs.Readers.ReaderState.{prepend};
+ghost use Rattle.justfile_model.specs.Meanings.RecipeRules.{stars};
+ghost use Rattle.justfile_model.specs.Trees.Tree.{over_dependency_argument};
 ghost use Rattle.justfile_parse_base.specs.ParseErrors.{ParsesRuled, ChecksRules};
 ghost use Rattle.justfile_parse_expression.specs.ParsedResults.{Parses};
 ghost use Rattle.justfile_parse_expression.specs.TableReader.{leaves};
@@ -82,7 +82,7 @@ fn begins_dependency<X: Expander>(parser: &TokenCursor<'_, '_, X>) -> bool
 
 /// Parses a dependency: a path, or a path and its arguments in parentheses, which a star may
 /// precede.
-#[tactic(auto, using(justfile_parse_base::proofs::RuleSteps::broken_first), unfolding(justfile_model::specs::HeaderReader::dependency))]
+#[tactic(auto, using(justfile_parse_base::proofs::RuleSteps::broken_first), unfolding(justfile_model::specs::Readers::HeaderReader::dependency))]
 fn parse_dependency<'src, X: Expander>(
     parser: &mut TokenCursor<'_, 'src, X>,
 ) -> Result<UnresolvedDependency<'src>, ParseError<'src>>
@@ -100,7 +100,7 @@ fn parse_dependency<'src, X: Expander>(
 }
 
 /// Parses a dependency without arguments.
-#[tactic(auto, unfolding(justfile_model::specs::HeaderReader::bare_dependency))]
+#[tactic(auto, unfolding(justfile_model::specs::Readers::HeaderReader::bare_dependency))]
 fn parse_bare<'src, X: Expander>(
     parser: &mut TokenCursor<'_, 'src, X>,
 ) -> Result<UnresolvedDependency<'src>, ExpressionError<'src>>
@@ -116,7 +116,7 @@ fn parse_bare<'src, X: Expander>(
 }
 
 /// Parses a path and its arguments in parentheses, after the star before them, if there is one.
-#[tactic(auto, using(justfile_parse_base::proofs::RuleSteps::broken_first), unfolding(justfile_model::specs::HeaderReader::parenthesized))]
+#[tactic(auto, using(justfile_parse_base::proofs::RuleSteps::broken_first), unfolding(justfile_model::specs::Readers::HeaderReader::parenthesized))]
 fn parse_parenthesized<'src, X: Expander>(
     parser: &mut TokenCursor<'_, 'src, X>,
     star: Option<SignificantToken<'src>>,
@@ -153,7 +153,7 @@ fn parse_arguments<'src, X: Expander>(
 }
 
 /// Parses an argument with or without a star, after those in `before`.
-#[tactic(auto, unfolding(justfile_model::specs::HeaderReader::dependency_argument))]
+#[tactic(auto, unfolding(justfile_model::specs::Readers::HeaderReader::dependency_argument))]
 fn parse_argument<'src, X: Expander>(
     parser: &mut TokenCursor<'_, 'src, X>,
     before: &[ReadArgument<'src>],
@@ -169,7 +169,7 @@ fn parse_argument<'src, X: Expander>(
 }
 
 /// Parses an argument without a star.
-#[tactic(auto, unfolding(justfile_model::specs::HeaderReader::plain_argument))]
+#[tactic(auto, unfolding(justfile_model::specs::Readers::HeaderReader::plain_argument))]
 fn parse_plain<'src, X: Expander>(
     parser: &mut TokenCursor<'_, 'src, X>,
 ) -> Result<ReadArgument<'src>, ExpressionError<'src>>
@@ -182,7 +182,7 @@ fn parse_plain<'src, X: Expander>(
 }
 
 /// Parses an argument after its star. Refuses the star if it is the second.
-#[tactic(auto, using(justfile_parse_base::proofs::RuleSteps::broken_first), unfolding(justfile_model::specs::HeaderReader::starred_argument))]
+#[tactic(auto, using(justfile_parse_base::proofs::RuleSteps::broken_first), unfolding(justfile_model::specs::Readers::HeaderReader::starred_argument))]
 fn parse_starred<'src, X: Expander>(
     parser: &mut TokenCursor<'_, 'src, X>,
     before: &[ReadArgument<'src>],

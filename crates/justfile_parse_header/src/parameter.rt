@@ -2,8 +2,8 @@
 ghost use Rattle.std.specs.Prelude.{◌≡◌, ◌<◌, ◌≤◌, [], OnOk};
 ghost use Rattle.justfile_attribute_rules.specs.Made.{IsFaultOfRule};
 ghost use Rattle.justfile_attribute_set.specs.AttributeSet.{attributes_of};
-ghost use Rattle.justfile_model.specs.NewAttribute as new;
-ghost use Rattle.justfile_model.specs.Rules.{ArgAttributeRequiresMultipleOrVariadic, FlagWithDefault};
+ghost use Rattle.justfile_model.specs.Readers.NewAttribute as new;
+ghost use Rattle.justfile_model.specs.Meanings.Rules.{ArgAttributeRequiresMultipleOrVariadic, FlagWithDefault};
 ghost use Rattle.justfile_parse_base.specs.ParseErrors.{IsAfterVariadicFault, ReadsRuled, ChecksRules};
 ghost use Rattle.justfile_parse_expression.specs.ParsedResults.{Parses};
 ghost use Rattle.justfile_parse_expression.specs.View.{tokens_left, state_of};
@@ -29,7 +29,7 @@ use justfile_vocabulary::{Numerator, TokenKind};
 use std::alloc::Global;
 
 /// Parses the parameters of a recipe, and the colon after them.
-#[tactic(auto, unfolding(justfile_model::specs::HeaderReader::parameters))]
+#[tactic(auto, unfolding(justfile_model::specs::Readers::HeaderReader::parameters))]
 pub(crate) fn parse_parameters<'src, X: Expander>(
     attributes: &AttributeSet<'src>,
     parser: &mut TokenCursor<'_, 'src, X>,
@@ -86,7 +86,7 @@ fn begins_parameter<X: Expander>(parser: &TokenCursor<'_, '_, X>) -> bool
 
 /// Parses the last parameter, if it is variadic (takes several arguments), and appends it to
 /// `parameters`.
-#[tactic(auto, unfolding(justfile_model::specs::HeaderReader::last_parameter))]
+#[tactic(auto, unfolding(justfile_model::specs::Readers::HeaderReader::last_parameter))]
 fn parse_last<'src, X: Expander>(
     arg_attributes: &ArgAttributes<'_, 'src>,
     parser: &mut TokenCursor<'_, 'src, X>,
@@ -121,7 +121,7 @@ fn parse_last<'src, X: Expander>(
 }
 
 /// Parses a variadic parameter, and appends it to `parameters`. No name may follow it.
-#[tactic(auto, unfolding(justfile_model::specs::HeaderReader::variadic))]
+#[tactic(auto, unfolding(justfile_model::specs::Readers::HeaderReader::variadic))]
 fn parse_variadic<'src, X: Expander>(
     arg_attributes: &ArgAttributes<'_, 'src>,
     parser: &mut TokenCursor<'_, 'src, X>,
@@ -140,7 +140,7 @@ fn parse_variadic<'src, X: Expander>(
 }
 
 /// Refuses a name after a variadic parameter.
-#[tactic(auto, unfolding(justfile_model::specs::HeaderReader::expect_no_name, justfile_parse_expression::specs::TableReader::leaves))]
+#[tactic(auto, unfolding(justfile_model::specs::Readers::HeaderReader::expect_no_name, justfile_parse_expression::specs::TableReader::leaves))]
 fn expect_no_name<'src, X: Expander>(
     parser: &TokenCursor<'_, 'src, X>,
 ) -> Result<(), ParseError<'src>>
@@ -223,7 +223,7 @@ fn parse_named<'src, X: Expander>(
 }
 
 /// Parses the default value of a parameter, if `=` comes next.
-#[tactic(auto, unfolding(justfile_model::specs::HeaderReader::default_value))]
+#[tactic(auto, unfolding(justfile_model::specs::Readers::HeaderReader::default_value))]
 fn parse_default<'src, X: Expander>(
     parser: &mut TokenCursor<'_, 'src, X>,
 ) -> Result<Option<Box<Expression<'src>>>, ExpressionError<'src>>

@@ -1,11 +1,11 @@
 -- What the reader of tables reads from any position corresponds to what the definitions read of the table's tokens.
 use Rattle.justfile_token.specs.declared.token.Token.{Token}
-use Rattle.justfile_model.specs.ReadAttribute.{ReadAttribute}
-use Rattle.justfile_model.specs.Tree.{Entry}
-use Rattle.justfile_model.specs.TreeReader.{token_attributes, token_leaves}
-use Rattle.justfile_model.proofs.Natural as natural
-use Rattle.justfile_model.proofs.Related as a
-use Rattle.justfile_model.proofs.Related.{States}
+use Rattle.justfile_model.specs.Meanings.ReadAttribute.{ReadAttribute}
+use Rattle.justfile_model.specs.Trees.Tree.{Entry}
+use Rattle.justfile_model.specs.Readers.TreeReader.{token_attributes, token_leaves}
+use Rattle.justfile_model.proofs.Relations.Natural as natural
+use Rattle.justfile_model.proofs.Relations.Related as a
+use Rattle.justfile_model.proofs.Relations.Related.{States}
 use Rattle.justfile_parse_expression.specs.TableReader.{Run, State, leaves}
 use Rattle.justfile_parse_item.specs.ItemTable.{attribute_leaves}
 use Rattle.justfile_expression.specs.LeafTree.{Leaf}

@@ -22,16 +22,16 @@ use Rattle.justfile_vocabulary.specs.declared.item_kind.ItemKind.{ItemKind}
 use Rattle.justfile_token.specs.declared.name.Name.{Name}
 use Rattle.justfile_token.specs.declared.token.Token.{Token}
 use Rattle.justfile_vocabulary.specs.declared.token_kind.TokenKind.TheVariants as kinds
-use Rattle.justfile_model.specs.AttributeKinds.{same_attribute}
-use Rattle.justfile_model.specs.AttributeRules.{first_invalid, of_some}
-use Rattle.justfile_model.specs.ContentKeys.{has_attribute, kind_of_attribute}
-use Rattle.justfile_model.specs.HeaderReader.{obeying}
-use Rattle.justfile_model.proofs.OrderLaws.{in_order_permutation}
-use Rattle.justfile_model.specs.Order.{in_order}
-use Rattle.justfile_model.specs.Reader as files
-use Rattle.justfile_model.specs.ReaderState as reading
-use Rattle.justfile_model.specs.Rules.{Broken, InvalidAttribute}
-use Rattle.justfile_model.specs.Tree.{Entry}
+use Rattle.justfile_model.specs.Meanings.AttributeKinds.{same_attribute}
+use Rattle.justfile_model.specs.Meanings.AttributeRules.{first_invalid, of_some}
+use Rattle.justfile_model.specs.Trees.ContentKeys.{has_attribute, kind_of_attribute}
+use Rattle.justfile_model.specs.Readers.HeaderReader.{obeying}
+use Rattle.justfile_model.proofs.Lists.OrderLaws.{in_order_permutation}
+use Rattle.justfile_model.specs.Lists.Order.{in_order}
+use Rattle.justfile_model.specs.Readers.Reader as files
+use Rattle.justfile_model.specs.Readers.ReaderState as reading
+use Rattle.justfile_model.specs.Meanings.Rules.{Broken, InvalidAttribute}
+use Rattle.justfile_model.specs.Trees.Tree.{Entry}
 use Rattle.justfile_parse_item.specs.Exclusions.{IsKindOfFirst}
 use Rattle.justfile_parse_item.specs.ExtraneousFault.{IsExtraneousFault}
 use Rattle.justfile_parse_item.specs.ItemTable as reader

@@ -2,30 +2,30 @@
 use Rattle.std.proofs.Common.{◌≡◌, ℕ, suc, ◌+◌, ◌≤◌, Bool, true, false, List, [], ◌∷◌, length, Some, None, Ok, Err, IfOk, refl, sym, ap, subst, arith}
 use Rattle.justfile_token.specs.declared.token.Token.{Token}
 use Rattle.justfile_vocabulary.specs.declared.token_kind.TokenKind.TheVariants as kinds
-use Rattle.justfile_model.specs.Conditions.{Conditions}
-use Rattle.justfile_model.specs.Expressions.{Tokens, BelowLimit}
-use Rattle.justfile_model.specs.Features.{ConstructFeatures}
-use Rattle.justfile_model.specs.Files.{item_bindings, item_recipes, to_tokens}
-use Rattle.justfile_model.specs.Reader as files
-use Rattle.justfile_model.specs.Reader.{has_body}
-use Rattle.justfile_model.specs.ReaderState as reading
-use Rattle.justfile_model.specs.ReadAttribute.{ReadAttribute}
-use Rattle.justfile_model.specs.ReaderState.{◌>>=◌, Counters, choose}
-use Rattle.justfile_model.specs.SignificantTokens.{identifiers}
-use Rattle.justfile_model.specs.Tok.{Tok}
-use Rattle.justfile_model.specs.Tree as tree
-use Rattle.justfile_model.specs.Tree.{OrderedItem, Parameter, WrittenItem, itself}
-use Rattle.justfile_model.specs.TreeReader as model
-use Rattle.justfile_model.specs.TreeReader.{token_attributes, token_leaves}
-use Rattle.justfile_model.proofs.AttributeProgress.{attribute_lines_count}
-use Rattle.justfile_model.proofs.AttributeSound.{IsRead}
-use Rattle.justfile_model.proofs.Counters.{count, counted_bindings, counted_constants, counted_recipes}
-use Rattle.justfile_model.proofs.Counting.{block_counts, on_line_counts}
-use Rattle.justfile_model.proofs.Natural as natural
-use Rattle.justfile_model.proofs.ReadingSteps.{known}
-use Rattle.justfile_model.proofs.Related as a
-use Rattle.justfile_model.proofs.Related.{AlikeItem, AlikeNames, AlikeParameters, Each, Never, Related}
-use Rattle.justfile_model.proofs.FileSound.{Starts, before_sound, of_block, of_comment, of_line, on_line_at}
+use Rattle.justfile_model.specs.Grammars.Conditions.{Conditions}
+use Rattle.justfile_model.specs.Grammars.Expressions.{Tokens, BelowLimit}
+use Rattle.justfile_model.specs.Grammars.Features.{ConstructFeatures}
+use Rattle.justfile_model.specs.Grammars.Files.{item_bindings, item_recipes, to_tokens}
+use Rattle.justfile_model.specs.Readers.Reader as files
+use Rattle.justfile_model.specs.Readers.Reader.{has_body}
+use Rattle.justfile_model.specs.Readers.ReaderState as reading
+use Rattle.justfile_model.specs.Meanings.ReadAttribute.{ReadAttribute}
+use Rattle.justfile_model.specs.Readers.ReaderState.{◌>>=◌, Counters, choose}
+use Rattle.justfile_model.specs.Lexing.SignificantTokens.{identifiers}
+use Rattle.justfile_model.specs.Lexing.Tok.{Tok}
+use Rattle.justfile_model.specs.Trees.Tree as tree
+use Rattle.justfile_model.specs.Trees.Tree.{OrderedItem, Parameter, WrittenItem, itself}
+use Rattle.justfile_model.specs.Readers.TreeReader as model
+use Rattle.justfile_model.specs.Readers.TreeReader.{token_attributes, token_leaves}
+use Rattle.justfile_model.proofs.Derivations.AttributeProgress.{attribute_lines_count}
+use Rattle.justfile_model.proofs.Sound.AttributeSound.{IsRead}
+use Rattle.justfile_model.proofs.Readers.Counters.{count, counted_bindings, counted_constants, counted_recipes}
+use Rattle.justfile_model.proofs.Readers.Counting.{block_counts, on_line_counts}
+use Rattle.justfile_model.proofs.Relations.Natural as natural
+use Rattle.justfile_model.proofs.Readers.ReadingSteps.{known}
+use Rattle.justfile_model.proofs.Relations.Related as a
+use Rattle.justfile_model.proofs.Relations.Related.{AlikeItem, AlikeNames, AlikeParameters, Each, Never, Related}
+use Rattle.justfile_model.proofs.Sound.FileSound.{Starts, before_sound, of_block, of_comment, of_line, on_line_at}
 use Rattle.justfile_parse_item.specs.ItemTable.{ReadItem, ReadItems, after_mark, item_attributes, after_item, item_end, attribute_leaves, line, line_end, any_item}
 use Rattle.justfile_parse_attribute.specs.AttributeTable.{Entries}
 use Rattle.justfile_parse_expression.specs.TableReader.{Read, ReadError, State, accept, expect, leaves}

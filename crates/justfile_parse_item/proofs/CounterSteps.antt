@@ -2,9 +2,9 @@
 use Rattle.std.proofs.Common.{◌≡◌, ℕ, ◌+◌, ◌≤◌, Bool, true, false, cond, Ok, Err, refl, sym, ap, subst, ◌∙◌, arith}
 use Rattle.justfile_vocabulary.specs.declared.numerator.Numerator.{Numerator}
 use Rattle.justfile_vocabulary.specs.declared.token_kind.TokenKind.TheVariants as kinds
-use Rattle.justfile_model.specs.Reader as files
-use Rattle.justfile_model.specs.Reader.{with_recipes}
-use Rattle.justfile_model.specs.ReaderState.{Counters, NoNumber}
+use Rattle.justfile_model.specs.Readers.Reader as files
+use Rattle.justfile_model.specs.Readers.Reader.{with_recipes}
+use Rattle.justfile_model.specs.Readers.ReaderState.{Counters, NoNumber}
 use Rattle.justfile_parse_item.specs.ItemTable.{next_recipe_number}
 use Rattle.justfile_parse_item.specs.MethodResults.{CountersMoved}
 use Rattle.justfile_parse_expression.specs.TableReader.{Read, State, expect, leaves}

@@ -4,10 +4,10 @@ use Rattle.justfile_vocabulary.specs.declared.item_kind.ItemKind.TheVariants as 
 use Rattle.justfile_token.specs.declared.token.Token.{Token}
 use Rattle.justfile_vocabulary.specs.declared.keyword.Keyword.{Keyword}
 use Rattle.justfile_vocabulary.specs.declared.token_kind.TokenKind.TheVariants as kinds
-use Rattle.justfile_model.specs.Reader as files
-use Rattle.justfile_model.specs.ReaderState.{Counters}
-use Rattle.justfile_model.specs.Settings.{setting_form}
-use Rattle.justfile_model.specs.Tree.{Expr, Quoted}
+use Rattle.justfile_model.specs.Readers.Reader as files
+use Rattle.justfile_model.specs.Readers.ReaderState.{Counters}
+use Rattle.justfile_model.specs.Grammars.Settings.{setting_form}
+use Rattle.justfile_model.specs.Trees.Tree.{Expr, Quoted}
 use Rattle.justfile_model.specs.declared.level.Level.TheVariants as levels
 use Rattle.justfile_parse_item.specs.ItemTable as reader
 use Rattle.justfile_parse_attribute.specs.AttributeTable.{Entries}

@@ -8,13 +8,13 @@ use Rattle.justfile_line.specs.declared.line.Line as body
 use Rattle.justfile_item.specs.Item.{item_of}
 use Rattle.justfile_item.specs.declared.item.Item as file
 use Rattle.justfile_item.specs.declared.item.Item.TheVariants as items
-use Rattle.justfile_model.specs.Tree as tree
-use Rattle.justfile_model.specs.Tree.{OrderedItem}
-use Rattle.justfile_model.specs.Reader as files
-use Rattle.justfile_model.specs.Reader.{comment_item, has_body, some_line}
-use Rattle.justfile_model.specs.PartReader as parts
-use Rattle.justfile_model.specs.PartReader.{after_numbered}
-use Rattle.justfile_model.specs.ReaderState.{◌>>=◌, Counters, prepend}
+use Rattle.justfile_model.specs.Trees.Tree as tree
+use Rattle.justfile_model.specs.Trees.Tree.{OrderedItem}
+use Rattle.justfile_model.specs.Readers.Reader as files
+use Rattle.justfile_model.specs.Readers.Reader.{comment_item, has_body, some_line}
+use Rattle.justfile_model.specs.Readers.PartReader as parts
+use Rattle.justfile_model.specs.Readers.PartReader.{after_numbered}
+use Rattle.justfile_model.specs.Readers.ReaderState.{◌>>=◌, Counters, prepend}
 use Rattle.justfile_parse_expression.specs.TableReader.{Read, ReadError, State, accept, expect, leaves}
 use Rattle.justfile_parse_item.specs.ItemTable.{ReadItems, after_item, item_end, attribute_leaves, line, line_end, any_item}
 use Rattle.justfile_parse_base.specs.ParseErrors.{IsParseError}

@@ -5,10 +5,10 @@ use Rattle.justfile_vocabulary.specs.declared.numerator.Numerator.{Numerator}
 use Rattle.justfile_token.specs.declared.token.Token.{Token}
 use Rattle.justfile_vocabulary.specs.declared.token_kind.TokenKind.TheVariants as kinds
 use Rattle.justfile_item.specs.declared.item.Item as file
-use Rattle.justfile_model.specs.Tree.{OrderedItem}
-use Rattle.justfile_model.specs.Reader as files
-use Rattle.justfile_model.specs.PartReader.{after_numbered}
-use Rattle.justfile_model.specs.ReaderState.{◌>>=◌, Counters}
+use Rattle.justfile_model.specs.Trees.Tree.{OrderedItem}
+use Rattle.justfile_model.specs.Readers.Reader as files
+use Rattle.justfile_model.specs.Readers.PartReader.{after_numbered}
+use Rattle.justfile_model.specs.Readers.ReaderState.{◌>>=◌, Counters}
 use Rattle.justfile_parse_item.specs.ItemTable as reader
 use Rattle.justfile_parse_item.specs.ItemTable.{ReadItems, after_mark, items, attribute_leaves, line, read_nothing}
 use Rattle.justfile_parse_expression.specs.TableReader.{Read, ReadError, State, accept, leaves}
@@ -22,8 +22,8 @@ use Rattle.justfile_parse_base.specs.declared.parse_error.ParseError.{ParseError
 use Rattle.justfile_parse_expression.specs.Significant.{TableEntry}
 use Rattle.justfile_parse_expression.specs.declared.expression_error.ExpressionError.{ExpressionError}
 use Rattle.justfile_parse_expression.specs.declared.expression_error.ExpressionError.TheVariants.{Refused, Literal, Memory, Numbers}
-use Rattle.justfile_model.proofs.ItemReading as laws
-use Rattle.justfile_model.proofs.ReadingSteps.{known}
+use Rattle.justfile_model.proofs.Readers.ItemReading as laws
+use Rattle.justfile_model.proofs.Readers.ReadingSteps.{known}
 use Rattle.justfile_parse_base.proofs.HeaderErrors.{failed}
 use Rattle.justfile_parse_item.proofs.CounterBounds.{line_moves}
 use Rattle.justfile_parse_item.proofs.DerivedItemFields.{none_fields, then_fields}

@@ -6,13 +6,13 @@ use Rattle.justfile_vocabulary.specs.declared.number.Number.{Number}
 use Rattle.justfile_vocabulary.specs.declared.token_kind.TokenKind.{TokenKind}
 use Rattle.justfile_vocabulary.specs.declared.token_kind.TokenKind.TheVariants as kinds
 use Rattle.justfile_token.specs.declared.token.Token.{Token}
-use Rattle.justfile_model.specs.AttributeRules.{arg_rules}
-use Rattle.justfile_model.specs.HeaderReader.{obeying}
-use Rattle.justfile_model.specs.Reader as files
-use Rattle.justfile_model.specs.ReaderState.{◌>>=◌, Counters, accepted, choose, taken_or}
-use Rattle.justfile_model.specs.RecipeRules.{exclusions_broken}
-use Rattle.justfile_model.specs.Tree as tree
-use Rattle.justfile_model.specs.Tree.{BodyLine, OrderedItem, bare_recipe}
+use Rattle.justfile_model.specs.Meanings.AttributeRules.{arg_rules}
+use Rattle.justfile_model.specs.Readers.HeaderReader.{obeying}
+use Rattle.justfile_model.specs.Readers.Reader as files
+use Rattle.justfile_model.specs.Readers.ReaderState.{◌>>=◌, Counters, accepted, choose, taken_or}
+use Rattle.justfile_model.specs.Meanings.RecipeRules.{exclusions_broken}
+use Rattle.justfile_model.specs.Trees.Tree as tree
+use Rattle.justfile_model.specs.Trees.Tree.{BodyLine, OrderedItem, bare_recipe}
 use Rattle.justfile_parse_item.specs.ItemTable as reader
 use Rattle.justfile_parse_item.specs.ItemTable.{ReadItem, next_recipe_number, in_content_order}
 use Rattle.justfile_parse_item_parts.specs.BodyTable.{CommentedBody, optional_body}

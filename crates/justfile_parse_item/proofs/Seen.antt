@@ -15,19 +15,19 @@ use Rattle.justfile_line.specs.Body.{fragment_of, body_line_of}
 use Rattle.justfile_line.specs.declared.fragment.Fragment.{Fragment}
 use Rattle.justfile_line.specs.declared.fragment.Fragment.TheVariants as fragments
 use Rattle.justfile_line.specs.declared.line.Line.{Line}
-use Rattle.justfile_model.specs.Conditions.{Conditions}
+use Rattle.justfile_model.specs.Grammars.Conditions.{Conditions}
 use Rattle.justfile_attribute_set.specs.AttributeSet.{AttributeSet, leaf_entries_of, written_of, entries_of as set_entries}
 use Rattle.justfile_attribute_set.specs.Pairs.{Pair}
-use Rattle.justfile_model.specs.Meaning.{entries_of}
-use Rattle.justfile_model.specs.LeafView.{views_tokens}
-use Rattle.justfile_model.specs.Literals as literals
-use Rattle.justfile_model.specs.Literals.{cooked_text, format_text, string_of, token_of}
-use Rattle.justfile_model.specs.Tok.{Tok, tok_of}
-use Rattle.justfile_model.specs.Tree as tree
-use Rattle.justfile_model.specs.Tree.{BodyLine, Entry, Expr, Exprs, Parts, WrittenAttribute}
-use Rattle.justfile_model.specs.TreeReader.{token_leaves}
-use Rattle.justfile_model.proofs.Related as a
-use Rattle.justfile_model.proofs.Related.{Alike, AlikeAll, AlikeFragment, AlikeLine, AlikeParts, Each, Respects}
+use Rattle.justfile_model.specs.Meanings.Meaning.{entries_of}
+use Rattle.justfile_model.specs.Trees.LeafView.{views_tokens}
+use Rattle.justfile_model.specs.LiteralTexts.Literals as literals
+use Rattle.justfile_model.specs.LiteralTexts.Literals.{cooked_text, format_text, string_of, token_of}
+use Rattle.justfile_model.specs.Lexing.Tok.{Tok, tok_of}
+use Rattle.justfile_model.specs.Trees.Tree as tree
+use Rattle.justfile_model.specs.Trees.Tree.{BodyLine, Entry, Expr, Exprs, Parts, WrittenAttribute}
+use Rattle.justfile_model.specs.Readers.TreeReader.{token_leaves}
+use Rattle.justfile_model.proofs.Relations.Related as a
+use Rattle.justfile_model.proofs.Relations.Related.{Alike, AlikeAll, AlikeFragment, AlikeLine, AlikeParts, Each, Respects}
 use Rattle.justfile_expression.specs.Expression as model
 use Rattle.justfile_expression.specs.Expression.{expr_of, exprs_of_row, literal_tok, part_tok}
 use Rattle.justfile_expression.specs.declared.expression.Expression.{Expression, And', Assert', Backtick, Call', Comparison', Concatenation', Conditional', FormatString', Group', Join', List', ListConcatenation', Not', Or', StringLiteral, Variable, None', Some', Row_of-Expression as ExpressionRow, end_of-Expression as row_end, more_of-Expression as row_more, Row_of-Expression-FormatString-1-2 as FormatRow, end_of-Expression-FormatString-1-2 as format_row_end, more_of-Expression-FormatString-1-2 as format_row_more}

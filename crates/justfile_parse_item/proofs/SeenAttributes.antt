@@ -17,31 +17,31 @@ use Rattle.justfile_vocabulary.specs.declared.attribute_kind.AttributeKind.TheVa
 use Rattle.justfile_token.specs.declared.name.Name.{Name}
 use Rattle.justfile_token.specs.declared.string_literal.StringLiteral as strings
 use Rattle.justfile_token.specs.declared.token.Token.{Token}
-use Rattle.justfile_model.specs.Conditions.{Conditions}
-use Rattle.justfile_model.specs.Literals as literals
-use Rattle.justfile_model.specs.Literals.{Expansions, Literal, cooked_text, token_of}
-use Rattle.justfile_model.specs.ContentKeys.{entry_cmp}
-use Rattle.justfile_model.specs.ContentLeaf.{LiteralContent, TokenContent}
+use Rattle.justfile_model.specs.Grammars.Conditions.{Conditions}
+use Rattle.justfile_model.specs.LiteralTexts.Literals as literals
+use Rattle.justfile_model.specs.LiteralTexts.Literals.{Expansions, Literal, cooked_text, token_of}
+use Rattle.justfile_model.specs.Trees.ContentKeys.{entry_cmp}
+use Rattle.justfile_model.specs.Trees.ContentLeaf.{LiteralContent, TokenContent}
 use Rattle.justfile_vocabulary.specs.declared.format_string_part.FormatStringPart.{FormatStringPart}
 use Rattle.justfile_vocabulary.specs.declared.format_string_part.FormatStringPart.TheVariants as parts
-use Rattle.justfile_model.specs.Meaning as meaning
-use Rattle.justfile_model.specs.Meaning.{by_key, by_position}
-use Rattle.justfile_model.specs.Order.{in_order}
-use Rattle.justfile_model.specs.ReadAttribute.{ReadAttribute, entry_read, keep_both, token_view}
-use Rattle.justfile_model.specs.LeafView.{content_as_read, or_empty, views_tokens, text_or_none, text_under, tok_content}
-use Rattle.justfile_model.specs.Tok.{Tok, tok_of}
-use Rattle.justfile_model.specs.Tree as tree
-use Rattle.justfile_model.specs.Tree.{Bound, Entry, Expr, OptionName, Property, Quoted, WrittenAttribute, lexeme}
-use Rattle.justfile_model.specs.TreeReader.{token_attributes, token_leaves}
-use Rattle.justfile_model.proofs.AlikeAttributes as alike
-use Rattle.justfile_model.proofs.AlikeAttributes.{AlikeAttribute, AlikeBound, AlikeEntry, AlikeLiteral, AlikeOptionName, AlikeProperty, AlikeQuoted, SeesAlike, arg, cache, env, no_option, option_named, ordered_alike, own_name, plain, signals, single, texts}
-use Rattle.justfile_model.proofs.Commented.{means_commented}
-use Rattle.justfile_model.proofs.EachLaws.{AlikeOption, absent, present}
-use Rattle.justfile_model.proofs.Natural.{RespectsAttributes}
-use Rattle.justfile_model.proofs.NaturalAttributes.{IsMade, Keeping}
-use Rattle.justfile_model.proofs.NewAttributeLaws.{entry_made}
-use Rattle.justfile_model.proofs.Related as a
-use Rattle.justfile_model.proofs.Related.{Alike, Each}
+use Rattle.justfile_model.specs.Meanings.Meaning as meaning
+use Rattle.justfile_model.specs.Meanings.Meaning.{by_key, by_position}
+use Rattle.justfile_model.specs.Lists.Order.{in_order}
+use Rattle.justfile_model.specs.Meanings.ReadAttribute.{ReadAttribute, entry_read, keep_both, token_view}
+use Rattle.justfile_model.specs.Trees.LeafView.{content_as_read, or_empty, views_tokens, text_or_none, text_under, tok_content}
+use Rattle.justfile_model.specs.Lexing.Tok.{Tok, tok_of}
+use Rattle.justfile_model.specs.Trees.Tree as tree
+use Rattle.justfile_model.specs.Trees.Tree.{Bound, Entry, Expr, OptionName, Property, Quoted, WrittenAttribute, lexeme}
+use Rattle.justfile_model.specs.Readers.TreeReader.{token_attributes, token_leaves}
+use Rattle.justfile_model.proofs.Relations.AlikeAttributes as alike
+use Rattle.justfile_model.proofs.Relations.AlikeAttributes.{AlikeAttribute, AlikeBound, AlikeEntry, AlikeLiteral, AlikeOptionName, AlikeProperty, AlikeQuoted, SeesAlike, arg, cache, env, no_option, option_named, ordered_alike, own_name, plain, signals, single, texts}
+use Rattle.justfile_model.proofs.Printed.Commented.{means_commented}
+use Rattle.justfile_model.proofs.Lists.EachLaws.{AlikeOption, absent, present}
+use Rattle.justfile_model.proofs.Relations.Natural.{RespectsAttributes}
+use Rattle.justfile_model.proofs.Relations.NaturalAttributes.{IsMade, Keeping}
+use Rattle.justfile_model.proofs.Meanings.NewAttributeLaws.{entry_made}
+use Rattle.justfile_model.proofs.Relations.Related as a
+use Rattle.justfile_model.proofs.Relations.Related.{Alike, Each}
 use Rattle.justfile_expression.specs.Expression.{expr_of, literal_tok}
 use Rattle.justfile_expression.specs.Content.{token_content}
 use Rattle.justfile_expression.specs.LeafViews.{leaf_cooked, leaf_literal, leaf_token, views_leaves}

@@ -14,7 +14,7 @@ use Rattle.justfile_line.specs.declared.fragment.Fragment.{Fragment}
 use Rattle.justfile_line.specs.declared.fragment.Fragment.TheVariants as fragments
 use Rattle.justfile_line.specs.declared.line.Line.{Line}
 use Rattle.justfile_item.specs.declared.recipe.UnresolvedRecipe.{UnresolvedRecipe}
-use Rattle.justfile_model.specs.Tree as tree
+use Rattle.justfile_model.specs.Trees.Tree as tree
 use Rattle.justfile_parse_item.specs.ItemTable.{has_shebang, is_shebang}
 use Rattle.justfile_parse_item.specs.Filled.{HasShebang}
 use Rattle.justfile_parse_item_parts.specs.BodyTrees.{fragment_tree, line_tree}

@@ -1,7 +1,7 @@
 -- The keyword that a construct begins with, and what is read after it.
 use Rattle.std.specs.Prelude.{ℕ, Bool, true, false, ◌&&◌, ◌||◌, List, [], ◌∷◌, Option, Some, None, codes, length, nat_eq}
 use Rattle.justfile_vocabulary.specs.declared.token_kind.TokenKind.TheVariants as kinds
-use Rattle.justfile_model.specs.ReaderState.{Counters}
+use Rattle.justfile_model.specs.Readers.ReaderState.{Counters}
 use Rattle.justfile_parse_item.specs.ItemTable.{ReadItem, alias, any_module, assignment, import, setting, unexport, without_keyword}
 use Rattle.justfile_parse_item.specs.declared.construct.ConstructKeyword.{ConstructKeyword}
 use Rattle.justfile_parse_item.specs.declared.construct.ConstructKeyword.TheVariants.{Alias, Eager, Export, Import, Mod, Set, Unexport}

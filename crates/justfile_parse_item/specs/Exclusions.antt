@@ -3,9 +3,9 @@ use Rattle.std.specs.Prelude.{◌≡◌, List, [], ◌∷◌, Option, Some, None
 use Rattle.justfile_attribute_rules.specs.RuleErrors.{IsKindOfRule}
 use Rattle.justfile_token.specs.declared.compile_error_kind.CompileErrorKind.{CompileErrorKind}
 use Rattle.justfile_token.specs.declared.token.Token.{Token}
-use Rattle.justfile_model.specs.RecipeRules.{exclusions_broken}
-use Rattle.justfile_model.specs.Rules.{Broken}
-use Rattle.justfile_model.specs.Tree.{Entry}
+use Rattle.justfile_model.specs.Meanings.RecipeRules.{exclusions_broken}
+use Rattle.justfile_model.specs.Meanings.Rules.{Broken}
+use Rattle.justfile_model.specs.Trees.Tree.{Entry}
 use Rattle.justfile_expression.specs.LeafViews.{views_leaves}
 use Rattle.justfile_expression.specs.LeafTree.{Leaf}
 

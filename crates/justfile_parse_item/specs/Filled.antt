@@ -40,8 +40,8 @@ use Rattle.justfile_item.specs.Item.{item_of, item_numbers, item_recipe_numbers}
 use Rattle.justfile_recipe_header.specs.declared.parameter.Parameter.{Parameter}
 use Rattle.justfile_recipe_header.specs.declared.unresolved_dependency.DependencyArgument.{DependencyArgument}
 use Rattle.justfile_recipe_header.specs.declared.unresolved_dependency.UnresolvedDependency.{UnresolvedDependency}
-use Rattle.justfile_model.specs.Files.{NumbersFrom, bindings, recipes}
-use Rattle.justfile_model.specs.Literals.{Expansions, Command, cooked_text, string_of}
+use Rattle.justfile_model.specs.Grammars.Files.{NumbersFrom, bindings, recipes}
+use Rattle.justfile_model.specs.LiteralTexts.Literals.{Expansions, Command, cooked_text, string_of}
 use Rattle.justfile_vocabulary.specs.declared.list_feature.ListFeature.{ListFeature}
 use Rattle.justfile_expression.specs.declared.expression.Expression.{Expression, And', Assert', Backtick, Call', Comparison', Concatenation', Conditional', FormatString', Group', Join', List', ListConcatenation', Not', Or', StringLiteral, Variable, Held-Expression-Assert-1 as OptionalExpression, None', Some', Row_of-Expression as ExpressionRow, end_of-Expression as row_end, more_of-Expression as row_more, Row_of-Expression-FormatString-1-2 as FormatRow, end_of-Expression-FormatString-1-2 as format_row_end, more_of-Expression-FormatString-1-2 as format_row_more}
 use Rattle.justfile_parse_item.specs.DerivedFields.{is_private_item}
@@ -164,7 +164,25 @@ module _ (expander : Expansions) (IsToken : Token → Type 0) where
   IsFilledAttribute (attributes.Script interpreter) = IfSome interpreter IsFilledInterpreter
   IsFilledAttribute (attributes.Timestamp value) = IfSome value IsFilledBoxed
   IsFilledAttribute (attributes.WorkingDirectory value) = IsFilledBoxed value
-  IsFilledAttribute _ = Unit {0}
+  IsFilledAttribute attributes.Android = Unit {0}
+  IsFilledAttribute (attributes.Continue signals) = Unit {0}
+  IsFilledAttribute attributes.Default = Unit {0}
+  IsFilledAttribute attributes.Dragonfly = Unit {0}
+  IsFilledAttribute attributes.ExitMessage = Unit {0}
+  IsFilledAttribute attributes.Freebsd = Unit {0}
+  IsFilledAttribute attributes.Linux = Unit {0}
+  IsFilledAttribute attributes.Macos = Unit {0}
+  IsFilledAttribute attributes.Netbsd = Unit {0}
+  IsFilledAttribute attributes.NoCd = Unit {0}
+  IsFilledAttribute attributes.NoExitMessage = Unit {0}
+  IsFilledAttribute attributes.NoQuiet = Unit {0}
+  IsFilledAttribute attributes.Openbsd = Unit {0}
+  IsFilledAttribute attributes.Parallel = Unit {0}
+  IsFilledAttribute attributes.PositionalArguments = Unit {0}
+  IsFilledAttribute attributes.Private = Unit {0}
+  IsFilledAttribute attributes.Shell = Unit {0}
+  IsFilledAttribute attributes.Unix = Unit {0}
+  IsFilledAttribute attributes.Windows = Unit {0}
 
   -- The attributes of a construct have their derived values, each with the token of its name, and their derived fields are right.
   abbrev pub AreFilledAttributes : AttributeSet → Type 0
@@ -201,7 +219,25 @@ module _ (expander : Expansions) (IsToken : Token → Type 0) where
   IsFilledSetting (settings.Tempdir value) = IsFilledBoxed value
   IsFilledSetting (settings.WindowsShell interpreter) = IsFilledCommandLine interpreter
   IsFilledSetting (settings.WorkingDirectory value) = IsFilledBoxed value
-  IsFilledSetting _ = Unit {0}
+  IsFilledSetting (settings.AllowDuplicateRecipes value) = Unit {0}
+  IsFilledSetting (settings.AllowDuplicateVariables value) = Unit {0}
+  IsFilledSetting (settings.DefaultList value) = Unit {0}
+  IsFilledSetting (settings.DefaultScript value) = Unit {0}
+  IsFilledSetting (settings.DotenvLoad value) = Unit {0}
+  IsFilledSetting (settings.DotenvOverride value) = Unit {0}
+  IsFilledSetting (settings.DotenvRequired value) = Unit {0}
+  IsFilledSetting (settings.Export value) = Unit {0}
+  IsFilledSetting (settings.Fallback value) = Unit {0}
+  IsFilledSetting (settings.Guards value) = Unit {0}
+  IsFilledSetting (settings.IgnoreComments value) = Unit {0}
+  IsFilledSetting (settings.Lazy value) = Unit {0}
+  IsFilledSetting (settings.Lists value) = Unit {0}
+  IsFilledSetting (settings.NoCd value) = Unit {0}
+  IsFilledSetting (settings.NoExitMessage value) = Unit {0}
+  IsFilledSetting (settings.PositionalArguments value) = Unit {0}
+  IsFilledSetting (settings.Quiet value) = Unit {0}
+  IsFilledSetting (settings.Unstable value) = Unit {0}
+  IsFilledSetting (settings.WindowsPowerShell value) = Unit {0}
 
   -- The name of a function's parameter, which has a number, is a token that `IsToken` allows.
   abbrev pub IsFilledNumbered : Name × Number → Type 0

@@ -3,17 +3,17 @@ use Rattle.std.specs.Prelude.{ℕ, Bool, false, List, [], ◌∷◌, Option, Ok,
 use Rattle.std.specs.List.{starts_with}
 use Rattle.justfile_token.specs.Token.{lexeme_of}
 use Rattle.justfile_token.specs.declared.token.Token.{Token}
-use Rattle.justfile_model.specs.Tree as tree
-use Rattle.justfile_model.specs.Tree.{BodyLine, Entry, Fragment, OrderedItem, commented_entry}
+use Rattle.justfile_model.specs.Trees.Tree as tree
+use Rattle.justfile_model.specs.Trees.Tree.{BodyLine, Entry, Fragment, OrderedItem, commented_entry}
 use Rattle.justfile_vocabulary.specs.declared.item_kind.ItemKind.{ItemKind}
 use Rattle.justfile_vocabulary.specs.declared.token_kind.TokenKind.{TokenKind}
-use Rattle.justfile_model.specs.AttributeReader as attributes
-use Rattle.justfile_model.specs.AttributeReader.{AttributeLeaves}
-use Rattle.justfile_model.specs.ContentKeys.{entry_cmp}
-use Rattle.justfile_model.specs.Order.{in_order}
-use Rattle.justfile_model.specs.Reader as files
-use Rattle.justfile_model.specs.ReaderState as reading
-use Rattle.justfile_model.specs.ReaderState.{Counters, refused}
+use Rattle.justfile_model.specs.Readers.AttributeReader as attributes
+use Rattle.justfile_model.specs.Readers.AttributeReader.{AttributeLeaves}
+use Rattle.justfile_model.specs.Trees.ContentKeys.{entry_cmp}
+use Rattle.justfile_model.specs.Lists.Order.{in_order}
+use Rattle.justfile_model.specs.Readers.Reader as files
+use Rattle.justfile_model.specs.Readers.ReaderState as reading
+use Rattle.justfile_model.specs.Readers.ReaderState.{Counters, refused}
 use Rattle.justfile_expression.specs.LeafViews.{views_leaves}
 use Rattle.justfile_expression.specs.LeafTree.{Leaf, Text}
 use Rattle.justfile_parse_expression.specs.Significant.{TableEntry}

@@ -3,8 +3,8 @@ use Rattle.std.specs.Prelude.{◌≡◌, ℕ, ◌≤◌, ◌+◌, Result}
 use Rattle.justfile_vocabulary.specs.Numerator.{bindings_of, constants_of, recipes_of}
 use Rattle.justfile_vocabulary.specs.declared.numerator.Numerator.{Numerator}
 use Rattle.justfile_token.specs.declared.token.Token.{Token}
-use Rattle.justfile_model.specs.Tree.{OrderedItem}
-use Rattle.justfile_model.specs.ReaderState.{Counters}
+use Rattle.justfile_model.specs.Trees.Tree.{OrderedItem}
+use Rattle.justfile_model.specs.Readers.ReaderState.{Counters}
 use Rattle.justfile_parse_item.specs.ItemTable.{ReadItem}
 use Rattle.justfile_parse_base.specs.ParseErrors.{ReadsRuled}
 use Rattle.justfile_parse_base.specs.declared.parse_error.ParseError.{ParseError}

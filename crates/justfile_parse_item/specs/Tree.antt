@@ -15,8 +15,8 @@ use Rattle.justfile_item.specs.declared.item.Item.TheVariants as items
 use Rattle.justfile_item.specs.declared.recipe.UnresolvedRecipe.{UnresolvedRecipe}
 use Rattle.justfile_item.specs.declared.set.Set.{Set}
 use Rattle.justfile_token.specs.declared.token.Token.{Token}
-use Rattle.justfile_model.specs.Tree as tree
-use Rattle.justfile_model.specs.Tree.{OrderedItem, Quoted, assignment_of}
+use Rattle.justfile_model.specs.Trees.Tree as tree
+use Rattle.justfile_model.specs.Trees.Tree.{OrderedItem, Quoted, assignment_of}
 use Rattle.justfile_attribute_rules.specs.Made.{quoted_leaf}
 use Rattle.justfile_parse_item_parts.specs.BodyTrees.{line_tree}
 pub use Rattle.justfile_parse_item_parts.specs.Parts.{numbered_leaf}

@@ -8,7 +8,7 @@ use justfile_token::Expander;
 use justfile_vocabulary::TokenKind;
 
 /// Takes the next token if it is of this kind, and returns whether it is.
-#[tactic(auto, unfolding(justfile_model::specs::ReaderState::accepted))]
+#[tactic(auto, unfolding(justfile_model::specs::Readers::ReaderState::accepted))]
 pub(crate) fn accept_kind<X: Expander>(parser: &mut TokenCursor<'_, '_, X>, kind: TokenKind) -> bool
     ensures accepts { (result, state_of X.answer parser.new)
         ≡ reader.accepted kind (state_of X.answer parser.old) }

@@ -1,6 +1,6 @@
 //! Assignments.
 ghost use Rattle.std.specs.Prelude.{◌<◌, IfOk, OnOk, map};
-ghost use Rattle.justfile_model.specs.SignificantTokens.{identifiers};
+ghost use Rattle.justfile_model.specs.Lexing.SignificantTokens.{identifiers};
 ghost use Rattle.justfile_parse_item.specs.ItemTable as reader;
 ghost use Rattle.justfile_parse_item.specs.MethodResults.{CountersMoved};
 ghost use Rattle.justfile_parse_item.specs.Tree.{item_tree};
@@ -21,7 +21,7 @@ use justfile_written::Written;
 
 /// Parses an assignment after its attributes and after `eager` or `export`, if it has one: a name,
 /// `:=`, and an expression.
-#[tactic(auto, using(crate::proofs::CounterSteps::unmoved, justfile_parse_expression::proofs::Rest::file_depth_is), unfolding(justfile_model::specs::Reader::assignment, justfile_parse_expression::specs::TableReader::leaves))]
+#[tactic(auto, using(crate::proofs::CounterSteps::unmoved, justfile_parse_expression::proofs::Rest::file_depth_is), unfolding(justfile_model::specs::Readers::Reader::assignment, justfile_parse_expression::specs::TableReader::leaves))]
 pub(crate) fn parse_assignment<'src, X: Expander>(
     parser: &mut TokenCursor<'_, 'src, X>,
     eager: bool,

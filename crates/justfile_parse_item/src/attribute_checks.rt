@@ -1,8 +1,8 @@
 //! Checks of a construct's attributes, made once its kind is known.
 ghost use Rattle.std.specs.Prelude.{◌≡◌, ◌&&◌, IfOk};
 ghost use Rattle.justfile_attribute_set.specs.AttributeSet.{IsConstruct, leaf_entries_of};
-ghost use Rattle.justfile_model.specs.ContentKeys.{has_attribute};
-ghost use Rattle.justfile_model.specs.RecipeRules.{exclusions_broken};
+ghost use Rattle.justfile_model.specs.Trees.ContentKeys.{has_attribute};
+ghost use Rattle.justfile_model.specs.Meanings.RecipeRules.{exclusions_broken};
 ghost use Rattle.justfile_parse_item.specs.Exclusions.{IsExclusion};
 ghost use Rattle.justfile_parse_item.specs.ExtraneousFault.{IsExtraneousFault};
 ghost use Rattle.justfile_parse_item.specs.ItemTable as reader;

@@ -1,6 +1,6 @@
 //! Constructs: their attributes, the keywords that they begin with, and what follows.
 ghost use Rattle.std.specs.Prelude.{◌≡◌, ◌<◌, ◌≤◌, IfOk, OnOk, map};
-ghost use Rattle.justfile_model.specs.SignificantTokens.{identifiers};
+ghost use Rattle.justfile_model.specs.Lexing.SignificantTokens.{identifiers};
 ghost use Rattle.justfile_parse_item.specs.ItemTable as reader;
 ghost use Rattle.justfile_parse_item.specs.MethodResults.{CountersMoved};
 ghost use Rattle.justfile_parse_item.specs.Tree.{item_tree};
@@ -42,7 +42,7 @@ pub(crate) enum ConstructKeyword {
 }
 
 /// Parses a construct with its attributes. Requires that no expression is open.
-#[tactic(auto, using(crate::proofs::CounterSteps::unmoved), unfolding(justfile_model::specs::Reader::construct))]
+#[tactic(auto, using(crate::proofs::CounterSteps::unmoved), unfolding(justfile_model::specs::Readers::Reader::construct))]
 pub(crate) fn parse_construct<'src, X: Expander>(
     parser: &mut TokenCursor<'_, 'src, X>,
     numerator: &mut Numerator,
@@ -60,7 +60,7 @@ pub(crate) fn parse_construct<'src, X: Expander>(
 }
 
 /// Parses the attributes before a construct. Refuses them if a blank line or a comment follows.
-#[tactic(auto, unfolding(justfile_model::specs::Reader::attributes))]
+#[tactic(auto, unfolding(justfile_model::specs::Readers::Reader::attributes))]
 fn parse_item_attributes<'src, X: Expander>(
     parser: &mut TokenCursor<'_, 'src, X>,
 ) -> Result<Vec<(Attribute<'src>, Written<'src>)>, ParseError<'src>>
@@ -215,7 +215,7 @@ fn parse_after_keyword<'src, X: Expander>(
 }
 
 /// Parses a construct without a keyword, after its attributes.
-#[tactic(auto, unfolding(justfile_model::specs::Reader::without_keyword))]
+#[tactic(auto, unfolding(justfile_model::specs::Readers::Reader::without_keyword))]
 fn parse_without_keyword<'src, X: Expander>(
     parser: &mut TokenCursor<'_, 'src, X>,
     attributes: Vec<(Attribute<'src>, Written<'src>)>,

@@ -3,12 +3,12 @@ ghost use Rattle.std.specs.Prelude.{◌≡◌, ◌<◌, ◌≤◌, ◌∷◌, �
 ghost use Rattle.std.specs.List.{starts_with};
 ghost use Rattle.std.specs.Str.{trim_end};
 ghost use Rattle.justfile_token.specs.Token.{lexeme_of};
-ghost use Rattle.justfile_model.specs.SignificantTokens.{identifiers};
-ghost use Rattle.justfile_model.specs.Tree as tree;
+ghost use Rattle.justfile_model.specs.Lexing.SignificantTokens.{identifiers};
+ghost use Rattle.justfile_model.specs.Trees.Tree as tree;
 ghost use Rattle.justfile_parse_base.specs.Counting.{counters_of, ParsesCounted};
-ghost use Rattle.justfile_model.specs.Reader.{has_body};
-ghost use Rattle.justfile_model.specs.ReaderState.{prepend};
-ghost use Rattle.justfile_model.specs.PartReader.{after_numbered};
+ghost use Rattle.justfile_model.specs.Readers.Reader.{has_body};
+ghost use Rattle.justfile_model.specs.Readers.ReaderState.{prepend};
+ghost use Rattle.justfile_model.specs.Readers.PartReader.{after_numbered};
 ghost use Rattle.justfile_item.specs.declared.item.Item.TheVariants as variants;
 ghost use Rattle.justfile_parse_item.specs.ItemTable as reader;
 ghost use Rattle.justfile_parse_item.specs.MethodResults.{CountersMoved};
@@ -56,7 +56,7 @@ pub fn parse_items<'src, X: Expander>(
 }
 
 /// Refuses tokens after the end of the file.
-#[tactic(auto, unfolding(crate::specs::ItemTable::read_nothing, justfile_model::specs::ReaderState::refused))]
+#[tactic(auto, unfolding(crate::specs::ItemTable::read_nothing, justfile_model::specs::Readers::ReaderState::refused))]
 fn expect_nothing<'src, X: Expander>(
     parser: &TokenCursor<'_, 'src, X>,
 ) -> Result<(), ExpressionError<'src>>
@@ -97,7 +97,7 @@ fn parse_line<'src, X: Expander>(
 }
 
 /// Parses an item that begins a line. Requires that no expression is open.
-#[tactic(auto, using(crate::proofs::CounterSteps::unmoved), unfolding(justfile_model::specs::Reader::any_item, justfile_parse_expression::specs::TableReader::leaves))]
+#[tactic(auto, using(crate::proofs::CounterSteps::unmoved), unfolding(justfile_model::specs::Readers::Reader::any_item, justfile_parse_expression::specs::TableReader::leaves))]
 fn parse_item<'src, X: Expander>(
     parser: &mut TokenCursor<'_, 'src, X>,
     numerator: &mut Numerator,

@@ -3,7 +3,7 @@ ghost use Rattle.std.specs.Prelude.{◌≡◌, ◌<◌, ◌||◌, IfOk, OnErr, O
 ghost use Rattle.justfile_attribute_set.specs.AttributeSet.{attributes_of};
 ghost use Rattle.justfile_attribute_set.specs.Attributes.{has_kind};
 ghost use Rattle.justfile_vocabulary.specs.declared.attribute_kind.AttributeKind.TheVariants as kinds;
-ghost use Rattle.justfile_model.specs.SignificantTokens.{identifiers};
+ghost use Rattle.justfile_model.specs.Lexing.SignificantTokens.{identifiers};
 ghost use Rattle.justfile_parse_item.specs.ItemTable as reader;
 ghost use Rattle.justfile_parse_item.specs.MethodResults.{CountersMoved};
 ghost use Rattle.justfile_parse_item.specs.Tree.{recipe_tree};
@@ -93,7 +93,7 @@ fn parse_recipe<'src, X: Expander>(
 }
 
 /// Returns the number of the next recipe.
-#[tactic(auto, unfolding(justfile_model::specs::Reader::next_recipe_number, justfile_parse_expression::specs::TableReader::leaves))]
+#[tactic(auto, unfolding(justfile_model::specs::Readers::Reader::next_recipe_number, justfile_parse_expression::specs::TableReader::leaves))]
 fn next_recipe_number<'src>(numerator: &mut Numerator) -> Result<Number, ExpressionError<'src>>
     ensures reads { (s : State) → ReadsCountedExpression (λ number. number.0) result numerator.new s
         (reader.next_recipe_number (counters_of numerator.old) s) }

@@ -18,7 +18,7 @@ use justfile_vocabulary::{ItemKind, TokenKind};
 use justfile_written::Written;
 
 /// Parses an alias after its attributes and `alias`: a name, `:=`, and the path of a recipe.
-#[tactic(auto, unfolding(crate::specs::MethodResults::ReadsUncounted, justfile_model::specs::Reader::alias, justfile_parse_expression::specs::TableReader::leaves))]
+#[tactic(auto, unfolding(crate::specs::MethodResults::ReadsUncounted, justfile_model::specs::Readers::Reader::alias, justfile_parse_expression::specs::TableReader::leaves))]
 pub(crate) fn parse_alias<'src, X: Expander>(
     parser: &mut TokenCursor<'_, 'src, X>,
     attributes: Vec<(Attribute<'src>, Written<'src>)>,
@@ -42,7 +42,7 @@ pub(crate) fn parse_alias<'src, X: Expander>(
 }
 
 /// Parses a setting after its attributes and `set`: its name and its value.
-#[tactic(auto, unfolding(crate::specs::MethodResults::ReadsUncounted, justfile_model::specs::Reader::setting, justfile_parse_expression::specs::TableReader::leaves))]
+#[tactic(auto, unfolding(crate::specs::MethodResults::ReadsUncounted, justfile_model::specs::Readers::Reader::setting, justfile_parse_expression::specs::TableReader::leaves))]
 pub(crate) fn parse_set<'src, X: Expander>(
     parser: &mut TokenCursor<'_, 'src, X>,
     attributes: Vec<(Attribute<'src>, Written<'src>)>,
@@ -66,7 +66,7 @@ pub(crate) fn parse_set<'src, X: Expander>(
 }
 
 /// Parses an `unexport` after its attributes and the keyword: a name.
-#[tactic(auto, unfolding(crate::specs::MethodResults::ReadsUncounted, justfile_model::specs::Reader::unexport, justfile_parse_expression::specs::TableReader::leaves))]
+#[tactic(auto, unfolding(crate::specs::MethodResults::ReadsUncounted, justfile_model::specs::Readers::Reader::unexport, justfile_parse_expression::specs::TableReader::leaves))]
 pub(crate) fn parse_unexport<'src, X: Expander>(
     parser: &mut TokenCursor<'_, 'src, X>,
     attributes: Vec<(Attribute<'src>, Written<'src>)>,

@@ -19,7 +19,7 @@ use justfile_vocabulary::{ItemKind, TokenKind};
 use justfile_written::Written;
 
 /// Parses an import after its attributes and `import`: `?` if it is optional, and a path.
-#[tactic(auto, unfolding(crate::specs::MethodResults::ReadsUncounted, justfile_model::specs::Reader::import))]
+#[tactic(auto, unfolding(crate::specs::MethodResults::ReadsUncounted, justfile_model::specs::Readers::Reader::import))]
 pub(crate) fn parse_import<'src, X: Expander>(
     parser: &mut TokenCursor<'_, 'src, X>,
     attributes: Vec<(Attribute<'src>, Written<'src>)>,
@@ -36,7 +36,7 @@ pub(crate) fn parse_import<'src, X: Expander>(
 }
 
 /// Parses the path of an import.
-#[tactic(auto, unfolding(crate::specs::MethodResults::ReadsUncounted, justfile_model::specs::Reader::imported, justfile_parse_expression::specs::TableReader::leaves))]
+#[tactic(auto, unfolding(crate::specs::MethodResults::ReadsUncounted, justfile_model::specs::Readers::Reader::imported, justfile_parse_expression::specs::TableReader::leaves))]
 fn parse_imported<'src, X: Expander>(
     parser: &mut TokenCursor<'_, 'src, X>,
     optional: bool,
@@ -60,7 +60,7 @@ fn parse_imported<'src, X: Expander>(
 
 /// Parses a module after its attributes and `mod`: `?` if it is optional, a name, and a path if it
 /// has one.
-#[tactic(auto, unfolding(crate::specs::MethodResults::ReadsUncounted, justfile_model::specs::Reader::any_module))]
+#[tactic(auto, unfolding(crate::specs::MethodResults::ReadsUncounted, justfile_model::specs::Readers::Reader::any_module))]
 pub(crate) fn parse_module<'src, X: Expander>(
     parser: &mut TokenCursor<'_, 'src, X>,
     attributes: Vec<(Attribute<'src>, Written<'src>)>,
@@ -77,7 +77,7 @@ pub(crate) fn parse_module<'src, X: Expander>(
 }
 
 /// Parses the name of a module, and its path if it has one.
-#[tactic(auto, unfolding(crate::specs::MethodResults::ReadsUncounted, justfile_model::specs::Reader::named_module, justfile_parse_expression::specs::TableReader::leaves))]
+#[tactic(auto, unfolding(crate::specs::MethodResults::ReadsUncounted, justfile_model::specs::Readers::Reader::named_module, justfile_parse_expression::specs::TableReader::leaves))]
 fn parse_named_module<'src, X: Expander>(
     parser: &mut TokenCursor<'_, 'src, X>,
     optional: bool,

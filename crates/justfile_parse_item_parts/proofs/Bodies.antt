@@ -5,11 +5,11 @@ use Rattle.justfile_token.specs.declared.token.Token.{Token}
 use Rattle.justfile_vocabulary.specs.declared.token_kind.TokenKind.TheVariants as kinds
 use Rattle.justfile_line.specs.declared.fragment.Fragment.{Fragment}
 use Rattle.justfile_line.specs.declared.line.Line.{Line}
-use Rattle.justfile_model.specs.Tree as tree
-use Rattle.justfile_model.specs.Tree.{BodyLine, trimmed}
-use Rattle.justfile_model.specs.Expressions.{front}
-use Rattle.justfile_model.specs.Reader as files
-use Rattle.justfile_model.specs.ReaderState.{◌>>=◌, Unexpected, prepend, at, choose, refused}
+use Rattle.justfile_model.specs.Trees.Tree as tree
+use Rattle.justfile_model.specs.Trees.Tree.{BodyLine, trimmed}
+use Rattle.justfile_model.specs.Grammars.Expressions.{front}
+use Rattle.justfile_model.specs.Readers.Reader as files
+use Rattle.justfile_model.specs.Readers.ReaderState.{◌>>=◌, Unexpected, prepend, at, choose, refused}
 use Rattle.justfile_parse_expression.specs.TableReader.{Read, ReadError, State, accept, enclosed, expect, leaves, next_are, read, At}
 use Rattle.justfile_parse_item_parts.specs.BodyTable.{body, body_after, optional_body, body_line, fragment, line_rest, lines}
 use Rattle.justfile_parse_expression.specs.MethodResults.{IsExpressionError, literal_read_error, read_error_at}
@@ -19,8 +19,8 @@ use Rattle.justfile_model.specs.declared.level.Level.TheVariants as levels
 use Rattle.justfile_parse_expression.specs.Significant.{TableEntry}
 use Rattle.justfile_parse_expression.specs.declared.expression_error.ExpressionError.{ExpressionError}
 use Rattle.justfile_parse_expression.specs.declared.expression_error.ExpressionError.TheVariants.{Refused, Literal, Memory, Numbers}
-use Rattle.justfile_model.proofs.ItemReading as laws
-use Rattle.justfile_model.proofs.ReadingSteps.{known}
+use Rattle.justfile_model.proofs.Readers.ItemReading as laws
+use Rattle.justfile_model.proofs.Readers.ReadingSteps.{known}
 use Rattle.justfile_parse_expression.proofs.Rules.{bind_alike, choose_alike, closed_by, then_made}
 use Rattle.justfile_parse_base.proofs.HeaderErrors.{stopped}
 

@@ -1,12 +1,12 @@
 -- Paths of files, in the steps in which they are read.
 use Rattle.std.proofs.Common.{◌≡◌, ℕ, Bool, List, Result, Ok, Err, refl}
 use Rattle.justfile_vocabulary.specs.declared.token_kind.TokenKind.TheVariants as kinds
-use Rattle.justfile_model.specs.ExpressionReader as expressions
-use Rattle.justfile_model.specs.ExpressionReader.{by_text}
-use Rattle.justfile_model.specs.Literals.{LiteralFault, cooked_text, string_of}
-use Rattle.justfile_model.specs.PartReader as parts
-use Rattle.justfile_model.specs.ReaderState.{◌>>=◌}
-use Rattle.justfile_model.specs.Tree.{Quoted}
+use Rattle.justfile_model.specs.Readers.ExpressionReader as expressions
+use Rattle.justfile_model.specs.Readers.ExpressionReader.{by_text}
+use Rattle.justfile_model.specs.LiteralTexts.Literals.{LiteralFault, cooked_text, string_of}
+use Rattle.justfile_model.specs.Readers.PartReader as parts
+use Rattle.justfile_model.specs.Readers.ReaderState.{◌>>=◌}
+use Rattle.justfile_model.specs.Trees.Tree.{Quoted}
 use Rattle.justfile_parse_expression.specs.TableReader.{Read, State, expect, leaves, string_leaf}
 use Rattle.justfile_parse_expression.specs.Significant.{TableEntry}
 use Rattle.justfile_parse_expression.proofs.Rules.{bind_alike, then_made}

@@ -5,9 +5,9 @@ use Rattle.std.specs.Prelude.{◌||◌, ◌&&◌}
 use Rattle.std.specs.Str.{bytes_eq}
 use Rattle.justfile_vocabulary.specs.declared.token_kind.TokenKind.{TokenKind}
 use Rattle.justfile_vocabulary.specs.declared.token_kind.TokenKind.TheVariants as kinds
-use Rattle.justfile_model.specs.PartReader as parts
-use Rattle.justfile_model.specs.ReaderState as reading
-use Rattle.justfile_model.specs.ReaderState.{accept_by, at, begin_with, same_kind}
+use Rattle.justfile_model.specs.Readers.PartReader as parts
+use Rattle.justfile_model.specs.Readers.ReaderState as reading
+use Rattle.justfile_model.specs.Readers.ReaderState.{accept_by, at, begin_with, same_kind}
 use Rattle.justfile_parse_expression.specs.MethodResults.{TakesEntry}
 use Rattle.justfile_parse_expression.specs.TableReader.{State, accept_keyword, leaves, next_are}
 use Rattle.justfile_parse_expression.specs.Significant.{TableEntry}

@@ -7,10 +7,10 @@ use Rattle.justfile_vocabulary.specs.declared.number.Number.{Number}
 use Rattle.justfile_vocabulary.specs.declared.numerator.Numerator.{Numerator}
 use Rattle.justfile_token.specs.declared.token.Token.{Token}
 use Rattle.justfile_vocabulary.specs.declared.token_kind.TokenKind.TheVariants as kinds
-use Rattle.justfile_model.specs.PartReader as parts
-use Rattle.justfile_model.specs.PartReader.{after_numbered}
-use Rattle.justfile_model.specs.ReaderState.{◌>>=◌, Counters, choose}
-use Rattle.justfile_model.proofs.PartReading.{names_is}
+use Rattle.justfile_model.specs.Readers.PartReader as parts
+use Rattle.justfile_model.specs.Readers.PartReader.{after_numbered}
+use Rattle.justfile_model.specs.Readers.ReaderState.{◌>>=◌, Counters, choose}
+use Rattle.justfile_model.proofs.Readers.PartReading.{names_is}
 use Rattle.justfile_parse_base.specs.SharedTable.{separator}
 use Rattle.justfile_parse_base.specs.ParseErrors.{IsParseError}
 use Rattle.justfile_parse_base.specs.declared.parse_error.ParseError.{ParseError}

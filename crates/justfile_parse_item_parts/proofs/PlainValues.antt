@@ -8,16 +8,16 @@ use Rattle.justfile_vocabulary.specs.declared.keyword.Keyword.{Keyword}
 use Rattle.justfile_vocabulary.specs.declared.keyword.Keyword.TheVariants as words
 use Rattle.justfile_token.specs.declared.string_literal.StringLiteral.{StringLiteral}
 use Rattle.justfile_token.specs.declared.token.Token.{Token}
-use Rattle.justfile_model.specs.AttributeRules.{of_some}
-use Rattle.justfile_model.specs.Conditions.{VersionNumbers}
-use Rattle.justfile_model.specs.Meaning.{quoted}
-use Rattle.justfile_model.specs.ReaderState.{BreaksRule}
-use Rattle.justfile_model.specs.Rules.{Broken, InvalidIndentation, InvalidMinimumVersion, MinimumVersion, SettingExpression, broken_if}
-use Rattle.justfile_model.specs.SettingRules.{text_broken, version_broken}
-use Rattle.justfile_model.specs.Settings.{PlainForm, setting_form}
-use Rattle.justfile_model.specs.Tree as tree
-use Rattle.justfile_model.specs.Tree.{Expr, Quoted}
-use Rattle.justfile_model.specs.Versions.{is_above, version_of}
+use Rattle.justfile_model.specs.Meanings.AttributeRules.{of_some}
+use Rattle.justfile_model.specs.Grammars.Conditions.{VersionNumbers}
+use Rattle.justfile_model.specs.Meanings.Meaning.{quoted}
+use Rattle.justfile_model.specs.Readers.ReaderState.{BreaksRule}
+use Rattle.justfile_model.specs.Meanings.Rules.{Broken, InvalidIndentation, InvalidMinimumVersion, MinimumVersion, SettingExpression, broken_if}
+use Rattle.justfile_model.specs.Meanings.SettingRules.{text_broken, version_broken}
+use Rattle.justfile_model.specs.Grammars.Settings.{PlainForm, setting_form}
+use Rattle.justfile_model.specs.Trees.Tree as tree
+use Rattle.justfile_model.specs.Trees.Tree.{Expr, Quoted}
+use Rattle.justfile_model.specs.Meanings.Versions.{is_above, version_of}
 use Rattle.justfile_parse_expression.specs.TableReader.{State}
 use Rattle.justfile_parse_item_parts.specs.PartTable.{literal_made, literal_value, obeyed_value, plain_made}
 use Rattle.justfile_expression.specs.LeafViews.{views_leaves}

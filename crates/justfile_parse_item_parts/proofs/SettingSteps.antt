@@ -6,21 +6,21 @@ use Rattle.justfile_token.specs.Token.{lexeme_of}
 use Rattle.justfile_vocabulary.specs.declared.keyword.Keyword.{Keyword}
 use Rattle.justfile_token.specs.declared.token.Token.{Token}
 use Rattle.justfile_vocabulary.specs.declared.token_kind.TokenKind.TheVariants as kinds
-use Rattle.justfile_model.specs.ExpressionReader as expressions
-use Rattle.justfile_model.specs.Conditions.{VersionNumbers}
-use Rattle.justfile_model.specs.HeaderReader.{obeying}
-use Rattle.justfile_model.specs.PartReader as parts
-use Rattle.justfile_model.specs.ReaderState as reading
-use Rattle.justfile_model.specs.ReaderState.{◌>>=◌, Unexpected, UnknownSetting, at, choose, refused}
-use Rattle.justfile_model.specs.SettingRules.{value_broken}
-use Rattle.justfile_model.specs.Settings.{PlainForm, SettingForm, setting_form}
-use Rattle.justfile_model.specs.Tree as tree
-use Rattle.justfile_model.specs.Tree.{Expr, Exprs}
+use Rattle.justfile_model.specs.Readers.ExpressionReader as expressions
+use Rattle.justfile_model.specs.Grammars.Conditions.{VersionNumbers}
+use Rattle.justfile_model.specs.Readers.HeaderReader.{obeying}
+use Rattle.justfile_model.specs.Readers.PartReader as parts
+use Rattle.justfile_model.specs.Readers.ReaderState as reading
+use Rattle.justfile_model.specs.Readers.ReaderState.{◌>>=◌, Unexpected, UnknownSetting, at, choose, refused}
+use Rattle.justfile_model.specs.Meanings.SettingRules.{value_broken}
+use Rattle.justfile_model.specs.Grammars.Settings.{PlainForm, SettingForm, setting_form}
+use Rattle.justfile_model.specs.Trees.Tree as tree
+use Rattle.justfile_model.specs.Trees.Tree.{Expr, Exprs}
 use Rattle.justfile_model.specs.declared.level.Level.TheVariants as levels
 use Rattle.justfile_parse_expression.specs.TableReader as table
 use Rattle.justfile_parse_expression.specs.TableReader.{At, Read, ReadExpr, State, accept, element, expect, leaves, next_are, read}
 use Rattle.justfile_parse_expression.specs.Significant.{TableEntry}
-use Rattle.justfile_model.proofs.ExpressionReading.{sequence_is}
+use Rattle.justfile_model.proofs.Readers.ExpressionReading.{sequence_is}
 use Rattle.justfile_parse_expression.proofs.Rules.{bind_alike, then_made}
 use Rattle.justfile_parse_item_parts.specs.PartTable as reader
 use Rattle.justfile_parse_item_parts.specs.PartTable.{LeafValue}

@@ -12,8 +12,8 @@ use Rattle.justfile_parse_item_parts.specs.BodyTrees.{fragment_tree, line_tree}
 use Rattle.justfile_expression.specs.LeafTree.{Leaf}
 use Rattle.justfile_line.specs.declared.fragment.Fragment.{Fragment}
 use Rattle.justfile_line.specs.declared.line.Line as lines
-use Rattle.justfile_model.specs.Tree as tree
-use Rattle.justfile_model.specs.Tree.{BodyLine, Line, line_before, trimmed}
+use Rattle.justfile_model.specs.Trees.Tree as tree
+use Rattle.justfile_model.specs.Trees.Tree.{BodyLine, Line, line_before, trimmed}
 
 module _ {A B C : Type 0} where
   -- an empty line at the end is left out

@@ -1,8 +1,8 @@
 -- The reader of the bodies in a table.
 use Rattle.std.specs.Prelude.{ℕ, List, Option}
 use Rattle.justfile_token.specs.declared.token.Token.{Token}
-use Rattle.justfile_model.specs.Reader as files
-use Rattle.justfile_model.specs.Tree.{BodyLine, Fragment}
+use Rattle.justfile_model.specs.Readers.Reader as files
+use Rattle.justfile_model.specs.Trees.Tree.{BodyLine, Fragment}
 use Rattle.justfile_expression.specs.LeafTree.{Leaf}
 use Rattle.justfile_parse_expression.specs.Significant.{TableEntry}
 use Rattle.justfile_parse_expression.specs.TableReader.{Read, State, leaves}

@@ -4,8 +4,8 @@ use Rattle.justfile_expression.specs.LeafTree.{Leaf, Text, leaf_tree_of}
 use Rattle.justfile_line.specs.declared.fragment.Fragment as fragment
 use Rattle.justfile_line.specs.declared.fragment.Fragment.TheVariants as fragments
 use Rattle.justfile_line.specs.declared.line.Line as line
-use Rattle.justfile_model.specs.Tree as tree
-use Rattle.justfile_model.specs.Tree.{BodyLine, Fragment}
+use Rattle.justfile_model.specs.Trees.Tree as tree
+use Rattle.justfile_model.specs.Trees.Tree.{BodyLine, Fragment}
 use Rattle.justfile_token.specs.declared.token.Token.{Token}
 
 abbrev pub fragment_tree : fragment.Fragment → Fragment Leaf Token

@@ -5,15 +5,15 @@ use Rattle.justfile_token.specs.declared.string_literal.StringLiteral.{StringLit
 use Rattle.justfile_token.specs.declared.token.Token.{Token}
 use Rattle.justfile_vocabulary.specs.declared.token_kind.TokenKind.{TokenKind}
 use Rattle.justfile_vocabulary.specs.declared.token_kind.TokenKind.TheVariants as kinds
-use Rattle.justfile_model.specs.Conditions.{VersionNumbers}
-use Rattle.justfile_model.specs.HeaderReader.{obeying}
-use Rattle.justfile_model.specs.PartReader as parts
-use Rattle.justfile_model.specs.ReaderState.{◌>>=◌, Counters, UnknownSetting, choose}
-use Rattle.justfile_model.specs.Rules.{Broken}
-use Rattle.justfile_model.specs.SettingRules as rules
-use Rattle.justfile_model.specs.Settings.{SettingForm}
-use Rattle.justfile_model.specs.Tree as tree
-use Rattle.justfile_model.specs.Tree.{Expr, Quoted, SettingValue}
+use Rattle.justfile_model.specs.Grammars.Conditions.{VersionNumbers}
+use Rattle.justfile_model.specs.Readers.HeaderReader.{obeying}
+use Rattle.justfile_model.specs.Readers.PartReader as parts
+use Rattle.justfile_model.specs.Readers.ReaderState.{◌>>=◌, Counters, UnknownSetting, choose}
+use Rattle.justfile_model.specs.Meanings.Rules.{Broken}
+use Rattle.justfile_model.specs.Meanings.SettingRules as rules
+use Rattle.justfile_model.specs.Grammars.Settings.{SettingForm}
+use Rattle.justfile_model.specs.Trees.Tree as tree
+use Rattle.justfile_model.specs.Trees.Tree.{Expr, Quoted, SettingValue}
 use Rattle.justfile_parse_base.specs.SharedTable.{separator, view_of}
 use Rattle.justfile_parse_expression.specs.TableReader.{Read, Sequence, State, accept, element, expect, leaves, next_are, read}
 use Rattle.justfile_parse_expression.specs.Significant.{TableEntry}

@@ -7,8 +7,8 @@ use Rattle.justfile_attribute_rules.specs.Made.{quoted_leaf}
 use Rattle.justfile_token.specs.declared.name.Name.{Name}
 use Rattle.justfile_vocabulary.specs.declared.number.Number.{Number}
 use Rattle.justfile_token.specs.declared.string_literal.StringLiteral.{StringLiteral}
-use Rattle.justfile_model.specs.Tree as tree
-use Rattle.justfile_model.specs.Tree.{Quoted}
+use Rattle.justfile_model.specs.Trees.Tree as tree
+use Rattle.justfile_model.specs.Trees.Tree.{Quoted}
 use Rattle.justfile_parse_expression.specs.Significant.{TableEntry}
 use Rattle.justfile_parse_item_parts.specs.PartTable.{LeafValue}
 use Rattle.justfile_expression.specs.LeafTree.{Leaf, Named, leaf_tree_of, trees_of}

@@ -2,7 +2,7 @@
 ghost use Rattle.std.specs.Prelude.{◌≡◌, ◌<◌, ◌≤◌, ◌-◌, ◌↔◌, length, OnOk, IsSomeAnd, IsTrue, map};
 ghost use Rattle.std.specs.List.{slice_get};
 ghost use Rattle.justfile_line.specs.Line.{IsEmpty};
-ghost use Rattle.justfile_model.specs.Tree.{trimmed};
+ghost use Rattle.justfile_model.specs.Trees.Tree.{trimmed};
 ghost use Rattle.justfile_parse_item_parts.specs.BodyTable as reader;
 ghost use Rattle.justfile_parse_expression.specs.ParsedResults.{Parses};
 ghost use Rattle.justfile_parse_item_parts.specs.BodyTrees.{fragment_tree, line_tree};
@@ -42,7 +42,7 @@ pub fn parse_body_after_header<'src, X: Expander>(
 
 /// Parses a body from its first line on, and returns it with the comment before it, if there is
 /// one.
-#[tactic(auto, unfolding(justfile_model::specs::Reader::body_after))]
+#[tactic(auto, unfolding(justfile_model::specs::Readers::Reader::body_after))]
 fn parse_body_after<'src, X: Expander>(
     parser: &mut TokenCursor<'_, 'src, X>,
     comment: Option<SignificantToken<'src>>,
@@ -94,7 +94,7 @@ fn parse_lines<'src, X: Expander>(
 }
 
 /// Parses a line of a body.
-#[tactic(auto, unfolding(justfile_model::specs::Reader::body_line))]
+#[tactic(auto, unfolding(justfile_model::specs::Readers::Reader::body_line))]
 fn parse_body_line<'src, X: Expander>(
     parser: &mut TokenCursor<'_, 'src, X>,
 ) -> Result<Line<'src>, ExpressionError<'src>>

@@ -1,6 +1,6 @@
 //! The faults for unknown names and words.
 ghost use Rattle.justfile_vocabulary.specs.declared.keyword.Keyword.TheVariants as words;
-ghost use Rattle.justfile_model.specs.ReaderState.{ExpectedKeyword, UnknownSetting};
+ghost use Rattle.justfile_model.specs.Readers.ReaderState.{ExpectedKeyword, UnknownSetting};
 ghost use Rattle.justfile_parse_base.specs.ParseErrors.{IsFaultOf};
 
 use justfile_token::{CompileErrorKind, Fault, Token};

@@ -21,7 +21,7 @@ use justfile_vocabulary::{Keyword, TokenKind};
 /// # Errors
 ///
 /// The tokens are refused, a literal has no text, or memory runs out.
-#[tactic(auto, using(justfile_parse_base::proofs::RuleSteps::broken_first), unfolding(justfile_model::specs::PartReader::optional_path))]
+#[tactic(auto, using(justfile_parse_base::proofs::RuleSteps::broken_first), unfolding(justfile_model::specs::Readers::PartReader::optional_path))]
 pub fn parse_optional_path<'src, X: Expander>(
     parser: &mut TokenCursor<'_, 'src, X>,
 ) -> Result<Option<StringLiteral<'src>>, ParseError<'src>>
@@ -64,7 +64,7 @@ fn begins_path<X: Expander>(parser: &TokenCursor<'_, '_, X>) -> bool
 
 /// Takes the mark `x` if an identifier comes next, and returns whether it did. Refuses any other
 /// identifier.
-#[tactic(auto, using(crate::proofs::Refused::errs), unfolding(justfile_model::specs::PartReader::expansion_mark, justfile_parse_expression::specs::TableReader::leaves))]
+#[tactic(auto, using(crate::proofs::Refused::errs), unfolding(justfile_model::specs::Readers::PartReader::expansion_mark, justfile_parse_expression::specs::TableReader::leaves))]
 fn parse_mark<'src, X: Expander>(
     parser: &mut TokenCursor<'_, 'src, X>,
 ) -> Result<bool, ParseError<'src>>
@@ -86,7 +86,7 @@ fn parse_mark<'src, X: Expander>(
 }
 
 /// Takes the next token, which has to be a string.
-#[tactic(auto, unfolding(justfile_model::specs::ReaderState::expect))]
+#[tactic(auto, unfolding(justfile_model::specs::Readers::ReaderState::expect))]
 fn expect_string<'run, 'src, X: Expander>(
     parser: &mut TokenCursor<'run, 'src, X>,
 ) -> Result<&'run SignificantToken<'src>, ExpressionError<'src>>

@@ -59,7 +59,7 @@ fn parse_next_name<'src, X: Expander>(
 }
 
 /// Parses a name, gives it a number, and appends it to `parameters`.
-#[tactic(auto, unfolding(crate::specs::PartTable::one_name, justfile_model::specs::PartReader::numbered_name))]
+#[tactic(auto, unfolding(crate::specs::PartTable::one_name, justfile_model::specs::Readers::PartReader::numbered_name))]
 fn parse_numbered_name<'src, X: Expander>(
     parser: &mut TokenCursor<'_, 'src, X>,
     numerator: &mut Numerator,

@@ -1,8 +1,8 @@
 //! The values of settings.
 ghost use Rattle.std.specs.Prelude.{◌≡◌, ◌<◌, ◌≤◌, IfOk, OnOk, Some, None};
 ghost use Rattle.justfile_vocabulary.specs.declared.token_kind.TokenKind.TheVariants as kinds;
-ghost use Rattle.justfile_model.specs.Settings as forms;
-ghost use Rattle.justfile_model.specs.Tree as tree;
+ghost use Rattle.justfile_model.specs.Grammars.Settings as forms;
+ghost use Rattle.justfile_model.specs.Trees.Tree as tree;
 ghost use Rattle.justfile_parse_base.specs.ParseErrors.{ReadsRuled, ParsesRuled};
 ghost use Rattle.justfile_parse_expression.specs.MethodResults.{UnlessMemory};
 ghost use Rattle.justfile_parse_expression.specs.ParsedResults.{Parses};
@@ -86,7 +86,7 @@ fn parse_truth_setting<'src, X: Expander>(
 }
 
 /// Parses the value of a boolean setting: nothing, which means true, or `:=` and a boolean.
-#[tactic(auto, unfolding(justfile_model::specs::PartReader::truth))]
+#[tactic(auto, unfolding(justfile_model::specs::Readers::PartReader::truth))]
 fn parse_truth<'src, X: Expander>(
     parser: &mut TokenCursor<'_, 'src, X>,
 ) -> Result<bool, ParseError<'src>>
@@ -101,7 +101,7 @@ fn parse_truth<'src, X: Expander>(
 }
 
 /// Returns the boolean that a word spells.
-#[tactic(auto, using(crate::proofs::Refused::errs), unfolding(justfile_model::specs::PartReader::truth_of, justfile_parse_expression::specs::TableReader::leaves))]
+#[tactic(auto, using(crate::proofs::Refused::errs), unfolding(justfile_model::specs::Readers::PartReader::truth_of, justfile_parse_expression::specs::TableReader::leaves))]
 fn find_truth<'src>(alloc: Global, word: &SignificantToken<'src>) -> Result<bool, ParseError<'src>>
     ensures { (s : State) → ReadsRuled tree.Truth result s (reader.truth_of (word.now, s)) }
 {
@@ -118,7 +118,7 @@ fn find_truth<'src>(alloc: Global, word: &SignificantToken<'src>) -> Result<bool
 }
 
 /// Parses a setting that takes an expression.
-#[tactic(auto, unfolding(justfile_model::specs::PartReader::expression_value))]
+#[tactic(auto, unfolding(justfile_model::specs::Readers::PartReader::expression_value))]
 fn parse_expression_setting<'src, X: Expander>(
     parser: &mut TokenCursor<'_, 'src, X>,
     keyword: Keyword,

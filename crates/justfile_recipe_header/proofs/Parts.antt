@@ -6,9 +6,9 @@ use Rattle.justfile_token.specs.Name.{name_text}
 use Rattle.justfile_token.specs.Namepath.{names_in, namepath_text}
 use Rattle.justfile_token.specs.Path.{path_text, separated_name}
 use Rattle.justfile_token.specs.declared.name.Name.{Name}
-use Rattle.justfile_model.specs.Printing as printing
-use Rattle.justfile_model.specs.Printing.{fixed_text, dependency_argument_text}
-use Rattle.justfile_model.specs.Tree.{over_dependency_argument, lexeme, nothing}
+use Rattle.justfile_model.specs.Printed.Printing as printing
+use Rattle.justfile_model.specs.Printed.Printing.{fixed_text, dependency_argument_text}
+use Rattle.justfile_model.specs.Trees.Tree.{over_dependency_argument, lexeme, nothing}
 use Rattle.justfile_recipe_header.specs.Header.{argument_text, call_text, dependencies_text, dependency_argument_of, dependency_text_of, is_starred, name_of, names_text, parameter_text_of, parameters_text, star_of, star_text, subsequents_text_of}
 use Rattle.justfile_recipe_header.specs.declared.parameter.Parameter.{Parameter}
 use Rattle.justfile_recipe_header.specs.declared.unresolved_dependency.DependencyArgument.{DependencyArgument}

@@ -7,11 +7,11 @@ use Rattle.justfile_token.specs.Name.{name_text}
 use Rattle.justfile_token.specs.Namepath.{names_in, namepath_text}
 use Rattle.justfile_token.specs.Path.{path_text}
 use Rattle.justfile_token.specs.declared.name.Name.{Name}
-use Rattle.justfile_model.specs.Printing as printing
-use Rattle.justfile_model.specs.Printing.{fixed_text, if_some}
-use Rattle.justfile_model.specs.Tok.{Tok, tok_of}
-use Rattle.justfile_model.specs.Tree as tree
-use Rattle.justfile_model.specs.Tree.{Expr, over_dependency, over_parameter, lexeme, nothing}
+use Rattle.justfile_model.specs.Printed.Printing as printing
+use Rattle.justfile_model.specs.Printed.Printing.{fixed_text, if_some}
+use Rattle.justfile_model.specs.Lexing.Tok.{Tok, tok_of}
+use Rattle.justfile_model.specs.Trees.Tree as tree
+use Rattle.justfile_model.specs.Trees.Tree.{Expr, over_dependency, over_parameter, lexeme, nothing}
 use Rattle.justfile_expression.specs.Expression.{expr_of, expr_cooked}
 use Rattle.justfile_expression.specs.Text.{text_of}
 use Rattle.justfile_expression.specs.declared.expression.Expression.{Expression}

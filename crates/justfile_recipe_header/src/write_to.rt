@@ -1,7 +1,7 @@
 //! Values that are written in a list, each after the same text.
 ghost use Rattle.std.specs.Prelude.{ℕ, List, ◌++◌};
 ghost use Rattle.std.specs.List.{flat_map};
-ghost use Rattle.justfile_model.specs.Printing.{fixed_text, if_true};
+ghost use Rattle.justfile_model.specs.Printed.Printing.{fixed_text, if_true};
 ghost use Rattle.justfile_token.specs.Sink.{Puts};
 
 use justfile_expression::put_piece;

@@ -4,11 +4,11 @@ use Rattle.std.specs.List.{flat_map}
 use Rattle.justfile_vocabulary.specs.declared.token_kind.TokenKind.TheVariants as kinds
 use Rattle.justfile_model.specs.declared.conditional_operator.ConditionalOperator.{ConditionalOperator}
 use Rattle.justfile_model.specs.declared.conditional_operator.ConditionalOperator.TheVariants.{Equality, Inequality, RegexMatch, RegexMismatch}
-use Rattle.justfile_model.specs.Tree as tree
-use Rattle.justfile_model.specs.Tree.{Expr, Or, And, Comparison, Concatenation, ListConcatenation, Join, Root, If, IfElse, Not, StringLiteral, FormatLiteral, FormatString, Backtick, Assert, AssertMessage, Variable, Call, Group, ListOf, Last, Continue, Text, Interpolation, BodyLine, Line, Content, OrderedItem}
-use Rattle.justfile_model.specs.Features.{Noted}
-use Rattle.justfile_model.specs.Expressions.{operator_kind}
-use Rattle.justfile_model.specs.Printing.{fixed_text, is_conditional, other_text, expr_text, exprs_text, parts_text, fragment_text, line_text, body_text}
+use Rattle.justfile_model.specs.Trees.Tree as tree
+use Rattle.justfile_model.specs.Trees.Tree.{Expr, Or, And, Comparison, Concatenation, ListConcatenation, Join, Root, If, IfElse, Not, StringLiteral, FormatLiteral, FormatString, Backtick, Assert, AssertMessage, Variable, Call, Group, ListOf, Last, Continue, Text, Interpolation, BodyLine, Line, Content, OrderedItem}
+use Rattle.justfile_model.specs.Grammars.Features.{Noted}
+use Rattle.justfile_model.specs.Grammars.Expressions.{operator_kind}
+use Rattle.justfile_model.specs.Printed.Printing.{fixed_text, is_conditional, other_text, expr_text, exprs_text, parts_text, fragment_text, line_text, body_text}
 use Rattle.justfile_round_trip.proofs.LiteralTexts.LexedModes.{Mark, mark}
 
 -- What a shape is made of: expressions, fragments, lines of bodies, and items with their contents.

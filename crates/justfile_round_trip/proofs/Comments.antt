@@ -5,10 +5,10 @@ use Rattle.std.specs.Str.{IsUtf8, trim_end, drop_trailing_whitespace}
 use Rattle.std.proofs.Math.Utf8.{encode, encodes, scalars}
 use Rattle.std.proofs.lemmas.Str.{chars-encodes, encodes-chars, encodes-append, scalars-chars, chars_past_char, encode_ascii}
 use Rattle.justfile_model.specs.declared.raw_text.RawText.TheVariants as raw_texts
-use Rattle.justfile_model.specs.LiteralText.{raw_len}
-use Rattle.justfile_model.specs.Printing.{ends_in_return}
-use Rattle.justfile_model.proofs.CommentEnds.{ends_before_feed, no_feeds, no_return}
-use Rattle.justfile_model.proofs.TrimLaws.{dropped_once, kept, kept_scalars}
+use Rattle.justfile_model.specs.Lexing.LiteralText.{raw_len}
+use Rattle.justfile_model.specs.Printed.Printing.{ends_in_return}
+use Rattle.justfile_model.proofs.Lexing.CommentEnds.{ends_before_feed, no_feeds, no_return}
+use Rattle.justfile_model.proofs.Printed.TrimLaws.{dropped_once, kept, kept_scalars}
 use Rattle.justfile_round_trip.proofs.Good.{GoodComment}
 use Rattle.justfile_round_trip.proofs.LiteralTexts.Literals.{front_byte}
 use Rattle.justfile_round_trip.proofs.Values.TokenFacts.{LexedComment}

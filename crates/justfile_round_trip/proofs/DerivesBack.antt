@@ -4,17 +4,17 @@ use Rattle.std.specs.Str.{IsUtf8}
 use Rattle.std.proofs.lemmas.Str.{IsUtf8-nil, IsUtf8-append}
 use Rattle.std.proofs.Math.Utf8.{encode}
 use Rattle.justfile_vocabulary.specs.declared.token_kind.TokenKind.TheVariants as kinds
-use Rattle.justfile_model.specs.SignificantTokens.{SignificantToken}
-use Rattle.justfile_model.specs.Tree as tree
-use Rattle.justfile_model.specs.Tree.{Shape, Construct, bare_recipe, lexeme, nothing, trimmed}
-use Rattle.justfile_model.specs.AttributeLines.{AttributeLines}
-use Rattle.justfile_model.specs.Grammar as g
-use Rattle.justfile_model.specs.Expressions.{BelowLimit}
-use Rattle.justfile_model.specs.Features.{ConstructFeatures}
-use Rattle.justfile_model.specs.Files.{to_lexemes}
-use Rattle.justfile_model.specs.Grammar.{Items, LineEnd, Block, NotEmpty}
-use Rattle.justfile_model.specs.ItemParts.{EndsLine, at_comment, at_line_end}
-use Rattle.justfile_model.specs.PrintedAttributes.{rewritten_entries, rewritten_item}
+use Rattle.justfile_model.specs.Lexing.SignificantTokens.{SignificantToken}
+use Rattle.justfile_model.specs.Trees.Tree as tree
+use Rattle.justfile_model.specs.Trees.Tree.{Shape, Construct, bare_recipe, lexeme, nothing, trimmed}
+use Rattle.justfile_model.specs.Grammars.AttributeLines.{AttributeLines}
+use Rattle.justfile_model.specs.Grammars.Grammar as g
+use Rattle.justfile_model.specs.Grammars.Expressions.{BelowLimit}
+use Rattle.justfile_model.specs.Grammars.Features.{ConstructFeatures}
+use Rattle.justfile_model.specs.Grammars.Files.{to_lexemes}
+use Rattle.justfile_model.specs.Grammars.Grammar.{Items, LineEnd, Block, NotEmpty}
+use Rattle.justfile_model.specs.Grammars.ItemParts.{EndsLine, at_comment, at_line_end}
+use Rattle.justfile_model.specs.Printed.PrintedAttributes.{rewritten_entries, rewritten_item}
 use Rattle.justfile_round_trip.proofs.LiteralTexts.LexedModes.{Mark, mark}
 use Rattle.justfile_round_trip.proofs.Attributes.AttributesUtf8.{comment_utf8, entries_utf8}
 use Rattle.justfile_round_trip.proofs.Attributes.BackAttributes.{glued_after, entries_back}

@@ -3,12 +3,12 @@ use Rattle.std.proofs.Common.{◌≡◌, ℕ, Bool, true, false, [], ◌++◌, O
 use Rattle.std.proofs.lemmas.List.{append-nil}
 use Rattle.justfile_vocabulary.specs.declared.token_kind.TokenKind.{TokenKind}
 use Rattle.justfile_vocabulary.specs.declared.list_feature.ListFeature.TheVariants as features
-use Rattle.justfile_model.specs.SignificantTokens.{SignificantToken}
-use Rattle.justfile_model.specs.Tree as tree
-use Rattle.justfile_model.specs.Tree.{lexeme, nothing}
-use Rattle.justfile_model.specs.Features.{noted, compared, uncompared, called}
-use Rattle.justfile_model.specs.Expressions as e
-use Rattle.justfile_model.specs.Expressions.{Tokens, Expression, Disjunct, Compared, Conjunct, Condition, Braced, Conditional, Value, Sequence, FormatParts}
+use Rattle.justfile_model.specs.Lexing.SignificantTokens.{SignificantToken}
+use Rattle.justfile_model.specs.Trees.Tree as tree
+use Rattle.justfile_model.specs.Trees.Tree.{lexeme, nothing}
+use Rattle.justfile_model.specs.Grammars.Features.{noted, compared, uncompared, called}
+use Rattle.justfile_model.specs.Grammars.Expressions as e
+use Rattle.justfile_model.specs.Grammars.Expressions.{Tokens, Expression, Disjunct, Compared, Conjunct, Condition, Braced, Conditional, Value, Sequence, FormatParts}
 use Rattle.justfile_round_trip.proofs.Canon as canon
 use Rattle.justfile_round_trip.proofs.Canon.{Shown, Values, Pieces}
 

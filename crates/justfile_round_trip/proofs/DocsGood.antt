@@ -2,17 +2,17 @@
 use Rattle.std.proofs.Common.{◌≡◌, ℕ, Bool, true, false, cond, List, [], ◌∷◌, Option, Some, None, refl, sym, subst, ap, ◌∙◌}
 use Rattle.std.specs.Prelude.{◌&&◌, ◌||◌, is_some, not}
 use Rattle.std.specs.List.{AllByRecursion}
-use Rattle.justfile_model.specs.Docs.{Before, LineEnd, Other, comment_taken, doc_in, doc_of, doc_or_comment, documented, redocumented, taken, takes_doc, can_take_doc}
-use Rattle.justfile_model.specs.Files.{sets_doc}
-use Rattle.justfile_model.specs.Modes.{is_empty}
-use Rattle.justfile_model.specs.Printing.{doc_comment, shown_doc}
-use Rattle.justfile_model.specs.PrintedAttributes.{after_doc, doc_written, docs_written}
-use Rattle.justfile_model.specs.Tree.{Alias, Assignment, Comment, Construct, Function, Import, Module, Newline, Recipe, Setting, Shape, Unexport, bare_recipe}
-use Rattle.justfile_model.proofs.DocComments.{doc_comment_ends, doc_comment_first}
-use Rattle.justfile_model.proofs.DocsText.{none_shown}
-use Rattle.justfile_model.proofs.PlainFiles.{InComment, IsPlain}
-use Rattle.justfile_model.proofs.PrintedDocs.{Utf8Comment}
-use Rattle.justfile_model.proofs.TrimLaws.{doc_comment_trimmed, doc_comment_utf8, doc_of_comment, past_hash}
+use Rattle.justfile_model.specs.Grammars.Docs.{Before, LineEnd, Other, comment_taken, doc_in, doc_of, doc_or_comment, documented, redocumented, taken, takes_doc, can_take_doc}
+use Rattle.justfile_model.specs.Grammars.Files.{sets_doc}
+use Rattle.justfile_model.specs.Lexing.Modes.{is_empty}
+use Rattle.justfile_model.specs.Printed.Printing.{doc_comment, shown_doc}
+use Rattle.justfile_model.specs.Printed.PrintedAttributes.{after_doc, doc_written, docs_written}
+use Rattle.justfile_model.specs.Trees.Tree.{Alias, Assignment, Comment, Construct, Function, Import, Module, Newline, Recipe, Setting, Shape, Unexport, bare_recipe}
+use Rattle.justfile_model.proofs.Printed.DocComments.{doc_comment_ends, doc_comment_first}
+use Rattle.justfile_model.proofs.Printed.DocsText.{none_shown}
+use Rattle.justfile_model.proofs.Printed.PlainFiles.{InComment, IsPlain}
+use Rattle.justfile_model.proofs.Printed.PrintedDocs.{Utf8Comment}
+use Rattle.justfile_model.proofs.Printed.TrimLaws.{doc_comment_trimmed, doc_comment_utf8, doc_of_comment, past_hash}
 use Rattle.justfile_round_trip.proofs.Canon.{ShapeContent, ShapeItem}
 use Rattle.justfile_round_trip.proofs.Attributes.CanonAttributes.{ShapeEntry}
 use Rattle.justfile_round_trip.proofs.DocsNormal.{Begun, begun_comment, comment, construct}

@@ -1,9 +1,9 @@
 -- The docs of a normal form are those of the shape itself.
 use Rattle.std.proofs.Common.{◌≡◌, ℕ, Bool, true, false, cond, List, [], ◌∷◌, Option, Some, None, refl, sym, ap, ◌∙◌}
-use Rattle.justfile_model.specs.Docs.{Before, LineEnd, Other, comment_taken, doc_in, doc_or_comment, documented, redocumented, taken, can_take_doc}
-use Rattle.justfile_model.specs.Files.{sets_doc}
-use Rattle.justfile_model.specs.NormalShape.{after_newline, normal, normal_rest}
-use Rattle.justfile_model.specs.Tree.{Comment, Construct, Newline, Shape}
+use Rattle.justfile_model.specs.Grammars.Docs.{Before, LineEnd, Other, comment_taken, doc_in, doc_or_comment, documented, redocumented, taken, can_take_doc}
+use Rattle.justfile_model.specs.Grammars.Files.{sets_doc}
+use Rattle.justfile_model.specs.Printed.NormalShape.{after_newline, normal, normal_rest}
+use Rattle.justfile_model.specs.Trees.Tree.{Comment, Construct, Newline, Shape}
 use Rattle.justfile_round_trip.proofs.Canon.{ShapeContent, ShapeItem}
 use Rattle.justfile_round_trip.proofs.Attributes.CanonAttributes.{ShapeEntry}
 

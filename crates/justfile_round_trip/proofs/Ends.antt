@@ -1,11 +1,11 @@
 -- The end and the beginning of an expression, which determine what can follow it.
 use Rattle.std.proofs.Common.{◌≡◌, ℕ, Bool, cond, List, ◌∷◌, Option, refl, codes}
 use Rattle.justfile_vocabulary.specs.declared.token_kind.TokenKind.TheVariants as kinds
-use Rattle.justfile_model.specs.SignificantTokens.{SignificantToken}
-use Rattle.justfile_model.specs.Tree as tree
-use Rattle.justfile_model.specs.Tree.{Expr, lexeme, nothing}
-use Rattle.justfile_model.specs.Expressions as g
-use Rattle.justfile_model.specs.Expressions.{Tokens, ends_open, NotNext, IsWord, NotWord, NotJoined, Expression, Disjunct, Compared, Conjunct, Conditional, Value}
+use Rattle.justfile_model.specs.Lexing.SignificantTokens.{SignificantToken}
+use Rattle.justfile_model.specs.Trees.Tree as tree
+use Rattle.justfile_model.specs.Trees.Tree.{Expr, lexeme, nothing}
+use Rattle.justfile_model.specs.Grammars.Expressions as g
+use Rattle.justfile_model.specs.Grammars.Expressions.{Tokens, ends_open, NotNext, IsWord, NotWord, NotJoined, Expression, Disjunct, Compared, Conjunct, Conditional, Value}
 use Rattle.justfile_round_trip.proofs.LiteralTexts.LexedModes.{Mark}
 use Rattle.justfile_round_trip.proofs.Canon as canon
 use Rattle.justfile_round_trip.proofs.Canon.{Shown, expr_marks}

@@ -19,13 +19,13 @@ use Rattle.justfile_vocabulary.specs.ByteClass.{class_of}
 use Rattle.justfile_token.specs.StringKind.{delimiter_len, is_quote, kind_of, token_kind_of}
 use Rattle.justfile_model.specs.declared.open_delimiter.OpenDelimiter.{OpenDelimiter}
 use Rattle.justfile_model.specs.declared.raw_text.RawText.TheVariants as raw_texts
-use Rattle.justfile_model.specs.Bytes.{in_word, word_len, is_line_end, is_interpolation_start, is_interpolation_end, is_mixed, closes_levels, first_char}
-use Rattle.justfile_model.specs.LiteralText.{raw_len, is_delimiter, pieces_len}
-use Rattle.justfile_model.specs.LexicalFault.{LexicalError}
-use Rattle.justfile_model.specs.Tok.{Tok}
-use Rattle.justfile_model.specs.Modes.{Mode, is_empty, head_of, innermost, nested}
-use Rattle.justfile_model.specs.Next.{NextToken, format_kind, doubled_token, fixed_token, opening, literal_part, literal_token, is_backtick, is_same, closing_delimiter, brace_by, closing, line_end_token, escaped_line_end, token_by_class, token_outside_text, text_or, body_token, at_end_by, Region, InText, InInterpolation, OutsideText, token_in_region, token_within_line, blanks_or, tested_blanks, is_level, layout, begins_blank_line, next_by, next}
-use Rattle.justfile_model.proofs.CutLemmas.{raw_stops, raw_within}
+use Rattle.justfile_model.specs.Lexing.Bytes.{in_word, word_len, is_line_end, is_interpolation_start, is_interpolation_end, is_mixed, closes_levels, first_char}
+use Rattle.justfile_model.specs.Lexing.LiteralText.{raw_len, is_delimiter, pieces_len}
+use Rattle.justfile_model.specs.Lexing.LexicalFault.{LexicalError}
+use Rattle.justfile_model.specs.Lexing.Tok.{Tok}
+use Rattle.justfile_model.specs.Lexing.Modes.{Mode, is_empty, head_of, innermost, nested}
+use Rattle.justfile_model.specs.Lexing.Next.{NextToken, format_kind, doubled_token, fixed_token, opening, literal_part, literal_token, is_backtick, is_same, closing_delimiter, brace_by, closing, line_end_token, escaped_line_end, token_by_class, token_outside_text, text_or, body_token, at_end_by, Region, InText, InInterpolation, OutsideText, token_in_region, token_within_line, blanks_or, tested_blanks, is_level, layout, begins_blank_line, next_by, next}
+use Rattle.justfile_model.proofs.Lexing.CutLemmas.{raw_stops, raw_within}
 use Rattle.justfile_round_trip.proofs.LiteralTexts.LexedModes.{drop_front}
 use Rattle.justfile_round_trip.proofs.LiteralTexts.Inline.{Each, IsName, IsPart, delimiter_of, delimiter_length, assoc3, length3, literal_again, quote_is}
 use Rattle.justfile_round_trip.proofs.Good.{IsDelimited, IsString, IsCommand, IsFormatLiteral, IsFormatStart, IsPartOf, IsPartOfOpen}

@@ -6,9 +6,9 @@ use Rattle.justfile_vocabulary.specs.declared.token_kind.TokenKind.{TokenKind}
 use Rattle.justfile_vocabulary.specs.declared.token_kind.TokenKind.TheVariants.{AmpersandAmpersand, Asterisk, Bang, BangEquals, BangTilde, BarBar, BraceL, BraceR, BracketL, BracketR, ColonColon, ColonEquals, Comma, Dollar, Eof, Equals, EqualsEquals, EqualsTilde, ParenL, ParenR, Plus, PlusPlus, QuestionMark, Slash}
 use Rattle.justfile_vocabulary.specs.ByteClass.{class_of}
 use Rattle.justfile_model.specs.declared.open_delimiter.OpenDelimiter.{OpenDelimiter}
-use Rattle.justfile_model.specs.Tok.{Tok}
-use Rattle.justfile_model.specs.Modes.{is_empty, opener, mode_after}
-use Rattle.justfile_model.specs.Next.{fixed_token, token_by_class}
+use Rattle.justfile_model.specs.Lexing.Tok.{Tok}
+use Rattle.justfile_model.specs.Lexing.Modes.{is_empty, opener, mode_after}
+use Rattle.justfile_model.specs.Lexing.Next.{fixed_token, token_by_class}
 use Rattle.justfile_round_trip.proofs.LiteralTexts.LexedModes.{Mark, mark, LexesTo, step}
 use Rattle.justfile_round_trip.proofs.LiteralTexts.Inline.{amid, amid_next, and_false, and_no}
 

@@ -8,16 +8,16 @@ use Rattle.justfile_vocabulary.specs.declared.token_kind.TokenKind.{TokenKind}
 use Rattle.justfile_vocabulary.specs.declared.token_kind.TokenKind.TheVariants as kinds
 use Rattle.justfile_vocabulary.specs.ByteClass.{class_of}
 use Rattle.justfile_token.specs.StringKind.{kind_of, token_kind_of}
-use Rattle.justfile_model.specs.Bytes.{blank, white, blank_len}
+use Rattle.justfile_model.specs.Lexing.Bytes.{blank, white, blank_len}
 use Rattle.justfile_model.specs.declared.raw_text.RawText.TheVariants as raw_texts
-use Rattle.justfile_model.specs.LiteralText.{raw_len}
-use Rattle.justfile_model.specs.Modes.{is_empty}
-use Rattle.justfile_model.specs.Next.{is_backtick}
-use Rattle.justfile_model.specs.Tok.{Tok}
-use Rattle.justfile_model.specs.SignificantTokens.{SignificantToken, significant_from}
-use Rattle.justfile_model.specs.Tree as tree
-use Rattle.justfile_model.specs.Tree.{Or, And, Comparison, Concatenation, ListConcatenation, Join, Root, If, IfElse, Not, StringLiteral, FormatLiteral, FormatString, Backtick, Assert, AssertMessage, Variable, Call, Group, ListOf, Last, Continue, Text, Interpolation, Line, lexeme, nothing, trimmed}
-use Rattle.justfile_model.specs.Expressions.{BelowLimit, Expression}
+use Rattle.justfile_model.specs.Lexing.LiteralText.{raw_len}
+use Rattle.justfile_model.specs.Lexing.Modes.{is_empty}
+use Rattle.justfile_model.specs.Lexing.Next.{is_backtick}
+use Rattle.justfile_model.specs.Lexing.Tok.{Tok}
+use Rattle.justfile_model.specs.Lexing.SignificantTokens.{SignificantToken, significant_from}
+use Rattle.justfile_model.specs.Trees.Tree as tree
+use Rattle.justfile_model.specs.Trees.Tree.{Or, And, Comparison, Concatenation, ListConcatenation, Join, Root, If, IfElse, Not, StringLiteral, FormatLiteral, FormatString, Backtick, Assert, AssertMessage, Variable, Call, Group, ListOf, Last, Continue, Text, Interpolation, Line, lexeme, nothing, trimmed}
+use Rattle.justfile_model.specs.Grammars.Expressions.{BelowLimit, Expression}
 use Rattle.justfile_round_trip.proofs.LiteralTexts.LexedModes.{Mark, mark, placed}
 use Rattle.justfile_round_trip.proofs.LiteralTexts.Inline.{head_is, IsName, IsLiteral, IsPart, delimiter_of}
 use Rattle.justfile_round_trip.proofs.RecipeBodies.Lines.{IsComment}

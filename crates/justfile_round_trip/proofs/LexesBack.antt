@@ -1,9 +1,9 @@
 -- The text of good items lexes to the printer's tokens.
 use Rattle.std.proofs.Common.{ℕ, Bool, false, List, [], ◌∷◌, Option, Some, None, refl, sym, ap, subst}
 use Rattle.justfile_vocabulary.specs.ByteClass.{class_of}
-use Rattle.justfile_model.specs.Tree as tree
-use Rattle.justfile_model.specs.Tree.{Shape}
-use Rattle.justfile_model.specs.Next.{next}
+use Rattle.justfile_model.specs.Trees.Tree as tree
+use Rattle.justfile_model.specs.Trees.Tree.{Shape}
+use Rattle.justfile_model.specs.Lexing.Next.{next}
 use Rattle.justfile_round_trip.proofs.LiteralTexts.LexedModes.{LexesTo, end}
 use Rattle.justfile_round_trip.proofs.RecipeBodies.Lines.{at_item, item_comment, blank_line, line_end}
 use Rattle.justfile_round_trip.proofs.Canon.{Row, ShapeContent}

@@ -1,14 +1,14 @@
 -- The meaning of written shapes as a function; attributes without a meaning are dropped.
 use Rattle.std.proofs.Common.{◌≡◌, ℕ, List, [], ◌∷◌, map, Option, Some, None, refl, sym, ap, ◌∙◌}
 use Rattle.std.specs.Option.{option_map}
-use Rattle.justfile_model.specs.Docs.{Nothing, documented}
-use Rattle.justfile_model.specs.Files.{ordered_item, ordered, sets_doc, undocumented}
-use Rattle.justfile_model.specs.Meaning.{entries_of}
-use Rattle.justfile_model.specs.LeafView.{LeafView}
-use Rattle.justfile_model.specs.Tree as tree
-use Rattle.justfile_model.specs.Tree.{Construct, WrittenItem, WrittenShape, Shape, starless, starless_argument, starless_dependency}
-use Rattle.justfile_model.proofs.Binds.{some_back}
-use Rattle.justfile_model.proofs.Ordered.{construct_meant, meanings_of}
+use Rattle.justfile_model.specs.Grammars.Docs.{Nothing, documented}
+use Rattle.justfile_model.specs.Grammars.Files.{ordered_item, ordered, sets_doc, undocumented}
+use Rattle.justfile_model.specs.Meanings.Meaning.{entries_of}
+use Rattle.justfile_model.specs.Trees.LeafView.{LeafView}
+use Rattle.justfile_model.specs.Trees.Tree as tree
+use Rattle.justfile_model.specs.Trees.Tree.{Construct, WrittenItem, WrittenShape, Shape, starless, starless_argument, starless_dependency}
+use Rattle.justfile_model.proofs.Lists.Binds.{some_back}
+use Rattle.justfile_model.proofs.Meanings.Ordered.{construct_meant, meanings_of}
 use Rattle.justfile_round_trip.proofs.Canon.{ShapeContent, ShapeItem}
 use Rattle.justfile_round_trip.proofs.Headers.CanonHeaders.{ShapeArgument, ShapeDependency}
 use Rattle.justfile_round_trip.proofs.Attributes.CanonAttributes.{ShapeEntry}

@@ -5,40 +5,40 @@ use Rattle.std.specs.Str.{IsUtf8}
 use Rattle.std.proofs.lemmas.List.{length-map}
 use denote.Enum.Bare.{sameb}
 use Rattle.justfile_vocabulary.specs.Indentation.{IsIndentation}
-use Rattle.justfile_model.specs.Tok.{Tok}
-use Rattle.justfile_model.specs.Lexed.{Lexed}
-use Rattle.justfile_model.specs.SignificantTokens.{SignificantToken, is_whitespace, significant_from, significant_tokens}
-use Rattle.justfile_model.specs.Tree as tree
-use Rattle.justfile_model.specs.Tree.{Content, Construct, Tree, Shape, over_content, over_parameter, lexeme, nothing, shape_of}
-use Rattle.justfile_model.specs.Grammar as g
+use Rattle.justfile_model.specs.Lexing.Tok.{Tok}
+use Rattle.justfile_model.specs.Lexing.Lexed.{Lexed}
+use Rattle.justfile_model.specs.Lexing.SignificantTokens.{SignificantToken, is_whitespace, significant_from, significant_tokens}
+use Rattle.justfile_model.specs.Trees.Tree as tree
+use Rattle.justfile_model.specs.Trees.Tree.{Content, Construct, Tree, Shape, over_content, over_parameter, lexeme, nothing, shape_of}
+use Rattle.justfile_model.specs.Grammars.Grammar as g
 use Rattle.justfile_vocabulary.specs.contracts.list_feature.ListFeature.{the_type}
 use Rattle.justfile_vocabulary.specs.declared.list_feature.ListFeature.{ListFeature}
-use Rattle.justfile_model.specs.Docs.{Nothing, documented}
-use Rattle.justfile_model.specs.Features.{ConstructFeatures, Noted, over_noted}
-use Rattle.justfile_model.specs.Conditions.{Conditions, with_limit}
-use Rattle.justfile_model.specs.Expressions.{BelowLimit}
-use Rattle.justfile_model.specs.Grammar.{File}
-use Rattle.justfile_model.specs.NormalShape.{normal}
-use Rattle.justfile_model.specs.Printing.{text, printable}
-use Rattle.justfile_model.specs.Literals.{over_literal, AreCookedTexts}
-use Rattle.justfile_model.specs.Files.{FileDerives, ShapeDerives, all_features, sets_doc, literals, content_bindings, bindings, content_recipes, recipes, to_lexemes}
-use Rattle.justfile_model.specs.PrintedAttributes.{docs_written, rewritten}
-use Rattle.justfile_model.specs.LeafView.{views_lexemes}
-use Rattle.justfile_model.proofs.DocsKept.{documented_counts, printable_count}
-use Rattle.justfile_model.proofs.DocsText.{text_written}
-use Rattle.justfile_model.proofs.Ordered.{undocumented_of}
-use Rattle.justfile_model.proofs.PrintedDocs.{SettledDocs, documented_settled}
-use Rattle.justfile_model.proofs.Agreement.{one_tree}
-use Rattle.justfile_model.proofs.CarryExpressions.{Same, Pairs, nil, cons}
-use Rattle.justfile_model.proofs.Leaves.{lexemes, elsewhere, file_forgets, file_lifts}
-use Rattle.justfile_model.proofs.LexedLaws.{one_list}
-use Rattle.justfile_model.proofs.Needs.{relimited}
-use Rattle.justfile_model.proofs.Normal.{normal_twice, normal_literals, normal_bindings, normal_recipes}
+use Rattle.justfile_model.specs.Grammars.Docs.{Nothing, documented}
+use Rattle.justfile_model.specs.Grammars.Features.{ConstructFeatures, Noted, over_noted}
+use Rattle.justfile_model.specs.Grammars.Conditions.{Conditions, with_limit}
+use Rattle.justfile_model.specs.Grammars.Expressions.{BelowLimit}
+use Rattle.justfile_model.specs.Grammars.Grammar.{File}
+use Rattle.justfile_model.specs.Printed.NormalShape.{normal}
+use Rattle.justfile_model.specs.Printed.Printing.{text, printable}
+use Rattle.justfile_model.specs.LiteralTexts.Literals.{over_literal, AreCookedTexts}
+use Rattle.justfile_model.specs.Grammars.Files.{FileDerives, ShapeDerives, all_features, sets_doc, literals, content_bindings, bindings, content_recipes, recipes, to_lexemes}
+use Rattle.justfile_model.specs.Printed.PrintedAttributes.{docs_written, rewritten}
+use Rattle.justfile_model.specs.Trees.LeafView.{views_lexemes}
+use Rattle.justfile_model.proofs.Printed.DocsKept.{documented_counts, printable_count}
+use Rattle.justfile_model.proofs.Printed.DocsText.{text_written}
+use Rattle.justfile_model.proofs.Meanings.Ordered.{undocumented_of}
+use Rattle.justfile_model.proofs.Printed.PrintedDocs.{SettledDocs, documented_settled}
+use Rattle.justfile_model.proofs.Sound.Agreement.{one_tree}
+use Rattle.justfile_model.proofs.Derivations.CarryExpressions.{Same, Pairs, nil, cons}
+use Rattle.justfile_model.proofs.Derivations.Leaves.{lexemes, elsewhere, file_forgets, file_lifts}
+use Rattle.justfile_model.proofs.Lexing.LexedLaws.{one_list}
+use Rattle.justfile_model.proofs.Derivations.Needs.{relimited}
+use Rattle.justfile_model.proofs.Printed.Normal.{normal_twice, normal_literals, normal_bindings, normal_recipes}
 use Rattle.justfile_round_trip.specs.RoundTrip.{TextDerives, times, ReadsBack, printed}
 use Rattle.justfile_round_trip.proofs.LiteralTexts.LexedModes.{Mark, placed, tok_at, toks, lexed}
-use Rattle.justfile_model.proofs.PrintedItems.{AllPrintAgain, normal_again, rewritten_means, rewritten_texts, rewritten_unbroken, rewritten_undocumented, shape_again}
-use Rattle.justfile_model.proofs.PrintedLiterals.{texts_are_there, texts_of, texts_cook}
-use Rattle.justfile_model.proofs.Spelled.{lexed_spelled}
+use Rattle.justfile_model.proofs.Printed.PrintedItems.{AllPrintAgain, normal_again, rewritten_means, rewritten_texts, rewritten_unbroken, rewritten_undocumented, shape_again}
+use Rattle.justfile_model.proofs.Printed.PrintedLiterals.{texts_are_there, texts_of, texts_cook}
+use Rattle.justfile_model.proofs.Lexing.Spelled.{lexed_spelled}
 use Rattle.justfile_round_trip.proofs.Canon.{Shown}
 use Rattle.justfile_round_trip.proofs.Items.CanonItems.{text_on, marks, text_is}
 use Rattle.justfile_round_trip.proofs.Items.CountedItems.{documented_weight, normal_weight, shape_weight, undocumented_times, written_docs_weight}

@@ -3,10 +3,10 @@ use Rattle.std.proofs.Common.{◌≡◌, ℕ, Bool, true, false, cond, ◌∷◌
 use Rattle.std.specs.Prelude.{◌&&◌}
 use Rattle.justfile_vocabulary.specs.declared.token_kind.TokenKind.{TokenKind}
 use Rattle.justfile_vocabulary.specs.declared.token_kind.TokenKind.TheVariants as kinds
-use Rattle.justfile_model.specs.Expressions as g
-use Rattle.justfile_model.specs.Expressions.{Tokens, NotNext, NotJoined, Expression, Disjunct, Compared, Conjunct, Conditional, Value, ends_open}
-use Rattle.justfile_model.specs.SignificantTokens.{SignificantToken}
-use Rattle.justfile_model.specs.Tree.{lexeme, nothing}
+use Rattle.justfile_model.specs.Grammars.Expressions as g
+use Rattle.justfile_model.specs.Grammars.Expressions.{Tokens, NotNext, NotJoined, Expression, Disjunct, Compared, Conjunct, Conditional, Value, ends_open}
+use Rattle.justfile_model.specs.Lexing.SignificantTokens.{SignificantToken}
+use Rattle.justfile_model.specs.Trees.Tree.{lexeme, nothing}
 use Rattle.justfile_round_trip.proofs.Back.{StopE, glued_string, is_string, next_head, word_head}
 use Rattle.justfile_round_trip.proofs.Canon as canon
 use Rattle.justfile_round_trip.proofs.Canon.{Shown}

@@ -3,27 +3,27 @@ use Rattle.std.proofs.Common.{◌≡◌, ℕ, Bool, true, false, ◌&&◌, List,
 use Rattle.std.specs.Str.{trim_end}
 use Rattle.std.proofs.lemmas.Bool.{and_parts}
 use Rattle.justfile_vocabulary.specs.declared.token_kind.TokenKind.TheVariants as kinds
-use Rattle.justfile_model.specs.SignificantTokens.{SignificantToken}
-use Rattle.justfile_model.specs.Tree as tree
-use Rattle.justfile_model.specs.AttributeLines as attribute
-use Rattle.justfile_model.specs.AttributeLines.{AttributeLines}
-use Rattle.justfile_model.specs.AttributeRules.{attributes_broken, of_some}
-use Rattle.justfile_model.specs.Conditions.{VersionNumbers}
-use Rattle.justfile_model.specs.ConstructRules.{construct_broken, form_broken, meaning_broken}
-use Rattle.justfile_model.specs.Features.{ConstructFeatures}
-use Rattle.justfile_model.specs.Headers as header
-use Rattle.justfile_model.specs.Headers.{HeaderOf}
-use Rattle.justfile_model.specs.Meaning.{entries_of}
-use Rattle.justfile_model.specs.RecipeRules.{header_broken}
-use Rattle.justfile_model.specs.LeafView.{LeafView}
-use Rattle.justfile_model.specs.Tree.{Shape, WrittenShape, assignment_of, bare_recipe, lexeme, nothing, trimmed}
-use Rattle.justfile_model.specs.Grammar as g
-use Rattle.justfile_model.specs.Expressions.{IsKind, BelowLimit, Expression}
-use Rattle.justfile_model.specs.Grammar.{BeforeBody, NotEmpty, OnLine, Items, ItemRest, LineEnd, File}
-use Rattle.justfile_model.specs.Files.{broken, item_broken, to_lexemes}
-use Rattle.justfile_model.specs.NormalShape.{after_newline, normal_rest, normal}
-use Rattle.justfile_model.specs.Printing.{printable_body, printable_content, printable}
-use Rattle.justfile_model.proofs.Binds.{nothing_in}
+use Rattle.justfile_model.specs.Lexing.SignificantTokens.{SignificantToken}
+use Rattle.justfile_model.specs.Trees.Tree as tree
+use Rattle.justfile_model.specs.Grammars.AttributeLines as attribute
+use Rattle.justfile_model.specs.Grammars.AttributeLines.{AttributeLines}
+use Rattle.justfile_model.specs.Meanings.AttributeRules.{attributes_broken, of_some}
+use Rattle.justfile_model.specs.Grammars.Conditions.{VersionNumbers}
+use Rattle.justfile_model.specs.Meanings.ConstructRules.{construct_broken, form_broken, meaning_broken}
+use Rattle.justfile_model.specs.Grammars.Features.{ConstructFeatures}
+use Rattle.justfile_model.specs.Grammars.Headers as header
+use Rattle.justfile_model.specs.Grammars.Headers.{HeaderOf}
+use Rattle.justfile_model.specs.Meanings.Meaning.{entries_of}
+use Rattle.justfile_model.specs.Meanings.RecipeRules.{header_broken}
+use Rattle.justfile_model.specs.Trees.LeafView.{LeafView}
+use Rattle.justfile_model.specs.Trees.Tree.{Shape, WrittenShape, assignment_of, bare_recipe, lexeme, nothing, trimmed}
+use Rattle.justfile_model.specs.Grammars.Grammar as g
+use Rattle.justfile_model.specs.Grammars.Expressions.{IsKind, BelowLimit, Expression}
+use Rattle.justfile_model.specs.Grammars.Grammar.{BeforeBody, NotEmpty, OnLine, Items, ItemRest, LineEnd, File}
+use Rattle.justfile_model.specs.Grammars.Files.{broken, item_broken, to_lexemes}
+use Rattle.justfile_model.specs.Printed.NormalShape.{after_newline, normal_rest, normal}
+use Rattle.justfile_model.specs.Printed.Printing.{printable_body, printable_content, printable}
+use Rattle.justfile_model.proofs.Lists.Binds.{nothing_in}
 use Rattle.justfile_round_trip.proofs.Canon.{Shown, Value, Fragment, Row, ShapeContent}
 use Rattle.justfile_round_trip.proofs.Attributes.CanonAttributes.{Written, ShapeEntry}
 use Rattle.justfile_round_trip.proofs.Headers.CanonHeaders.{ShapeHeader}

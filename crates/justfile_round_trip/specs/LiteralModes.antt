@@ -2,8 +2,8 @@
 use Rattle.std.specs.Prelude.{ℕ, Bool, true, not, ◌&&◌, List, [], ◌∷◌}
 use Rattle.justfile_token.specs.declared.string_kind.StringKind.{StringKind}
 use Rattle.justfile_model.specs.declared.raw_text.RawText.TheVariants.{Literal}
-use Rattle.justfile_model.specs.Bytes.{is_interpolation_start}
-use Rattle.justfile_model.specs.LiteralText.{pieces_len, hides}
+use Rattle.justfile_model.specs.Lexing.Bytes.{is_interpolation_start}
+use Rattle.justfile_model.specs.Lexing.LiteralText.{pieces_len, hides}
 
 -- The number of bytes before the first `{{` that isn't hidden, or the length of the text if there is none. A `{{{{` hides the braces in it.
 -- In double quotes a backslash hides the brace after it, or all four.

@@ -1,11 +1,11 @@
 -- The depth limit that a text needs.
 use Rattle.std.specs.Prelude.{ℕ, List}
 use Rattle.std.specs.Str.{IsUtf8}
-use Rattle.justfile_model.specs.Conditions.{Conditions}
-use Rattle.justfile_model.specs.Lexed.{Lexed}
-use Rattle.justfile_model.specs.Need.{IsNeed}
-use Rattle.justfile_model.specs.SignificantTokens.{significant_tokens}
-use Rattle.justfile_model.specs.Tok.{Tok}
+use Rattle.justfile_model.specs.Grammars.Conditions.{Conditions}
+use Rattle.justfile_model.specs.Lexing.Lexed.{Lexed}
+use Rattle.justfile_model.specs.Grammars.Need.{IsNeed}
+use Rattle.justfile_model.specs.Lexing.SignificantTokens.{significant_tokens}
+use Rattle.justfile_model.specs.Lexing.Tok.{Tok}
 
 -- The need of a text is the need of its tokens.
 pub record TextNeeds (conditions : Conditions) (source : List ℕ) (need : ℕ) : Type 0 where

@@ -2,18 +2,18 @@
 use Rattle.std.specs.Prelude.{◌≡◌, ℕ, ◌+◌, List, [], ◌∷◌, map, if◌then◌else◌}
 use denote.Enum.Bare.{sameb}
 use Rattle.std.specs.Str.{IsUtf8}
-use Rattle.justfile_model.specs.Tok.{Tok}
-use Rattle.justfile_model.specs.Lexed.{Lexed}
-use Rattle.justfile_model.specs.SignificantTokens.{significant_tokens}
+use Rattle.justfile_model.specs.Lexing.Tok.{Tok}
+use Rattle.justfile_model.specs.Lexing.Lexed.{Lexed}
+use Rattle.justfile_model.specs.Lexing.SignificantTokens.{significant_tokens}
 use Rattle.justfile_vocabulary.specs.contracts.list_feature.ListFeature.{the_type}
 use Rattle.justfile_vocabulary.specs.declared.list_feature.ListFeature.{ListFeature}
-use Rattle.justfile_model.specs.Tree.{Tree, Shape, lexeme, shape_of}
-use Rattle.justfile_model.specs.Features.{Noted}
-use Rattle.justfile_model.specs.NormalShape.{normal}
-use Rattle.justfile_model.specs.Printing.{text}
-use Rattle.justfile_model.specs.Conditions.{Conditions}
-use Rattle.justfile_model.specs.Literals.{over_literal, AreCookedTexts}
-use Rattle.justfile_model.specs.Files.{FileDerives, literals, bindings, recipes}
+use Rattle.justfile_model.specs.Trees.Tree.{Tree, Shape, lexeme, shape_of}
+use Rattle.justfile_model.specs.Grammars.Features.{Noted}
+use Rattle.justfile_model.specs.Printed.NormalShape.{normal}
+use Rattle.justfile_model.specs.Printed.Printing.{text}
+use Rattle.justfile_model.specs.Grammars.Conditions.{Conditions}
+use Rattle.justfile_model.specs.LiteralTexts.Literals.{over_literal, AreCookedTexts}
+use Rattle.justfile_model.specs.Grammars.Files.{FileDerives, literals, bindings, recipes}
 
 -- The text derives the tree with these features under the conditions.
 pub record TextDerives (conditions : Conditions) (source : List ℕ) (tree : Tree) (features : List (Noted Tok)) : Type 0 where

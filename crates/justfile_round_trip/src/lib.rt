@@ -7,16 +7,16 @@ ghost use Rattle.justfile_vocabulary.specs.Indentation.{IsIndentation};
 ghost use Rattle.justfile_token.specs.declared.string_kind.StringKind.{StringKind};
 ghost use Rattle.justfile_vocabulary.specs.declared.token_kind.TokenKind.TheVariants.{StringToken};
 ghost use Rattle.justfile_token.specs.StringKind.{is_quote};
-ghost use Rattle.justfile_model.specs.Bytes.{is_interpolation_start};
-ghost use Rattle.justfile_model.specs.Conditions.{Conditions, with_limit};
-ghost use Rattle.justfile_model.specs.Features.{Noted};
-ghost use Rattle.justfile_model.specs.LiteralText.{raw_len};
-ghost use Rattle.justfile_model.specs.Modes.{Mode};
-ghost use Rattle.justfile_model.specs.Next.{literal_token};
-ghost use Rattle.justfile_model.specs.NormalShape.{normal};
-ghost use Rattle.justfile_model.specs.Printing.{printable};
-ghost use Rattle.justfile_model.specs.Tok.{Tok};
-ghost use Rattle.justfile_model.specs.Tree.{Tree, Shape, shape_of};
+ghost use Rattle.justfile_model.specs.Lexing.Bytes.{is_interpolation_start};
+ghost use Rattle.justfile_model.specs.Grammars.Conditions.{Conditions, with_limit};
+ghost use Rattle.justfile_model.specs.Grammars.Features.{Noted};
+ghost use Rattle.justfile_model.specs.Lexing.LiteralText.{raw_len};
+ghost use Rattle.justfile_model.specs.Lexing.Modes.{Mode};
+ghost use Rattle.justfile_model.specs.Lexing.Next.{literal_token};
+ghost use Rattle.justfile_model.specs.Printed.NormalShape.{normal};
+ghost use Rattle.justfile_model.specs.Printed.Printing.{printable};
+ghost use Rattle.justfile_model.specs.Lexing.Tok.{Tok};
+ghost use Rattle.justfile_model.specs.Trees.Tree.{Tree, Shape, shape_of};
 ghost use Rattle.justfile_model.specs.declared.raw_text.RawText.TheVariants.{Literal};
 ghost use Rattle.justfile_round_trip.specs.LiteralModes.{before_start, has_no_start};
 ghost use Rattle.justfile_round_trip.specs.Need.{TextNeeds};
@@ -36,7 +36,7 @@ pub fn reads_back()
         (printed (shape_of tree) indentation) }
     ensures alike { (shape other : Shape) (indentation : List ℕ) → normal shape ≡ normal other
         → printed shape indentation ≡ printed other indentation }
-    ensures apart { (conditions : Conditions) (limit : ℕ) (source other : List ℕ) (tree twin : Tree)
+    ensures injective { (conditions : Conditions) (limit : ℕ) (source other : List ℕ) (tree twin : Tree)
         (features others : List (Noted Tok))
         (indentation : List ℕ) → IsIndentation indentation
         → TextDerives conditions source tree features

@@ -2,9 +2,9 @@
 use Rattle.std.proofs.Common.{◌≡◌, ◌∙◌, ℕ, Bool, true, false, List, [], ◌∷◌, ◌++◌, codes, refl, sym, ap, append_assoc, append-nil, if◌then◌else◌}
 use Rattle.justfile_token.specs.StringLiteral.{format_mark}
 use Rattle.justfile_token.specs.Token.{lexeme_of}
-use Rattle.justfile_model.specs.Printing.{exprs_text, fixed_text, mark_text}
-use Rattle.justfile_model.specs.Tree as tree
-use Rattle.justfile_model.specs.Tree.{lexeme, nothing, over_exprs, over_setting_value}
+use Rattle.justfile_model.specs.Printed.Printing.{exprs_text, fixed_text, mark_text}
+use Rattle.justfile_model.specs.Trees.Tree as tree
+use Rattle.justfile_model.specs.Trees.Tree.{lexeme, nothing, over_exprs, over_setting_value}
 use Rattle.justfile_expression.specs.Expression.{exprs_of}
 use Rattle.justfile_expression.specs.Text.{text_of}
 use Rattle.justfile_expression.specs.declared.expression.Expression.{Expression}

@@ -12,8 +12,8 @@ use Rattle.justfile_vocabulary.specs.NumberText.{HasNoDot, IsNumberText}
 use Rattle.justfile_vocabulary.specs.Version.{IsVersionText}
 use Rattle.justfile_vocabulary.specs.contracts.version.VersionPartialOrd.TheImpl as orders
 use Rattle.justfile_vocabulary.specs.declared.version.Version.{Version}
-use Rattle.justfile_model.specs.Conditions.{VersionNumbers}
-use Rattle.justfile_model.specs.Versions.{between_dots, byte_before, is_above, is_number, version_in, version_numbers, version_of}
+use Rattle.justfile_model.specs.Grammars.Conditions.{VersionNumbers}
+use Rattle.justfile_model.specs.Meanings.Versions.{between_dots, byte_before, is_above, is_number, version_in, version_numbers, version_of}
 
 -- ---- numbers
 

@@ -1,5 +1,5 @@
 -- The forms of settings as the definitions name them.
-use Rattle.justfile_model.specs.Settings as forms
+use Rattle.justfile_model.specs.Grammars.Settings as forms
 use Rattle.justfile_setting.specs.declared.form.SettingForm.{SettingForm}
 use Rattle.justfile_setting.specs.declared.form.SettingForm.TheVariants as cases
 

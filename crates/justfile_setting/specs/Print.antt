@@ -3,9 +3,9 @@ use Rattle.std.specs.Prelude.{ℕ, Bool, true, false, List, ◌++◌, codes}
 use Rattle.std.specs.List.{flat_map}
 use Rattle.justfile_attribute.specs.declared.interpreter.Interpreter.{Interpreter}
 use Rattle.justfile_token.specs.StringLiteral.{literal_text}
-use Rattle.justfile_model.specs.Printing.{expr_text, exprs_text, fixed_text}
-use Rattle.justfile_model.specs.Tree as tree
-use Rattle.justfile_model.specs.Tree.{SettingValue, more}
+use Rattle.justfile_model.specs.Printed.Printing.{expr_text, exprs_text, fixed_text}
+use Rattle.justfile_model.specs.Trees.Tree as tree
+use Rattle.justfile_model.specs.Trees.Tree.{SettingValue, more}
 use Rattle.justfile_expression.specs.Text.{text_of}
 use Rattle.justfile_expression.specs.declared.expression.Expression.{Expression}
 use Rattle.justfile_setting.specs.Setting.{value_shape}

@@ -7,9 +7,9 @@ use Rattle.justfile_vocabulary.specs.Indentation.{indentation_text}
 use Rattle.justfile_vocabulary.specs.declared.keyword.Keyword.{Keyword}
 use Rattle.justfile_vocabulary.specs.declared.keyword.Keyword.TheVariants as words
 use Rattle.justfile_token.specs.declared.string_literal.StringLiteral.{StringLiteral}
-use Rattle.justfile_model.specs.Tok.{Tok}
-use Rattle.justfile_model.specs.Tree as tree
-use Rattle.justfile_model.specs.Tree.{Expr, Exprs, SettingValue, lexeme, nothing, over_setting_value}
+use Rattle.justfile_model.specs.Lexing.Tok.{Tok}
+use Rattle.justfile_model.specs.Trees.Tree as tree
+use Rattle.justfile_model.specs.Trees.Tree.{Expr, Exprs, SettingValue, lexeme, nothing, over_setting_value}
 use Rattle.justfile_expression.specs.Expression.{expr_of, exprs_of, expr_cooked, literal_tok}
 use Rattle.justfile_expression.specs.declared.expression.Expression.{Expression}
 use Rattle.justfile_setting.specs.declared.setting.Setting.{Setting}
@@ -114,12 +114,57 @@ setting_cooked (settings.Shell interpreter) = interpreter_cooked interpreter
 setting_cooked (settings.Tempdir value) = expr_cooked value.value
 setting_cooked (settings.WindowsShell interpreter) = interpreter_cooked interpreter
 setting_cooked (settings.WorkingDirectory value) = expr_cooked value.value
-setting_cooked _ = []
+setting_cooked (settings.AllowDuplicateRecipes value) = []
+setting_cooked (settings.AllowDuplicateVariables value) = []
+setting_cooked (settings.DefaultList value) = []
+setting_cooked (settings.DefaultScript value) = []
+setting_cooked (settings.DotenvLoad value) = []
+setting_cooked (settings.DotenvOverride value) = []
+setting_cooked (settings.DotenvRequired value) = []
+setting_cooked (settings.Export value) = []
+setting_cooked (settings.Fallback value) = []
+setting_cooked (settings.Guards value) = []
+setting_cooked (settings.IgnoreComments value) = []
+setting_cooked (settings.Lazy value) = []
+setting_cooked (settings.Lists value) = []
+setting_cooked (settings.NoCd value) = []
+setting_cooked (settings.NoExitMessage value) = []
+setting_cooked (settings.PositionalArguments value) = []
+setting_cooked (settings.Quiet value) = []
+setting_cooked (settings.Unstable value) = []
+setting_cooked (settings.WindowsPowerShell value) = []
 
 -- the derived fields of a setting are right: an indentation is the text of its literal
 abbrev pub HasDerivedSettingFields : Setting → Type 0
 HasDerivedSettingFields (settings.Indentation literal indentation) = indentation_text indentation ≡ string_bytes literal.cooked
-HasDerivedSettingFields _ = Unit {0}
+HasDerivedSettingFields (settings.AllowDuplicateRecipes value) = Unit {0}
+HasDerivedSettingFields (settings.AllowDuplicateVariables value) = Unit {0}
+HasDerivedSettingFields (settings.DefaultList value) = Unit {0}
+HasDerivedSettingFields (settings.DefaultScript value) = Unit {0}
+HasDerivedSettingFields (settings.DotenvCommand value) = Unit {0}
+HasDerivedSettingFields (settings.DotenvFilename value) = Unit {0}
+HasDerivedSettingFields (settings.DotenvLoad value) = Unit {0}
+HasDerivedSettingFields (settings.DotenvOverride value) = Unit {0}
+HasDerivedSettingFields (settings.DotenvPath value) = Unit {0}
+HasDerivedSettingFields (settings.DotenvRequired value) = Unit {0}
+HasDerivedSettingFields (settings.Export value) = Unit {0}
+HasDerivedSettingFields (settings.Fallback value) = Unit {0}
+HasDerivedSettingFields (settings.Guards value) = Unit {0}
+HasDerivedSettingFields (settings.IgnoreComments value) = Unit {0}
+HasDerivedSettingFields (settings.Lazy value) = Unit {0}
+HasDerivedSettingFields (settings.Lists value) = Unit {0}
+HasDerivedSettingFields (settings.MinimumVersion literal) = Unit {0}
+HasDerivedSettingFields (settings.NoCd value) = Unit {0}
+HasDerivedSettingFields (settings.NoExitMessage value) = Unit {0}
+HasDerivedSettingFields (settings.PositionalArguments value) = Unit {0}
+HasDerivedSettingFields (settings.Quiet value) = Unit {0}
+HasDerivedSettingFields (settings.ScriptInterpreter interpreter) = Unit {0}
+HasDerivedSettingFields (settings.Shell interpreter) = Unit {0}
+HasDerivedSettingFields (settings.Tempdir value) = Unit {0}
+HasDerivedSettingFields (settings.Unstable value) = Unit {0}
+HasDerivedSettingFields (settings.WindowsPowerShell value) = Unit {0}
+HasDerivedSettingFields (settings.WindowsShell interpreter) = Unit {0}
+HasDerivedSettingFields (settings.WorkingDirectory value) = Unit {0}
 
 -- a value that may be left out: `true`
 abbrev pub is_default : {A B : Type 0} → SettingValue A B → Bool

@@ -1,9 +1,9 @@
 -- The views of the code's value of a setting.
 use Rattle.justfile_token.specs.declared.token.Token.{Token}
 use Rattle.justfile_attribute.specs.Attribute.{literal_leaf}
-use Rattle.justfile_model.specs.Tok.{Tok}
-use Rattle.justfile_model.specs.Tree as tree
-use Rattle.justfile_model.specs.Tree.{SettingValue}
+use Rattle.justfile_model.specs.Lexing.Tok.{Tok}
+use Rattle.justfile_model.specs.Trees.Tree as tree
+use Rattle.justfile_model.specs.Trees.Tree.{SettingValue}
 use Rattle.justfile_expression.specs.Expression.{expr_of, exprs_of, literal_tok}
 use Rattle.justfile_expression.specs.LeafTree.{Leaf, leaf_tree_of, trees_of}
 use Rattle.justfile_setting.specs.declared.value.Value.{Value}

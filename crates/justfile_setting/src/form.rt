@@ -1,8 +1,8 @@
 //! The forms of settings, and settings from keywords and values.
 ghost use Rattle.std.specs.Prelude.{◌≡◌, Some};
 ghost use Rattle.std.specs.Option.{option_map};
-ghost use Rattle.justfile_model.specs.Settings as forms;
-ghost use Rattle.justfile_model.specs.Tree as tree;
+ghost use Rattle.justfile_model.specs.Grammars.Settings as forms;
+ghost use Rattle.justfile_model.specs.Trees.Tree as tree;
 ghost use Rattle.justfile_setting.specs.Form.{form_of};
 ghost use Rattle.justfile_setting.specs.LeafSetting.{leaf_value_of};
 ghost use Rattle.justfile_setting.specs.Setting.{keyword_of, HasDerivedSettingFields};

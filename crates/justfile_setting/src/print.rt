@@ -1,7 +1,7 @@
 //! Printing of settings.
 ghost use Rattle.std.specs.Prelude.{◌≡◌, ◌++◌, codes};
 ghost use Rattle.std.specs.List.{flat_map};
-ghost use Rattle.justfile_model.specs.Printing.{fixed_text};
+ghost use Rattle.justfile_model.specs.Printed.Printing.{fixed_text};
 ghost use Rattle.justfile_token.specs.Sink.{Puts};
 ghost use Rattle.justfile_setting.specs.Print.{interpreter_text, later_texts, setting_output, truth_text, value_text_of};
 ghost use Rattle.justfile_expression.specs.Text.{text_of};

@@ -2,9 +2,9 @@
 use Rattle.std.proofs.Common.{ℕ, Bool, List, [], ◌∷◌, Option, Some, None, refl, codes}
 use Rattle.std.specs.Str.{IsUtf8}
 use Rattle.std.proofs.lemmas.Str.{IsUtf8-append}
-use Rattle.justfile_model.specs.AttributeKinds.{name_takes_keys}
-use Rattle.justfile_model.specs.PrintedAttributes.{rewritten_entries}
-use Rattle.justfile_model.specs.Tree.{Positional, Bare, Keyed}
+use Rattle.justfile_model.specs.Meanings.AttributeKinds.{name_takes_keys}
+use Rattle.justfile_model.specs.Printed.PrintedAttributes.{rewritten_entries}
+use Rattle.justfile_model.specs.Trees.Tree.{Positional, Bare, Keyed}
 use Rattle.justfile_round_trip.proofs.Attributes.CanonAttributes.{Argument, Written, ShapeEntry, argument_on, other_arguments_on, parenthesized_on, comment_on, attributes_on, entries_on}
 use Rattle.justfile_round_trip.proofs.Good.{GoodOptionalComment}
 use Rattle.justfile_round_trip.proofs.Attributes.GoodAttributes.{GoodArgument, GoodArguments, AllGoodWritten, GoodEntries}

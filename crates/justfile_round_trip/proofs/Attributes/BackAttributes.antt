@@ -1,19 +1,19 @@
 -- The printer's tokens for good attributes derive them.
 use Rattle.std.proofs.Common.{◌≡◌, ℕ, Bool, true, false, List, [], ◌∷◌, ◌++◌, Option, Some, None, refl, sym, subst, ◌∙◌, cond}
 use Rattle.justfile_vocabulary.specs.declared.token_kind.TokenKind.TheVariants as kinds
-use Rattle.justfile_model.specs.AttributeKinds.{name_takes_keys}
-use Rattle.justfile_model.specs.AttributeLines as g
-use Rattle.justfile_model.specs.AttributeLines.{IsKey, ArgumentOf, Arguments, AttributeOf, AttributesEnd, AttributeLines}
-use Rattle.justfile_model.specs.Expressions.{Tokens, IsKind, NotNext, BelowLimit, Expression}
-use Rattle.justfile_model.specs.SignificantTokens.{SignificantToken, is_whitespace}
-use Rattle.justfile_model.specs.Tree as tree
-use Rattle.justfile_model.specs.Tree.{bare_attribute, commented_line, lexeme, nothing}
+use Rattle.justfile_model.specs.Meanings.AttributeKinds.{name_takes_keys}
+use Rattle.justfile_model.specs.Grammars.AttributeLines as g
+use Rattle.justfile_model.specs.Grammars.AttributeLines.{IsKey, ArgumentOf, Arguments, AttributeOf, AttributesEnd, AttributeLines}
+use Rattle.justfile_model.specs.Grammars.Expressions.{Tokens, IsKind, NotNext, BelowLimit, Expression}
+use Rattle.justfile_model.specs.Lexing.SignificantTokens.{SignificantToken, is_whitespace}
+use Rattle.justfile_model.specs.Trees.Tree as tree
+use Rattle.justfile_model.specs.Trees.Tree.{bare_attribute, commented_line, lexeme, nothing}
 use Rattle.justfile_round_trip.proofs.LiteralTexts.LexedModes.{Mark, placed}
 use Rattle.justfile_round_trip.proofs.Back.{none_but_closing}
 use Rattle.justfile_round_trip.proofs.Canon as canon
 use Rattle.justfile_round_trip.proofs.Canon.{Shown, word, paren_right, newline, expr_marks}
 use Rattle.justfile_round_trip.proofs.Attributes.CanonAttributes.{Argument, Written, ShapeEntry, bracket_right, argument_marks, other_arguments_marks, parenthesized_marks, comment_marks, attributes_marks, entries_marks}
-use Rattle.justfile_model.specs.PrintedAttributes.{rewritten_entries}
+use Rattle.justfile_model.specs.Printed.PrintedAttributes.{rewritten_entries}
 use Rattle.justfile_round_trip.proofs.Good.{significant, ends_value, GoodOptionalComment}
 use Rattle.justfile_round_trip.proofs.Attributes.GoodAttributes.{is_literal, GoodArgument, GoodArguments, AllGoodWritten, GoodEntries}
 

@@ -2,10 +2,10 @@
 use Rattle.std.proofs.Common.{◌≡◌, ℕ, List, [], ◌∷◌, ◌++◌, Option, Some, None, refl, ap, ◌∙◌, append_assoc, codes}
 use Rattle.std.specs.List.{flat_map}
 use Rattle.justfile_vocabulary.specs.declared.token_kind.TokenKind.TheVariants as kinds
-use Rattle.justfile_model.specs.Tree as tree
-use Rattle.justfile_model.specs.Tree.{WrittenAttribute, Positional, Bare, Keyed, Entry}
-use Rattle.justfile_model.specs.Printing.{comment_text, fixed_text, expr_text, argument_text, arguments_text, parenthesized_arguments, attribute_arguments, entry_text, entries_text}
-use Rattle.justfile_model.specs.PrintedAttributes.{rewritten_entry, rewritten_entries}
+use Rattle.justfile_model.specs.Trees.Tree as tree
+use Rattle.justfile_model.specs.Trees.Tree.{WrittenAttribute, Positional, Bare, Keyed, Entry}
+use Rattle.justfile_model.specs.Printed.Printing.{comment_text, fixed_text, expr_text, argument_text, arguments_text, parenthesized_arguments, attribute_arguments, entry_text, entries_text}
+use Rattle.justfile_model.specs.Printed.PrintedAttributes.{rewritten_entry, rewritten_entries}
 use Rattle.justfile_round_trip.proofs.LiteralTexts.LexedModes.{Mark, mark}
 use Rattle.justfile_round_trip.proofs.Canon.{newline, word, paren_left, paren_right, comma, space, expr_on, expr_marks, expr_is, then}
 

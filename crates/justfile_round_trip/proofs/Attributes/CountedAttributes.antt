@@ -8,17 +8,17 @@ use Rattle.std.proofs.lemmas.Bool.{or_parts}
 use Rattle.justfile_vocabulary.specs.AttributeKind.{kind_named}
 use Rattle.justfile_vocabulary.specs.declared.attribute_kind.AttributeKind.{AttributeKind}
 use Rattle.justfile_vocabulary.specs.declared.attribute_kind.AttributeKind.TheVariants as kinds
-use Rattle.justfile_model.specs.AttributeKinds.{known_keys, takes_expressions, least_count, most_count}
-use Rattle.justfile_model.specs.AttributeRules.{has_more, count_broken, repeats_broken, unknown_broken, arguments_broken, known_broken, named_broken, attribute_broken, duplicates_broken, attributes_broken}
-use Rattle.justfile_model.specs.ContentKeys.{entry_cmp}
-use Rattle.justfile_model.specs.Literals.{Expansions}
-use Rattle.justfile_model.specs.Meaning.{all_of, of_given, quoted, Placed, by_position, by_key, at_key, property_of, value_of, bare_of, option_named, option_at, bound_of, rules_of, single_of, texts_of, env_of, signal_of, signal_set, of_expressions, of_literals, by_takes, attribute_of, entry_of, entries_of}
-use Rattle.justfile_model.specs.Order.{placed, in_order}
-use Rattle.justfile_model.specs.LeafView.{LeafView, views_lexemes}
-use Rattle.justfile_model.specs.Tree as tree
-use Rattle.justfile_model.specs.Tree.{Quoted, OptionName, Property, Bound, ArgumentRules, Attribute}
-use Rattle.justfile_model.proofs.Binds.{some_back, never_some, bind_back, nothing_in}
-use Rattle.justfile_model.proofs.MeaningParts.{arg_meaning}
+use Rattle.justfile_model.specs.Meanings.AttributeKinds.{known_keys, takes_expressions, least_count, most_count}
+use Rattle.justfile_model.specs.Meanings.AttributeRules.{has_more, count_broken, repeats_broken, unknown_broken, arguments_broken, known_broken, named_broken, attribute_broken, duplicates_broken, attributes_broken}
+use Rattle.justfile_model.specs.Trees.ContentKeys.{entry_cmp}
+use Rattle.justfile_model.specs.LiteralTexts.Literals.{Expansions}
+use Rattle.justfile_model.specs.Meanings.Meaning.{all_of, of_given, quoted, Placed, by_position, by_key, at_key, property_of, value_of, bare_of, option_named, option_at, bound_of, rules_of, single_of, texts_of, env_of, signal_of, signal_set, of_expressions, of_literals, by_takes, attribute_of, entry_of, entries_of}
+use Rattle.justfile_model.specs.Lists.Order.{placed, in_order}
+use Rattle.justfile_model.specs.Trees.LeafView.{LeafView, views_lexemes}
+use Rattle.justfile_model.specs.Trees.Tree as tree
+use Rattle.justfile_model.specs.Trees.Tree.{Quoted, OptionName, Property, Bound, ArgumentRules, Attribute}
+use Rattle.justfile_model.proofs.Lists.Binds.{some_back, never_some, bind_back, nothing_in}
+use Rattle.justfile_model.proofs.Meanings.MeaningParts.{arg_meaning}
 use Rattle.justfile_round_trip.proofs.Canon.{Value}
 use Rattle.justfile_round_trip.proofs.Attributes.CanonAttributes.{Argument, Written, ShapeEntry}
 use Rattle.justfile_round_trip.proofs.Attributes.CountedKeys as counted

@@ -7,13 +7,13 @@ use Rattle.std.proofs.lemmas.Bool.{or_parts}
 use Rattle.std.proofs.lemmas.Slice.Eq.{bytes_eq-Decides}
 use Rattle.justfile_vocabulary.specs.declared.attribute_kind.AttributeKind.{AttributeKind}
 use Rattle.justfile_vocabulary.specs.declared.attribute_kind.AttributeKind.TheVariants as kinds
-use Rattle.justfile_model.specs.AttributeKinds.{known_keys}
-use Rattle.justfile_model.specs.AttributeRules.{of_some, least, repeats_broken, is_known, unknown_broken}
-use Rattle.justfile_model.specs.Literals.{Expansions}
-use Rattle.justfile_model.specs.Meaning.{KeyArgument, at_key}
-use Rattle.justfile_model.specs.Rules.{Broken}
-use Rattle.justfile_model.specs.LeafView.{LeafView, views_lexemes}
-use Rattle.justfile_model.proofs.Binds.{never_nil, nothing_in}
+use Rattle.justfile_model.specs.Meanings.AttributeKinds.{known_keys}
+use Rattle.justfile_model.specs.Meanings.AttributeRules.{of_some, least, repeats_broken, is_known, unknown_broken}
+use Rattle.justfile_model.specs.LiteralTexts.Literals.{Expansions}
+use Rattle.justfile_model.specs.Meanings.Meaning.{KeyArgument, at_key}
+use Rattle.justfile_model.specs.Meanings.Rules.{Broken}
+use Rattle.justfile_model.specs.Trees.LeafView.{LeafView, views_lexemes}
+use Rattle.justfile_model.proofs.Lists.Binds.{never_nil, nothing_in}
 use Rattle.justfile_round_trip.proofs.Canon.{Value}
 
 -- a key of a shape

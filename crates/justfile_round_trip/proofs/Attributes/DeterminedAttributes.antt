@@ -1,12 +1,12 @@
 -- The features of attributes are determined by the attributes.
 use Rattle.std.proofs.Common.{◌≡◌, ℕ, Bool, false, List, [], ◌∷◌, ◌++◌, Option, Some, None, refl, sym, ap, ◌∙◌, append_assoc}
 use Rattle.std.proofs.lemmas.List.{append-nil}
-use Rattle.justfile_model.specs.AttributeLines as g
-use Rattle.justfile_model.specs.AttributeLines.{ArgumentOf, Arguments, AttributeOf, Bracketed, AttributeLines}
-use Rattle.justfile_model.specs.Expressions.{Tokens}
-use Rattle.justfile_model.specs.PrintedAttributes.{rewritten_entries}
-use Rattle.justfile_model.specs.SignificantTokens.{SignificantToken}
-use Rattle.justfile_model.specs.Tree.{Positional, Bare, Keyed, at_last, commented_attribute, commented_line, lexeme, nothing}
+use Rattle.justfile_model.specs.Grammars.AttributeLines as g
+use Rattle.justfile_model.specs.Grammars.AttributeLines.{ArgumentOf, Arguments, AttributeOf, Bracketed, AttributeLines}
+use Rattle.justfile_model.specs.Grammars.Expressions.{Tokens}
+use Rattle.justfile_model.specs.Printed.PrintedAttributes.{rewritten_entries}
+use Rattle.justfile_model.specs.Lexing.SignificantTokens.{SignificantToken}
+use Rattle.justfile_model.specs.Trees.Tree.{Positional, Bare, Keyed, at_last, commented_attribute, commented_line, lexeme, nothing}
 use Rattle.justfile_round_trip.proofs.Canon.{Shown}
 use Rattle.justfile_round_trip.proofs.Attributes.CanonAttributes.{Argument, Written, ShapeEntry}
 use Rattle.justfile_round_trip.proofs.Determined.{value_features, of_expression}

@@ -1,8 +1,8 @@
 -- Good attributes: each name has the properties of its token, and each value derives back.
 use Rattle.std.proofs.Common.{◌≡◌, ℕ, Bool, true, false, List, [], ◌∷◌}
-use Rattle.justfile_model.specs.AttributeKinds.{name_takes_keys}
-use Rattle.justfile_model.specs.PrintedAttributes.{rewritten_entry, rewritten_entries}
-use Rattle.justfile_model.specs.Tree.{StringLiteral, Positional, Bare, Keyed}
+use Rattle.justfile_model.specs.Meanings.AttributeKinds.{name_takes_keys}
+use Rattle.justfile_model.specs.Printed.PrintedAttributes.{rewritten_entry, rewritten_entries}
+use Rattle.justfile_model.specs.Trees.Tree.{StringLiteral, Positional, Bare, Keyed}
 use Rattle.justfile_round_trip.proofs.Canon.{Value}
 use Rattle.justfile_round_trip.proofs.Attributes.CanonAttributes.{Argument, Written, ShapeEntry}
 use Rattle.justfile_round_trip.proofs.Good.{GoodName, GoodExpression, GoodOptionalComment}

@@ -4,11 +4,11 @@ use Rattle.justfile_token.specs.declared.delimiter.Delimiter.TheVariants.{Bracke
 use Rattle.justfile_vocabulary.specs.declared.token_kind.TokenKind.TheVariants.{BracketL, Comment}
 use Rattle.justfile_vocabulary.specs.ByteClass.{class_of}
 use Rattle.justfile_model.specs.declared.open_delimiter.OpenDelimiter.{OpenDelimiter}
-use Rattle.justfile_model.specs.Bytes.{blank}
-use Rattle.justfile_model.specs.Modes.{opener}
-use Rattle.justfile_model.specs.Next.{token_by_class}
-use Rattle.justfile_model.specs.Tok.{Tok}
-use Rattle.justfile_model.specs.Tree.{Positional, Bare, Keyed}
+use Rattle.justfile_model.specs.Lexing.Bytes.{blank}
+use Rattle.justfile_model.specs.Lexing.Modes.{opener}
+use Rattle.justfile_model.specs.Lexing.Next.{token_by_class}
+use Rattle.justfile_model.specs.Lexing.Tok.{Tok}
+use Rattle.justfile_model.specs.Trees.Tree.{Positional, Bare, Keyed}
 use Rattle.justfile_round_trip.proofs.LiteralTexts.LexedModes.{Mark, mark, LexesTo, step}
 use Rattle.justfile_round_trip.proofs.LiteralTexts.Inline.{head_is, joins, head_word, amid, name_step, space_step}
 use Rattle.justfile_round_trip.proofs.Fixed.{comma_step, equals_before, open_paren_step, close_paren_step, close_bracket_step}

@@ -18,16 +18,16 @@ use Rattle.justfile_vocabulary.specs.declared.byte_class.ByteClass.{ByteClass}
 use Rattle.justfile_vocabulary.specs.declared.byte_class.ByteClass.TheVariants as classes
 use Rattle.justfile_vocabulary.specs.declared.signal.Signal.{Signal}
 use Rattle.justfile_vocabulary.proofs.AttributeKindLaws.{named}
-use Rattle.justfile_model.specs.AttributeKinds.{named_takes_keys, name_takes_keys, takes_expressions}
-use Rattle.justfile_model.specs.Bytes.{in_word}
-use Rattle.justfile_model.specs.ContentKeys.{kind_of_attribute, entry_cmp}
-use Rattle.justfile_model.specs.Meaning as meaning
-use Rattle.justfile_model.specs.Meaning.{◌>>=◌, all_of, of_given, first_of, quoted, Placed, KeyArgument, by_position, by_key, count_of, signal_set, text_of, at_key, property_of, value_of, bare_of, option_named, option_at, bound_of, rules_of, single_of, texts_of, env_of, signal_of, of_expressions, of_literals, by_takes, attribute_of, entry_of, entries_of}
-use Rattle.justfile_model.specs.Order.{placed, in_order}
-use Rattle.justfile_model.specs.Printing.{fixed_text, quoted_argument, signal_argument, keyed_if, bare_if, option_argument, number_literal, rules_arguments, attribute_arguments}
-use Rattle.justfile_model.specs.LeafView.{LeafView}
-use Rattle.justfile_model.specs.Tree as tree
-use Rattle.justfile_model.specs.Tree.{Quoted, Property, Bound, OptionName, ArgumentRules, Attribute}
+use Rattle.justfile_model.specs.Meanings.AttributeKinds.{named_takes_keys, name_takes_keys, takes_expressions}
+use Rattle.justfile_model.specs.Lexing.Bytes.{in_word}
+use Rattle.justfile_model.specs.Trees.ContentKeys.{kind_of_attribute, entry_cmp}
+use Rattle.justfile_model.specs.Meanings.Meaning as meaning
+use Rattle.justfile_model.specs.Meanings.Meaning.{◌>>=◌, all_of, of_given, first_of, quoted, Placed, KeyArgument, by_position, by_key, count_of, signal_set, text_of, at_key, property_of, value_of, bare_of, option_named, option_at, bound_of, rules_of, single_of, texts_of, env_of, signal_of, of_expressions, of_literals, by_takes, attribute_of, entry_of, entries_of}
+use Rattle.justfile_model.specs.Lists.Order.{placed, in_order}
+use Rattle.justfile_model.specs.Printed.Printing.{fixed_text, quoted_argument, signal_argument, keyed_if, bare_if, option_argument, number_literal, rules_arguments, attribute_arguments}
+use Rattle.justfile_model.specs.Trees.LeafView.{LeafView}
+use Rattle.justfile_model.specs.Trees.Tree as tree
+use Rattle.justfile_model.specs.Trees.Tree.{Quoted, Property, Bound, OptionName, ArgumentRules, Attribute}
 use Rattle.justfile_round_trip.proofs.LiteralTexts.Inline.{Each, IsName}
 use Rattle.justfile_round_trip.proofs.Canon.{Value}
 use Rattle.justfile_round_trip.proofs.Attributes.CanonAttributes.{Argument, Written, ShapeEntry}

@@ -2,13 +2,13 @@
 use Rattle.std.proofs.Common.{◌≡◌, ℕ, Bool, false, List, [], ◌∷◌, ◌++◌, Option, Some, None, refl, ap, ◌∙◌}
 use Rattle.justfile_vocabulary.specs.declared.token_kind.TokenKind.{TokenKind}
 use Rattle.justfile_vocabulary.specs.declared.token_kind.TokenKind.TheVariants as kinds
-use Rattle.justfile_model.specs.AttributeLines as g
-use Rattle.justfile_model.specs.AttributeLines.{IsKey, ArgumentOf, Arguments, AttributeOf, Bracketed, AttributesEnd, AttributeLines}
-use Rattle.justfile_model.specs.Expressions.{Tokens, IsKind, BelowLimit}
-use Rattle.justfile_model.specs.Meaning.{entries_of}
-use Rattle.justfile_model.specs.LeafView.{LeafView}
-use Rattle.justfile_model.specs.SignificantTokens.{SignificantToken}
-use Rattle.justfile_model.specs.Tree.{at_last, commented_attribute, commented_line, lexeme, nothing}
+use Rattle.justfile_model.specs.Grammars.AttributeLines as g
+use Rattle.justfile_model.specs.Grammars.AttributeLines.{IsKey, ArgumentOf, Arguments, AttributeOf, Bracketed, AttributesEnd, AttributeLines}
+use Rattle.justfile_model.specs.Grammars.Expressions.{Tokens, IsKind, BelowLimit}
+use Rattle.justfile_model.specs.Meanings.Meaning.{entries_of}
+use Rattle.justfile_model.specs.Trees.LeafView.{LeafView}
+use Rattle.justfile_model.specs.Lexing.SignificantTokens.{SignificantToken}
+use Rattle.justfile_model.specs.Trees.Tree.{at_last, commented_attribute, commented_line, lexeme, nothing}
 use Rattle.justfile_round_trip.proofs.Canon.{Shown}
 use Rattle.justfile_round_trip.proofs.Attributes.CanonAttributes.{Argument, Written, ShapeEntry}
 use Rattle.justfile_round_trip.proofs.Good.{GoodComment, GoodOptionalComment}

@@ -5,13 +5,13 @@ use Rattle.std.specs.List.{flat_map}
 use Rattle.justfile_vocabulary.specs.declared.token_kind.TokenKind.TheVariants as kinds
 use Rattle.justfile_model.specs.declared.parameter_kind.ParameterKind.{ParameterKind}
 use Rattle.justfile_model.specs.declared.parameter_kind.ParameterKind.TheVariants.{Plus, Singular, Star}
-use Rattle.justfile_model.specs.Expressions.{Tokens, NotNext, BelowLimit}
-use Rattle.justfile_model.specs.Headers as g
-use Rattle.justfile_model.specs.Headers.{PathRest, PathOf, NamedParameter, ParameterOf, Parameters, DependencyArguments, DependencyOf, Dependencies, AllDependencies, NamedHeader, HeaderOf}
-use Rattle.justfile_model.specs.RecipeRules.{dependency_broken, header_broken, misplaced_broken, second_broken, stars}
-use Rattle.justfile_model.specs.SignificantTokens.{SignificantToken, is_whitespace}
-use Rattle.justfile_model.specs.Tree.{lexeme, nothing}
-use Rattle.justfile_model.proofs.Binds.{nothing_in}
+use Rattle.justfile_model.specs.Grammars.Expressions.{Tokens, NotNext, BelowLimit}
+use Rattle.justfile_model.specs.Grammars.Headers as g
+use Rattle.justfile_model.specs.Grammars.Headers.{PathRest, PathOf, NamedParameter, ParameterOf, Parameters, DependencyArguments, DependencyOf, Dependencies, AllDependencies, NamedHeader, HeaderOf}
+use Rattle.justfile_model.specs.Meanings.RecipeRules.{dependency_broken, header_broken, misplaced_broken, second_broken, stars}
+use Rattle.justfile_model.specs.Lexing.SignificantTokens.{SignificantToken, is_whitespace}
+use Rattle.justfile_model.specs.Trees.Tree.{lexeme, nothing}
+use Rattle.justfile_model.proofs.Lists.Binds.{nothing_in}
 use Rattle.justfile_round_trip.proofs.LiteralTexts.LexedModes.{Mark, placed}
 use Rattle.justfile_round_trip.proofs.Back.{StopE, glued_string, is_string, lower, none_but_closing, stop_before, ends_before, value_before, expression_back, value_back}
 use Rattle.justfile_round_trip.proofs.Canon.{Shown, colon, word, paren_right, space}

@@ -5,8 +5,8 @@ use Rattle.justfile_token.specs.Path.{path_text, separated_name}
 use Rattle.justfile_vocabulary.specs.declared.token_kind.TokenKind.TheVariants as kinds
 use Rattle.justfile_model.specs.declared.parameter_kind.ParameterKind.{ParameterKind}
 use Rattle.justfile_model.specs.declared.parameter_kind.ParameterKind.TheVariants.{Plus, Singular, Star}
-use Rattle.justfile_model.specs.Printing.{fixed_text, if_some, if_true, expr_text, prefix_text, parameter_text, dependency_argument_text, parenthesized, dependency_text, subsequents_text, header_text}
-use Rattle.justfile_model.specs.Tree as tree
+use Rattle.justfile_model.specs.Printed.Printing.{fixed_text, if_some, if_true, expr_text, prefix_text, parameter_text, dependency_argument_text, parenthesized, dependency_text, subsequents_text, header_text}
+use Rattle.justfile_model.specs.Trees.Tree as tree
 use Rattle.justfile_round_trip.proofs.LiteralTexts.LexedModes.{Mark, mark}
 use Rattle.justfile_round_trip.proofs.Canon.{Value, colon, word, paren_left, paren_right, space, expr_on, expr_marks, expr_is, then}
 use Rattle.justfile_round_trip.proofs.Attributes.CanonAttributes.{equals}

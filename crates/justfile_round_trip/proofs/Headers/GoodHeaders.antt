@@ -1,9 +1,9 @@
 -- Good headers of recipes: each lexeme has the properties of its token, and the printer's tokens derive the header.
 use Rattle.std.proofs.Common.{◌≡◌, ℕ, Bool, true, List, [], ◌∷◌, Option, Some, None}
 use Rattle.std.specs.Str.{IsUtf8}
-use Rattle.justfile_model.specs.Expressions.{BelowLimit}
-use Rattle.justfile_model.specs.Headers.{HeaderOf}
-use Rattle.justfile_model.specs.Tree.{lexeme, nothing}
+use Rattle.justfile_model.specs.Grammars.Expressions.{BelowLimit}
+use Rattle.justfile_model.specs.Grammars.Headers.{HeaderOf}
+use Rattle.justfile_model.specs.Trees.Tree.{lexeme, nothing}
 use Rattle.justfile_round_trip.proofs.LiteralTexts.LexedModes.{Mark}
 use Rattle.justfile_round_trip.proofs.Canon.{Shown, Value}
 use Rattle.justfile_round_trip.proofs.Headers.CanonHeaders.{ShapeParameter, ShapeArgument, ShapeDependency, ShapeHeader, header_on, header_marks}

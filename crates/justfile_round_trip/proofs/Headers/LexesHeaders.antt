@@ -7,9 +7,9 @@ use Rattle.justfile_vocabulary.specs.ByteClass.{class_of}
 use Rattle.justfile_model.specs.declared.open_delimiter.OpenDelimiter.{OpenDelimiter}
 use Rattle.justfile_model.specs.declared.parameter_kind.ParameterKind.{ParameterKind}
 use Rattle.justfile_model.specs.declared.parameter_kind.ParameterKind.TheVariants.{Plus, Singular, Star}
-use Rattle.justfile_model.specs.Bytes.{blank}
-use Rattle.justfile_model.specs.Modes.{opener}
-use Rattle.justfile_model.specs.Next.{fixed_token, token_by_class}
+use Rattle.justfile_model.specs.Lexing.Bytes.{blank}
+use Rattle.justfile_model.specs.Lexing.Modes.{opener}
+use Rattle.justfile_model.specs.Lexing.Next.{fixed_token, token_by_class}
 use Rattle.justfile_round_trip.proofs.LiteralTexts.LexedModes.{Mark, mark, LexesTo, step}
 use Rattle.justfile_round_trip.proofs.LiteralTexts.Inline.{head_is, joins, head_word, amid, IsName, name_step, space_step}
 use Rattle.justfile_round_trip.proofs.Fixed.{dollar_step, asterisk_step, and_step, plus_before, equals_before, colon_colon_step, open_paren_step, close_paren_step}

@@ -4,11 +4,11 @@ use Rattle.std.proofs.Common.{◌≡◌, ℕ, Bool, true, false, List, ◌∷◌
 use Rattle.justfile_vocabulary.specs.declared.token_kind.TokenKind.{TokenKind}
 use Rattle.justfile_vocabulary.specs.declared.token_kind.TokenKind.TheVariants as kinds
 use Rattle.justfile_model.specs.declared.parameter_kind.ParameterKind.{ParameterKind}
-use Rattle.justfile_model.specs.Expressions.{IsKind, Tokens, BelowLimit}
-use Rattle.justfile_model.specs.Headers as g
-use Rattle.justfile_model.specs.Headers.{PathRest, PathOf, NamedParameter, ParameterOf, Parameters, DependencyArguments, DependencyOf, Dependencies, AllDependencies, HeaderOf}
-use Rattle.justfile_model.specs.SignificantTokens.{SignificantToken}
-use Rattle.justfile_model.specs.Tree.{lexeme, nothing}
+use Rattle.justfile_model.specs.Grammars.Expressions.{IsKind, Tokens, BelowLimit}
+use Rattle.justfile_model.specs.Grammars.Headers as g
+use Rattle.justfile_model.specs.Grammars.Headers.{PathRest, PathOf, NamedParameter, ParameterOf, Parameters, DependencyArguments, DependencyOf, Dependencies, AllDependencies, HeaderOf}
+use Rattle.justfile_model.specs.Lexing.SignificantTokens.{SignificantToken}
+use Rattle.justfile_model.specs.Trees.Tree.{lexeme, nothing}
 use Rattle.justfile_round_trip.proofs.RecipeBodies.BodyFacts.{Outline, colon_after, outline_after}
 use Rattle.justfile_round_trip.proofs.RecipeBodies.BodyGood.{IsOutside, Walked, outside_after, quiet_stays, shifts}
 use Rattle.justfile_round_trip.proofs.Canon.{Shown}

@@ -5,11 +5,11 @@ use Rattle.std.proofs.lemmas.Str.{IsUtf8-append}
 use Rattle.justfile_vocabulary.specs.declared.token_kind.TokenKind.TheVariants as kinds
 use Rattle.justfile_model.specs.declared.parameter_kind.ParameterKind.{ParameterKind}
 use Rattle.justfile_model.specs.declared.parameter_kind.ParameterKind.TheVariants.{Plus, Singular, Star}
-use Rattle.justfile_model.specs.Expressions.{Tokens, BelowLimit}
-use Rattle.justfile_model.specs.Headers as g
-use Rattle.justfile_model.specs.Headers.{PathRest, PathOf, NamedParameter, ParameterOf, Parameters, DependencyArguments, DependencyOf, Dependencies, AllDependencies, NamedHeader, HeaderOf}
-use Rattle.justfile_model.specs.RecipeRules.{header_broken}
-use Rattle.justfile_model.specs.Tree.{lexeme, nothing}
+use Rattle.justfile_model.specs.Grammars.Expressions.{Tokens, BelowLimit}
+use Rattle.justfile_model.specs.Grammars.Headers as g
+use Rattle.justfile_model.specs.Grammars.Headers.{PathRest, PathOf, NamedParameter, ParameterOf, Parameters, DependencyArguments, DependencyOf, Dependencies, AllDependencies, NamedHeader, HeaderOf}
+use Rattle.justfile_model.specs.Meanings.RecipeRules.{header_broken}
+use Rattle.justfile_model.specs.Trees.Tree.{lexeme, nothing}
 use Rattle.justfile_round_trip.proofs.Headers.BackHeaders.{header_back}
 use Rattle.justfile_round_trip.proofs.Canon.{Shown}
 use Rattle.justfile_round_trip.proofs.Headers.CanonHeaders.{ShapeParameter, ShapeArgument, ShapeDependency, ShapeHeader, prefix_on, dollar_on, default_on, parameter_on, parameters_on, path_rest_on, path_on, star_on, dependency_arguments_on, dependency_parts_on, dependency_on, dependencies_on, subsequents_on, at_on, header_rest_on, header_on}

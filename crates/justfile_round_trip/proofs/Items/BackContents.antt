@@ -3,18 +3,18 @@ use Rattle.std.proofs.Common.{◌≡◌, ℕ, Bool, true, false, ◌&&◌, List,
 use Rattle.std.specs.Str.{IsUtf8}
 use Rattle.std.proofs.lemmas.Str.{IsUtf8-append}
 use Rattle.justfile_vocabulary.specs.declared.token_kind.TokenKind.TheVariants as kinds
-use Rattle.justfile_model.specs.Expressions.{Tokens, NotNext, BelowLimit}
-use Rattle.justfile_model.specs.Files.{to_lexemes}
-use Rattle.justfile_model.specs.Grammar as g
-use Rattle.justfile_model.specs.Grammar.{OnLine}
-use Rattle.justfile_model.specs.Headers as header
-use Rattle.justfile_model.specs.Headers.{PathRest, PathOf}
-use Rattle.justfile_model.specs.ItemParts as parts
-use Rattle.justfile_model.specs.ItemParts.{EndsLine, FilePath, Names, NoPath, NotNamedString, ValueOf}
-use Rattle.justfile_model.specs.Settings.{ExpressionForm, InterpreterForm, PlainForm, SettingForm, TruthForm}
-use Rattle.justfile_model.specs.SignificantTokens.{SignificantToken}
-use Rattle.justfile_model.specs.Tree as tree
-use Rattle.justfile_model.specs.Tree.{assignment_of, bare_module, lexeme, nothing}
+use Rattle.justfile_model.specs.Grammars.Expressions.{Tokens, NotNext, BelowLimit}
+use Rattle.justfile_model.specs.Grammars.Files.{to_lexemes}
+use Rattle.justfile_model.specs.Grammars.Grammar as g
+use Rattle.justfile_model.specs.Grammars.Grammar.{OnLine}
+use Rattle.justfile_model.specs.Grammars.Headers as header
+use Rattle.justfile_model.specs.Grammars.Headers.{PathRest, PathOf}
+use Rattle.justfile_model.specs.Grammars.ItemParts as parts
+use Rattle.justfile_model.specs.Grammars.ItemParts.{EndsLine, FilePath, Names, NoPath, NotNamedString, ValueOf}
+use Rattle.justfile_model.specs.Grammars.Settings.{ExpressionForm, InterpreterForm, PlainForm, SettingForm, TruthForm}
+use Rattle.justfile_model.specs.Lexing.SignificantTokens.{SignificantToken}
+use Rattle.justfile_model.specs.Trees.Tree as tree
+use Rattle.justfile_model.specs.Trees.Tree.{assignment_of, bare_module, lexeme, nothing}
 use Rattle.justfile_round_trip.proofs.LiteralTexts.LexedModes.{Mark}
 use Rattle.justfile_round_trip.proofs.Back.{none_but_closing, is_word}
 use Rattle.justfile_round_trip.proofs.Canon.{Shown, Value, ShapeContent, expr_on, paren_right, word}

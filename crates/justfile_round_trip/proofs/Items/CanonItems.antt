@@ -2,10 +2,10 @@
 use Rattle.std.proofs.Common.{◌≡◌, ℕ, List, [], ◌∷◌, ◌++◌, Option, None, refl, ap, ◌∙◌, append_assoc, codes}
 use Rattle.justfile_token.specs.Path.{path_text}
 use Rattle.justfile_vocabulary.specs.declared.token_kind.TokenKind.TheVariants as kinds
-use Rattle.justfile_model.specs.Docs.{doc_of}
-use Rattle.justfile_model.specs.Tree.{AliasParts, AssignmentParts, FunctionParts, ImportParts, ModuleParts, SettingParts, Alias, Assignment, Function, Import, Module, Recipe, Setting, Unexport, Comment, Newline, Construct, Shape, bare_recipe}
-use Rattle.justfile_model.specs.Printing.{comment_text, fixed_text, expr_text, body_text, doc_line, if_some, if_true, header_text, alias_text, assignment_text, function_text, import_text, module_text, setting_text, names_text, file_path_text, setting_value_text, entries_text, content_text, item_text, item_end, text}
-use Rattle.justfile_model.proofs.DocsText.{none_shown}
+use Rattle.justfile_model.specs.Grammars.Docs.{doc_of}
+use Rattle.justfile_model.specs.Trees.Tree.{AliasParts, AssignmentParts, FunctionParts, ImportParts, ModuleParts, SettingParts, Alias, Assignment, Function, Import, Module, Recipe, Setting, Unexport, Comment, Newline, Construct, Shape, bare_recipe}
+use Rattle.justfile_model.specs.Printed.Printing.{comment_text, fixed_text, expr_text, body_text, doc_line, if_some, if_true, header_text, alias_text, assignment_text, function_text, import_text, module_text, setting_text, names_text, file_path_text, setting_value_text, entries_text, content_text, item_text, item_end, text}
+use Rattle.justfile_model.proofs.Printed.DocsText.{none_shown}
 use Rattle.justfile_round_trip.proofs.LiteralTexts.LexedModes.{Mark, mark}
 use Rattle.justfile_round_trip.proofs.Canon.{Row, ShapeContent, ShapeItem, paren_left, paren_right, space, newline, word, expr_on, expr_marks, body_on, body_marks, then, expr_is, body_is}
 use Rattle.justfile_round_trip.proofs.Attributes.CanonAttributes.{ShapeEntry, comment_on, entries_on, comment_marks, entries_marks, comment_is, entries_is}

@@ -1,9 +1,9 @@
 -- The printer of the parts of items other than headers, with a continuation: text before text, and tokens before tokens.
 use Rattle.std.proofs.Common.{◌≡◌, ℕ, Bool, true, false, List, [], ◌∷◌, ◌++◌, Option, Some, None, refl, codes}
 use Rattle.justfile_vocabulary.specs.declared.token_kind.TokenKind.TheVariants as kinds
-use Rattle.justfile_model.specs.Printing.{fixed_text, if_some, if_true, expr_text, exprs_text, names_text, file_path_text, setting_value_text}
-use Rattle.justfile_model.specs.Tree.{Quoted, SettingValue, Truth, Value, Interpreter}
-use Rattle.justfile_model.specs.Tree as tree
+use Rattle.justfile_model.specs.Printed.Printing.{fixed_text, if_some, if_true, expr_text, exprs_text, names_text, file_path_text, setting_value_text}
+use Rattle.justfile_model.specs.Trees.Tree.{Quoted, SettingValue, Truth, Value, Interpreter}
+use Rattle.justfile_model.specs.Trees.Tree as tree
 use Rattle.justfile_round_trip.proofs.LiteralTexts.LexedModes.{Mark, mark}
 use Rattle.justfile_round_trip.proofs.Canon as canon
 use Rattle.justfile_round_trip.proofs.Canon.{comma, space, word, expr_on, exprs_on, expr_marks, exprs_marks, then, joined, expr_is, exprs_is}

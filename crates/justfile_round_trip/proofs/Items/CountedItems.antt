@@ -2,26 +2,26 @@
 use Rattle.std.proofs.Common.{◌≡◌, ℕ, ◌+◌, false, List, [], ◌∷◌, ◌++◌, Option, Some, refl, sym, ap, ◌∙◌, arith}
 use Rattle.std.specs.Prelude.{if◌then◌else◌}
 use denote.Enum.Bare.{sameb}
-use Rattle.justfile_model.specs.AttributeRules.{attributes_broken, of_some}
-use Rattle.justfile_model.specs.Conditions.{VersionNumbers}
-use Rattle.justfile_model.specs.ConstructRules.{construct_broken, form_broken}
-use Rattle.justfile_model.specs.Docs.{Before, documented, redocumented}
+use Rattle.justfile_model.specs.Meanings.AttributeRules.{attributes_broken, of_some}
+use Rattle.justfile_model.specs.Grammars.Conditions.{VersionNumbers}
+use Rattle.justfile_model.specs.Meanings.ConstructRules.{construct_broken, form_broken}
+use Rattle.justfile_model.specs.Grammars.Docs.{Before, documented, redocumented}
 use Rattle.justfile_vocabulary.specs.contracts.list_feature.ListFeature.{the_type}
 use Rattle.justfile_vocabulary.specs.declared.list_feature.ListFeature.{ListFeature}
-use Rattle.justfile_model.specs.Features.{ConstructFeatures, Noted}
-use Rattle.justfile_model.specs.Files.{all_features, broken, construct_features, item_broken, ordered_item, sets_doc, undocumented}
-use Rattle.justfile_model.specs.Files as files
-use Rattle.justfile_model.specs.Literals.{Expansions}
-use Rattle.justfile_model.specs.Meaning.{entries_of}
-use Rattle.justfile_model.specs.NormalShape.{after_newline, normal, normal_rest}
-use Rattle.justfile_model.specs.PrintedAttributes.{docs_written, rewritten_entries}
-use Rattle.justfile_model.specs.Tree as tree
-use Rattle.justfile_model.specs.Tree.{Construct, Shape, WrittenShape}
-use Rattle.justfile_model.proofs.Binds.{some_back, nothing_in}
-use Rattle.justfile_model.proofs.DocsKept.{CountsConstructs, docs_written_counts, documented_counts}
-use Rattle.justfile_model.proofs.Ordered.{construct_meant, meanings_of}
-use Rattle.justfile_model.proofs.PrintedEntries.{sees, entries_again, attributes_again}
-use Rattle.justfile_model.proofs.PrintedItems.{content_starless}
+use Rattle.justfile_model.specs.Grammars.Features.{ConstructFeatures, Noted}
+use Rattle.justfile_model.specs.Grammars.Files.{all_features, broken, construct_features, item_broken, ordered_item, sets_doc, undocumented}
+use Rattle.justfile_model.specs.Grammars.Files as files
+use Rattle.justfile_model.specs.LiteralTexts.Literals.{Expansions}
+use Rattle.justfile_model.specs.Meanings.Meaning.{entries_of}
+use Rattle.justfile_model.specs.Printed.NormalShape.{after_newline, normal, normal_rest}
+use Rattle.justfile_model.specs.Printed.PrintedAttributes.{docs_written, rewritten_entries}
+use Rattle.justfile_model.specs.Trees.Tree as tree
+use Rattle.justfile_model.specs.Trees.Tree.{Construct, Shape, WrittenShape}
+use Rattle.justfile_model.proofs.Lists.Binds.{some_back, nothing_in}
+use Rattle.justfile_model.proofs.Printed.DocsKept.{CountsConstructs, docs_written_counts, documented_counts}
+use Rattle.justfile_model.proofs.Meanings.Ordered.{construct_meant, meanings_of}
+use Rattle.justfile_model.proofs.Printed.PrintedEntries.{sees, entries_again, attributes_again}
+use Rattle.justfile_model.proofs.Printed.PrintedItems.{content_starless}
 use Rattle.justfile_round_trip.specs.RoundTrip.{times}
 use Rattle.justfile_round_trip.proofs.Canon as canon
 use Rattle.justfile_round_trip.proofs.Canon.{ShapeContent, ShapeItem, Shown}

@@ -2,19 +2,19 @@
 use Rattle.std.proofs.Common.{◌≡◌, ℕ, Bool, false, List, [], ◌∷◌, ◌++◌, Option, Some, None, refl, sym, ap, ◌∙◌}
 use Rattle.std.proofs.lemmas.List.{append-nil}
 use Rattle.justfile_model.specs.declared.parameter_kind.ParameterKind.{ParameterKind}
-use Rattle.justfile_model.specs.Features.{ConstructFeatures}
-use Rattle.justfile_model.specs.Headers as h
-use Rattle.justfile_model.specs.Headers.{NamedParameter, ParameterOf, Parameters, DependencyArguments, DependencyOf, Dependencies, AllDependencies, HeaderOf}
-use Rattle.justfile_model.specs.ItemParts as p
-use Rattle.justfile_model.specs.ItemParts.{ValueOf}
-use Rattle.justfile_model.specs.Settings.{SettingForm}
-use Rattle.justfile_model.specs.SignificantTokens.{SignificantToken}
-use Rattle.justfile_model.specs.Tree as tree
-use Rattle.justfile_model.specs.Tree.{Construct, SettingValue, WrittenShape, lexeme, nothing, line_before, trimmed}
-use Rattle.justfile_model.specs.Expressions.{Tokens}
-use Rattle.justfile_model.specs.Grammar as g
-use Rattle.justfile_model.specs.Files.{to_lexemes}
-use Rattle.justfile_model.specs.Grammar.{LineRest, BodyLines, OnLine, Block, Items, ItemRest, LineEnd, File}
+use Rattle.justfile_model.specs.Grammars.Features.{ConstructFeatures}
+use Rattle.justfile_model.specs.Grammars.Headers as h
+use Rattle.justfile_model.specs.Grammars.Headers.{NamedParameter, ParameterOf, Parameters, DependencyArguments, DependencyOf, Dependencies, AllDependencies, HeaderOf}
+use Rattle.justfile_model.specs.Grammars.ItemParts as p
+use Rattle.justfile_model.specs.Grammars.ItemParts.{ValueOf}
+use Rattle.justfile_model.specs.Grammars.Settings.{SettingForm}
+use Rattle.justfile_model.specs.Lexing.SignificantTokens.{SignificantToken}
+use Rattle.justfile_model.specs.Trees.Tree as tree
+use Rattle.justfile_model.specs.Trees.Tree.{Construct, SettingValue, WrittenShape, lexeme, nothing, line_before, trimmed}
+use Rattle.justfile_model.specs.Grammars.Expressions.{Tokens}
+use Rattle.justfile_model.specs.Grammars.Grammar as g
+use Rattle.justfile_model.specs.Grammars.Files.{to_lexemes}
+use Rattle.justfile_model.specs.Grammars.Grammar.{LineRest, BodyLines, OnLine, Block, Items, ItemRest, LineEnd, File}
 use Rattle.justfile_round_trip.proofs.Canon.{Shown, Fragment, Row, ShapeContent, Value}
 use Rattle.justfile_round_trip.proofs.Headers.CanonHeaders.{ShapeParameter, ShapeArgument, ShapeDependency, ShapeHeader}
 use Rattle.justfile_round_trip.proofs.Determined.{value_features, values_features, of_expression, of_value, of_sequence}

@@ -4,11 +4,11 @@ use Rattle.std.specs.Str.{IsUtf8}
 use Rattle.justfile_vocabulary.specs.Keyword.{keyword_text}
 use Rattle.justfile_vocabulary.specs.declared.keyword.Keyword.{Keyword}
 use Rattle.justfile_vocabulary.specs.declared.token_kind.TokenKind.TheVariants as kinds
-use Rattle.justfile_model.specs.Docs.{doc_of, redocumented}
-use Rattle.justfile_model.specs.Expressions.{Sequence, BelowLimit}
-use Rattle.justfile_model.specs.Settings.{ExpressionForm, InterpreterForm, PlainForm, SettingForm, TruthForm, setting_form}
-use Rattle.justfile_model.specs.Tree as tree
-use Rattle.justfile_model.specs.Tree.{assignment_of, bare_module, bare_recipe, lexeme, nothing}
+use Rattle.justfile_model.specs.Grammars.Docs.{doc_of, redocumented}
+use Rattle.justfile_model.specs.Grammars.Expressions.{Sequence, BelowLimit}
+use Rattle.justfile_model.specs.Grammars.Settings.{ExpressionForm, InterpreterForm, PlainForm, SettingForm, TruthForm, setting_form}
+use Rattle.justfile_model.specs.Trees.Tree as tree
+use Rattle.justfile_model.specs.Trees.Tree.{assignment_of, bare_module, bare_recipe, lexeme, nothing}
 use Rattle.justfile_round_trip.proofs.LiteralTexts.LexedModes.{Mark, mark}
 use Rattle.justfile_round_trip.proofs.Canon.{Shown, Value, Values, ShapeContent, exprs_on, exprs_marks}
 use Rattle.justfile_round_trip.proofs.Headers.CanonHeaders.{ShapeHeader}

@@ -1,9 +1,9 @@
 -- Good items of shapes: they are arranged in lines, and their attributes and contents are good.
 use Rattle.std.proofs.Common.{◌≡◌, ℕ, Bool, true, false, List, [], ◌∷◌, Option, refl}
 use Rattle.std.specs.Prelude.{◌||◌, not}
-use Rattle.justfile_model.specs.Modes.{is_empty}
-use Rattle.justfile_model.specs.Tree as tree
-use Rattle.justfile_model.specs.Tree.{Shape}
+use Rattle.justfile_model.specs.Lexing.Modes.{is_empty}
+use Rattle.justfile_model.specs.Trees.Tree as tree
+use Rattle.justfile_model.specs.Trees.Tree.{Shape}
 use Rattle.justfile_round_trip.proofs.Canon.{Row, ShapeContent}
 use Rattle.justfile_round_trip.proofs.Attributes.CanonAttributes.{ShapeEntry}
 use Rattle.justfile_round_trip.proofs.Headers.CanonHeaders.{ShapeHeader}

@@ -2,11 +2,11 @@
 use Rattle.std.proofs.Common.{◌≡◌, ℕ, Bool, true, false, ◌&&◌, eqb, List, [], ◌∷◌, ◌++◌, Option, Some, None, refl, codes}
 use Rattle.justfile_token.specs.declared.delimiter.Delimiter.TheVariants.{Bracket, Paren}
 use Rattle.justfile_vocabulary.specs.ByteClass.{class_of}
-use Rattle.justfile_model.specs.Bytes.{in_word}
-use Rattle.justfile_model.specs.Modes.{opener}
-use Rattle.justfile_model.specs.Settings.{ExpressionForm, InterpreterForm, PlainForm, SettingForm, TruthForm}
-use Rattle.justfile_model.specs.Tree as tree
-use Rattle.justfile_model.specs.Tree.{assignment_of, bare_module}
+use Rattle.justfile_model.specs.Lexing.Bytes.{in_word}
+use Rattle.justfile_model.specs.Lexing.Modes.{opener}
+use Rattle.justfile_model.specs.Grammars.Settings.{ExpressionForm, InterpreterForm, PlainForm, SettingForm, TruthForm}
+use Rattle.justfile_model.specs.Trees.Tree as tree
+use Rattle.justfile_model.specs.Trees.Tree.{assignment_of, bare_module}
 use Rattle.justfile_round_trip.proofs.LiteralTexts.LexedModes.{Mark, LexesTo}
 use Rattle.justfile_round_trip.proofs.LiteralTexts.Inline.{head_is, joins, head_word, amid, IsName, name_step, space_step}
 use Rattle.justfile_round_trip.proofs.Fixed.{colon_equals_step, comma_step, question_mark_step, open_paren_step, close_paren_step, open_bracket_step, close_bracket_step}

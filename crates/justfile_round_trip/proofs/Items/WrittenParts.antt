@@ -3,14 +3,14 @@ use Rattle.std.proofs.Common.{ℕ, Bool, false, List, ◌∷◌, None, ◌≡◌
 use Rattle.std.specs.Str.{trim_end}
 use Rattle.justfile_vocabulary.specs.declared.token_kind.TokenKind.{TokenKind}
 use Rattle.justfile_vocabulary.specs.declared.token_kind.TokenKind.TheVariants as kinds
-use Rattle.justfile_model.specs.Expressions.{Tokens, IsKind, BelowLimit, Expression, Sequence}
-use Rattle.justfile_model.specs.Headers as h
-use Rattle.justfile_model.specs.Headers.{PathOf, PathRest}
-use Rattle.justfile_model.specs.ItemParts as g
-use Rattle.justfile_model.specs.ItemParts.{FilePath, Names, ValueOf}
-use Rattle.justfile_model.specs.Settings.{SettingForm}
-use Rattle.justfile_model.specs.SignificantTokens.{SignificantToken}
-use Rattle.justfile_model.specs.Tree.{lexeme, nothing}
+use Rattle.justfile_model.specs.Grammars.Expressions.{Tokens, IsKind, BelowLimit, Expression, Sequence}
+use Rattle.justfile_model.specs.Grammars.Headers as h
+use Rattle.justfile_model.specs.Grammars.Headers.{PathOf, PathRest}
+use Rattle.justfile_model.specs.Grammars.ItemParts as g
+use Rattle.justfile_model.specs.Grammars.ItemParts.{FilePath, Names, ValueOf}
+use Rattle.justfile_model.specs.Grammars.Settings.{SettingForm}
+use Rattle.justfile_model.specs.Lexing.SignificantTokens.{SignificantToken}
+use Rattle.justfile_model.specs.Trees.Tree.{lexeme, nothing}
 use Rattle.justfile_round_trip.proofs.RecipeBodies.BodyGood.{IsOutside, Walked, outside_after, quiet_stays, shifts, walk_outside}
 use Rattle.justfile_round_trip.proofs.Canon.{Shown, Value, Values}
 use Rattle.justfile_round_trip.proofs.Items.CanonParts.{ShapeQuoted, ShapeSetting}

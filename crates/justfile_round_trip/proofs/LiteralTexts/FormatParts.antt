@@ -5,13 +5,13 @@ use Rattle.justfile_token.specs.declared.string_kind.StringKind.{StringKind}
 use Rattle.justfile_vocabulary.specs.declared.token_kind.TokenKind.{TokenKind}
 use Rattle.justfile_vocabulary.specs.declared.token_kind.TokenKind.TheVariants as kinds
 use Rattle.justfile_token.specs.StringKind.{delimiter_len, kind_of}
-use Rattle.justfile_model.specs.Lexed.{Lexed}
-use Rattle.justfile_model.specs.SignificantTokens.{SignificantToken, significant_tokens}
-use Rattle.justfile_model.specs.Tok.{Tok}
-use Rattle.justfile_model.specs.Tree.{Expr, Exprs, Parts}
-use Rattle.justfile_model.specs.Features.{Noted}
-use Rattle.justfile_model.specs.Expressions as g
-use Rattle.justfile_model.specs.Expressions.{Tokens, IsKind, operator_kind, Expression, Disjunct, Compared, Conjunct, Condition, Braced, Conditional, Value, Sequence, FormatParts}
+use Rattle.justfile_model.specs.Lexing.Lexed.{Lexed}
+use Rattle.justfile_model.specs.Lexing.SignificantTokens.{SignificantToken, significant_tokens}
+use Rattle.justfile_model.specs.Lexing.Tok.{Tok}
+use Rattle.justfile_model.specs.Trees.Tree.{Expr, Exprs, Parts}
+use Rattle.justfile_model.specs.Grammars.Features.{Noted}
+use Rattle.justfile_model.specs.Grammars.Expressions as g
+use Rattle.justfile_model.specs.Grammars.Expressions.{Tokens, IsKind, operator_kind, Expression, Disjunct, Compared, Conjunct, Condition, Braced, Conditional, Value, Sequence, FormatParts}
 use Rattle.justfile_round_trip.proofs.Values.TokenFacts.{Around, around, is_comment, outside, Sound, lexed_sound}
 use Rattle.justfile_round_trip.proofs.Values.WrittenValues.{fact_as, past, on, operator_around, operator_no_comment, within}
 use Rattle.justfile_round_trip.proofs.LiteralTexts.Quoted.{IsFramed, continue_framed, end_framed}

@@ -8,9 +8,9 @@ use Rattle.justfile_token.specs.declared.string_kind.StringDelimiter.TheVariants
 use Rattle.justfile_token.specs.declared.string_kind.StringKind.{StringKind}
 use Rattle.justfile_token.specs.StringKind.{escapes, kind_of}
 use Rattle.justfile_model.specs.declared.raw_text.RawText.TheVariants as raw_texts
-use Rattle.justfile_model.specs.Bytes.{is_interpolation_start, is_interpolation_end, is_interpolation_escape}
-use Rattle.justfile_model.specs.LiteralText.{pieces_len, hides, ends, raw_len, is_delimiter}
-use Rattle.justfile_model.proofs.CutLemmas.{raw_within}
+use Rattle.justfile_model.specs.Lexing.Bytes.{is_interpolation_start, is_interpolation_end, is_interpolation_escape}
+use Rattle.justfile_model.specs.Lexing.LiteralText.{pieces_len, hides, ends, raw_len, is_delimiter}
+use Rattle.justfile_model.proofs.Lexing.CutLemmas.{raw_within}
 use Rattle.justfile_round_trip.proofs.LiteralTexts.LexedModes.{take_front, drop_front}
 use Rattle.justfile_round_trip.proofs.LiteralTexts.Inline.{delimiter_of, closing_of, stop_of, IsPart, assoc3, length3}
 use Rattle.justfile_round_trip.proofs.LiteralTexts.Literals.{scan, same_delimiter}

@@ -16,13 +16,13 @@ use Rattle.justfile_model.specs.declared.raw_text.RawText.TheVariants as raw_tex
 use Rattle.justfile_vocabulary.specs.declared.token_kind.TokenKind.{TokenKind}
 use Rattle.justfile_vocabulary.specs.declared.token_kind.TokenKind.TheVariants.{Eof, FormatStringContinue, FormatStringEnd, FormatStringStart, Identifier, Whitespace}
 use Rattle.justfile_vocabulary.specs.ByteClass.{class_of}
-use Rattle.justfile_model.specs.Bytes.{blank, in_word, is_interpolation_end, is_interpolation_start}
+use Rattle.justfile_model.specs.Lexing.Bytes.{blank, in_word, is_interpolation_end, is_interpolation_start}
 use Rattle.justfile_token.specs.StringKind.{delimiter_len, is_quote, kind_of, quote_of, token_kind_of}
-use Rattle.justfile_model.specs.LiteralText.{raw_len}
-use Rattle.justfile_model.specs.Tok.{Tok}
-use Rattle.justfile_model.specs.Places.{is_newline}
-use Rattle.justfile_model.specs.Modes.{Mode, is_empty, opener, mode_after}
-use Rattle.justfile_model.specs.Next.{token_by_class, token_within_line, next, literal_token, literal_part, is_backtick}
+use Rattle.justfile_model.specs.Lexing.LiteralText.{raw_len}
+use Rattle.justfile_model.specs.Lexing.Tok.{Tok}
+use Rattle.justfile_model.specs.Lexing.Places.{is_line_feed}
+use Rattle.justfile_model.specs.Lexing.Modes.{Mode, is_empty, opener, mode_after}
+use Rattle.justfile_model.specs.Lexing.Next.{token_by_class, token_within_line, next, literal_token, literal_part, is_backtick}
 use Rattle.justfile_round_trip.proofs.LiteralTexts.LexedModes.{Mark, mark, LexesTo, step, drop_front}
 
 -- each byte passes
@@ -269,7 +269,7 @@ module _ {os : List OpenDelimiter} {ls : List (List ℕ)} {c : Bool} {i : Option
       ∙ part_is k true (delimiter_of k) inner (123 ∷ 123 ∷ 32 ∷ more) FormatStringStart (token_kind_of k.delimiter) (h.ends more) refl
       ∙ ap (λ n. Ok (FormatStringStart, n)) len)
       (λ e. cc)
-      (λ o n col. subst (λ v. LexesTo (amid (opener (FormatString v) (n + count_by is_newline l) ∷ os) ls c i false) (32 ∷ more) ts) (sym kind) (r _))
+      (λ o n col. subst (λ v. LexesTo (amid (opener (FormatString v) (n + count_by is_line_feed l) ∷ os) ls c i false) (32 ∷ more) ts) (sym kind) (r _))
 
   pub continue_step : (k : StringKind) (line : ℕ) (l more : List ℕ) {ts : List Mark} → IsPart k (125 ∷ 125 ∷ []) false l
       → LexesTo (amid (opener (FormatString k) line ∷ os) ls c i false) (32 ∷ more) ts → LexesTo (amid (opener (FormatString k) line ∷ os) ls c i false) (l ++ (32 ∷ more)) (mark FormatStringContinue l ∷ ts)

@@ -2,13 +2,13 @@
 use Rattle.std.proofs.Common.{◌≡◌, ◌≢◌, ℕ, ◌+◌, List, [], ◌∷◌, ◌++◌, length, take, drop, Ok, refl, sym, ap, ◌∙◌, arith}
 use Rattle.justfile_vocabulary.specs.declared.token_kind.TokenKind.{TokenKind}
 use Rattle.justfile_vocabulary.specs.declared.token_kind.TokenKind.TheVariants.{Eof}
-use Rattle.justfile_model.specs.Tok.{Tok}
-use Rattle.justfile_model.specs.Places.{line_of_offset, column_at}
-use Rattle.justfile_model.specs.Modes.{Mode, mode, start_mode, mode_after}
-use Rattle.justfile_model.specs.Next.{next}
+use Rattle.justfile_model.specs.Lexing.Tok.{Tok}
+use Rattle.justfile_model.specs.Lexing.Places.{line_of_offset, column_at}
+use Rattle.justfile_model.specs.Lexing.Modes.{Mode, mode, start_mode, mode_after}
+use Rattle.justfile_model.specs.Lexing.Next.{next}
 use Rattle.std.proofs.lemmas.List.{drop-drop}
-use Rattle.justfile_model.specs.Lexed.{end_of, IsNext, Follows, Lexed}
-use Rattle.justfile_model.proofs.LexedLaws.{from_follows}
+use Rattle.justfile_model.specs.Lexing.Lexed.{end_of, IsNext, Follows, Lexed}
+use Rattle.justfile_model.proofs.Lexing.LexedLaws.{from_follows}
 
 -- a token without its place
 pub record Mark : Type 0 where

@@ -9,9 +9,9 @@ use Rattle.justfile_token.specs.declared.string_kind.StringDelimiter.TheVariants
 use Rattle.justfile_token.specs.declared.string_kind.StringKind.{StringKind}
 use Rattle.justfile_token.specs.StringKind.{quote_of, escapes}
 use Rattle.justfile_model.specs.declared.raw_text.RawText.TheVariants as raw_texts
-use Rattle.justfile_model.specs.Bytes.{is_interpolation_start, is_interpolation_escape}
-use Rattle.justfile_model.specs.LiteralText.{pieces_len, hides, is_delimiter, raw_len}
-use Rattle.justfile_model.proofs.CutLemmas.{stops, raw_stops, raw_within}
+use Rattle.justfile_model.specs.Lexing.Bytes.{is_interpolation_start, is_interpolation_escape}
+use Rattle.justfile_model.specs.Lexing.LiteralText.{pieces_len, hides, is_delimiter, raw_len}
+use Rattle.justfile_model.proofs.Lexing.CutLemmas.{stops, raw_stops, raw_within}
 use Rattle.justfile_round_trip.specs.LiteralModes.{before_start, has_no_start}
 use Rattle.justfile_round_trip.proofs.LiteralTexts.Literals.{scan, delimiter_front}
 

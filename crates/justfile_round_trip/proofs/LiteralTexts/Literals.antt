@@ -12,7 +12,7 @@ use Rattle.justfile_token.specs.declared.string_kind.StringKind.{StringKind}
 use Rattle.justfile_vocabulary.specs.ByteClass.{class_of, begins_fixed}
 use Rattle.justfile_token.specs.StringKind.{delimiter_len, delimiter_at, is_quote, kind_of, quote_of}
 use Rattle.justfile_model.specs.declared.raw_text.RawText.TheVariants as raw_texts
-use Rattle.justfile_model.specs.LiteralText.{pieces_len, hides, ends, is_delimiter}
+use Rattle.justfile_model.specs.Lexing.LiteralText.{pieces_len, hides, ends, is_delimiter}
 use Rattle.justfile_round_trip.proofs.LiteralTexts.Inline.{delimiter_of}
 
 -- ---- delimiters

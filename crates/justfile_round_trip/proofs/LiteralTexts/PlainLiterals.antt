@@ -17,13 +17,13 @@ use Rattle.justfile_token.specs.declared.string_kind.StringKind.{StringKind}
 use Rattle.justfile_vocabulary.specs.declared.token_kind.TokenKind.TheVariants as kinds
 use Rattle.justfile_vocabulary.specs.Signal.{signal_name}
 use Rattle.justfile_token.specs.StringKind.{escapes, is_quote, kind_of, quote_of, token_kind_of}
-use Rattle.justfile_model.specs.LiteralText.{pieces_len}
-use Rattle.justfile_model.specs.Printing.{fixed_text, number_literal}
-use Rattle.justfile_model.specs.SignificantTokens.{SignificantToken}
-use Rattle.justfile_model.specs.Tree as tree
-use Rattle.justfile_model.specs.Tree.{lexeme, nothing}
-use Rattle.justfile_model.specs.Expressions as g
-use Rattle.justfile_model.specs.Expressions.{BelowLimit, Expression}
+use Rattle.justfile_model.specs.Lexing.LiteralText.{pieces_len}
+use Rattle.justfile_model.specs.Printed.Printing.{fixed_text, number_literal}
+use Rattle.justfile_model.specs.Lexing.SignificantTokens.{SignificantToken}
+use Rattle.justfile_model.specs.Trees.Tree as tree
+use Rattle.justfile_model.specs.Trees.Tree.{lexeme, nothing}
+use Rattle.justfile_model.specs.Grammars.Expressions as g
+use Rattle.justfile_model.specs.Grammars.Expressions.{BelowLimit, Expression}
 use Rattle.justfile_round_trip.proofs.LiteralTexts.LexedModes.{mark, placed}
 use Rattle.justfile_round_trip.proofs.LiteralTexts.Literals.{scan, delimiter_ends, no_quote}
 use Rattle.justfile_round_trip.proofs.Canon as canon

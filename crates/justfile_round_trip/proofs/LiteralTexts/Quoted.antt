@@ -8,9 +8,9 @@ use Rattle.justfile_token.specs.declared.string_kind.StringDelimiter.{StringDeli
 use Rattle.justfile_token.specs.declared.string_kind.StringDelimiter.TheVariants.{Backtick, QuoteDouble, QuoteSingle}
 use Rattle.justfile_token.specs.declared.string_kind.StringKind.{StringKind}
 use Rattle.justfile_token.specs.StringKind.{delimiter_len, delimiter_text, kind_of}
-use Rattle.justfile_model.specs.Tok.{Tok}
-use Rattle.justfile_model.specs.Lexed.{Lexed}
-use Rattle.justfile_model.specs.SignificantTokens.{SignificantToken, significant_tokens}
+use Rattle.justfile_model.specs.Lexing.Tok.{Tok}
+use Rattle.justfile_model.specs.Lexing.Lexed.{Lexed}
+use Rattle.justfile_model.specs.Lexing.SignificantTokens.{SignificantToken, significant_tokens}
 use Rattle.justfile_round_trip.proofs.LiteralTexts.LexedModes.{take_front, drop_front}
 use Rattle.justfile_round_trip.proofs.LiteralTexts.Inline.{delimiter_of, delimiter_length, IsPart}
 use Rattle.justfile_round_trip.proofs.Good.{IsDelimited, IsPartOf, IsPartOfOpen}

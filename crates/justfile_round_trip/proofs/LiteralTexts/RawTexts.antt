@@ -5,12 +5,12 @@ use Rattle.std.proofs.lemmas.Bool.{and_parts}
 use Rattle.std.proofs.lemmas.Bool.Decides.{nat_tests}
 use Rattle.justfile_vocabulary.specs.ByteClass.{class_of}
 use Rattle.justfile_model.specs.declared.raw_text.RawText.TheVariants as raw_texts
-use Rattle.justfile_model.specs.Bytes.{blank, line_feed, blank_len, is_line_end, is_interpolation_start, is_interpolation_escape}
-use Rattle.justfile_model.specs.LiteralText.{pieces_len, hides, ends}
-use Rattle.justfile_model.specs.Modes.{is_empty}
-use Rattle.justfile_model.specs.Next.{begins_blank_line}
-use Rattle.justfile_model.specs.Printing.{ends_in_return}
-use Rattle.justfile_model.proofs.CutLemmas.{is_line_feed}
+use Rattle.justfile_model.specs.Lexing.Bytes.{blank, line_feed, blank_len, is_line_end, is_interpolation_start, is_interpolation_escape}
+use Rattle.justfile_model.specs.Lexing.LiteralText.{pieces_len, hides, ends}
+use Rattle.justfile_model.specs.Lexing.Modes.{is_empty}
+use Rattle.justfile_model.specs.Lexing.Next.{begins_blank_line}
+use Rattle.justfile_model.specs.Printed.Printing.{ends_in_return}
+use Rattle.justfile_model.proofs.Lexing.CutLemmas.{is_line_feed}
 use Rattle.justfile_round_trip.proofs.LiteralTexts.Inline.{Each}
 use Rattle.justfile_round_trip.proofs.RecipeBodies.BodyLines.{IsRaw, blank_byte}
 

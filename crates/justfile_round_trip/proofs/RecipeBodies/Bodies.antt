@@ -3,9 +3,9 @@ use Rattle.std.proofs.Common.{◌≡◌, ℕ, Bool, true, false, cond, List, [],
 use Rattle.std.specs.Prelude.{◌&&◌, ◌||◌, not}
 use Rattle.justfile_vocabulary.specs.declared.token_kind.TokenKind.TheVariants as kinds
 use Rattle.justfile_vocabulary.specs.ByteClass.{class_of}
-use Rattle.justfile_model.specs.Bytes.{blank, white, line_feed, blank_len, closes_levels}
-use Rattle.justfile_model.specs.Next.{begins_blank_line}
-use Rattle.justfile_model.specs.Tree.{Text, Interpolation, Line}
+use Rattle.justfile_model.specs.Lexing.Bytes.{blank, white, line_feed, blank_len, closes_levels}
+use Rattle.justfile_model.specs.Lexing.Next.{begins_blank_line}
+use Rattle.justfile_model.specs.Trees.Tree.{Text, Interpolation, Line}
 use Rattle.justfile_round_trip.proofs.LiteralTexts.LexedModes.{Mark, mark, LexesTo}
 use Rattle.justfile_round_trip.proofs.LiteralTexts.Inline.{head_is, amid, space_step}
 use Rattle.justfile_round_trip.proofs.RecipeBodies.Lines.{at_item, line_end}

@@ -1,8 +1,8 @@
 -- The printer's tokens for a good body derive its lines.
 use Rattle.std.proofs.Common.{ℕ, Bool, true, false, List, [], ◌∷◌, ◌++◌, refl}
 use Rattle.justfile_vocabulary.specs.declared.token_kind.TokenKind.TheVariants as kinds
-use Rattle.justfile_model.specs.Tree.{Text, Interpolation, Line}
-use Rattle.justfile_model.specs.Grammar as g
+use Rattle.justfile_model.specs.Trees.Tree.{Text, Interpolation, Line}
+use Rattle.justfile_model.specs.Grammars.Grammar as g
 use Rattle.justfile_round_trip.proofs.LiteralTexts.LexedModes.{Mark, mark}
 use Rattle.justfile_round_trip.proofs.Canon.{Shown, Fragment, Row, newline, fragments_marks, lines_marks}
 use Rattle.justfile_round_trip.proofs.Good.{GoodFragments, GoodLines, GoodBody, significant}

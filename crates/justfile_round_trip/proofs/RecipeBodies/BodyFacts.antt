@@ -12,15 +12,15 @@ use Rattle.justfile_vocabulary.specs.declared.byte_class.ByteClass.TheVariants a
 use Rattle.justfile_vocabulary.specs.declared.token_kind.TokenKind.{TokenKind}
 use Rattle.justfile_vocabulary.specs.declared.token_kind.TokenKind.TheVariants as kinds
 use Rattle.justfile_vocabulary.specs.ByteClass.{begins_fixed, class_of}
-use Rattle.justfile_model.specs.Bytes.{blank, white, line_feed, blank_len, is_line_end, closes_levels}
-use Rattle.justfile_model.specs.LexicalFault.{UnpairedCarriageReturn, Here}
-use Rattle.justfile_model.specs.Tok.{Tok}
-use Rattle.justfile_model.specs.SignificantTokens.{SignificantToken, is_whitespace, significant_from}
-use Rattle.justfile_model.specs.Modes.{Mode, start_mode, mode_after, is_empty, tail_of, innermost_of}
-use Rattle.justfile_model.specs.Lexed.{Lexed}
-use Rattle.justfile_model.specs.Next.{NextToken, token_by_class, token_within_line, body_token, text_or, InText, region_by, token_in_region, at_end_by, is_level, begins_blank_line, next}
-use Rattle.justfile_model.specs.Printing.{ends_in_return}
-use Rattle.justfile_model.proofs.CutLemmas.{is_line_feed}
+use Rattle.justfile_model.specs.Lexing.Bytes.{blank, white, line_feed, blank_len, is_line_end, closes_levels}
+use Rattle.justfile_model.specs.Lexing.LexicalFault.{UnpairedCarriageReturn, Here}
+use Rattle.justfile_model.specs.Lexing.Tok.{Tok}
+use Rattle.justfile_model.specs.Lexing.SignificantTokens.{SignificantToken, is_whitespace, significant_from}
+use Rattle.justfile_model.specs.Lexing.Modes.{Mode, start_mode, mode_after, is_empty, tail_of, innermost_of}
+use Rattle.justfile_model.specs.Lexing.Lexed.{Lexed}
+use Rattle.justfile_model.specs.Lexing.Next.{NextToken, token_by_class, token_within_line, body_token, text_or, InText, region_by, token_in_region, at_end_by, is_level, begins_blank_line, next}
+use Rattle.justfile_model.specs.Printed.Printing.{ends_in_return}
+use Rattle.justfile_model.proofs.Lexing.CutLemmas.{is_line_feed}
 use Rattle.justfile_round_trip.proofs.LiteralTexts.LexedModes.{take_front, drop_front}
 use Rattle.justfile_round_trip.proofs.LiteralTexts.Inline.{Each, head_is}
 use Rattle.justfile_round_trip.proofs.RecipeBodies.Lines.{at_item, item_next}

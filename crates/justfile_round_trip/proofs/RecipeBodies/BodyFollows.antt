@@ -2,11 +2,11 @@
 use Rattle.std.proofs.Common.{◌≡◌, ℕ, Bool, true, false, List, [], ◌∷◌, ◌++◌, refl, ap, arith, codes}
 use Rattle.std.specs.Prelude.{not}
 use Rattle.justfile_vocabulary.specs.ByteClass.{class_of}
-use Rattle.justfile_model.specs.Bytes.{white}
-use Rattle.justfile_model.specs.Modes.{is_empty}
-use Rattle.justfile_model.specs.NormalShape.{after_newline, normal_rest}
-use Rattle.justfile_model.specs.Tree as tree
-use Rattle.justfile_model.specs.Tree.{Shape}
+use Rattle.justfile_model.specs.Lexing.Bytes.{white}
+use Rattle.justfile_model.specs.Lexing.Modes.{is_empty}
+use Rattle.justfile_model.specs.Printed.NormalShape.{after_newline, normal_rest}
+use Rattle.justfile_model.specs.Trees.Tree as tree
+use Rattle.justfile_model.specs.Trees.Tree.{Shape}
 use Rattle.justfile_round_trip.proofs.Canon.{ShapeContent, ShapeItem}
 use Rattle.justfile_round_trip.proofs.Attributes.CanonAttributes.{ShapeEntry, entries_on}
 use Rattle.justfile_round_trip.proofs.Headers.CanonHeaders.{at_on}

@@ -5,13 +5,13 @@ use Rattle.std.specs.Str.{IsUtf8}
 use Rattle.std.proofs.lemmas.Bool.{and_parts}
 use Rattle.justfile_vocabulary.specs.declared.token_kind.TokenKind.{TokenKind}
 use Rattle.justfile_vocabulary.specs.declared.token_kind.TokenKind.TheVariants as kinds
-use Rattle.justfile_model.specs.SignificantTokens.{SignificantToken}
-use Rattle.justfile_model.specs.Tree.{Text, Interpolation, Line, lexeme, nothing, line_before, trimmed}
-use Rattle.justfile_model.specs.Grammar as g
-use Rattle.justfile_model.specs.Expressions.{BelowLimit, Expression}
-use Rattle.justfile_model.specs.Files.{to_lexemes}
-use Rattle.justfile_model.specs.Grammar.{LineRest, BodyLines}
-use Rattle.justfile_model.specs.Printing.{ends_in_return, printable_fragments, printable_body}
+use Rattle.justfile_model.specs.Lexing.SignificantTokens.{SignificantToken}
+use Rattle.justfile_model.specs.Trees.Tree.{Text, Interpolation, Line, lexeme, nothing, line_before, trimmed}
+use Rattle.justfile_model.specs.Grammars.Grammar as g
+use Rattle.justfile_model.specs.Grammars.Expressions.{BelowLimit, Expression}
+use Rattle.justfile_model.specs.Grammars.Files.{to_lexemes}
+use Rattle.justfile_model.specs.Grammars.Grammar.{LineRest, BodyLines}
+use Rattle.justfile_model.specs.Printed.Printing.{ends_in_return, printable_fragments, printable_body}
 use Rattle.justfile_round_trip.proofs.Canon.{Shown, Value, Fragment, Row}
 use Rattle.justfile_round_trip.proofs.Good.{GoodExpression, GoodFragments, IsShown, IsFirst, GoodLines, GoodBody, pale, pale_line, all_pale, pale_after}
 use Rattle.justfile_round_trip.proofs.Walks.{quiet, walk}

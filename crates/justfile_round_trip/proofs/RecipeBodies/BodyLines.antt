@@ -14,11 +14,11 @@ use Rattle.justfile_vocabulary.specs.Indentation.{IsIndentation, is_space_or_tab
 use Rattle.justfile_vocabulary.proofs.IndentationLemmas.{all_equal}
 use Rattle.justfile_model.specs.declared.open_delimiter.OpenDelimiter.{OpenDelimiter}
 use Rattle.justfile_model.specs.declared.raw_text.RawText.TheVariants as raw_texts
-use Rattle.justfile_model.specs.Bytes.{blank, white, line_feed, blank_len, is_mixed, closes_levels}
-use Rattle.justfile_model.specs.LiteralText.{pieces_len, raw_len}
-use Rattle.justfile_model.specs.Tok.{Tok}
-use Rattle.justfile_model.specs.Modes.{Mode, is_empty}
-use Rattle.justfile_model.specs.Next.{fixed_token, token_by_class, token_within_line, body_token, text_or, layout, begins_blank_line, next}
+use Rattle.justfile_model.specs.Lexing.Bytes.{blank, white, line_feed, blank_len, is_mixed, closes_levels}
+use Rattle.justfile_model.specs.Lexing.LiteralText.{pieces_len, raw_len}
+use Rattle.justfile_model.specs.Lexing.Tok.{Tok}
+use Rattle.justfile_model.specs.Lexing.Modes.{Mode, is_empty}
+use Rattle.justfile_model.specs.Lexing.Next.{fixed_token, token_by_class, token_within_line, body_token, text_or, layout, begins_blank_line, next}
 use Rattle.justfile_round_trip.proofs.LiteralTexts.LexedModes.{Mark, mark, LexesTo, step, take_front}
 use Rattle.justfile_round_trip.proofs.LiteralTexts.Inline.{Each, head_is, amid, amid_next, and_no}
 use Rattle.justfile_round_trip.proofs.RecipeBodies.Lines.{at_item, run_more, laid_after}

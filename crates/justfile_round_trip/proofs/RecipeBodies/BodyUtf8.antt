@@ -3,9 +3,9 @@ use Rattle.std.proofs.Common.{◌<◌, ℕ, zero, suc, List, [], ◌∷◌, get_
 use Rattle.std.specs.Str.{IsUtf8}
 use Rattle.std.proofs.lemmas.Str.{IsUtf8-append, IsUtf8-from_ascii}
 use Rattle.std.proofs.Math.Utf8.{encode}
-use Rattle.justfile_model.specs.Bytes.{blank}
-use Rattle.justfile_model.specs.Tree.{Text, Interpolation, Line}
-use Rattle.justfile_model.proofs.CutLemmas.{blank_ascii}
+use Rattle.justfile_model.specs.Lexing.Bytes.{blank}
+use Rattle.justfile_model.specs.Trees.Tree.{Text, Interpolation, Line}
+use Rattle.justfile_model.proofs.Lexing.CutLemmas.{blank_ascii}
 use Rattle.justfile_round_trip.proofs.LiteralTexts.Inline.{Each}
 use Rattle.justfile_round_trip.proofs.Canon.{Fragment, Row, fragments_on, line_on, body_on}
 use Rattle.justfile_round_trip.proofs.Good.{GoodFragments, GoodLines, GoodBody}

@@ -7,11 +7,11 @@ use Rattle.justfile_vocabulary.specs.declared.token_kind.TokenKind.TheVariants.{
 use Rattle.justfile_vocabulary.specs.ByteClass.{class_of}
 use Rattle.justfile_model.specs.declared.open_delimiter.OpenDelimiter.{OpenDelimiter}
 use Rattle.justfile_model.specs.declared.raw_text.RawText.TheVariants as raw_texts
-use Rattle.justfile_model.specs.Bytes.{blank, in_word, blank_len}
-use Rattle.justfile_model.specs.LiteralText.{raw_len}
-use Rattle.justfile_model.specs.Tok.{Tok}
-use Rattle.justfile_model.specs.Modes.{Mode, is_empty}
-use Rattle.justfile_model.specs.Next.{token_by_class, token_within_line, layout, at_line_start, begins_blank_line, next}
+use Rattle.justfile_model.specs.Lexing.Bytes.{blank, in_word, blank_len}
+use Rattle.justfile_model.specs.Lexing.LiteralText.{raw_len}
+use Rattle.justfile_model.specs.Lexing.Tok.{Tok}
+use Rattle.justfile_model.specs.Lexing.Modes.{Mode, is_empty}
+use Rattle.justfile_model.specs.Lexing.Next.{token_by_class, token_within_line, layout, at_line_start, begins_blank_line, next}
 use Rattle.justfile_round_trip.proofs.LiteralTexts.LexedModes.{Mark, mark, LexesTo, step, take_front, drop_front}
 use Rattle.justfile_round_trip.proofs.LiteralTexts.Inline.{Each, head_is, amid, amid_next, IsName, run_each}
 

@@ -1,8 +1,8 @@
 -- Lines without empty ones at the end.
 use Rattle.std.proofs.Common.{◌≡◌, List, [], ◌∷◌, refl, ap, ◌∙◌}
 use Rattle.std.specs.Prelude.{◌&&◌}
-use Rattle.justfile_model.specs.Printing.{printable_fragments, printable_body}
-use Rattle.justfile_model.specs.Tree.{Line, line_before, trimmed}
+use Rattle.justfile_model.specs.Printed.Printing.{printable_fragments, printable_body}
+use Rattle.justfile_model.specs.Trees.Tree.{Line, line_before, trimmed}
 use Rattle.justfile_round_trip.proofs.Canon.{Row}
 
 -- trimming a trimmed list changes nothing

@@ -13,14 +13,14 @@ use Rattle.justfile_token.specs.StringKind.{kind_of, quote_of, token_kind_of}
 use Rattle.justfile_model.specs.declared.conditional_operator.ConditionalOperator.{ConditionalOperator}
 use Rattle.justfile_model.specs.declared.conditional_operator.ConditionalOperator.TheVariants.{Equality, Inequality, RegexMatch, RegexMismatch}
 use Rattle.justfile_model.specs.declared.open_delimiter.OpenDelimiter.{OpenDelimiter}
-use Rattle.justfile_model.specs.Bytes.{blank, in_word}
-use Rattle.justfile_model.specs.Expressions.{operator_kind}
-use Rattle.justfile_model.specs.Modes.{Mode, opener}
-use Rattle.justfile_model.specs.Next.{is_backtick}
-use Rattle.justfile_model.specs.Printing.{is_conditional}
-use Rattle.justfile_model.specs.Tok.{Tok}
-use Rattle.justfile_model.specs.Tree as tree
-use Rattle.justfile_model.specs.Tree.{Or, And, Comparison, Concatenation, ListConcatenation, Join, Root, If, IfElse, Not, StringLiteral, FormatLiteral, FormatString, Backtick, Assert, AssertMessage, Variable, Call, Group, ListOf, Last, Continue}
+use Rattle.justfile_model.specs.Lexing.Bytes.{blank, in_word}
+use Rattle.justfile_model.specs.Grammars.Expressions.{operator_kind}
+use Rattle.justfile_model.specs.Lexing.Modes.{Mode, opener}
+use Rattle.justfile_model.specs.Lexing.Next.{is_backtick}
+use Rattle.justfile_model.specs.Printed.Printing.{is_conditional}
+use Rattle.justfile_model.specs.Lexing.Tok.{Tok}
+use Rattle.justfile_model.specs.Trees.Tree as tree
+use Rattle.justfile_model.specs.Trees.Tree.{Or, And, Comparison, Concatenation, ListConcatenation, Join, Root, If, IfElse, Not, StringLiteral, FormatLiteral, FormatString, Backtick, Assert, AssertMessage, Variable, Call, Group, ListOf, Last, Continue}
 use Rattle.justfile_round_trip.proofs.LiteralTexts.LexedModes.{Mark, mark, LexesTo}
 use Rattle.justfile_round_trip.proofs.LiteralTexts.Inline.{head_is, joins, head_word, amid, IsName, IsLiteral, name_step, space_step, literal_step, whole_step, start_step, continue_step, end_step}
 use Rattle.justfile_round_trip.proofs.Fixed.{slash_step, comma_step, and_step, or_step, plus_step, plus_plus_step, bang_step, equals_equals_step, equals_tilde_step, bang_equals_step, bang_tilde_step, open_paren_step, close_paren_step, open_bracket_step, close_bracket_step, open_brace_step, close_brace_step}

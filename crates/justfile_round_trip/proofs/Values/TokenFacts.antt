@@ -13,14 +13,14 @@ use Rattle.justfile_vocabulary.specs.ByteClass.{class_of}
 use Rattle.justfile_token.specs.StringKind.{kind_of}
 use Rattle.justfile_token.specs.Slice.{slice_of}
 use Rattle.justfile_model.specs.declared.open_delimiter.OpenDelimiter.{OpenDelimiter}
-use Rattle.justfile_model.specs.Bytes.{is_line_end, is_interpolation_end}
-use Rattle.justfile_model.specs.LiteralText.{pieces_len}
-use Rattle.justfile_model.specs.Tok.{Tok}
-use Rattle.justfile_model.specs.SignificantTokens.{SignificantToken, is_whitespace, significant_from}
-use Rattle.justfile_model.specs.Modes.{Mode, mode, start_mode, mode_after, is_empty, tail_of, head_of, nested}
-use Rattle.justfile_model.specs.Lexed.{end_of, IsNext, Begins, Lexed}
-use Rattle.justfile_model.specs.Next.{NextToken, format_string_kind, format_kind, token_by_class, token_within_line, body_token, line_end_token, Region, InText, InInterpolation, OutsideText, token_in_region, at_end_by, begins_blank_line, next_by, next}
-use Rattle.justfile_model.proofs.NextLaws.{token_cut}
+use Rattle.justfile_model.specs.Lexing.Bytes.{is_line_end, is_interpolation_end}
+use Rattle.justfile_model.specs.Lexing.LiteralText.{pieces_len}
+use Rattle.justfile_model.specs.Lexing.Tok.{Tok}
+use Rattle.justfile_model.specs.Lexing.SignificantTokens.{SignificantToken, is_whitespace, significant_from}
+use Rattle.justfile_model.specs.Lexing.Modes.{Mode, mode, start_mode, mode_after, is_empty, tail_of, head_of, nested}
+use Rattle.justfile_model.specs.Lexing.Lexed.{end_of, IsNext, Begins, Lexed}
+use Rattle.justfile_model.specs.Lexing.Next.{NextToken, format_string_kind, format_kind, token_by_class, token_within_line, body_token, line_end_token, Region, InText, InInterpolation, OutsideText, token_in_region, at_end_by, begins_blank_line, next_by, next}
+use Rattle.justfile_model.proofs.Lexing.NextLaws.{token_cut}
 use Rattle.justfile_round_trip.proofs.LiteralTexts.LexedModes.{take_front, drop_front, drop_drop}
 use Rattle.justfile_round_trip.proofs.LiteralTexts.Inline.{IsName}
 use Rattle.justfile_round_trip.proofs.Good.{IsString, IsCommand, IsFormatLiteral, IsFormatStart, IsPartOfOpen}

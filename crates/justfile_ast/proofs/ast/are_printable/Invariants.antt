@@ -1,6 +1,6 @@
 use Rattle.std.proofs.Common.{◌≡◌, drop}
 use Rattle.std.specs.List.{list_all}
-use Rattle.justfile_model.specs.Printing.{printable_item}
+use Rattle.justfile_model.specs.Printed.Printing.{printable_item}
 use Rattle.justfile_item.specs.Item.{item_shape}
 use Rattle.justfile_ast.proofs.ast.are_printable.Given as goal
 

@@ -1,9 +1,9 @@
 use Rattle.std.proofs.Common.{◌≡◌, ℕ, List, ◌++◌, map, sym, ap, ◌∙◌, subst, refl}
 use Rattle.std.proofs.lemmas.Simd.{map-map}
 use Rattle.justfile_vocabulary.specs.Indentation.{indentation_text}
-use Rattle.justfile_model.specs.NormalShape.{normal}
-use Rattle.justfile_model.specs.Printing.{text}
-use Rattle.justfile_model.specs.Tree.{item_shape_of}
+use Rattle.justfile_model.specs.Printed.NormalShape.{normal}
+use Rattle.justfile_model.specs.Printed.Printing.{text}
+use Rattle.justfile_model.specs.Trees.Tree.{item_shape_of}
 use Rattle.justfile_token.proofs.PutLemmas.{failed_at}
 use Rattle.justfile_item.specs.declared.item.Item.{Item}
 use Rattle.justfile_item.specs.Item.{item_of, item_shape}

@@ -1,4 +1,4 @@
-use Rattle.justfile_model.proofs.NewAttributeLaws.{attribute_made, attribute_refused, attribute_unbroken}
+use Rattle.justfile_model.proofs.Meanings.NewAttributeLaws.{attribute_made, attribute_refused, attribute_unbroken}
 use Rattle.justfile_expression.specs.LeafViews.{views_leaves}
 use Rattle.justfile_attribute_rules.specs.Keys.{key_arguments}
 use Rattle.justfile_attribute_rules.specs.Made.{placed_leaves}

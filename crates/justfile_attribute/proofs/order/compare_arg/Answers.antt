@@ -1,5 +1,5 @@
 use Rattle.std.proofs.Common.{◌∙◌}
-use Rattle.justfile_model.specs.Key.{option_key}
+use Rattle.justfile_model.specs.Trees.Key.{option_key}
 use Rattle.justfile_attribute.specs.Order.{boxed_key, by_content, count_key, literal_key, name_key, property_key, text_key, token_key}
 use Rattle.justfile_attribute.proofs.Ordered.{chained, then_are}
 use Rattle.justfile_attribute.proofs.order.compare_arg.Goals as goal

@@ -1,5 +1,5 @@
 use Rattle.std.proofs.Common.{◌∙◌, sym}
-use Rattle.justfile_model.specs.KeyLaws.{then_end}
+use Rattle.justfile_model.specs.Trees.KeyLaws.{then_end}
 use Rattle.justfile_attribute.specs.Order.{literal_key}
 use Rattle.justfile_attribute.proofs.Ordered.{listed, then_are}
 use Rattle.justfile_attribute.proofs.parts_order.compare_commands.Goals as goal

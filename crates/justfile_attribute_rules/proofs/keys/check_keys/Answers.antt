@@ -1,5 +1,5 @@
 use Rattle.std.proofs.Common.{rules, ◌≡◌, ◌∷◌, false}
-use Rattle.justfile_model.specs.AttributeRules.{is_known}
+use Rattle.justfile_model.specs.Meanings.AttributeRules.{is_known}
 use Rattle.justfile_expression.specs.LeafViews.{views_leaves}
 use Rattle.justfile_attribute_rules.specs.Keys.{Given, key_argument}
 use Rattle.justfile_attribute_rules.proofs.KeyLemmas.{here_refused}

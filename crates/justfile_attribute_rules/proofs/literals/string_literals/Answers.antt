@@ -1,6 +1,6 @@
 use Rattle.std.proofs.Common.{◌∙◌, ap, sym}
 use Rattle.std.specs.Vec.Iter.{into_iter_items}
-use Rattle.justfile_model.specs.NewAttribute.{placed_literal}
+use Rattle.justfile_model.specs.Readers.NewAttribute.{placed_literal}
 use Rattle.justfile_expression.specs.LeafViews.{views_leaves}
 use Rattle.justfile_attribute_rules.specs.Made.{placed_leaves, quoted_leaves}
 use Rattle.justfile_attribute_rules.proofs.Loops.{goes_on, literal_turn}

@@ -1,6 +1,6 @@
 use Rattle.std.proofs.Common.{◌≡◌}
 use Rattle.std.specs.Vec.Iter.{into_iter_items}
-use Rattle.justfile_model.specs.NewAttribute as new
+use Rattle.justfile_model.specs.Readers.NewAttribute as new
 use Rattle.justfile_expression.specs.LeafViews.{views_leaves}
 use Rattle.justfile_attribute_rules.specs.Made.{placed_leaves, quoted_leaves}
 use Rattle.justfile_attribute_rules.proofs.Loops.{goes_on}

@@ -1,8 +1,8 @@
 use Rattle.std.proofs.Common.{refl}
 use Rattle.std.specs.Cmp.{on_total}
-use Rattle.justfile_model.specs.ContentLeafLaws.{content_total}
-use Rattle.justfile_model.specs.KeyLaws.{key_total}
-use Rattle.justfile_model.proofs.OrderLaws.{in_order_sorts, sort_is, twice_is_once}
+use Rattle.justfile_model.specs.Trees.ContentLeafLaws.{content_total}
+use Rattle.justfile_model.specs.Trees.KeyLaws.{key_total}
+use Rattle.justfile_model.proofs.Lists.OrderLaws.{in_order_sorts, sort_is, twice_is_once}
 use Rattle.justfile_attribute.specs.Order.{content_key}
 use Rattle.justfile_attribute_set.proofs.Sorts.{pair_total}
 use Rattle.justfile_attribute_set.proofs.laws.sets_in_order.Goals as goal

@@ -1,5 +1,5 @@
 use Rattle.std.proofs.Common.{rules}
-use Rattle.justfile_model.proofs.OrderLaws.{sort_by_is}
+use Rattle.justfile_model.proofs.Lists.OrderLaws.{sort_by_is}
 use Rattle.justfile_attribute_set.proofs.Sorts.{on_ok, pair_total, sorted_in_order}
 use Rattle.justfile_attribute_set.proofs.pairs.sort_pairs.Goals as goal
 

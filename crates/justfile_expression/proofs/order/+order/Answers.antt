@@ -1,8 +1,8 @@
 use Rattle.std.proofs.Common.{◌∙◌, ap, sym, rules, arith}
 use Rattle.std.specs.Ordering.{on}
-use Rattle.justfile_model.specs.Key.{key_cmp}
+use Rattle.justfile_model.specs.Trees.Key.{key_cmp}
 use Rattle.justfile_expression.specs.Content.{leaf_order}
-use Rattle.justfile_model.specs.KeyLaws.{then_end}
+use Rattle.justfile_model.specs.Trees.KeyLaws.{then_end}
 use Rattle.justfile_expression.specs.Order.{key, part_key}
 use Rattle.justfile_expression.specs.OrderSteps.{left_key}
 use Rattle.justfile_expression.proofs.Compared.{at_end, from_assert, from_call, from_conditional, from_format, from_list, both_asserts, both_calls, both_conditionals, both_formats, both_lists}

@@ -1,7 +1,7 @@
 use Rattle.std.proofs.Common.{◌≡◌, ◌≤◌, ◌+◌, ◌*◌, max, length, drop}
 use Rattle.std.specs.Cmp.Lexicographic.{slice_cmp}
 use Rattle.std.specs.Ordering.{on, ordering_then}
-use Rattle.justfile_model.specs.Key.{key_cmp}
+use Rattle.justfile_model.specs.Trees.Key.{key_cmp}
 use Rattle.justfile_expression.specs.Content.{leaf_order}
 use Rattle.justfile_expression.specs.Order.{key, part_key}
 use Rattle.justfile_expression.specs.declared.expression.Expression.{size-Expression}

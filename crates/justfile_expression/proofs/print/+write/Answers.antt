@@ -18,36 +18,36 @@ write_to_last-returns-in_err-write_words-clause-err g t c =
     (subst (λ (texts : Texts). g.S.Sink.failed c.args.sink.now (texts_joined texts) c.write_words.new.sink) c.start.ensures c.in_err-write_words.ensures))
 
 pub write_to_last-write_expression-requires : goal.write_to_last-write_expression-requires
-write_to_last-write_expression-requires g t c κs within = (omega (arith, fewer c.args.expression.now c.loop-part.place _ (sym c.in-Some.ensures.child)), search rules)
+write_to_last-write_expression-requires g t c κs within = (omega (arith, fewer c.args.expression.now c.loop-part.index _ (sym c.in-Some.ensures.child)), search rules)
 
 pub write_to_last-returns-in_err-write_expression-clause-err : goal.write_to_last-returns-in_err-write_expression-clause-err
 write_to_last-returns-in_err-write_expression-clause-err g t c =
     let s = g.met.S.Sink in
-    at_err _ (failed_child g.S.Sink.took g.S.Sink.failed s.took_more s.failed_later s.failed_before c.args.expression.now _ _ _ c.loop-part.place
+    at_err _ (failed_child g.S.Sink.took g.S.Sink.failed s.took_more s.failed_later s.failed_before c.args.expression.now _ _ _ c.loop-part.index
     (subst (λ (texts : Texts). g.S.Sink.took c.args.sink.now (texts_joined texts) c.write_words.new.sink) c.start.ensures c.in_ok-write_words.ensures)
     c.loop-part.invariant _ (sym c.in-Some.ensures.child) _ (s.failed_before _ _ _ _ c.in_err-write_expression.ensures))
 
 pub write_to_last-returns-in_err-write_words-2-clause-err : goal.write_to_last-returns-in_err-write_words-2-clause-err
 write_to_last-returns-in_err-write_words-2-clause-err g t c =
     let s = g.met.S.Sink in
-    at_err _ (failed_child g.S.Sink.took g.S.Sink.failed s.took_more s.failed_later s.failed_before c.args.expression.now _ _ _ c.loop-part.place
+    at_err _ (failed_child g.S.Sink.took g.S.Sink.failed s.took_more s.failed_later s.failed_before c.args.expression.now _ _ _ c.loop-part.index
     (subst (λ (texts : Texts). g.S.Sink.took c.args.sink.now (texts_joined texts) c.write_words.new.sink) c.start.ensures c.in_ok-write_words.ensures)
     c.loop-part.invariant _ (sym c.in-Some.ensures.child) _ (s.failed_later _ _ _ _ _ c.in_ok-write_expression.ensures c.in_err-write_words-2.ensures))
 
 pub write_to_last-loop-part-smaller : goal.write_to_last-loop-part-smaller
-write_to_last-loop-part-smaller g t c = omega (arith, slice_get_within (children c.args.expression.now) c.loop-part.place _ (sym c.in-Some.ensures.child))
+write_to_last-loop-part-smaller g t c = omega (arith, slice_get_within (children c.args.expression.now) c.loop-part.index _ (sym c.in-Some.ensures.child))
 
 pub write_to_last-loop-part-preserved : goal.write_to_last-loop-part-preserved
 write_to_last-loop-part-preserved g t c =
     let s = g.met.S.Sink in
-    took_next g.S.Sink.took g.S.Sink.failed s.took_more s.failed_later s.failed_before child_text (children c.args.expression.now) c.loop-part.place _ (sym c.in-Some.ensures.child) _ _ _ c.loop-part.invariant
+    took_next g.S.Sink.took g.S.Sink.failed s.took_more s.failed_later s.failed_before child_text (children c.args.expression.now) c.loop-part.index _ (sym c.in-Some.ensures.child) _ _ _ c.loop-part.invariant
     (s.took_more _ _ _ _ _ c.in_ok-write_expression.ensures c.in_ok-write_words-2.ensures)
 
 pub write_to_last-returns-clause-ok : goal.write_to_last-returns-clause-ok
 write_to_last-returns-clause-ok g t c =
     let s = g.met.S.Sink in (
       text_of c.args.expression.now,
-      took_all g.S.Sink.took g.S.Sink.failed s.took_more s.failed_later s.failed_before c.args.expression.now _ _ _ c.loop-part.place
+      took_all g.S.Sink.took g.S.Sink.failed s.took_more s.failed_later s.failed_before c.args.expression.now _ _ _ c.loop-part.index
           (subst (λ (texts : Texts). g.S.Sink.took c.args.sink.now (texts_joined texts) c.write_words.new.sink) c.start.ensures c.in_ok-write_words.ensures)
           c.loop-part.invariant c.in_default.ensures.child,
       refl,
@@ -94,9 +94,9 @@ write_expression-returns g t c =
 pub write_to_last-returns-then-is_empty-clause-ok : goal.write_to_last-returns-then-is_empty-clause-ok
 write_to_last-returns-then-is_empty-clause-ok g t c =
     let s = g.met.S.Sink in (
-      texts_joined (start_texts c.args.expression.now) ++ flat_map child_text (take c.loop-part.place (children c.args.expression.now)),
+      texts_joined (start_texts c.args.expression.now) ++ flat_map child_text (take c.loop-part.index (children c.args.expression.now)),
       s.took_more _ _ _ _ _
           (subst (λ (texts : Texts). g.S.Sink.took c.args.sink.now (texts_joined texts) c.write_words.new.sink) c.start.ensures c.in_ok-write_words.ensures)
           c.loop-part.invariant,
-      completed_at c.args.expression.now c.loop-part.place c.in-Some.part _ (sym c.in-Some.ensures.child) (c.is_empty.ensures.0 c.if-is_empty.true),
+      completed_at c.args.expression.now c.loop-part.index c.in-Some.part _ (sym c.in-Some.ensures.child) (c.is_empty.ensures.0 c.if-is_empty.true),
     )

@@ -26,7 +26,7 @@ abbrev pub decreases-write_expression-loop-rest : goal.decreases-write_expressio
 decreases-write_expression-loop-rest g l = rest_nodes l.rest
 
 abbrev pub invariant-write_to_last-loop-part : goal.invariant-write_to_last-loop-part
-invariant-write_to_last-loop-part g l = g.S.Sink.took l.initial.sink (flat_map child_text (take l.place (children l.expression))) l.sink
+invariant-write_to_last-loop-part g l = g.S.Sink.took l.initial.sink (flat_map child_text (take l.index (children l.expression))) l.sink
 
 abbrev pub decreases-write_to_last-loop-part : goal.decreases-write_to_last-loop-part
-decreases-write_to_last-loop-part g l = length (children l.expression) - l.place
+decreases-write_to_last-loop-part g l = length (children l.expression) - l.index

@@ -2,7 +2,7 @@ use Rattle.std.proofs.Common.{◌≡◌, ℕ, List, ◌++◌, codes, ap, ◌∙�
 use Rattle.justfile_token.specs.Namepath.{namepath_text}
 use Rattle.justfile_token.specs.Token.{lexeme_of}
 use Rattle.justfile_token.specs.declared.namepath.Namepath.{Namepath}
-use Rattle.justfile_model.specs.Printing.{fixed_text}
+use Rattle.justfile_model.specs.Printed.Printing.{fixed_text}
 use Rattle.justfile_token.proofs.PutLemmas.{failed_at}
 use Rattle.justfile_item.specs.ItemText.{alias_text_of}
 use Rattle.justfile_item.specs.declared.alias.Alias.{Alias}

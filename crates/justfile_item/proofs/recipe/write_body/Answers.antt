@@ -1,6 +1,6 @@
 use Rattle.std.proofs.Common.{arith, ◌++◌, codes}
 use Rattle.justfile_vocabulary.specs.Indentation.{indentation_text}
-use Rattle.justfile_model.specs.Printing.{fixed_text, line_text, body_text}
+use Rattle.justfile_model.specs.Printed.Printing.{fixed_text, line_text, body_text}
 use Rattle.justfile_line.specs.Body.{line_shape, line_shapes}
 use Rattle.justfile_line.proofs.Bodies.{body_parts}
 use Rattle.justfile_token.proofs.PutLemmas.{failed_at}

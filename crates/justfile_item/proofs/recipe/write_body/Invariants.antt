@@ -1,6 +1,6 @@
 use Rattle.std.proofs.Common.{take}
 use Rattle.justfile_vocabulary.specs.Indentation.{indentation_text}
-use Rattle.justfile_model.specs.Printing.{body_text}
+use Rattle.justfile_model.specs.Printed.Printing.{body_text}
 use Rattle.justfile_line.specs.Body.{line_shapes}
 use Rattle.justfile_item.proofs.recipe.write_body.Given as goal
 

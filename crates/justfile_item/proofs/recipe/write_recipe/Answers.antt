@@ -1,7 +1,7 @@
 use Rattle.std.proofs.Common.{◌≡◌, ℕ, List, ◌++◌, ap, subst}
 use Rattle.std.specs.Option.{option_copied}
 use Rattle.justfile_vocabulary.specs.Indentation.{indentation_text}
-use Rattle.justfile_model.specs.Printing.{body_text, comment_text, header_text}
+use Rattle.justfile_model.specs.Printed.Printing.{body_text, comment_text, header_text}
 use Rattle.justfile_line.specs.Body.{line_shapes}
 use Rattle.justfile_line.specs.declared.line.Line.{Line}
 use Rattle.justfile_token.proofs.PutLemmas.{failed_at}

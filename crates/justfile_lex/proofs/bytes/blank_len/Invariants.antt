@@ -1,5 +1,5 @@
 use Rattle.std.proofs.Common.{length, ◌-◌}
-use Rattle.justfile_model.specs.Bytes.{is_blank}
+use Rattle.justfile_model.specs.Lexing.Bytes.{is_blank}
 use Rattle.justfile_lex.proofs.LaneLemmas.{IsRunTo}
 use Rattle.justfile_lex.proofs.bytes.blank_len.Given as goal
 

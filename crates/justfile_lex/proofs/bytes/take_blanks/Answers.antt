@@ -1,5 +1,5 @@
-use Rattle.justfile_model.specs.Bytes.{is_blank}
-use Rattle.justfile_model.proofs.CutLemmas.{run_cuts, blank_ascii}
+use Rattle.justfile_model.specs.Lexing.Bytes.{is_blank}
+use Rattle.justfile_model.proofs.Lexing.CutLemmas.{run_cuts, blank_ascii}
 use Rattle.justfile_lex.proofs.bytes.take_blanks.Goals as goal
 
 pub range-requires-clause-end_boundary : goal.range-requires-clause-end_boundary

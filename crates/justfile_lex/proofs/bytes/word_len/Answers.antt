@@ -1,5 +1,5 @@
 use Rattle.std.proofs.Common.{arith}
-use Rattle.justfile_model.specs.Bytes.{is_name_byte}
+use Rattle.justfile_model.specs.Lexing.Bytes.{is_name_byte}
 use Rattle.justfile_lex.proofs.LaneLemmas.{run_stops, run_goes_on}
 use Rattle.justfile_lex.proofs.bytes.word_len.Goals as goal
 

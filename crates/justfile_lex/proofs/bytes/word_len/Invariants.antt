@@ -1,5 +1,5 @@
 use Rattle.std.proofs.Common.{length, ◌-◌}
-use Rattle.justfile_model.specs.Bytes.{is_name_byte}
+use Rattle.justfile_model.specs.Lexing.Bytes.{is_name_byte}
 use Rattle.justfile_lex.proofs.LaneLemmas.{IsRunTo}
 use Rattle.justfile_lex.proofs.bytes.word_len.Given as goal
 

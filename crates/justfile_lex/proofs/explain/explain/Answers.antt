@@ -1,8 +1,8 @@
 use Rattle.std.proofs.Common.{◌≡◌, true, false, length, get_or, take, ap, sym, subst, ◌∙◌, rules}
 use Rattle.std.specs.Result.{result_ok}
 use Rattle.justfile_vocabulary.specs.ByteClass.{class_of}
-use Rattle.justfile_model.specs.Bytes.{blank, is_blank, blank_len}
-use Rattle.justfile_model.specs.Next.{token_by_class}
+use Rattle.justfile_model.specs.Lexing.Bytes.{blank, is_blank, blank_len}
+use Rattle.justfile_model.specs.Lexing.Next.{token_by_class}
 use Rattle.justfile_lex.specs.Layouts.{indent}
 use Rattle.justfile_lex.specs.Modes.{mode_of}
 use Rattle.justfile_lex.proofs.Refusals.{next_blanks, next_other, refused_some}

@@ -1,7 +1,7 @@
 use Rattle.std.proofs.Common.{◌≡◌, true, Err, sym, ◌∙◌, rules}
-use Rattle.justfile_model.specs.Bytes.{is_interpolation_end}
-use Rattle.justfile_model.specs.LexicalFault.{Here}
-use Rattle.justfile_model.specs.Next.{format_kind}
+use Rattle.justfile_model.specs.Lexing.Bytes.{is_interpolation_end}
+use Rattle.justfile_model.specs.Lexing.LexicalFault.{Here}
+use Rattle.justfile_model.specs.Lexing.Next.{format_kind}
 use Rattle.justfile_lex.proofs.Refusals.{brace_part}
 use Rattle.justfile_lex.proofs.explain.explain_closing_brace.Goals as goal
 

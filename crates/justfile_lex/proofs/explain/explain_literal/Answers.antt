@@ -1,7 +1,7 @@
 use Rattle.std.proofs.Common.{Err, ap, sym, ◌∙◌}
 use Rattle.justfile_token.specs.StringKind.{delimiter_len, kind_of}
-use Rattle.justfile_model.specs.LexicalFault.{Here}
-use Rattle.justfile_model.specs.Next.{unterminated}
+use Rattle.justfile_model.specs.Lexing.LexicalFault.{Here}
+use Rattle.justfile_model.specs.Lexing.Next.{unterminated}
 use Rattle.justfile_lex.proofs.Refusals.{part_is}
 use Rattle.justfile_lex.proofs.explain.explain_literal.Goals as goal
 

@@ -1,5 +1,5 @@
 use Rattle.std.proofs.Common.{◌≡◌, get_or, arith, sym, ◌∙◌}
-use Rattle.justfile_model.proofs.CutLemmas.{after_byte}
+use Rattle.justfile_model.proofs.Lexing.CutLemmas.{after_byte}
 use Rattle.justfile_lex.proofs.explain.explain_other.Goals as goal
 
 pub explain_escape-requires-clause-boundary : goal.explain_escape-requires-clause-boundary

@@ -2,7 +2,7 @@ use Rattle.std.proofs.Common.{ℕ, leb, cond, bit_and, refl, arith}
 use Rattle.std.proofs.lemmas.Simd.{zip2_splat, length-chunk}
 use lib.Lanes.{chunk}
 use Rattle.justfile_vocabulary.specs.ByteClass.{class_of}
-use Rattle.justfile_model.specs.Bytes.{is_name_byte}
+use Rattle.justfile_model.specs.Lexing.Bytes.{is_name_byte}
 use Rattle.justfile_lex.proofs.LaneLemmas.{joined, splat_is, run_is}
 use Rattle.justfile_lex.proofs.lanes.word_run.Goals as goal
 

@@ -1,5 +1,5 @@
 use Rattle.std.proofs.Common.{◌≡◌, length, take, ap, sym, subst, ◌∙◌}
-use Rattle.justfile_model.specs.Bytes.{is_blank, blank_len}
+use Rattle.justfile_model.specs.Lexing.Bytes.{is_blank, blank_len}
 use Rattle.justfile_lex.proofs.StackLemmas.{run_take}
 use Rattle.justfile_lex.proofs.layout.scan_line_start.Goals as goal
 

@@ -1,6 +1,6 @@
 use Rattle.std.proofs.Common.{◌≤◌, Bool, true, false, cond, ap, arith, length, length-drop}
 use Rattle.justfile_model.specs.declared.raw_text.RawText.TheVariants.{Literal}
-use Rattle.justfile_model.proofs.CutLemmas.{raw_within}
+use Rattle.justfile_model.proofs.Lexing.CutLemmas.{raw_within}
 use Rattle.justfile_lex.proofs.literal.scan_literal_part.Goals as goal
 
 delimiter_small : (b : Bool) → cond b 3 1 ≤ 3

@@ -1,5 +1,5 @@
 use Rattle.std.proofs.Common.{◌≡◌, ◌-◌, subst, arith}
-use Rattle.justfile_model.specs.Places.{IsPlace}
+use Rattle.justfile_model.specs.Lexing.Places.{IsPlace}
 use Rattle.justfile_lex.proofs.PlaceLemmas.{place_on_line, line_within}
 use Rattle.justfile_lex.proofs.place.place_after.Goals as goal
 

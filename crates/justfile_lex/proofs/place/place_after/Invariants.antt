@@ -1,4 +1,4 @@
-use Rattle.justfile_model.specs.Places.{IsPlace}
+use Rattle.justfile_model.specs.Lexing.Places.{IsPlace}
 use Rattle.justfile_lex.proofs.place.place_after.Given as goal
 
 abbrev pub invariant-loop-at : goal.invariant-loop-at

@@ -1,6 +1,6 @@
 use Rattle.std.proofs.Common.{◌≤◌, length, sym, subst, ◌∙◌}
 use Rattle.justfile_token.specs.StringKind.{delimiter_len, kind_of}
-use Rattle.justfile_model.proofs.CutLemmas.{opener_fits}
+use Rattle.justfile_model.proofs.Lexing.CutLemmas.{opener_fits}
 use Rattle.justfile_lex.proofs.scan.scan_by_class.Goals as goal
 
 pub scan_literal-requires : goal.scan_literal-requires

@@ -1,6 +1,6 @@
 use Rattle.std.proofs.Common.{arith}
 use Rattle.std.proofs.lemmas.List.Sums.{prefix_len-le-length}
-use Rattle.justfile_model.specs.Bytes.{is_blank}
+use Rattle.justfile_model.specs.Lexing.Bytes.{is_blank}
 use Rattle.justfile_lex.proofs.scan.scan_escaped_line_end.Goals as goal
 
 pub overflow_add-blank_len : goal.overflow_add-blank_len

@@ -1,5 +1,5 @@
 use Rattle.std.proofs.Common.{arith}
-use Rattle.justfile_model.specs.Printing.{fragment_text}
+use Rattle.justfile_model.specs.Printed.Printing.{fragment_text}
 use Rattle.justfile_line.specs.Body.{fragment_shape, fragments_text}
 use Rattle.justfile_line.proofs.Bodies.{fragments_parts}
 use Rattle.justfile_token.proofs.PutLemmas.{failed_at}

@@ -1,5 +1,5 @@
 use Rattle.std.proofs.Common.{◌≡◌, ◌≤◌, length, take, chars}
-use Rattle.justfile_model.specs.Cook.{AreHex}
+use Rattle.justfile_model.specs.LiteralTexts.Cook.{AreHex}
 use Rattle.justfile_literal.proofs.escape.hex_len.Given as goal
 
 -- the characters so far are digits

@@ -2,7 +2,7 @@ use Rattle.std.proofs.Common.{refl}
 use Rattle.std.specs.Char.{encode_utf8}
 use Rattle.std.specs.Str.{chars, is_utf8}
 use Rattle.std.proofs.lemmas.Str.{IsUtf8-from_is_utf8}
-use Rattle.justfile_model.specs.FirstPiece.{cook_within}
+use Rattle.justfile_model.specs.LiteralTexts.FirstPiece.{cook_within}
 use Rattle.justfile_literal.proofs.Texts.{cooked_sound}
 use Rattle.justfile_literal.proofs.examples.cooked.Goals as goal
 

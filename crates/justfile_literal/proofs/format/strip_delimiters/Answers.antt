@@ -1,5 +1,5 @@
 use Rattle.std.proofs.Common.{IsTrue, ℕ, subst, sym}
-use Rattle.justfile_model.specs.Literals.{end_len}
+use Rattle.justfile_model.specs.LiteralTexts.Literals.{end_len}
 use Rattle.justfile_literal.specs.Literal.{is_framed}
 use Rattle.justfile_literal.proofs.LiteralTexts.{begins}
 use Rattle.justfile_literal.proofs.format.strip_delimiters.Goals as goal

@@ -1,6 +1,6 @@
 use Rattle.std.proofs.Common.{◌≡◌, ◌∙◌, Ok, true, false, ap, refl, subst, sym}
 use Rattle.justfile_token.specs.StringKind.{escapes, kind_of}
-use Rattle.justfile_model.specs.Literals.{escaped}
+use Rattle.justfile_model.specs.LiteralTexts.Literals.{escaped}
 use Rattle.justfile_literal.proofs.LiteralTexts.{cooked_string}
 use Rattle.justfile_literal.proofs.Verbatim.{unescaped, verbatim}
 use Rattle.justfile_literal.proofs.literal.verbatim_text.Goals as goal

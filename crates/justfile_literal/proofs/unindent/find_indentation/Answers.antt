@@ -1,6 +1,6 @@
 use Rattle.std.proofs.Common.{◌∙◌, ◌++◌, List, Option, Some, Bor, [], ◌∷◌, map, take, get_or, ap, sym, subst, ℕ}
 use Rattle.std.proofs.lemmas.List.{map_more}
-use Rattle.justfile_model.specs.Unindent.{shared_front}
+use Rattle.justfile_model.specs.LiteralTexts.Unindent.{shared_front}
 use Rattle.justfile_literal.proofs.SharedFronts.{IsShared, shared_first, shared_next, shared_skip}
 use Rattle.justfile_literal.proofs.unindent.find_indentation.Goals.{then-not-is_blank_line, in-None, in-Some, else-not-is_blank_line}
 use Rattle.justfile_literal.proofs.unindent.find_indentation.Goals as goal

@@ -1,6 +1,6 @@
 use Rattle.std.proofs.Common.{List, Bor, ℕ}
 use Rattle.std.proofs.lemmas.List.Elements.{All-rest}
-use Rattle.justfile_model.specs.Unindent.{IsIndented}
+use Rattle.justfile_model.specs.LiteralTexts.Unindent.{IsIndented}
 use Rattle.justfile_literal.proofs.unindent.join_lines.Goals as goal
 
 pub push_later_lines-requires : goal.push_later_lines-requires

@@ -2,7 +2,7 @@ use Rattle.std.proofs.Common.{◌∙◌, ◌++◌, ℕ, List, [], Some, Bor, ap,
 use Rattle.std.specs.List.{flat_map}
 use Rattle.std.proofs.lemmas.Result.{on_ok_weaker}
 use Rattle.std.proofs.lemmas.List.Elements.{All-pop}
-use Rattle.justfile_model.specs.Unindent.{IsIndented, middle_line}
+use Rattle.justfile_model.specs.LiteralTexts.Unindent.{IsIndented, middle_line}
 use Rattle.justfile_literal.proofs.JoinedLines.{later_is, where_ok}
 use Rattle.justfile_literal.proofs.unindent.push_later_lines.Goals as goal
 

@@ -1,6 +1,6 @@
 use Rattle.std.proofs.Common.{◌≡◌, ◌++◌, map, take, string_bytes}
 use Rattle.std.specs.List.{flat_map}
-use Rattle.justfile_model.specs.Unindent.{middle_line}
+use Rattle.justfile_model.specs.LiteralTexts.Unindent.{middle_line}
 use Rattle.justfile_literal.proofs.unindent.push_later_lines.Given as goal
 
 abbrev pub invariant-loop-line : goal.invariant-loop-line

@@ -1,4 +1,4 @@
-use Rattle.justfile_model.proofs.NewAttributeLaws.{attribute_made, attribute_refused, attribute_unbroken}
+use Rattle.justfile_model.proofs.Meanings.NewAttributeLaws.{attribute_made, attribute_refused, attribute_unbroken}
 use Rattle.justfile_model.proofs.attribute_laws.attributes_made.Goals as goal
 
 pub returns : goal.returns

@@ -1,5 +1,5 @@
-use Rattle.justfile_model.proofs.OrderLaws.{in_order_sorts, sort_is, twice_is_once}
-use Rattle.justfile_model.proofs.PrintedEntries.{entries_total}
+use Rattle.justfile_model.proofs.Lists.OrderLaws.{in_order_sorts, sort_is, twice_is_once}
+use Rattle.justfile_model.proofs.Printed.PrintedEntries.{entries_total}
 use Rattle.justfile_model.proofs.attribute_laws.content_order.Goals as goal
 
 pub returns : goal.returns

@@ -2,12 +2,12 @@ use Rattle.std.proofs.Common.{refl, codes}
 use Rattle.std.specs.Char.{encode_utf8}
 use Rattle.std.specs.Str.{chars, is_utf8}
 use Rattle.justfile_vocabulary.specs.ByteClass.{class_of}
-use Rattle.justfile_model.specs.Bytes.{closes_levels}
-use Rattle.justfile_model.specs.LiteralText.{pieces_len}
-use Rattle.justfile_model.specs.Next.{body_token, fixed_token, token_by_class, token_within_line, layout, literal_part, next}
-use Rattle.justfile_model.specs.Places.{column_at, last_line_start, line_of_offset}
-use Rattle.justfile_model.proofs.AnswerLaws.{at, fault_of, is_eof, span_of}
-use Rattle.justfile_model.proofs.Computed.{answer, computed}
+use Rattle.justfile_model.specs.Lexing.Bytes.{closes_levels}
+use Rattle.justfile_model.specs.Lexing.LiteralText.{pieces_len}
+use Rattle.justfile_model.specs.Lexing.Next.{body_token, fixed_token, token_by_class, token_within_line, layout, literal_part, next}
+use Rattle.justfile_model.specs.Lexing.Places.{column_at, last_line_start, line_of_offset}
+use Rattle.justfile_model.proofs.Lexing.AnswerLaws.{at, fault_of, is_eof, span_of}
+use Rattle.justfile_model.proofs.Lexing.Computed.{answer, computed}
 use Rattle.justfile_model.proofs.examples.refused_delimiters.Goals as goal
 
 pub returns : goal.returns

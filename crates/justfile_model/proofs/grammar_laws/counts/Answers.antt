@@ -1,4 +1,4 @@
-use Rattle.justfile_model.proofs.Counting.{file_numbers, items_bindings, items_constants, items_recipes}
+use Rattle.justfile_model.proofs.Readers.Counting.{file_numbers, items_bindings, items_constants, items_recipes}
 use Rattle.justfile_model.proofs.grammar_laws.counts.Goals as goal
 
 pub returns : goal.returns

@@ -1,4 +1,4 @@
-use Rattle.justfile_model.proofs.Needs.{deep_at, enough, need_of, one_need, only_deep, raised, relimited}
+use Rattle.justfile_model.proofs.Derivations.Needs.{deep_at, enough, need_of, one_need, only_deep, raised, relimited}
 use Rattle.justfile_model.proofs.grammar_laws.needs.Goals as goal
 
 pub returns : goal.returns

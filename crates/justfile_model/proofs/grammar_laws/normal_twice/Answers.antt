@@ -1,4 +1,4 @@
-use Rattle.justfile_model.proofs.Normal.{normal_twice, normal_literals, normal_bindings, normal_recipes, normal_printable}
+use Rattle.justfile_model.proofs.Printed.Normal.{normal_twice, normal_literals, normal_bindings, normal_recipes, normal_printable}
 use Rattle.justfile_model.proofs.grammar_laws.normal_twice.Goals as goal
 
 pub returns : goal.returns

@@ -1,5 +1,5 @@
 use Rattle.std.proofs.Common.{ap}
-use Rattle.justfile_model.specs.Printing.{text}
+use Rattle.justfile_model.specs.Printed.Printing.{text}
 use Rattle.justfile_model.proofs.grammar_laws.printing.Goals as goal
 
 pub returns : goal.returns

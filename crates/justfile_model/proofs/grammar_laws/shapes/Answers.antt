@@ -1,7 +1,7 @@
-use Rattle.justfile_model.proofs.Agreement.{one_tree}
-use Rattle.justfile_model.proofs.CookedTexts.{same_texts}
-use Rattle.justfile_model.proofs.Leaves.{file_forgets, file_lifts, one_shape}
-use Rattle.justfile_model.proofs.Spelled.{lexed_spelled}
+use Rattle.justfile_model.proofs.Sound.Agreement.{one_tree}
+use Rattle.justfile_model.proofs.Derivations.CookedTexts.{same_texts}
+use Rattle.justfile_model.proofs.Derivations.Leaves.{file_forgets, file_lifts, one_shape}
+use Rattle.justfile_model.proofs.Lexing.Spelled.{lexed_spelled}
 use Rattle.justfile_model.proofs.grammar_laws.shapes.Goals as goal
 
 pub returns : goal.returns

@@ -1,4 +1,4 @@
-use Rattle.justfile_model.proofs.UncommentedText.{without_comments}
+use Rattle.justfile_model.proofs.Printed.UncommentedText.{without_comments}
 use Rattle.justfile_model.proofs.grammar_laws.uncommented.Goals as goal
 
 pub returns : goal.returns

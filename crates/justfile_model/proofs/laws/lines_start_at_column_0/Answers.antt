@@ -1,4 +1,4 @@
-use Rattle.justfile_model.proofs.ColumnLaws.{end_column, line_starts}
+use Rattle.justfile_model.proofs.Lexing.ColumnLaws.{end_column, line_starts}
 use Rattle.justfile_model.proofs.laws.lines_start_at_column_0.Goals as goal
 
 pub returns : goal.returns

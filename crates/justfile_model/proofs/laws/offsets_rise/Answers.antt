@@ -1,4 +1,4 @@
-use Rattle.justfile_model.proofs.LexedLaws.{offsets_rise}
+use Rattle.justfile_model.proofs.Lexing.LexedLaws.{offsets_rise}
 use Rattle.justfile_model.proofs.laws.offsets_rise.Goals as goal
 
 pub returns : goal.returns

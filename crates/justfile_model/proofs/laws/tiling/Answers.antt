@@ -1,4 +1,4 @@
-use Rattle.justfile_model.proofs.LexedLaws.{joined}
+use Rattle.justfile_model.proofs.Lexing.LexedLaws.{joined}
 use Rattle.justfile_model.proofs.laws.tiling.Goals as goal
 
 pub returns : goal.returns

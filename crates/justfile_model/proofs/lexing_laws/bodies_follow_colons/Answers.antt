@@ -1,4 +1,4 @@
-use Rattle.justfile_model.proofs.BodyLaws.{body_law, colon_law}
+use Rattle.justfile_model.proofs.Lexing.BodyLaws.{body_law, colon_law}
 use Rattle.justfile_model.proofs.lexing_laws.bodies_follow_colons.Goals as goal
 
 pub returns : goal.returns

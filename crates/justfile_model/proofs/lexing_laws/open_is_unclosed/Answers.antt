@@ -1,4 +1,4 @@
-use Rattle.justfile_model.proofs.ModeLaws.{delimiters_law, interpolations_law, levels_law}
+use Rattle.justfile_model.proofs.Lexing.ModeLaws.{delimiters_law, interpolations_law, levels_law}
 use Rattle.justfile_model.proofs.lexing_laws.open_is_unclosed.Goals as goal
 
 pub returns : goal.returns

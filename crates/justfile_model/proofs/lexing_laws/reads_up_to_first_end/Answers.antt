@@ -1,4 +1,4 @@
-use Rattle.justfile_model.proofs.PieceLaws.{inside_law, no_end_law}
+use Rattle.justfile_model.proofs.Lexing.PieceLaws.{inside_law, no_end_law}
 use Rattle.justfile_model.proofs.lexing_laws.reads_up_to_first_end.Goals as goal
 
 pub returns : goal.returns

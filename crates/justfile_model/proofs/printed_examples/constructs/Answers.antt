@@ -1,6 +1,6 @@
 use Rattle.std.proofs.Common.{refl}
-use Rattle.justfile_model.specs.AttributeKinds.{same_attribute}
-use Rattle.justfile_model.specs.Printing.{fixed_text}
+use Rattle.justfile_model.specs.Meanings.AttributeKinds.{same_attribute}
+use Rattle.justfile_model.specs.Printed.Printing.{fixed_text}
 use Rattle.justfile_model.proofs.printed_examples.constructs.Goals as goal
 
 pub returns : goal.returns

@@ -1,5 +1,5 @@
 use Rattle.std.proofs.Common.{◌≡◌, subst, map, Ok, Err, Option, arith}
-use Rattle.justfile_model.specs.ReaderState.{NoNumber}
+use Rattle.justfile_model.specs.Readers.ReaderState.{NoNumber}
 use Rattle.justfile_parse_expression.specs.Conditions.{conditions_of}
 use Rattle.justfile_parse_item.specs.ItemTable as reader
 use Rattle.justfile_parse_expression.specs.TableReader.{Run, State}

@@ -1,5 +1,5 @@
 use Rattle.std.proofs.Common.{◌≡◌}
-use Rattle.justfile_model.specs.Expressions.{ends_open}
+use Rattle.justfile_model.specs.Grammars.Expressions.{ends_open}
 use Rattle.justfile_expression.specs.LeafTree.{leaf_tree_of}
 use Rattle.justfile_expression.specs.declared.expression.Expression.{size-Expression}
 use Rattle.justfile_parse_expression.proofs.conditional.ends_open.Given as goal

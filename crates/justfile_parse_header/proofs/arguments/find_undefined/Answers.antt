@@ -2,7 +2,7 @@ use Rattle.std.proofs.Common.{◌∙◌, Option, map, ap, sym}
 use Rattle.std.specs.Option.{option_map}
 use Rattle.justfile_attribute_rules.specs.Made.{quoted_leaf}
 use Rattle.justfile_attribute_set.specs.Keys.{keys_left}
-use Rattle.justfile_model.specs.Tree.{Quoted}
+use Rattle.justfile_model.specs.Trees.Tree.{Quoted}
 use Rattle.justfile_parse_header.specs.Arguments.{least_undefined, lesser_of}
 use Rattle.justfile_parse_header.specs.Tree.{parameter_tree, rules_of}
 use Rattle.justfile_parse_header.proofs.Least.{goes_on, least_in}

@@ -2,7 +2,7 @@ use Rattle.std.proofs.Common.{◌∙◌, Bool, Option, Some, None, cond, ap, sym
 use Rattle.justfile_attribute.specs.Attribute.{leaf_attribute_of}
 use Rattle.justfile_attribute.specs.declared.attribute.Attribute.{Attribute}
 use Rattle.justfile_attribute_rules.specs.Made.{quoted_leaf}
-use Rattle.justfile_model.specs.Tree.{Quoted}
+use Rattle.justfile_model.specs.Trees.Tree.{Quoted}
 use Rattle.justfile_parse_header.specs.Arguments.{undefined_in}
 use Rattle.justfile_parse_header.proofs.Texts.{outside}
 use Rattle.justfile_parse_header.proofs.arguments.undefined_parameter.Goals as goal

@@ -1,7 +1,7 @@
 use Rattle.std.proofs.Common.{◌≡◌, subst, List, Option, map, Some, None}
 use Rattle.justfile_token.specs.declared.fault.Fault.TheVariants as faults
-use Rattle.justfile_model.specs.Meaning.{first_of}
-use Rattle.justfile_model.specs.RecipeRules.{stars}
+use Rattle.justfile_model.specs.Meanings.Meaning.{first_of}
+use Rattle.justfile_model.specs.Meanings.RecipeRules.{stars}
 use Rattle.justfile_parse_base.specs.ParseErrors.{IsParseError}
 use Rattle.justfile_parse_expression.specs.Significant.{TableEntry}
 use Rattle.justfile_parse_header.specs.Tree.{read_argument}

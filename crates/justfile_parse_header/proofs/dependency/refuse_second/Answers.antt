@@ -1,6 +1,6 @@
 use Rattle.std.proofs.Common.{◌≡◌, ◌++◌, ◌∷◌, [], false, List, map, Some, None}
 use Rattle.justfile_token.specs.declared.fault.Fault.TheVariants as faults
-use Rattle.justfile_model.specs.RecipeRules.{stars}
+use Rattle.justfile_model.specs.Meanings.RecipeRules.{stars}
 use Rattle.justfile_parse_expression.specs.Significant.{TableEntry}
 use Rattle.justfile_parse_header.specs.HeaderTable.{second_from}
 use Rattle.justfile_parse_header.specs.Tree.{read_argument}

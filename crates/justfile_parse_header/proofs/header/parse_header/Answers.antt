@@ -3,8 +3,8 @@ use Rattle.std.proofs.lemmas.Result.{err_from_is_err_and}
 use Rattle.justfile_vocabulary.specs.declared.token_kind.TokenKind.TheVariants as kinds
 use Rattle.justfile_recipe_header.specs.declared.parameter.Parameter.{Parameter}
 use Rattle.justfile_recipe_header.specs.declared.unresolved_dependency.UnresolvedDependency.{UnresolvedDependency}
-use Rattle.justfile_model.specs.HeaderReader.{obeying}
-use Rattle.justfile_model.specs.ReaderState.{NoNumber, prepend}
+use Rattle.justfile_model.specs.Readers.HeaderReader.{obeying}
+use Rattle.justfile_model.specs.Readers.ReaderState.{NoNumber, prepend}
 use Rattle.justfile_parse_base.specs.ParseErrors.{IsParseError}
 use Rattle.justfile_parse_expression.specs.TableReader.{Read, State, expect}
 use Rattle.justfile_parse_expression.specs.View.{state_of}

@@ -1,8 +1,8 @@
 use Rattle.std.proofs.Common.{◌≡◌, length}
 use Rattle.std.specs.List.{flat_map}
 use Rattle.justfile_attribute_set.specs.Keys.{keys_left}
-use Rattle.justfile_model.specs.Features.{rules_features}
-use Rattle.justfile_model.specs.ReaderState.{with}
+use Rattle.justfile_model.specs.Grammars.Features.{rules_features}
+use Rattle.justfile_model.specs.Readers.ReaderState.{with}
 use Rattle.justfile_parse_expression.specs.View.{tokens_left, state_of}
 use Rattle.justfile_parse_header.specs.Tree.{rules_of}
 use Rattle.justfile_parse_header.proofs.ArgAttributes.{noting}

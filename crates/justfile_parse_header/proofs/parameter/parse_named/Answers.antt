@@ -1,8 +1,8 @@
 use Rattle.std.proofs.Common.{ℕ, ◌≤◌, map, refl, arith}
 use Rattle.std.proofs.lemmas.Result.{err_from_is_err_and}
 use Rattle.justfile_vocabulary.specs.declared.token_kind.TokenKind.TheVariants as kinds
-use Rattle.justfile_model.specs.HeaderReader.{obeying}
-use Rattle.justfile_model.specs.ReaderState.{NoNumber}
+use Rattle.justfile_model.specs.Readers.HeaderReader.{obeying}
+use Rattle.justfile_model.specs.Readers.ReaderState.{NoNumber}
 use Rattle.justfile_parse_expression.specs.TableReader.{expect}
 use Rattle.justfile_parse_expression.specs.View.{state_of}
 use Rattle.justfile_parse_header.specs.Arguments.{rules_by}

@@ -1,6 +1,6 @@
 use Rattle.std.proofs.Common.{◌∙◌, sym, arith}
 use Rattle.std.proofs.lemmas.Result.{err_from_is_err_and}
-use Rattle.justfile_model.specs.ReaderState.{NoNumber}
+use Rattle.justfile_model.specs.Readers.ReaderState.{NoNumber}
 use Rattle.justfile_parse_expression.specs.View.{state_of}
 use Rattle.justfile_parse_base.specs.Counting.{counters_of, identifiers_left}
 use Rattle.justfile_parse_header.specs.Tree.{rules_of}

@@ -1,5 +1,5 @@
 use Rattle.justfile_attribute_set.specs.AttributeSet.{leaf_entries_of}
-use Rattle.justfile_model.specs.RecipeRules.{exclusions_broken}
+use Rattle.justfile_model.specs.Meanings.RecipeRules.{exclusions_broken}
 use Rattle.justfile_parse_item.proofs.Constructs.{is_excluded}
 use Rattle.justfile_expression.specs.LeafViews.{views_leaves}
 use Rattle.justfile_parse_item.proofs.attribute_checks.check_exclusions.Goals as goal

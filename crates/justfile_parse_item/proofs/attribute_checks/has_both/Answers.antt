@@ -1,6 +1,6 @@
 use Rattle.std.proofs.Common.{◌≡◌, ◌∙◌, sym}
 use Rattle.justfile_attribute_set.specs.AttributeSet.{leaf_entries_of, written_of}
-use Rattle.justfile_model.specs.ContentKeys.{has_attribute}
+use Rattle.justfile_model.specs.Trees.ContentKeys.{has_attribute}
 use Rattle.justfile_parse_item.proofs.Constructs.{has_seen}
 use Rattle.justfile_parse_item.proofs.attribute_checks.has_both.Goals as goal
 

@@ -1,7 +1,7 @@
 use Rattle.std.proofs.Common.{ℕ, ◌≡◌, ap, sym, ◌∙◌, List, [], ◌∷◌, ◌++◌, map}
 use Rattle.justfile_token.specs.declared.token.Token.{Token}
-use Rattle.justfile_model.specs.Tree.{OrderedItem}
-use Rattle.justfile_model.specs.ReaderState.{prepend}
+use Rattle.justfile_model.specs.Trees.Tree.{OrderedItem}
+use Rattle.justfile_model.specs.Readers.ReaderState.{prepend}
 use Rattle.justfile_parse_expression.specs.TableReader.{leaves}
 use Rattle.justfile_parse_item.specs.ItemTable.{line_end}
 use Rattle.justfile_parse_item.specs.Tree.{item_tree}

@@ -1,10 +1,10 @@
 use Rattle.std.proofs.Common.{ℕ, ◌≡◌, ap, sym, ◌∙◌, subst, List, map, Ok, Err, Bool}
 use Rattle.std.proofs.lemmas.Result.{err_from_is_err_and}
 use Rattle.justfile_token.specs.declared.token.Token.{Token}
-use Rattle.justfile_model.specs.Tree.{OrderedItem}
-use Rattle.justfile_model.specs.Reader.{has_body}
-use Rattle.justfile_model.specs.ReaderState as reading
-use Rattle.justfile_model.specs.ReaderState.{prepend}
+use Rattle.justfile_model.specs.Trees.Tree.{OrderedItem}
+use Rattle.justfile_model.specs.Readers.Reader.{has_body}
+use Rattle.justfile_model.specs.Readers.ReaderState as reading
+use Rattle.justfile_model.specs.Readers.ReaderState.{prepend}
 use Rattle.justfile_parse_expression.specs.TableReader.{Read}
 use Rattle.justfile_parse_item.specs.ItemTable.{item_end, any_item}
 use Rattle.justfile_parse_base.specs.ParseErrors.{IsParseError}

@@ -1,5 +1,5 @@
 use Rattle.std.proofs.Common.{◌≡◌, ◌∙◌, Bool, true, false, IfOk, subst, sym}
-use Rattle.justfile_model.specs.Reader.{has_body}
+use Rattle.justfile_model.specs.Readers.Reader.{has_body}
 use Rattle.justfile_parse_item.specs.Tree.{item_tree}
 use Rattle.justfile_parse_item.proofs.items.push_parsed.Goals as goal
 

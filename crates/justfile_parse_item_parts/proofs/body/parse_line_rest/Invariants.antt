@@ -1,5 +1,5 @@
 use Rattle.std.proofs.Common.{◌≡◌, ◌≤◌, map}
-use Rattle.justfile_model.specs.ReaderState.{prepend}
+use Rattle.justfile_model.specs.Readers.ReaderState.{prepend}
 use Rattle.justfile_parse_item_parts.specs.BodyTable.{line_rest}
 use Rattle.justfile_parse_item_parts.specs.BodyTrees.{fragment_tree}
 use Rattle.justfile_parse_expression.specs.View.{tokens_left, state_of}

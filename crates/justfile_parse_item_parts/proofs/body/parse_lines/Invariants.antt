@@ -1,5 +1,5 @@
 use Rattle.std.proofs.Common.{◌≡◌, ◌≤◌, map}
-use Rattle.justfile_model.specs.ReaderState.{prepend}
+use Rattle.justfile_model.specs.Readers.ReaderState.{prepend}
 use Rattle.justfile_parse_item_parts.specs.BodyTable.{lines}
 use Rattle.justfile_parse_item_parts.specs.BodyTrees.{line_tree}
 use Rattle.justfile_parse_expression.specs.View.{tokens_left, state_of}

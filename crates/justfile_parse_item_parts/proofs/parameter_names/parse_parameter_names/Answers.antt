@@ -2,7 +2,7 @@ use Rattle.std.proofs.Common.{◌≡◌, ◌∙◌, Bool, true, false, List, ari
 use Rattle.std.proofs.lemmas.Result.{err_from_is_err_and}
 use Rattle.justfile_token.specs.declared.name.Name.{Name}
 use Rattle.justfile_vocabulary.specs.declared.number.Number.{Number}
-use Rattle.justfile_model.specs.ReaderState.{NoNumber}
+use Rattle.justfile_model.specs.Readers.ReaderState.{NoNumber}
 use Rattle.justfile_parse_expression.specs.View.{state_of}
 use Rattle.justfile_parse_base.specs.Counting.{counters_of}
 use Rattle.justfile_parse_item_parts.proofs.NumberedNames.{IsReadTo, begins, ends, goes_on, errs}

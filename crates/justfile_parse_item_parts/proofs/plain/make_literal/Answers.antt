@@ -1,6 +1,6 @@
 use Rattle.std.proofs.Common.{sym, subst}
 use Rattle.justfile_vocabulary.specs.declared.keyword.Keyword.{Keyword}
-use Rattle.justfile_model.specs.Versions.{version_numbers}
+use Rattle.justfile_model.specs.Meanings.Versions.{version_numbers}
 use Rattle.justfile_parse_base.specs.ParseErrors.{ReadsRuled}
 use Rattle.justfile_parse_item_parts.specs.PartTable.{literal_made}
 use Rattle.justfile_parse_item_parts.proofs.plain.make_literal.Goals as goal

@@ -1,7 +1,7 @@
 use Rattle.std.proofs.Common.{◌∙◌, sym, ap, subst}
-use Rattle.justfile_model.specs.ReaderState.{BreaksRule}
-use Rattle.justfile_model.specs.Rules.{InvalidMinimumVersion, MinimumVersion}
-use Rattle.justfile_model.specs.Versions.{version_numbers, version_of}
+use Rattle.justfile_model.specs.Readers.ReaderState.{BreaksRule}
+use Rattle.justfile_model.specs.Meanings.Rules.{InvalidMinimumVersion, MinimumVersion}
+use Rattle.justfile_model.specs.Meanings.Versions.{version_numbers, version_of}
 use Rattle.justfile_parse_base.specs.ParseErrors.{IsParseError}
 use Rattle.justfile_parse_expression.specs.TableReader.{Read, State}
 use Rattle.justfile_parse_item_parts.specs.PartTable.{LeafValue}

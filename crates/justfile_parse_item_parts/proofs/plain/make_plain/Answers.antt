@@ -1,5 +1,5 @@
 use Rattle.std.proofs.Common.{◌∙◌, sym, subst}
-use Rattle.justfile_model.specs.Versions.{version_numbers}
+use Rattle.justfile_model.specs.Meanings.Versions.{version_numbers}
 use Rattle.justfile_parse_base.specs.ParseErrors.{ReadsRuled}
 use Rattle.justfile_parse_expression.specs.TableReader.{Read}
 use Rattle.justfile_parse_item_parts.specs.PartTable.{LeafValue}

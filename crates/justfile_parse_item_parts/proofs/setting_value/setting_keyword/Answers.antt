@@ -1,7 +1,7 @@
 use Rattle.std.proofs.Common.{◌∙◌, List, ℕ, Option, None, sym, ap, subst}
 use Rattle.justfile_vocabulary.specs.Keyword.{keyword_named}
 use Rattle.justfile_vocabulary.specs.declared.keyword.Keyword.{Keyword}
-use Rattle.justfile_model.specs.ReaderState.{UnknownSetting}
+use Rattle.justfile_model.specs.Readers.ReaderState.{UnknownSetting}
 use Rattle.justfile_parse_base.specs.ParseErrors.{IsParseError}
 use Rattle.justfile_parse_expression.specs.TableReader.{Read, State}
 use Rattle.justfile_parse_item_parts.proofs.Refused.{errs}

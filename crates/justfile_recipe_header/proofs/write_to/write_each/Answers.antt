@@ -1,6 +1,6 @@
 use Rattle.std.proofs.Common.{◌++◌, refl, arith}
 use Rattle.std.specs.List.{flat_map}
-use Rattle.justfile_model.specs.Printing.{fixed_text}
+use Rattle.justfile_model.specs.Printed.Printing.{fixed_text}
 use Rattle.justfile_token.proofs.PutLemmas.{failed_at}
 use Rattle.justfile_expression.proofs.ListLoops.{took_next, failed_next}
 use Rattle.justfile_recipe_header.proofs.write_to.write_each.Goals as goal

@@ -1,6 +1,6 @@
 use Rattle.std.proofs.Common.{◌++◌, take}
 use Rattle.std.specs.List.{flat_map}
-use Rattle.justfile_model.specs.Printing.{fixed_text}
+use Rattle.justfile_model.specs.Printed.Printing.{fixed_text}
 use Rattle.justfile_recipe_header.proofs.write_to.write_each.Given as goal
 
 abbrev pub invariant-loop-piece : goal.invariant-loop-piece

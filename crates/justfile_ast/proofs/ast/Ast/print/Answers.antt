@@ -4,7 +4,7 @@ use Rattle.justfile_vocabulary.specs.Indentation.{indentation_text}
 use Rattle.justfile_vocabulary.proofs.IndentationLemmas.{indentation_text_is}
 use Rattle.justfile_ast.specs.Ast.{ast_shape}
 use Rattle.justfile_ast.proofs.PrintedBack.{prints_back}
-use Rattle.justfile_model.proofs.UncommentedText.{without_comments}
+use Rattle.justfile_model.proofs.Printed.UncommentedText.{without_comments}
 use Rattle.justfile_ast.proofs.ast.Ast.print.Goals as goal
 
 pub returns-clause-reads_back : goal.returns-clause-reads_back

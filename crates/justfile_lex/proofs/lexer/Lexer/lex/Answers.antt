@@ -1,14 +1,14 @@
 use Rattle.std.proofs.Common.{◌≡◌, ◌≢◌, sym, ap, subst, ◌∙◌, rules, List}
 use Rattle.std.specs.Str.{IsUtf8}
 use Rattle.justfile_vocabulary.specs.declared.token_kind.TokenKind.TheVariants.{Eof}
-use Rattle.justfile_model.specs.LexResult.{IsLexerFault}
-use Rattle.justfile_model.specs.Next.{next}
-use Rattle.justfile_model.proofs.NextLaws.{token_cut}
+use Rattle.justfile_model.specs.Lexing.LexResult.{IsLexerFault}
+use Rattle.justfile_model.specs.Lexing.Next.{next}
+use Rattle.justfile_model.proofs.Lexing.NextLaws.{token_cut}
 use Rattle.justfile_lex.specs.Modes.{mode_of}
 use Rattle.justfile_token.specs.declared.token.Token.{Token}
-use Rattle.justfile_model.specs.Lexed.{Lexed}
-use Rattle.justfile_model.specs.LexResult.{IsFrom}
-use Rattle.justfile_model.specs.Tok.{tok_of}
+use Rattle.justfile_model.specs.Lexing.Lexed.{Lexed}
+use Rattle.justfile_model.specs.Lexing.LexResult.{IsFrom}
+use Rattle.justfile_model.specs.Lexing.Tok.{tok_of}
 use Rattle.std.specs.Prelude.{All, map}
 use Rattle.justfile_lex.proofs.Refusals.{found_is}
 use Rattle.justfile_lex.proofs.Runs.{Runs, runs_on, shorter, text_lexed, white_after}

@@ -1,9 +1,9 @@
 use Rattle.std.proofs.Common.{◌≡◌, ◌≢◌, sym, ap, subst, ◌∙◌, rules}
 use Rattle.std.specs.Str.{IsUtf8}
 use Rattle.justfile_vocabulary.specs.declared.token_kind.TokenKind.TheVariants.{Eof}
-use Rattle.justfile_model.specs.LexResult.{IsLexerFault}
-use Rattle.justfile_model.specs.Next.{next}
-use Rattle.justfile_model.proofs.NextLaws.{token_cut}
+use Rattle.justfile_model.specs.Lexing.LexResult.{IsLexerFault}
+use Rattle.justfile_model.specs.Lexing.Next.{next}
+use Rattle.justfile_model.proofs.Lexing.NextLaws.{token_cut}
 use Rattle.justfile_lex.specs.Modes.{mode_of}
 use Rattle.justfile_lex.proofs.Refusals.{found_is}
 use Rattle.justfile_lex.proofs.Runs.{ends, reads_on, shorter, white_after}

@@ -2,12 +2,12 @@ use Rattle.std.proofs.Common.{◌+◌, refl, sym, ap, subst, ◌∙◌, arith, d
 use Rattle.std.specs.Str.{IsCharBoundary}
 use Rattle.std.proofs.lemmas.List.{length-take-le}
 use Rattle.std.proofs.lemmas.Str.{IsCharBoundary-from_rest, IsUtf8-drop}
-use Rattle.justfile_model.specs.Tok.{tok_of}
-use Rattle.justfile_model.specs.LexicalFault.{lexical_fault_of}
-use Rattle.justfile_model.specs.Next.{next}
-use Rattle.justfile_model.specs.Lexed.{IsFault, StandsAt}
-use Rattle.justfile_model.proofs.NextLaws.{fault_cut}
-use Rattle.justfile_model.specs.LexResult.{IsFrom}
+use Rattle.justfile_model.specs.Lexing.Tok.{tok_of}
+use Rattle.justfile_model.specs.Lexing.LexicalFault.{lexical_fault_of}
+use Rattle.justfile_model.specs.Lexing.Next.{next}
+use Rattle.justfile_model.specs.Lexing.Lexed.{IsFault, StandsAt}
+use Rattle.justfile_model.proofs.Lexing.NextLaws.{fault_cut}
+use Rattle.justfile_model.specs.Lexing.LexResult.{IsFrom}
 use Rattle.justfile_lex.specs.Modes.{mode_of}
 use Rattle.justfile_lex.specs.Scanned.{scan_fault, lexical_error_of}
 use Rattle.justfile_lex.proofs.LexerLemmas.{next_is}

@@ -1,7 +1,7 @@
 use Rattle.std.proofs.Common.{rules, refl, sym, subst}
 use Rattle.std.specs.Prelude.{IfSome}
 use Rattle.std.proofs.lemmas.Str.{IsCharBoundary-start}
-use Rattle.justfile_model.specs.LexResult.{IsFrom}
+use Rattle.justfile_model.specs.Lexing.LexResult.{IsFrom}
 use Rattle.justfile_lex.proofs.PlaceLemmas.{place_start}
 use Rattle.justfile_lex.proofs.lexer.Lexer.new.Goals as goal
 

@@ -1,8 +1,8 @@
 use Rattle.std.proofs.Common.{◌+◌, ℕ, sym, refl, ap, subst, ◌∙◌}
 use Rattle.std.specs.Prelude.{Ok, IfSome}
 use Rattle.std.proofs.lemmas.Str.{IsCharBoundary-from_rest}
-use Rattle.justfile_model.specs.Tok.{tok_of}
-use Rattle.justfile_model.specs.LexResult.{IsFrom}
+use Rattle.justfile_model.specs.Lexing.Tok.{tok_of}
+use Rattle.justfile_model.specs.Lexing.LexResult.{IsFrom}
 use Rattle.justfile_lex.proofs.LexerLemmas.{lexeme_len, stands_at, interpolation_from}
 use Rattle.justfile_lex.proofs.lexer.Lexer.take.Goals as goal
 

@@ -1,8 +1,8 @@
 use Rattle.std.proofs.Common.{◌≡◌, Bool, List, true, false, not, cond, [], ◌∷◌, ◌++◌, sym, ap, ◌∙◌, rules, append-nil}
 use Rattle.justfile_token.specs.declared.token.Token.{Token}
-use Rattle.justfile_model.specs.SignificantTokens.{is_whitespace}
+use Rattle.justfile_model.specs.Lexing.SignificantTokens.{is_whitespace}
 use Rattle.std.proofs.lemmas.Str.{IsCharBoundary-from_rest}
-use Rattle.justfile_model.specs.Tok.{tok_of}
+use Rattle.justfile_model.specs.Lexing.Tok.{tok_of}
 use Rattle.justfile_lex.proofs.LexerLemmas.{lexeme_len, stands_at, taken_as}
 use Rattle.justfile_lex.proofs.lexer.Lexer.take_into.Goals as goal
 

@@ -1,8 +1,8 @@
 use Rattle.std.proofs.Common.{sym, ap, subst}
-use Rattle.justfile_model.specs.Tok.{tok_of}
-use Rattle.justfile_model.specs.LexResult.{IsFrom}
-use Rattle.justfile_model.specs.LexicalFault.{UnterminatedInterpolation, lexical_fault_of}
-use Rattle.justfile_model.specs.Lexed.{IsFault}
+use Rattle.justfile_model.specs.Lexing.Tok.{tok_of}
+use Rattle.justfile_model.specs.Lexing.LexResult.{IsFrom}
+use Rattle.justfile_model.specs.Lexing.LexicalFault.{UnterminatedInterpolation, lexical_fault_of}
+use Rattle.justfile_model.specs.Lexing.Lexed.{IsFault}
 use Rattle.justfile_lex.proofs.LexerLemmas.{unclosed_fault, from_open}
 use Rattle.justfile_lex.proofs.lexer.Lexer.unterminated.Goals as goal
 

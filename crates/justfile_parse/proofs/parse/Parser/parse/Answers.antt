@@ -1,6 +1,6 @@
 use Rattle.std.proofs.Common.{ap, ◌∙◌, sym, subst, List, map, All, Contains}
 use Rattle.std.proofs.lemmas.Result.{IfErr-weaker}
-use Rattle.justfile_model.specs.Tok.{tok_of}
+use Rattle.justfile_model.specs.Lexing.Tok.{tok_of}
 use Rattle.justfile_parse_expression.specs.FormatStrings.{IsTable}
 use Rattle.justfile_parse_expression.specs.Significant.{TableEntry, significant_of}
 use Rattle.justfile_parse_expression.specs.Conditions.{conditions_of}

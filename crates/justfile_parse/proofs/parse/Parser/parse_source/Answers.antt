@@ -1,8 +1,8 @@
 use Rattle.std.proofs.Common.{◌≡◌, ◌∙◌, sym, ap, subst, List, map, All, Contains}
 use Rattle.std.proofs.lemmas.Result.{err_from_is_err_and, IfErr-weaker, IfOk-weaker}
-use Rattle.justfile_model.specs.SignificantTokens.{SignificantToken, identifiers, significant_tokens}
-use Rattle.justfile_model.specs.Tok.{Tok, tok_of}
-use Rattle.justfile_model.proofs.LexedLaws.{one_list}
+use Rattle.justfile_model.specs.Lexing.SignificantTokens.{SignificantToken, identifiers, significant_tokens}
+use Rattle.justfile_model.specs.Lexing.Tok.{Tok, tok_of}
+use Rattle.justfile_model.proofs.Lexing.LexedLaws.{one_list}
 use Rattle.justfile_parse_expression.specs.Conditions.{conditions_of}
 use Rattle.justfile_parse_expression.specs.FormatStrings.{IsTable}
 use Rattle.justfile_parse_expression.specs.Significant.{TableEntry, significant_of}

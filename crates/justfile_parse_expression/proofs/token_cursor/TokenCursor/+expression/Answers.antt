@@ -1,7 +1,7 @@
 use Rattle.std.proofs.Common.{rules, ◌≡◌, ◌∙◌, Bool, true, false, List, [], ◌∷◌, ◌++◌, None, Ok, sym, ap, subst, arith}
 use Rattle.std.proofs.lemmas.Grind.{common_steps}
 use Rattle.justfile_token.specs.declared.token.Token.{Token}
-use Rattle.justfile_model.specs.Tree.{Expr, Exprs}
+use Rattle.justfile_model.specs.Trees.Tree.{Expr, Exprs}
 use Rattle.justfile_expression.specs.declared.expression.Expression.{Expression}
 use Rattle.std.proofs.lemmas.Result.{err_from_is_err_and}
 use Rattle.justfile_parse_expression.specs.TableReader.{Read, Sequence, accept, element, format_parts, pair, read}

@@ -2,7 +2,7 @@ use Rattle.std.proofs.Common.{◌≡◌, ◌≤◌, ◌*◌, ◌+◌}
 use Rattle.justfile_token.specs.StringKind.{kind_of}
 use Rattle.justfile_token.specs.Token.{lexeme_of}
 use Rattle.justfile_parse_expression.specs.FormatStrings.{IsEndedFrom}
-use Rattle.justfile_model.specs.Operators.{rank}
+use Rattle.justfile_model.specs.Trees.Operators.{rank}
 use Rattle.justfile_parse_expression.specs.TableReader.{Sequence, format_parts, read}
 use Rattle.justfile_parse_expression.specs.Chains.{branches, link_of, row}
 use Rattle.justfile_model.specs.declared.level.Level.TheVariants.{Conjunct}

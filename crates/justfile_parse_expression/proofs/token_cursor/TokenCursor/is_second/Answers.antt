@@ -1,5 +1,5 @@
 use Rattle.std.proofs.Common.{◌∙◌, sym, arith}
-use Rattle.justfile_model.specs.ReaderState.{same_kind}
+use Rattle.justfile_model.specs.Readers.ReaderState.{same_kind}
 use Rattle.justfile_parse_expression.specs.View.{run_of, state_of}
 use Rattle.justfile_parse_expression.proofs.Lengths.{unmarked}
 use Rattle.justfile_parse_expression.proofs.token_cursor.TokenCursor.is_second.Goals as goal

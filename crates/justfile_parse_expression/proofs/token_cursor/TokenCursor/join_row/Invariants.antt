@@ -1,6 +1,6 @@
 use Rattle.std.proofs.Common.{◌≡◌, length}
 use Rattle.justfile_parse_expression.specs.Chains.{link_of, row_closed, row_tree}
-use Rattle.justfile_model.specs.ExpressionReader.{closed}
+use Rattle.justfile_model.specs.Readers.ExpressionReader.{closed}
 use Rattle.justfile_expression.specs.LeafTree.{leaf_tree_of}
 use Rattle.justfile_parse_expression.specs.View.{tokens_left, state_of}
 use Rattle.justfile_parse_expression.proofs.token_cursor.TokenCursor.join_row.Given as goal

@@ -1,0 +1,160 @@
+-- A file keeps its tree with an expander that has more results.
+use Rattle.std.proofs.Common.{◌≡◌, ℕ, true, false, List, [], ◌∷◌, map, Option, Some, None, Result, Ok, Err, is_some, refl, sym, subst, ap, ◌∙◌, ⊎_elim}
+use Rattle.std.specs.List.{AllByRecursion}
+use Rattle.justfile_token.specs.StringKind.{kind_of}
+use Rattle.justfile_vocabulary.specs.declared.format_string_part.FormatStringPart.TheVariants as parts
+use Rattle.justfile_vocabulary.specs.declared.token_kind.TokenKind.{TokenKind}
+use Rattle.justfile_vocabulary.specs.declared.token_kind.TokenKind.TheVariants as kinds
+use Rattle.justfile_model.specs.Grammars.Conditions.{Conditions, with_expander}
+use Rattle.justfile_model.specs.Trees.ContentLeaf.{TokenContent}
+use Rattle.justfile_model.specs.Grammars.Features.{Noted}
+use Rattle.justfile_model.specs.Grammars.Files.{Obeys, FileDerives, ShapeDerives, all_literals}
+use Rattle.justfile_model.specs.LiteralTexts.Literals.{Literal, Plain, Expanded, Command, Single, Start, Continue, End, LiteralFault, Unasked, Expansions, Within, over_literal, by_answer, string_text, expanded_text, cooked_text, AreCookedTexts}
+use Rattle.justfile_model.specs.Trees.LeafView.{content_as_read, or_empty, views_lexemes, views_tokens, text_or_none, text_under, tok_content}
+use Rattle.justfile_model.specs.Lexing.SignificantTokens.{SignificantToken}
+use Rattle.justfile_model.specs.Lexing.Tok.{Tok}
+use Rattle.justfile_model.specs.Trees.Tree.{Tree, Shape, lexeme}
+use Rattle.justfile_model.proofs.Meanings.FeaturesMeant.{features_same}
+use Rattle.justfile_model.proofs.Lists.Mapped.{map_same}
+use Rattle.justfile_model.proofs.Meanings.SameTexts.{SeeSame, items_kept}
+
+module _ (some all : Expansions) (within : Within some all) where
+  answer_kept : (asked text : List ℕ) → by_answer (some asked) ≡ Ok text → by_answer (all asked) ≡ Ok text
+  answer_kept asked text h = ⊎_elim
+      (λ (none : some asked ≡ None). let bad : ◌≡◌ {A = Result (List ℕ) LiteralFault} (Err Unasked) (Ok text) = sym (ap by_answer none) ∙ h in cc)
+      (λ (same : some asked ≡ all asked). sym (ap by_answer same) ∙ h)
+      (within asked)
+
+  expanded_kept : (found : Result (List ℕ) LiteralFault) (text : List ℕ) → expanded_text some found ≡ Ok text → expanded_text all found ≡ Ok text
+  expanded_kept (Ok asked) text h = answer_kept asked text h
+  expanded_kept (Err fault) text h = h
+
+  text_kept : (l : Literal (List ℕ)) (text : List ℕ) → cooked_text some l ≡ Ok text → cooked_text all l ≡ Ok text
+  text_kept (Expanded lexeme) text h = expanded_kept (string_text lexeme) text h
+  text_kept _ text h = h
+
+  pub texts_kept : (literals : List (Literal (List ℕ))) (texts : List (List ℕ)) → AreCookedTexts some literals texts → AreCookedTexts all literals texts
+  texts_kept [] [] c = tt
+  texts_kept [] (text ∷ texts) c = absurd c
+  texts_kept (l ∷ literals) [] c = absurd c
+  texts_kept (l ∷ literals) (text ∷ texts) c = (text_kept l text c.0, texts_kept literals texts c.1)
+
+  -- ---- what is seen of a tree whose literals have texts
+
+  module _ {A : Type 0} (bytes : A → List ℕ) (leaf_content : TokenKind → A → TokenContent) where
+    -- the texts of literals
+    abbrev texts_by : Expansions → Literal A → Option (List ℕ)
+    texts_by expander = text_under expander bytes
+
+    contents_same : (l : Literal A) → texts_by some l ≡ texts_by all l
+        → content_as_read bytes (texts_by some) leaf_content l ≡ content_as_read bytes (texts_by all) leaf_content l
+    contents_same (Plain t) h = λ i. record { cooked = or_empty (h i); expand = false; kind = kind_of (bytes t); part = None; token = leaf_content kinds.StringToken t }
+    contents_same (Expanded t) h = λ i. record { cooked = or_empty (h i); expand = true; kind = kind_of (bytes t); part = None; token = leaf_content kinds.StringToken t }
+    contents_same (Command t) h = λ i. record { cooked = or_empty (h i); expand = false; kind = kind_of (bytes t); part = None; token = leaf_content kinds.Backtick t }
+    contents_same (Single t) h =
+        λ i. record { cooked = or_empty (h i); expand = false; kind = kind_of (bytes t); part = Some parts.Single; token = leaf_content kinds.StringToken t }
+    contents_same (Start t) h =
+        λ i. record { cooked = or_empty (h i); expand = false; kind = kind_of (bytes t); part = Some parts.Start; token = leaf_content kinds.FormatStringStart t }
+    contents_same (Continue s t) h =
+        λ i. record { cooked = or_empty (h i); expand = false; kind = kind_of (bytes s); part = Some parts.Continue; token = leaf_content kinds.FormatStringContinue t }
+    contents_same (End s t) h =
+        λ i. record { cooked = or_empty (h i); expand = false; kind = kind_of (bytes s); part = Some parts.End; token = leaf_content kinds.FormatStringEnd t }
+
+    -- a literal with a text has it in both
+    text_in_both : (l : Literal A) (text : List ℕ) → cooked_text some (over_literal bytes l) ≡ Ok text
+        → (texts_by some l ≡ texts_by all l) × (is_some (texts_by some l) ≡ true)
+    text_in_both l text h = (
+      ap text_or_none h ∙ sym (ap text_or_none (text_kept (over_literal bytes l) text h)),
+      ap (λ r. is_some (text_or_none r)) h,
+    )
+
+    agreed : (ls : List (Literal A)) (texts : List (List ℕ)) → AreCookedTexts some (map (over_literal bytes) ls) texts
+        → AllByRecursion (λ l. texts_by some l ≡ texts_by all l) ls
+    agreed [] texts c = tt
+    agreed (l ∷ ls) [] c = absurd c
+    agreed (l ∷ ls) (t ∷ texts) c = ((text_in_both l t c.0).0, agreed ls texts c.1)
+
+    texted : (ls : List (Literal A)) (texts : List (List ℕ)) → AreCookedTexts some (map (over_literal bytes) ls) texts
+        → AllByRecursion (λ l. is_some (texts_by some l) ≡ true) ls
+    texted [] texts c = tt
+    texted (l ∷ ls) [] c = absurd c
+    texted (l ∷ ls) (t ∷ texts) c = ((text_in_both l t c.0).1, texted ls texts c.1)
+
+module _ (conditions : Conditions) (all : Expansions) (within : Within conditions.expander all) (tokens : List SignificantToken) where
+  abbrev some : Expansions
+  some = conditions.expander
+
+  token_contents : (l : Literal Tok) → text_under some lexeme l ≡ text_under all lexeme l
+      → (views_tokens some).literal_content l ≡ (views_tokens all).literal_content l
+  token_contents = contents_same some all within lexeme (λ kind t. tok_content t)
+
+  tokens_seen : SeeSame (views_tokens some) (views_tokens all).cooked (views_tokens all).literal_content
+  tokens_seen = record {
+    plain = λ t. refl;
+    command = λ t. refl;
+    single = λ t. refl;
+    start = λ t. refl;
+    continue = λ s t. refl;
+    end = λ s t. refl;
+    contents = token_contents;
+  }
+
+  lexeme_contents : (l : Literal (List ℕ)) → text_under some (λ l. l) l ≡ text_under all (λ l. l) l
+      → (views_lexemes some).literal_content l ≡ (views_lexemes all).literal_content l
+  lexeme_contents = contents_same some all within (λ l. l) (λ kind l. record { kind = kind; lexeme = l })
+
+  lexemes_seen : SeeSame (views_lexemes some) (views_lexemes all).cooked (views_lexemes all).literal_content
+  lexemes_seen = record {
+    plain = λ t. refl;
+    command = λ t. refl;
+    single = λ t. refl;
+    start = λ t. refl;
+    continue = λ s t. refl;
+    end = λ s t. refl;
+    contents = lexeme_contents;
+  }
+
+  pub tree_kept : (tree : Tree) (features : List (Noted Tok)) → FileDerives conditions tokens tree features → FileDerives (with_expander all conditions) tokens tree features
+  tree_kept tree features h =
+      let ls = all_literals h.written in
+      let kept = items_kept (views_tokens some) (views_tokens all).cooked (views_tokens all).literal_content tokens_seen conditions.current h.written tree
+      (agreed some all within lexeme (λ kind t. tok_content t) ls h.obeys.cooked h.obeys.cooks)
+      (texted some all within lexeme (λ kind t. tok_content t) ls h.obeys.cooked h.obeys.cooks) h.ordered_is h.obeys.unbroken in
+      let obeys : Obeys (with_expander all conditions) h.written =
+      record { cooked = h.obeys.cooked; cooks = texts_kept some all within _ h.obeys.cooked h.obeys.cooks; unbroken = kept.unbroken } in
+      record {
+        written = h.written;
+        by_construct = h.by_construct;
+        derives = h.derives;
+        features_are = h.features_are ∙ features_same (views_tokens some) (views_tokens all) h.written tree h.ordered_is kept.means h.by_construct;
+        obeys = obeys;
+        ordered_is = kept.means;
+      }
+
+  same_lexemes : (l : Literal (List ℕ)) → over_literal (λ x. x) l ≡ l
+  same_lexemes (Plain t) = refl
+  same_lexemes (Expanded t) = refl
+  same_lexemes (Command t) = refl
+  same_lexemes (Single t) = refl
+  same_lexemes (Start t) = refl
+  same_lexemes (Continue s t) = refl
+  same_lexemes (End s t) = refl
+
+  pub shape_kept : (shape : Shape) (features : List (Noted (Unit {0}))) → ShapeDerives conditions tokens shape features → ShapeDerives (with_expander all conditions) tokens shape features
+  shape_kept shape features h =
+      let ls = all_literals h.written in
+      let cooks : AreCookedTexts some (map (over_literal (λ x. x)) ls) h.cooked =
+      subst (λ m. AreCookedTexts some m h.cooked) (sym (map_same (over_literal (λ x. x)) same_lexemes ls)) h.cooks in
+      let kept = items_kept (views_lexemes some) (views_lexemes all).cooked (views_lexemes all).literal_content lexemes_seen conditions.current h.written shape
+      (agreed some all within (λ l. l) (λ kind l. record { kind = kind; lexeme = l }) ls h.cooked cooks)
+      (texted some all within (λ l. l) (λ kind l. record { kind = kind; lexeme = l }) ls h.cooked cooks) h.ordered_is h.unbroken in
+      record {
+        written = h.written;
+        by_construct = h.by_construct;
+        derives = h.derives;
+        features_are = h.features_are ∙ features_same (views_lexemes some) (views_lexemes all) h.written shape h.ordered_is kept.means h.by_construct;
+        cooked = h.cooked;
+        cooks = texts_kept some all within _ h.cooked h.cooks;
+        unbroken = kept.unbroken;
+        ordered_is = kept.means;
+      }

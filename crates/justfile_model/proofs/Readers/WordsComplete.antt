@@ -1,0 +1,343 @@
+-- The next tokens by which the parser recognizes a construct that begins with a keyword.
+use Rattle.std.proofs.Common.{◌≡◌, ℕ, Bool, true, false, ◌||◌, List, [], ◌∷◌, Option, Some, None, codes, refl, sym, ap, ◌∙◌, ◌⊎◌, inl, inr}
+use Rattle.std.proofs.lemmas.Slice.Eq.{bytes_eq-Decides}
+use Rattle.std.specs.Str.{bytes_eq}
+use Rattle.justfile_vocabulary.specs.declared.token_kind.TokenKind.{TokenKind}
+use Rattle.justfile_vocabulary.specs.declared.token_kind.TokenKind.TheVariants as kinds
+use Rattle.justfile_model.specs.Grammars.Conditions.{Conditions}
+use Rattle.justfile_model.specs.Grammars.Expressions.{Tokens, IsKind, IsWord, NotNext, NotWord}
+use Rattle.justfile_model.specs.Grammars.Features.{Noted}
+use Rattle.justfile_model.specs.Grammars.Headers as g
+use Rattle.justfile_model.specs.Grammars.Headers.{NamedParameter, ParameterOf, Parameters}
+use Rattle.justfile_model.specs.Grammars.ItemParts as parts
+use Rattle.justfile_model.specs.Grammars.ItemParts.{EndsLine, FilePath}
+use Rattle.justfile_model.specs.Readers.PartReader as r
+use Rattle.justfile_model.specs.Meanings.ReadAttribute.{ReadAttribute}
+use Rattle.justfile_model.specs.Readers.Reader.{alias, any_module, assignment, content, import, setting, unexport, without_keyword}
+use Rattle.justfile_model.specs.Readers.ReaderState.{Counters, accept_keyword}
+use Rattle.justfile_model.specs.Lexing.SignificantTokens.{SignificantToken}
+use Rattle.justfile_model.specs.Lexing.Tok.{Tok}
+use Rattle.justfile_model.specs.Trees.Tree.{Expr, Parameter, Quoted}
+use Rattle.justfile_model.specs.Readers.TreeReader.{State, Taken, token_attributes, token_leaves}
+use Rattle.justfile_model.proofs.Completeness.HeaderCovers.{not_there}
+use Rattle.justfile_model.proofs.Readers.Steps.{AreNext, after_word, input, is_false, next_left, next_taken, word_is, word_left, word_taken}
+
+true_not_false : (b : Bool) → b ≡ true → b ≡ false → ⊥
+true_not_false b h k = cc
+
+-- ---- what a list of parameters begins with
+
+data Head : Tokens → Type 0 where
+  by_name : {t : SignificantToken} {ts : Tokens} → IsKind kinds.Identifier t → Head (t ∷ ts)
+  by_dollar : {t : SignificantToken} {ts : Tokens} → IsKind kinds.Dollar t → Head (t ∷ ts)
+  by_plus : {t : SignificantToken} {ts : Tokens} → IsKind kinds.Plus t → Head (t ∷ ts)
+  by_star : {t : SignificantToken} {ts : Tokens} → IsKind kinds.Asterisk t → Head (t ∷ ts)
+  by_colon : {t : SignificantToken} {ts : Tokens} → IsKind kinds.Colon t → Head (t ∷ ts)
+  by_equals : {t : SignificantToken} {ts : Tokens} → IsKind kinds.Equals t → Head (t ∷ ts)
+
+head_not : (kind : TokenKind) → (kind ≡ kinds.Identifier → ⊥) → (kind ≡ kinds.Dollar → ⊥) → (kind ≡ kinds.Plus → ⊥) → (kind ≡ kinds.Asterisk → ⊥)
+    → (kind ≡ kinds.Colon → ⊥) → (kind ≡ kinds.Equals → ⊥) → {t : SignificantToken} {ts : Tokens} → Head (t ∷ ts) → IsKind kind t → ⊥
+head_not kind a b c d e f (by_name is) k = a (sym k ∙ is)
+head_not kind a b c d e f (by_dollar is) k = b (sym k ∙ is)
+head_not kind a b c d e f (by_plus is) k = c (sym k ∙ is)
+head_not kind a b c d e f (by_star is) k = d (sym k ∙ is)
+head_not kind a b c d e f (by_colon is) k = e (sym k ∙ is)
+head_not kind a b c d e f (by_equals is) k = f (sym k ∙ is)
+
+module _ {A B : Type 0} (leaf : Tok → A) (position : Tok → B) (MayEnter : ℕ → Option SignificantToken → Type 0) where
+  parameters_head : {ps : List (Parameter A B)} {fs : List (Noted B)} {ts rest : Tokens} → Parameters leaf position MayEnter ps fs ts rest → Head ts
+  parameters_head (g.none kind) = by_colon kind
+  parameters_head (g.more (g.exported kind p) others) = by_dollar kind
+  parameters_head (g.more (g.unexported (g.required kind n)) others) = by_name kind
+  parameters_head (g.more (g.unexported (g.optional kind kind2 e)) others) = by_name kind
+  parameters_head (g.plus kind p kind2) = by_plus kind
+  parameters_head (g.star kind p kind2) = by_star kind
+
+  -- after a name
+  second_head : {ps : List (Parameter A B)} {fs : List (Noted B)} {t : SignificantToken} {ts rest : Tokens} → Parameters leaf position MayEnter ps fs (t ∷ ts) rest
+      → IsKind kinds.Identifier t → Head ts
+  second_head (g.none kind) k = cc
+  second_head (g.more (g.exported kind p) others) k = cc
+  second_head (g.more (g.unexported (g.required kind n)) others) k = parameters_head others
+  second_head (g.more (g.unexported (g.optional kind kind2 e)) others) k = by_equals kind2
+  second_head (g.plus kind p kind2) k = cc
+  second_head (g.star kind p kind2) k = cc
+
+  -- after two names
+  third_head : {ps : List (Parameter A B)} {fs : List (Noted B)} {t u : SignificantToken} {ts rest : Tokens} → Parameters leaf position MayEnter ps fs (t ∷ u ∷ ts) rest
+      → IsKind kinds.Identifier t → IsKind kinds.Identifier u → Head ts
+  third_head (g.none kind) k l = cc
+  third_head (g.more (g.exported kind p) others) k l = cc
+  third_head (g.more (g.unexported (g.required kind n)) others) k l = second_head others l
+  third_head (g.more (g.unexported (g.optional kind kind2 e)) others) k l = cc
+  third_head (g.plus kind p kind2) k l = cc
+  third_head (g.star kind p kind2) k l = cc
+
+-- nothing follows that goes with a word
+pub record NoneFollows (ts : Tokens) : Type 0 where
+  pub assigned : AreNext (kinds.Identifier ∷ kinds.ColonEquals ∷ []) ts → ⊥
+  pub comment : AreNext (kinds.Identifier ∷ kinds.Comment ∷ []) ts → ⊥
+  pub line_end : AreNext (kinds.Identifier ∷ kinds.Eol ∷ []) ts → ⊥
+  pub file_end : AreNext (kinds.Identifier ∷ kinds.Eof ∷ []) ts → ⊥
+  pub mark : AreNext (kinds.QuestionMark ∷ []) ts → ⊥
+  pub string : AreNext (kinds.StringToken ∷ []) ts → ⊥
+  pub named : AreNext (kinds.Identifier ∷ kinds.StringToken ∷ []) ts → ⊥
+  pub twice : AreNext (kinds.Identifier ∷ kinds.Identifier ∷ kinds.StringToken ∷ []) ts → ⊥
+  pub called : AreNext (kinds.ParenL ∷ []) ts → ⊥
+
+-- where the next token is neither a name nor a mark nor a string
+pub another_follows : (t : SignificantToken) (ts : Tokens) → (IsKind kinds.Identifier t → ⊥) → (IsKind kinds.QuestionMark t → ⊥) → (IsKind kinds.StringToken t → ⊥)
+    → (IsKind kinds.ParenL t → ⊥) → NoneFollows (t ∷ ts)
+another_follows t ts name mark string called = record {
+  assigned = λ h. name h.0;
+  comment = λ h. name h.0;
+  line_end = λ h. name h.0;
+  file_end = λ h. name h.0;
+  mark = λ h. mark h.0;
+  string = λ h. string h.0;
+  named = λ h. name h.0;
+  twice = λ h. name h.0;
+  called = λ h. called h.0;
+}
+
+module _ {A B : Type 0} (leaf : Tok → A) (position : Tok → B) (MayEnter : ℕ → Option SignificantToken → Type 0) where
+  -- parameters go with no word
+  pub parameters_follow : {ps : List (Parameter A B)} {fs : List (Noted B)} (ts : Tokens) {rest : Tokens} → Parameters leaf position MayEnter ps fs ts rest → NoneFollows ts
+  parameters_follow [] ps = absurd (nothing (parameters_head leaf position MayEnter ps))
+    where
+      nothing : Head [] → ⊥
+      nothing h = elim h [ ]
+  parameters_follow {ps = all} {fs = fs} (t ∷ ts) {rest = rest} ps = record {
+    assigned = second kinds.ColonEquals (λ e. cc) (λ e. cc) (λ e. cc) (λ e. cc) (λ e. cc) (λ e. cc);
+    comment = second kinds.Comment (λ e. cc) (λ e. cc) (λ e. cc) (λ e. cc) (λ e. cc) (λ e. cc);
+    line_end = second kinds.Eol (λ e. cc) (λ e. cc) (λ e. cc) (λ e. cc) (λ e. cc) (λ e. cc);
+    file_end = second kinds.Eof (λ e. cc) (λ e. cc) (λ e. cc) (λ e. cc) (λ e. cc) (λ e. cc);
+    mark = λ h. head_not kinds.QuestionMark (λ e. cc) (λ e. cc) (λ e. cc) (λ e. cc) (λ e. cc) (λ e. cc) (parameters_head leaf position MayEnter ps) h.0;
+    string = λ h. head_not kinds.StringToken (λ e. cc) (λ e. cc) (λ e. cc) (λ e. cc) (λ e. cc) (λ e. cc) (parameters_head leaf position MayEnter ps) h.0;
+    named = second kinds.StringToken (λ e. cc) (λ e. cc) (λ e. cc) (λ e. cc) (λ e. cc) (λ e. cc);
+    twice = third ts ps;
+    called = λ h. head_not kinds.ParenL (λ e. cc) (λ e. cc) (λ e. cc) (λ e. cc) (λ e. cc) (λ e. cc) (parameters_head leaf position MayEnter ps) h.0;
+  }
+    where
+      second : (kind : TokenKind) → (kind ≡ kinds.Identifier → ⊥) → (kind ≡ kinds.Dollar → ⊥) → (kind ≡ kinds.Plus → ⊥) → (kind ≡ kinds.Asterisk → ⊥)
+          → (kind ≡ kinds.Colon → ⊥) → (kind ≡ kinds.Equals → ⊥) → AreNext (kinds.Identifier ∷ kind ∷ []) (t ∷ ts) → ⊥
+      second kind a b c d e f h = at ts (second_head leaf position MayEnter ps h.0) h.1
+        where
+          at : (us : Tokens) → Head us → AreNext (kind ∷ []) us → ⊥
+          at [] x y = absurd y
+          at (u ∷ us) x y = head_not kind a b c d e f x y.0
+
+      third : (us : Tokens) → Parameters leaf position MayEnter all fs (t ∷ us) rest → AreNext (kinds.Identifier ∷ kinds.Identifier ∷ kinds.StringToken ∷ []) (t ∷ us) → ⊥
+      third [] p h = absurd h.1
+      third (u ∷ []) p h = absurd h.1.1
+      third (u ∷ v ∷ us) p h = head_not kinds.StringToken (λ e. cc) (λ e. cc) (λ e. cc) (λ e. cc) (λ e. cc) (λ e. cc) (third_head leaf position MayEnter p h.0 h.1.0) h.1.1.0
+
+-- ---- the tests
+
+module _ (conditions : Conditions) (ns : List (Noted Tok)) where
+  abbrev here : Tokens → State
+  here ts = input conditions 0 ts ns
+
+  pub line_taken : (name : SignificantToken) (ts : Tokens) → IsKind kinds.Identifier name → EndsLine ts → r.line_is token_leaves (kinds.Identifier ∷ []) (here (name ∷ ts)) ≡ true
+  line_taken name ts kind (parts.at_comment {token = t} k) = rw (next_taken (kinds.Identifier ∷ kinds.Comment ∷ []) (here (name ∷ ts)) (kind, (k, tt))) refl
+  line_taken name ts kind (parts.at_line_end {token = t} k) =
+      rw (
+        next_left (kinds.Identifier ∷ kinds.Comment ∷ []) (here (name ∷ ts)) (λ h. let other = h.1.0 in cc),
+        next_taken (kinds.Identifier ∷ kinds.Eol ∷ []) (here (name ∷ ts)) (kind, (k, tt)),
+      ) refl
+  line_taken name ts kind (parts.at_file_end {token = t} k) =
+      rw (
+        next_left (kinds.Identifier ∷ kinds.Comment ∷ []) (here (name ∷ ts)) (λ h. let other = h.1.0 in cc),
+        next_left (kinds.Identifier ∷ kinds.Eol ∷ []) (here (name ∷ ts)) (λ h. let other = h.1.0 in cc),
+        next_taken (kinds.Identifier ∷ kinds.Eof ∷ []) (here (name ∷ ts)) (kind, (k, tt)),
+      ) refl
+
+  pub or_true : (a : Bool) → (a || true) ≡ true
+  or_true true = refl
+  or_true false = refl
+
+  pub assigned_taken : (name operator : SignificantToken) (ts : Tokens) → IsKind kinds.Identifier name → IsKind kinds.ColonEquals operator
+      → r.peek_assignment token_leaves (here (name ∷ operator ∷ ts)) ≡ true
+  assigned_taken name operator ts kind kind2 = next_taken (kinds.Identifier ∷ kinds.ColonEquals ∷ []) (here (name ∷ operator ∷ ts)) (kind, (kind2, tt))
+
+  module _ (ts : Tokens) (none : NoneFollows ts) where
+    assigned_left : r.peek_assignment token_leaves (here ts) ≡ false
+    assigned_left = next_left (kinds.Identifier ∷ kinds.ColonEquals ∷ []) (here ts) none.assigned
+
+    line_left : r.line_is token_leaves (kinds.Identifier ∷ []) (here ts) ≡ false
+    line_left =
+        rw (
+          next_left (kinds.Identifier ∷ kinds.Comment ∷ []) (here ts) none.comment,
+          next_left (kinds.Identifier ∷ kinds.Eol ∷ []) (here ts) none.line_end,
+          next_left (kinds.Identifier ∷ kinds.Eof ∷ []) (here ts) none.file_end,
+        ) refl
+
+    imported_left : r.is_imported token_leaves (here ts) ≡ false
+    imported_left =
+        rw (
+          next_left (kinds.QuestionMark ∷ []) (here ts) none.mark,
+          next_left (kinds.StringToken ∷ []) (here ts) none.string,
+          next_left (kinds.Identifier ∷ kinds.StringToken ∷ []) (here ts) none.named,
+        ) refl
+
+    module_left : r.is_module token_leaves (here ts) ≡ false
+    module_left =
+        rw (
+          next_left (kinds.QuestionMark ∷ []) (here ts) none.mark,
+          line_left,
+          next_left (kinds.Identifier ∷ kinds.StringToken ∷ []) (here ts) none.named,
+          next_left (kinds.Identifier ∷ kinds.Identifier ∷ kinds.StringToken ∷ []) (here ts) none.twice,
+        ) refl
+
+    set_left : r.is_set token_leaves (here ts) ≡ false
+    set_left = rw (assigned_left, line_left) refl
+
+  -- ---- words
+
+  -- the word that comes next, before what goes with it
+  word_met : (word : List ℕ) (follows : State → Bool) (t : SignificantToken) (ts : Tokens) → IsWord word t → follows (here ts) ≡ true
+      → r.accept_keyword_before token_leaves word follows (here (t ∷ ts)) ≡ Some (t, here ts)
+  unfolding r.accept_keyword_before
+  word_met word follows t ts is h = rw (word_taken word t ts conditions 0 ns is, h) refl
+
+  -- another word
+  other_word : (word other : List ℕ) (follows : State → Bool) (t : SignificantToken) (ts : Tokens) → IsWord word t → bytes_eq word other ≡ false
+      → r.accept_keyword_before token_leaves other follows (here (t ∷ ts)) ≡ None
+  unfolding r.accept_keyword_before
+  other_word word other follows t ts is apart =
+      rw (word_left other (t ∷ ts) conditions 0 ns (λ w. true_not_false (bytes_eq word other) ((bytes_eq-Decides word other).1 (sym is.spelled ∙ w.spelled)) apart)) refl
+
+  -- a token that isn't a name
+  no_name : (word : List ℕ) (follows : State → Bool) (t : SignificantToken) (ts : Tokens) → (IsKind kinds.Identifier t → ⊥)
+      → r.accept_keyword_before token_leaves word follows (here (t ∷ ts)) ≡ None
+  unfolding r.accept_keyword_before
+  no_name word follows t ts n = rw (word_left word (t ∷ ts) conditions 0 ns (λ w. n w.is_name)) refl
+
+  -- a name before what does not go with the word
+  unfollowed : (word : List ℕ) (follows : State → Bool) (t : SignificantToken) (ts : Tokens) → follows (here ts) ≡ false
+      → r.accept_keyword_before token_leaves word follows (here (t ∷ ts)) ≡ None
+  unfolding r.accept_keyword_before
+  unfollowed word follows t ts h = go (accept_keyword token_leaves word (here (t ∷ ts))) (after_word word (here (t ∷ ts)) IsFirst (λ _. tt) (λ u us split is. followed u us split))
+    where
+      -- what was taken is the first token
+      IsFirst : Taken → Type 0
+      IsFirst None = Unit {0}
+      IsFirst (Some x) = x.1 ≡ here ts
+
+      followed : (u : SignificantToken) (us : Tokens) → t ∷ ts ≡ u ∷ us → here us ≡ here ts
+      followed u us split = let same : us ≡ ts = cc in ap here same
+
+      go : (o : Taken) → IsFirst o → r.if_follows token_leaves follows o ≡ None
+      go None e = refl
+      go (Some x) e = rw (ap follows e ∙ h) refl
+
+  -- ---- which construct is read
+
+  module _ (xs : List ReadAttribute) (n : Counters) where
+    pub no_word_read : (t : SignificantToken) (ts : Tokens) → (IsKind kinds.Identifier t → ⊥)
+        → content token_leaves token_attributes xs n (here (t ∷ ts)) ≡ without_keyword token_leaves token_attributes xs n (here (t ∷ ts))
+    unfolding content
+    no_word_read t ts not =
+        rw (
+          no_name (codes "alias") (r.peek_assignment token_leaves) t ts not,
+          no_name (codes "eager") (r.peek_assignment token_leaves) t ts not,
+          no_name (codes "export") (r.peek_assignment token_leaves) t ts not,
+          no_name (codes "unexport") (r.line_is token_leaves (kinds.Identifier ∷ [])) t ts not,
+          no_name (codes "import") (r.is_imported token_leaves) t ts not,
+          no_name (codes "mod") (r.is_module token_leaves) t ts not,
+          no_name (codes "set") (r.is_set token_leaves) t ts not,
+        ) refl
+
+    pub wordless_read : (t : SignificantToken) (ts : Tokens) → r.peek_assignment token_leaves (here ts) ≡ false
+        → r.line_is token_leaves (kinds.Identifier ∷ []) (here ts) ≡ false → r.is_imported token_leaves (here ts) ≡ false
+        → r.is_module token_leaves (here ts) ≡ false → r.is_set token_leaves (here ts) ≡ false
+        → content token_leaves token_attributes xs n (here (t ∷ ts)) ≡ without_keyword token_leaves token_attributes xs n (here (t ∷ ts))
+    unfolding content
+    wordless_read t ts a l i m s =
+        rw (
+          unfollowed (codes "alias") (r.peek_assignment token_leaves) t ts a,
+          unfollowed (codes "eager") (r.peek_assignment token_leaves) t ts a,
+          unfollowed (codes "export") (r.peek_assignment token_leaves) t ts a,
+          unfollowed (codes "unexport") (r.line_is token_leaves (kinds.Identifier ∷ [])) t ts l,
+          unfollowed (codes "import") (r.is_imported token_leaves) t ts i,
+          unfollowed (codes "mod") (r.is_module token_leaves) t ts m,
+          unfollowed (codes "set") (r.is_set token_leaves) t ts s,
+        ) refl
+
+    pub none_read : (t : SignificantToken) (ts : Tokens) → NoneFollows ts
+        → content token_leaves token_attributes xs n (here (t ∷ ts)) ≡ without_keyword token_leaves token_attributes xs n (here (t ∷ ts))
+    none_read t ts none = wordless_read t ts (assigned_left ts none) (line_left ts none) (imported_left ts none) (module_left ts none) (set_left ts none)
+
+    pub alias_read : (t : SignificantToken) (ts : Tokens) → IsWord (codes "alias") t → r.peek_assignment token_leaves (here ts) ≡ true
+        → content token_leaves token_attributes xs n (here (t ∷ ts)) ≡ alias token_leaves token_attributes xs n (here ts)
+    unfolding content
+    alias_read t ts is h = rw (word_met (codes "alias") (r.peek_assignment token_leaves) t ts is h) refl
+
+    pub eager_read : (t : SignificantToken) (ts : Tokens) → IsWord (codes "eager") t → r.peek_assignment token_leaves (here ts) ≡ true
+        → content token_leaves token_attributes xs n (here (t ∷ ts)) ≡ assignment token_leaves token_attributes true false xs n (here ts)
+    unfolding content
+    eager_read t ts is h =
+        rw (
+          other_word (codes "eager") (codes "alias") (r.peek_assignment token_leaves) t ts is refl,
+          word_met (codes "eager") (r.peek_assignment token_leaves) t ts is h,
+        ) refl
+
+    pub export_read : (t : SignificantToken) (ts : Tokens) → IsWord (codes "export") t → r.peek_assignment token_leaves (here ts) ≡ true
+        → content token_leaves token_attributes xs n (here (t ∷ ts)) ≡ assignment token_leaves token_attributes false true xs n (here ts)
+    unfolding content
+    export_read t ts is h =
+        rw (
+          other_word (codes "export") (codes "alias") (r.peek_assignment token_leaves) t ts is refl,
+          other_word (codes "export") (codes "eager") (r.peek_assignment token_leaves) t ts is refl,
+          word_met (codes "export") (r.peek_assignment token_leaves) t ts is h,
+        ) refl
+
+    pub unexport_read : (t : SignificantToken) (ts : Tokens) → IsWord (codes "unexport") t → r.line_is token_leaves (kinds.Identifier ∷ []) (here ts) ≡ true
+        → content token_leaves token_attributes xs n (here (t ∷ ts)) ≡ unexport token_leaves token_attributes xs n (here ts)
+    unfolding content
+    unexport_read t ts is h =
+        rw (
+          other_word (codes "unexport") (codes "alias") (r.peek_assignment token_leaves) t ts is refl,
+          other_word (codes "unexport") (codes "eager") (r.peek_assignment token_leaves) t ts is refl,
+          other_word (codes "unexport") (codes "export") (r.peek_assignment token_leaves) t ts is refl,
+          word_met (codes "unexport") (r.line_is token_leaves (kinds.Identifier ∷ [])) t ts is h,
+        ) refl
+
+    pub import_read : (t : SignificantToken) (ts : Tokens) → IsWord (codes "import") t → r.is_imported token_leaves (here ts) ≡ true
+        → content token_leaves token_attributes xs n (here (t ∷ ts)) ≡ import token_leaves token_attributes xs n (here ts)
+    unfolding content
+    import_read t ts is h =
+        rw (
+          other_word (codes "import") (codes "alias") (r.peek_assignment token_leaves) t ts is refl,
+          other_word (codes "import") (codes "eager") (r.peek_assignment token_leaves) t ts is refl,
+          other_word (codes "import") (codes "export") (r.peek_assignment token_leaves) t ts is refl,
+          other_word (codes "import") (codes "unexport") (r.line_is token_leaves (kinds.Identifier ∷ [])) t ts is refl,
+          word_met (codes "import") (r.is_imported token_leaves) t ts is h,
+        ) refl
+
+    pub module_read : (t : SignificantToken) (ts : Tokens) → IsWord (codes "mod") t → r.is_module token_leaves (here ts) ≡ true
+        → content token_leaves token_attributes xs n (here (t ∷ ts)) ≡ any_module token_leaves token_attributes xs n (here ts)
+    unfolding content
+    module_read t ts is h =
+        rw (
+          other_word (codes "mod") (codes "alias") (r.peek_assignment token_leaves) t ts is refl,
+          other_word (codes "mod") (codes "eager") (r.peek_assignment token_leaves) t ts is refl,
+          other_word (codes "mod") (codes "export") (r.peek_assignment token_leaves) t ts is refl,
+          other_word (codes "mod") (codes "unexport") (r.line_is token_leaves (kinds.Identifier ∷ [])) t ts is refl,
+          other_word (codes "mod") (codes "import") (r.is_imported token_leaves) t ts is refl,
+          word_met (codes "mod") (r.is_module token_leaves) t ts is h,
+        ) refl
+
+    pub setting_read : (t : SignificantToken) (ts : Tokens) → IsWord (codes "set") t → r.is_set token_leaves (here ts) ≡ true
+        → content token_leaves token_attributes xs n (here (t ∷ ts)) ≡ setting token_leaves token_attributes xs n (here ts)
+    unfolding content
+    setting_read t ts is h =
+        rw (
+          other_word (codes "set") (codes "alias") (r.peek_assignment token_leaves) t ts is refl,
+          other_word (codes "set") (codes "eager") (r.peek_assignment token_leaves) t ts is refl,
+          other_word (codes "set") (codes "export") (r.peek_assignment token_leaves) t ts is refl,
+          other_word (codes "set") (codes "unexport") (r.line_is token_leaves (kinds.Identifier ∷ [])) t ts is refl,
+          other_word (codes "set") (codes "import") (r.is_imported token_leaves) t ts is refl,
+          other_word (codes "set") (codes "mod") (r.is_module token_leaves) t ts is refl,
+          word_met (codes "set") (r.is_set token_leaves) t ts is h,
+        ) refl

@@ -1,0 +1,12 @@
+-- The readers are natural: related tokens give related results.
+pub mod AlikeAttributes
+pub mod AlikeRecipes
+pub mod AlikeRules
+pub mod MakesAlike
+pub mod Natural
+pub mod NaturalAttributes
+pub mod NaturalExpressions
+pub mod NaturalHeaders
+pub mod NaturalParts
+pub mod NewAttributesAlike
+pub mod Related
