@@ -220,8 +220,8 @@ fn find_attribute_kind<'src, X: Expander>(
     parser: &TokenCursor<'_, 'src, X>,
     name: &SignificantToken<'src>,
 ) -> Result<AttributeKind, ParseError<'src>>
-    ensures reads { ReadsRuled (λ kind. kind) result (state_of X.answer parser.now)
-        (reader.kind_at name.now (state_of X.answer parser.now)) }
+    ensures reads { ParsesRuled X.answer (λ kind. kind) result parser.now parser.now
+        (reader.kind_at name.now) }
 {
     match AttributeKind::from_name(name.0.lexeme()) {
         Some(kind) => Ok(kind),
@@ -239,10 +239,10 @@ fn push_attribute<'src, X: Expander>(
     kind: AttributeKind,
     arguments: Arguments<'src>,
 ) -> Result<(), ParseError<'src>>
-    ensures reads { ReadsRuled (λ _. entries_of attributes.new.pairs.items)
-        result (state_of X.answer parser.now)
+    ensures reads { ParsesRuled X.answer (λ _. entries_of attributes.new.pairs.items) result
+        parser.now parser.now
         (reader.one_made (entries_of attributes.old.pairs.items) name.entry.token kind
-        (arguments_of arguments.entry) (state_of X.answer parser.now)) }
+        (arguments_of arguments.entry)) }
     ensures fields { OnOk result
         (KeepsDerivedPairFields attributes.old.pairs.items attributes.new.pairs.items) }
 {

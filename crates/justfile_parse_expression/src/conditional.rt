@@ -177,9 +177,8 @@ impl<'run, 'src, X: Expander> TokenCursor<'run, 'src, X> {
     /// Refuses an `else` after a branch that ends in a conditional without `else`.
     #[tactic(auto, unfolding(justfile_model::specs::Readers::ReaderState::accept_keyword, justfile_model::specs::Readers::ReaderState::refused, crate::specs::TableReader::leaves))]
     fn expect_closed(&self, branch: &Expression<'src>) -> Result<(), ExpressionError<'src>>
-        ensures reads { Reads (λ _. leaf_tree_of branch.now) result (state_of X.answer self.now)
-            (reader.ended_by (ends_open (leaf_tree_of branch.now)) (leaf_tree_of branch.now)
-            (state_of X.answer self.now)) }
+        ensures reads { Parses X.answer (λ _. leaf_tree_of branch.now) result self.now self.now
+            (reader.ended_by (ends_open (leaf_tree_of branch.now)) (leaf_tree_of branch.now)) }
     {
         if !ends_open(branch) {
             return Ok(());

@@ -57,8 +57,8 @@ impl<'run, 'src, X: Expander> TokenCursor<'run, 'src, X> {
         expand: bool,
     ) -> Result<Box<Expression<'src>>, ExpressionError<'src>>
         requires { IsOf kinds.StringToken entry.now }
-        ensures reads { Reads (λ e. leaf_tree_of e.value) result (state_of X.answer self.now)
-            (reader.literal_string expand (entry.now, state_of X.answer self.now)) }
+        ensures reads { Parses X.answer (λ e. leaf_tree_of e.value) result self.now self.now
+            (λ s. reader.literal_string expand (entry.now, s)) }
     {
         if !expand {
             if let Some(text) = verbatim_text(entry.0.lexeme()) {
@@ -78,8 +78,8 @@ impl<'run, 'src, X: Expander> TokenCursor<'run, 'src, X> {
         text: &str,
     ) -> Result<Box<Expression<'src>>, ExpressionError<'src>>
         requires { string_text (lexeme_of entry.now.0) ≡ Ok text.now }
-        ensures reads { Reads (λ e. leaf_tree_of e.value) result (state_of X.answer self.now)
-            (reader.literal_string false (entry.now, state_of X.answer self.now)) }
+        ensures reads { Parses X.answer (λ e. leaf_tree_of e.value) result self.now self.now
+            (λ s. reader.literal_string false (entry.now, s)) }
     {
         let string_literal = self.copy_literal(entry, text)?;
         self.box_expression(Expression::StringLiteral { string_literal })
@@ -94,8 +94,8 @@ impl<'run, 'src, X: Expander> TokenCursor<'run, 'src, X> {
         text: &str,
     ) -> Result<StringLiteral<'src>, ExpressionError<'src>>
         requires { string_text (lexeme_of entry.now.0) ≡ Ok text.now }
-        ensures reads { Reads (λ l. Literal (literal_of l)) result (state_of X.answer self.now)
-            (reader.string_leaf false (entry.now, state_of X.answer self.now)) }
+        ensures reads { Parses X.answer (λ l. Literal (literal_of l)) result self.now self.now
+            (λ s. reader.string_leaf false (entry.now, s)) }
         ensures expand { IfOk result (λ l. l.expand ≡ false) }
     {
         let cooked = text.to_string(self.alloc)?;
@@ -120,8 +120,8 @@ impl<'run, 'src, X: Expander> TokenCursor<'run, 'src, X> {
         expand: bool,
     ) -> Result<StringLiteral<'src>, ExpressionError<'src>>
         requires { IsOf kinds.StringToken entry.now }
-        ensures reads { Reads (λ l. Literal (literal_of l)) result (state_of X.answer self.now)
-            (reader.string_leaf expand (entry.now, state_of X.answer self.now)) }
+        ensures reads { Parses X.answer (λ l. Literal (literal_of l)) result self.now self.now
+            (λ s. reader.string_leaf expand (entry.now, s)) }
         ensures expand { IfOk result (λ l. l.expand ≡ expand) }
     {
         match string_literal(self.alloc, entry.0, expand, self.expander) {
@@ -137,8 +137,8 @@ impl<'run, 'src, X: Expander> TokenCursor<'run, 'src, X> {
         entry: &'run SignificantToken<'src>,
     ) -> Result<Box<Expression<'src>>, ExpressionError<'src>>
         requires { IsOf kinds.Backtick entry.now }
-        ensures reads { Reads (λ e. leaf_tree_of e.value) result (state_of X.answer self.now)
-            (reader.backtick (entry.now, state_of X.answer self.now)) }
+        ensures reads { Parses X.answer (λ e. leaf_tree_of e.value) result self.now self.now
+            (λ s. reader.backtick (entry.now, s)) }
     {
         match command(self.alloc, entry.0) {
             Ok(contents) => Ok(self.box_expression(Expression::Backtick {
@@ -156,8 +156,8 @@ impl<'run, 'src, X: Expander> TokenCursor<'run, 'src, X> {
         entry: &'run SignificantToken<'src>,
     ) -> Result<Box<Expression<'src>>, ExpressionError<'src>>
         requires { IsOf kinds.StringToken entry.now }
-        ensures reads { Reads (λ e. leaf_tree_of e.value) result (state_of X.answer self.now)
-            (reader.whole_format_string (entry.now, state_of X.answer self.now)) }
+        ensures reads { Parses X.answer (λ e. leaf_tree_of e.value) result self.now self.now
+            (λ s. reader.whole_format_string (entry.now, s)) }
     {
         let literal = self.cook_part(entry, find_kind(entry), FormatStringPart::Single)?;
         self.box_expression(make_format_string(literal, Vec::new(self.alloc)))
@@ -172,8 +172,8 @@ impl<'run, 'src, X: Expander> TokenCursor<'run, 'src, X> {
         part: FormatStringPart,
     ) -> Result<StringLiteral<'src>, ExpressionError<'src>>
         requires framed { IsTrue (is_part kind part (lexeme_of entry.now.0)) }
-        ensures reads { Reads (λ l. Literal (literal_of l)) result (state_of X.answer self.now)
-            (reader.part_by kind part (entry.now, state_of X.answer self.now)) }
+        ensures reads { Parses X.answer (λ l. Literal (literal_of l)) result self.now self.now
+            (λ s. reader.part_by kind part (entry.now, s)) }
     {
         match format_part(self.alloc, entry.0, kind, part) {
             Ok(literal) => Ok(literal),

@@ -270,8 +270,8 @@ impl<'run, 'src, X: Expander> TokenCursor<'run, 'src, X> {
         &mut self,
         kind: TokenKind,
     ) -> Result<&'run SignificantToken<'src>, ExpressionError<'src>>
-        ensures reads { Reads (λ entry. entry.now) result (state_of X.answer self.new)
-            (reader.expect kind (state_of X.answer self.old)) }
+        ensures reads { Parses X.answer (λ entry. entry.now) result self.old self.new
+            (reader.expect kind) }
         ensures progress { OnOk result (tokens_left self.new < tokens_left self.old) }
         ensures kind { IfOk result (λ entry. entry.now.0.kind ≡ kind) }
     {

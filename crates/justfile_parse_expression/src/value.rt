@@ -296,8 +296,8 @@ impl<'run, 'src, X: Expander> TokenCursor<'run, 'src, X> {
         entry: &'run SignificantToken<'src>,
     ) -> Result<Box<Expression<'src>>, ExpressionError<'src>>
         requires { entry.now.0.kind ≡ kinds.Identifier }
-        ensures reads { Reads (λ e. leaf_tree_of e.value) result (state_of X.answer self.new)
-            (reader.call entry.now (state_of X.answer self.old)) }
+        ensures reads { Parses X.answer (λ e. leaf_tree_of e.value) result self.old self.new
+            (reader.call entry.now) }
         ensures progress { OnOk result (tokens_left self.new < tokens_left self.old) }
     {
         let arguments = self.parse_sequence(TokenKind::ParenR)?;

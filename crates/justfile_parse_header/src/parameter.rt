@@ -144,8 +144,7 @@ fn parse_variadic<'src, X: Expander>(
 fn expect_no_name<'src, X: Expander>(
     parser: &TokenCursor<'_, 'src, X>,
 ) -> Result<(), ParseError<'src>>
-    ensures { ReadsRuled (λ _. tt) result (state_of X.answer parser.now)
-        (reader.expect_no_name (state_of X.answer parser.now)) }
+    ensures { ParsesRuled X.answer (λ _. tt) result parser.now parser.now reader.expect_no_name }
 {
     match parser.probe_if(TokenKind::Identifier) {
         None => Ok(()),

@@ -1,14 +1,15 @@
 -- The methods of the parser of items return what the definitions read.
-use Rattle.std.specs.Prelude.{◌≡◌, ℕ, ◌≤◌, ◌+◌, Result}
+use Rattle.std.specs.Prelude.{◌≡◌, ℕ, ◌≤◌, ◌+◌, List, Result}
 use Rattle.justfile_vocabulary.specs.Numerator.{bindings_of, constants_of, recipes_of}
 use Rattle.justfile_vocabulary.specs.declared.numerator.Numerator.{Numerator}
 use Rattle.justfile_token.specs.declared.token.Token.{Token}
 use Rattle.justfile_model.specs.Trees.Tree.{OrderedItem}
 use Rattle.justfile_model.specs.Readers.ReaderState.{Counters}
 use Rattle.justfile_parse_item.specs.ItemTable.{ReadItem}
-use Rattle.justfile_parse_base.specs.ParseErrors.{ReadsRuled}
+use Rattle.justfile_parse_base.specs.ParseErrors.{ParsesRuled}
 use Rattle.justfile_parse_base.specs.declared.parse_error.ParseError.{ParseError}
 use Rattle.justfile_parse_expression.specs.TableReader.{State}
+use Rattle.justfile_parse_expression.specs.declared.token_cursor.TokenCursor.{TokenCursor}
 use Rattle.justfile_expression.specs.LeafTree.{Leaf}
 
 -- Only bindings and recipes were given numbers, together at most `most`.
@@ -18,6 +19,8 @@ pub record CountersMoved (old new : Numerator) (most : ℕ) : Type 0 where
   pub most_is : bindings_of new + recipes_of new ≤ bindings_of old + recipes_of old + most
   pub constants : constants_of new ≡ constants_of old
 
--- For a construct that takes no number: what was returned is what the definitions read with any counters; an error is theirs.
-unfoldable pub ReadsUncounted : {X : Type 0} → (X → OrderedItem Leaf Token ℕ) → Result X ParseError → State → (Counters → ReadItem) → Type 0
-ReadsUncounted view result s read = (n : Counters) → ReadsRuled (λ x. (view x, n)) result s (read n)
+-- For a construct that takes no number: what was returned and the parser after it are what `read` reads from the parser before it, with
+-- any counters.
+unfoldable pub ParsesUncounted : {X E : Type 0} (answer : E → List ℕ → Result (List ℕ) (List ℕ)) → (X → OrderedItem Leaf Token ℕ)
+    → Result X ParseError → (old new : TokenCursor E) → (read : Counters → State → ReadItem) → Type 0
+ParsesUncounted answer view result old new read = (n : Counters) → ParsesRuled answer (λ x. (view x, n)) result old new (read n)

@@ -60,8 +60,8 @@ pub fn parse_items<'src, X: Expander>(
 fn expect_nothing<'src, X: Expander>(
     parser: &TokenCursor<'_, 'src, X>,
 ) -> Result<(), ExpressionError<'src>>
-    ensures { Reads (λ nothing. nothing) result (state_of X.answer parser.now)
-        (reader.read_nothing (state_of X.answer parser.now)) }
+    ensures { Parses X.answer (λ nothing. nothing) result parser.now parser.now
+        reader.read_nothing }
 {
     match parser.peek_front() {
         Some(_entry) => Err(ExpressionError::Refused(SyntaxError::Unexpected)),

@@ -1,7 +1,7 @@
 //! Aliases, settings and `unexport`s: a keyword, a name, and at most a target or a value.
 ghost use Rattle.std.specs.Prelude.{◌<◌, IfOk, OnOk};
 ghost use Rattle.justfile_parse_item.specs.ItemTable as reader;
-ghost use Rattle.justfile_parse_item.specs.MethodResults.{ReadsUncounted};
+ghost use Rattle.justfile_parse_item.specs.MethodResults.{ParsesUncounted};
 ghost use Rattle.justfile_parse_item.specs.Tree.{item_tree};
 ghost use Rattle.justfile_parse_item.specs.DerivedFields.{HaveDerivedPairFields, HasDerivedItemFields};
 ghost use Rattle.justfile_parse_attribute.specs.Attributes.{entries_of};
@@ -18,15 +18,14 @@ use justfile_vocabulary::{ItemKind, TokenKind};
 use justfile_written::Written;
 
 /// Parses an alias after its attributes and `alias`: a name, `:=`, and the path of a recipe.
-#[tactic(auto, unfolding(crate::specs::MethodResults::ReadsUncounted, justfile_model::specs::Readers::Reader::alias, justfile_parse_expression::specs::TableReader::leaves))]
+#[tactic(auto, unfolding(crate::specs::MethodResults::ParsesUncounted, justfile_model::specs::Readers::Reader::alias, justfile_parse_expression::specs::TableReader::leaves))]
 pub(crate) fn parse_alias<'src, X: Expander>(
     parser: &mut TokenCursor<'_, 'src, X>,
     attributes: Vec<(Attribute<'src>, Written<'src>)>,
 ) -> Result<Item<'src>, ParseError<'src>>
     requires { HaveDerivedPairFields attributes.items }
-    ensures reads { ReadsUncounted item_tree result (state_of X.answer parser.new)
-        (λ n. reader.alias (entries_of attributes.entry.items) n
-        (state_of X.answer parser.old)) }
+    ensures reads { ParsesUncounted X.answer item_tree result parser.old parser.new
+        (reader.alias (entries_of attributes.entry.items)) }
     ensures fields { IfOk result HasDerivedItemFields }
     ensures progress { OnOk result (tokens_left parser.new < tokens_left parser.old) }
 {
@@ -42,15 +41,14 @@ pub(crate) fn parse_alias<'src, X: Expander>(
 }
 
 /// Parses a setting after its attributes and `set`: its name and its value.
-#[tactic(auto, unfolding(crate::specs::MethodResults::ReadsUncounted, justfile_model::specs::Readers::Reader::setting, justfile_parse_expression::specs::TableReader::leaves))]
+#[tactic(auto, unfolding(crate::specs::MethodResults::ParsesUncounted, justfile_model::specs::Readers::Reader::setting, justfile_parse_expression::specs::TableReader::leaves))]
 pub(crate) fn parse_set<'src, X: Expander>(
     parser: &mut TokenCursor<'_, 'src, X>,
     attributes: Vec<(Attribute<'src>, Written<'src>)>,
 ) -> Result<Item<'src>, ParseError<'src>>
     requires { HaveDerivedPairFields attributes.items }
-    ensures reads { ReadsUncounted item_tree result (state_of X.answer parser.new)
-        (λ n. reader.setting (entries_of attributes.entry.items) n
-        (state_of X.answer parser.old)) }
+    ensures reads { ParsesUncounted X.answer item_tree result parser.old parser.new
+        (reader.setting (entries_of attributes.entry.items)) }
     ensures fields { IfOk result HasDerivedItemFields }
     ensures progress { OnOk result (tokens_left parser.new < tokens_left parser.old) }
 {
@@ -66,15 +64,14 @@ pub(crate) fn parse_set<'src, X: Expander>(
 }
 
 /// Parses an `unexport` after its attributes and the keyword: a name.
-#[tactic(auto, unfolding(crate::specs::MethodResults::ReadsUncounted, justfile_model::specs::Readers::Reader::unexport, justfile_parse_expression::specs::TableReader::leaves))]
+#[tactic(auto, unfolding(crate::specs::MethodResults::ParsesUncounted, justfile_model::specs::Readers::Reader::unexport, justfile_parse_expression::specs::TableReader::leaves))]
 pub(crate) fn parse_unexport<'src, X: Expander>(
     parser: &mut TokenCursor<'_, 'src, X>,
     attributes: Vec<(Attribute<'src>, Written<'src>)>,
 ) -> Result<Item<'src>, ParseError<'src>>
     requires { HaveDerivedPairFields attributes.items }
-    ensures reads { ReadsUncounted item_tree result (state_of X.answer parser.new)
-        (λ n. reader.unexport (entries_of attributes.entry.items) n
-        (state_of X.answer parser.old)) }
+    ensures reads { ParsesUncounted X.answer item_tree result parser.old parser.new
+        (reader.unexport (entries_of attributes.entry.items)) }
     ensures fields { IfOk result HasDerivedItemFields }
     ensures progress { OnOk result (tokens_left parser.new < tokens_left parser.old) }
 {

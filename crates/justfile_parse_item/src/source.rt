@@ -1,7 +1,7 @@
 //! Imports and modules: the items that name another file.
 ghost use Rattle.std.specs.Prelude.{◌<◌, IfOk, OnOk};
 ghost use Rattle.justfile_parse_item.specs.ItemTable as reader;
-ghost use Rattle.justfile_parse_item.specs.MethodResults.{ReadsUncounted};
+ghost use Rattle.justfile_parse_item.specs.MethodResults.{ParsesUncounted};
 ghost use Rattle.justfile_parse_item.specs.Tree.{item_tree};
 ghost use Rattle.justfile_parse_item.specs.DerivedFields.{HaveDerivedPairFields, HasDerivedItemFields};
 ghost use Rattle.justfile_parse_attribute.specs.Attributes.{entries_of};
@@ -19,15 +19,14 @@ use justfile_vocabulary::{ItemKind, TokenKind};
 use justfile_written::Written;
 
 /// Parses an import after its attributes and `import`: `?` if it is optional, and a path.
-#[tactic(auto, unfolding(crate::specs::MethodResults::ReadsUncounted, justfile_model::specs::Readers::Reader::import))]
+#[tactic(auto, unfolding(crate::specs::MethodResults::ParsesUncounted, justfile_model::specs::Readers::Reader::import))]
 pub(crate) fn parse_import<'src, X: Expander>(
     parser: &mut TokenCursor<'_, 'src, X>,
     attributes: Vec<(Attribute<'src>, Written<'src>)>,
 ) -> Result<Item<'src>, ParseError<'src>>
     requires { HaveDerivedPairFields attributes.items }
-    ensures reads { ReadsUncounted item_tree result (state_of X.answer parser.new)
-        (λ n. reader.import (entries_of attributes.entry.items) n
-        (state_of X.answer parser.old)) }
+    ensures reads { ParsesUncounted X.answer item_tree result parser.old parser.new
+        (reader.import (entries_of attributes.entry.items)) }
     ensures fields { IfOk result HasDerivedItemFields }
     ensures progress { OnOk result (tokens_left parser.new < tokens_left parser.old) }
 {
@@ -36,16 +35,15 @@ pub(crate) fn parse_import<'src, X: Expander>(
 }
 
 /// Parses the path of an import.
-#[tactic(auto, unfolding(crate::specs::MethodResults::ReadsUncounted, justfile_model::specs::Readers::Reader::imported, justfile_parse_expression::specs::TableReader::leaves))]
+#[tactic(auto, unfolding(crate::specs::MethodResults::ParsesUncounted, justfile_model::specs::Readers::Reader::imported, justfile_parse_expression::specs::TableReader::leaves))]
 fn parse_imported<'src, X: Expander>(
     parser: &mut TokenCursor<'_, 'src, X>,
     optional: bool,
     attributes: Vec<(Attribute<'src>, Written<'src>)>,
 ) -> Result<Item<'src>, ParseError<'src>>
     requires { HaveDerivedPairFields attributes.items }
-    ensures reads { ReadsUncounted item_tree result (state_of X.answer parser.new)
-        (λ n. reader.imported optional (entries_of attributes.entry.items) n
-        (state_of X.answer parser.old)) }
+    ensures reads { ParsesUncounted X.answer item_tree result parser.old parser.new
+        (reader.imported optional (entries_of attributes.entry.items)) }
     ensures fields { IfOk result HasDerivedItemFields }
     ensures progress { OnOk result (tokens_left parser.new < tokens_left parser.old) }
 {
@@ -60,15 +58,14 @@ fn parse_imported<'src, X: Expander>(
 
 /// Parses a module after its attributes and `mod`: `?` if it is optional, a name, and a path if it
 /// has one.
-#[tactic(auto, unfolding(crate::specs::MethodResults::ReadsUncounted, justfile_model::specs::Readers::Reader::any_module))]
+#[tactic(auto, unfolding(crate::specs::MethodResults::ParsesUncounted, justfile_model::specs::Readers::Reader::any_module))]
 pub(crate) fn parse_module<'src, X: Expander>(
     parser: &mut TokenCursor<'_, 'src, X>,
     attributes: Vec<(Attribute<'src>, Written<'src>)>,
 ) -> Result<Item<'src>, ParseError<'src>>
     requires { HaveDerivedPairFields attributes.items }
-    ensures reads { ReadsUncounted item_tree result (state_of X.answer parser.new)
-        (λ n. reader.any_module (entries_of attributes.entry.items) n
-        (state_of X.answer parser.old)) }
+    ensures reads { ParsesUncounted X.answer item_tree result parser.old parser.new
+        (reader.any_module (entries_of attributes.entry.items)) }
     ensures fields { IfOk result HasDerivedItemFields }
     ensures progress { OnOk result (tokens_left parser.new < tokens_left parser.old) }
 {
@@ -77,16 +74,15 @@ pub(crate) fn parse_module<'src, X: Expander>(
 }
 
 /// Parses the name of a module, and its path if it has one.
-#[tactic(auto, unfolding(crate::specs::MethodResults::ReadsUncounted, justfile_model::specs::Readers::Reader::named_module, justfile_parse_expression::specs::TableReader::leaves))]
+#[tactic(auto, unfolding(crate::specs::MethodResults::ParsesUncounted, justfile_model::specs::Readers::Reader::named_module, justfile_parse_expression::specs::TableReader::leaves))]
 fn parse_named_module<'src, X: Expander>(
     parser: &mut TokenCursor<'_, 'src, X>,
     optional: bool,
     attributes: Vec<(Attribute<'src>, Written<'src>)>,
 ) -> Result<Item<'src>, ParseError<'src>>
     requires { HaveDerivedPairFields attributes.items }
-    ensures reads { ReadsUncounted item_tree result (state_of X.answer parser.new)
-        (λ n. reader.named_module optional (entries_of attributes.entry.items) n
-        (state_of X.answer parser.old)) }
+    ensures reads { ParsesUncounted X.answer item_tree result parser.old parser.new
+        (reader.named_module optional (entries_of attributes.entry.items)) }
     ensures fields { IfOk result HasDerivedItemFields }
     ensures progress { OnOk result (tokens_left parser.new < tokens_left parser.old) }
 {

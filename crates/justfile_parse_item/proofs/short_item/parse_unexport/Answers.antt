@@ -1,13 +1,13 @@
 use Rattle.std.proofs.Common.{map}
 use Rattle.std.proofs.lemmas.Result.{err_from_is_err_and}
-use Rattle.justfile_parse_item.specs.MethodResults.{ReadsUncounted}
+use Rattle.justfile_parse_item.specs.MethodResults.{ParsesUncounted}
 use Rattle.justfile_parse_attribute.specs.Attributes.{entry_of_pair}
 use Rattle.justfile_parse_expression.specs.View.{state_of}
 use Rattle.justfile_parse_item.proofs.ItemErrors.{unexport_errs}
 use Rattle.justfile_parse_item.proofs.short_item.parse_unexport.Goals as goal
 
 pub returns-in_err-attributes-clause-reads : goal.returns-in_err-attributes-clause-reads
-unfolding ReadsUncounted
+unfolding ParsesUncounted
 returns-in_err-attributes-clause-reads g c =
     let A = g.X.Expander.answer in
     let p = err_from_is_err_and c.from_residual-in_err-attributes.result c.from_residual-in_err-attributes.ensures.1 in
