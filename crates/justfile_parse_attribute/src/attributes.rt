@@ -6,7 +6,7 @@ ghost use Rattle.justfile_model.specs.Readers.NewAttribute as new;
 ghost use Rattle.justfile_model.specs.Meanings.Rules.{AttributePositionalFollowsKeyword, DuplicateAttributeKey, UnknownAttribute};
 ghost use Rattle.justfile_model.specs.Trees.Tree as tree;
 ghost use Rattle.justfile_parse_attribute.specs.Attributes.{arguments_of, entries_of};
-ghost use Rattle.justfile_parse_base.specs.ParseErrors.{ReadsRuled, ParsesRuled};
+ghost use Rattle.justfile_parse_base.specs.ParseErrors.{ParsesRuled};
 ghost use Rattle.justfile_parse_attribute.specs.DerivedAttributeFields.{HaveDerivedPairFields, KeepsDerivedPairFields};
 ghost use Rattle.justfile_parse_expression.specs.ParsedResults.{Parses};
 ghost use Rattle.justfile_parse_attribute.specs.AttributeTable as reader;

@@ -5,7 +5,7 @@ ghost use Rattle.justfile_model.specs.Trees.Tree as tree;
 ghost use Rattle.justfile_parse_expression.specs.Chains as chains;
 ghost use Rattle.justfile_parse_expression.specs.Chains.{branch_of, link_of};
 ghost use Rattle.justfile_parse_expression.specs.TableReader as reader;
-ghost use Rattle.justfile_parse_expression.specs.MethodResults.{Reads, UnlessMemory};
+ghost use Rattle.justfile_parse_expression.specs.MethodResults.{UnlessMemory};
 ghost use Rattle.justfile_parse_expression.specs.ParsedResults.{Parses};
 ghost use Rattle.justfile_expression.specs.LeafTree.{leaf_tree_of};
 
@@ -26,7 +26,7 @@ pub(crate) enum Branch<'run, 'src> {
 }
 
 impl<'run, 'src, X: Expander> TokenCursor<'run, 'src, X> {
-    ghost use Rattle.justfile_parse_expression.specs.View.{tokens_left, state_of};
+    ghost use Rattle.justfile_parse_expression.specs.View.{tokens_left};
 
     /// Parses a conditional, after its `if`.
     #[cycle(expression)]

@@ -8,7 +8,7 @@ ghost use Rattle.justfile_literal.specs.Literal.{is_part};
 ghost use Rattle.justfile_parse_expression.specs.Fault.{IsLiteralFault};
 ghost use Rattle.justfile_parse_expression.specs.Literal.{IsOf};
 ghost use Rattle.justfile_parse_expression.specs.TableReader as reader;
-ghost use Rattle.justfile_parse_expression.specs.MethodResults.{Reads, IsErrorOfLiteral};
+ghost use Rattle.justfile_parse_expression.specs.MethodResults.{IsErrorOfLiteral};
 ghost use Rattle.justfile_parse_expression.specs.ParsedResults.{Parses};
 ghost use Rattle.justfile_expression.specs.LeafTree.{Literal, literal_of, leaf_tree_of};
 

@@ -12,7 +12,8 @@ ghost use Rattle.justfile_parse_expression.specs.SimpleValues.{begins_simple_val
 ghost use Rattle.justfile_model.specs.Readers.ReaderState.{at, is_word, marks};
 ghost use Rattle.justfile_model.specs.Meanings.Versions.{version_numbers};
 ghost use Rattle.justfile_parse_expression.specs.TableReader as reader;
-ghost use Rattle.justfile_parse_expression.specs.MethodResults.{Peeks, Reads, TakesEntry};
+ghost use Rattle.justfile_parse_expression.specs.MethodResults.{Peeks, TakesEntry};
+ghost use Rattle.justfile_parse_expression.specs.ParsedResults.{Parses};
 ghost use Rattle.justfile_parse_expression.specs.Significant.{significant_of};
 
 use crate::expected_tokens::ExpectedTokens;

@@ -10,7 +10,7 @@ ghost use Rattle.justfile_parse_expression.specs.Literal.{IsOf};
 ghost use Rattle.justfile_parse_expression.specs.Chains as chains;
 ghost use Rattle.justfile_parse_expression.specs.Chains.{negated};
 ghost use Rattle.justfile_parse_expression.specs.TableReader as reader;
-ghost use Rattle.justfile_parse_expression.specs.MethodResults.{Reads, UnlessMemory};
+ghost use Rattle.justfile_parse_expression.specs.MethodResults.{UnlessMemory};
 ghost use Rattle.justfile_parse_expression.specs.ParsedResults.{Parses};
 ghost use Rattle.justfile_expression.specs.LeafTree.{Literal, Named, format_string_tree, literal_of, leaf_tree_of, trees_of};
 

@@ -4,7 +4,7 @@ ghost use Rattle.justfile_attribute_rules.specs.Made.{IsFaultOfRule};
 ghost use Rattle.justfile_attribute_set.specs.AttributeSet.{attributes_of};
 ghost use Rattle.justfile_model.specs.Readers.NewAttribute as new;
 ghost use Rattle.justfile_model.specs.Meanings.Rules.{ArgAttributeRequiresMultipleOrVariadic, FlagWithDefault};
-ghost use Rattle.justfile_parse_base.specs.ParseErrors.{IsAfterVariadicFault, ReadsRuled, ChecksRules};
+ghost use Rattle.justfile_parse_base.specs.ParseErrors.{IsAfterVariadicFault, ParsesRuled, ChecksRules};
 ghost use Rattle.justfile_parse_expression.specs.ParsedResults.{Parses};
 ghost use Rattle.justfile_parse_expression.specs.View.{tokens_left, state_of};
 ghost use Rattle.justfile_parse_header.specs.Arguments.{AreKeyed, rules_by, IsKeyedOption};

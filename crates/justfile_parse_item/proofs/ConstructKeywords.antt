@@ -12,7 +12,7 @@ use Rattle.justfile_model.specs.Lexing.SignificantTokens.{SignificantToken}
 use Rattle.justfile_model.specs.Trees.Tree.{OrderedItem}
 use Rattle.justfile_parse_item.specs.ItemTable as reader
 use Rattle.justfile_parse_item.specs.ItemTable.{ReadItem}
-use Rattle.justfile_parse_item.specs.MethodResults.{ReadsUncounted}
+use Rattle.justfile_parse_item.specs.MethodResults.{ParsesUncounted}
 use Rattle.justfile_parse_item.specs.ConstructKeywords.{KeywordTaken, by_keyword, taken_as, keyword_taken, after_keyword}
 use Rattle.justfile_parse_item.specs.declared.construct.ConstructKeyword.{ConstructKeyword}
 use Rattle.justfile_parse_item.specs.declared.construct.ConstructKeyword.TheVariants as words
@@ -20,7 +20,9 @@ use Rattle.justfile_parse_attribute.specs.AttributeTable.{Entries}
 use Rattle.justfile_parse_base.specs.declared.parse_error.ParseError.{ParseError}
 use Rattle.justfile_parse_expression.specs.TableReader.{State, leaves}
 use Rattle.justfile_parse_expression.specs.Significant.{TableEntry}
-use Rattle.justfile_parse_base.specs.Counting.{ReadsCounted, counters_of, identifiers_left}
+use Rattle.justfile_parse_expression.specs.View.{state_of}
+use Rattle.justfile_parse_expression.specs.declared.token_cursor.TokenCursor.{TokenCursor}
+use Rattle.justfile_parse_base.specs.Counting.{ParsesCounted, counters_of, identifiers_left}
 use Rattle.justfile_parse_base.proofs.Fewer.{fewer}
 use Rattle.justfile_parse_base.proofs.HeaderErrors.{failed}
 use Rattle.justfile_parse_item_parts.specs.PartTable.{accept_keyword_before, peek_assignment, is_imported, is_module, is_set, line_is}
@@ -113,8 +115,11 @@ keyword_fewer s word rest h = subst (LeavesFewer s) h (some_fewer s)
 
 -- ---- a construct that takes no number
 
-pub uncounted : {X : Type 0} (view : X → OrderedItem Leaf Token ℕ) (result : Result X ParseError) (n : Numerator) (s : State) (read : Counters → ReadItem)
-    → ReadsUncounted view result s read → ReadsCounted view result n s (read (counters_of n))
-unfolding ReadsUncounted
-uncounted view (Ok x) n s read h = h (counters_of n)
-uncounted view (Err error) n s read h = failed (read (counters_of n)) (read (counters_of n)) (λ e k. k) error s ⊥ _ (λ k. absurd k) (h (counters_of n))
+pub uncounted : {X E : Type 0} (answer : E → List ℕ → Result (List ℕ) (List ℕ)) (view : X → OrderedItem Leaf Token ℕ) (result : Result X ParseError)
+    (n : Numerator) (old new : TokenCursor E) (read : Counters → State → ReadItem)
+    → ParsesUncounted answer view result old new read → ParsesCounted answer view result n old new (read (counters_of n))
+unfolding ParsesUncounted
+uncounted answer view (Ok x) n old new read h = h (counters_of n)
+uncounted answer view (Err error) n old new read h =
+    let found = read (counters_of n) (state_of answer old) in
+    failed found found (λ e k. k) error (state_of answer new) ⊥ _ (λ k. absurd k) (h (counters_of n))

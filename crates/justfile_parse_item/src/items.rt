@@ -12,7 +12,7 @@ ghost use Rattle.justfile_model.specs.Readers.PartReader.{after_numbered};
 ghost use Rattle.justfile_item.specs.declared.item.Item.TheVariants as variants;
 ghost use Rattle.justfile_parse_item.specs.ItemTable as reader;
 ghost use Rattle.justfile_parse_item.specs.MethodResults.{CountersMoved};
-ghost use Rattle.justfile_parse_expression.specs.MethodResults.{Reads, UnlessMemory};
+ghost use Rattle.justfile_parse_expression.specs.MethodResults.{UnlessMemory};
 ghost use Rattle.justfile_parse_expression.specs.ParsedResults.{Parses};
 ghost use Rattle.justfile_parse_item.specs.DerivedFields.{HaveDerivedFields, HasDerivedItemFields, KeepsDerivedFields};
 ghost use Rattle.justfile_parse_expression.specs.Significant.{significant_of};

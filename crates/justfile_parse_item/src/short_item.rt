@@ -5,7 +5,7 @@ ghost use Rattle.justfile_parse_item.specs.MethodResults.{ParsesUncounted};
 ghost use Rattle.justfile_parse_item.specs.Tree.{item_tree};
 ghost use Rattle.justfile_parse_item.specs.DerivedFields.{HaveDerivedPairFields, HasDerivedItemFields};
 ghost use Rattle.justfile_parse_attribute.specs.Attributes.{entries_of};
-ghost use Rattle.justfile_parse_expression.specs.View.{tokens_left, state_of};
+ghost use Rattle.justfile_parse_expression.specs.View.{tokens_left};
 
 use crate::attribute_checks::check_allowed;
 use justfile_attribute::Attribute;
