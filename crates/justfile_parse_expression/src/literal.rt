@@ -23,7 +23,7 @@ use justfile_vocabulary::{FormatStringPart, Keyword, TokenKind};
 use std::alloc::Global;
 
 impl<'run, 'src, X: Expander> TokenCursor<'run, 'src, X> {
-    ghost use Rattle.justfile_parse_expression.specs.View.{Moves, state_of};
+    ghost use Rattle.justfile_parse_expression.specs.View.{Moves};
 
     /// Parses a literal, if one comes next.
     #[tactic(auto, unfolding(justfile_model::specs::Readers::ExpressionReader::literal))]
