@@ -12,8 +12,7 @@ ghost use Rattle.justfile_parse_expression.specs.SimpleValues.{begins_simple_val
 ghost use Rattle.justfile_model.specs.Readers.ReaderState.{at, is_word, marks};
 ghost use Rattle.justfile_model.specs.Meanings.Versions.{version_numbers};
 ghost use Rattle.justfile_parse_expression.specs.TableReader as reader;
-ghost use Rattle.justfile_parse_expression.specs.MethodResults.{Peeks, TakesEntry};
-ghost use Rattle.justfile_parse_expression.specs.ParsedResults.{Parses};
+ghost use Rattle.justfile_parse_expression.specs.MethodResults.{Peeks, Reads, TakesEntry};
 ghost use Rattle.justfile_parse_expression.specs.Significant.{significant_of};
 
 use crate::expected_tokens::ExpectedTokens;
@@ -271,8 +270,8 @@ impl<'run, 'src, X: Expander> TokenCursor<'run, 'src, X> {
         &mut self,
         kind: TokenKind,
     ) -> Result<&'run SignificantToken<'src>, ExpressionError<'src>>
-        ensures reads { Parses X.answer (λ entry. entry.now) result self.old self.new
-            (reader.expect kind) }
+        ensures reads { Reads (λ entry. entry.now) result (state_of X.answer self.new)
+            (reader.expect kind (state_of X.answer self.old)) }
         ensures progress { OnOk result (tokens_left self.new < tokens_left self.old) }
         ensures kind { IfOk result (λ entry. entry.now.0.kind ≡ kind) }
     {
