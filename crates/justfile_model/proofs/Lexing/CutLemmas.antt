@@ -84,9 +84,9 @@ newline_if b false f g = g refl
 blank_other : (b : ℕ) → (eqb b 32 || eqb b 9) ≡ true → eqb b 10 ≡ false
 blank_other b h = grind (arith, nat_tests)
 
-is_line_feed : (b : ℕ) → IsNewline b (class_of b)
+class_is : (b : ℕ) → IsNewline b (class_of b)
 unfolding class_of
-is_line_feed b =
+class_is b =
     newline_if b _ (λ h. record { same = blank_other b h }) (λ _.
     newline_if b _ (λ h. record { same = h }) (λ other.
     newline_if b (eqb b 13) {x = CarriageReturn} (λ _. record { same = other }) (λ _.
@@ -99,20 +99,20 @@ is_line_feed b =
     newline_if b (ltb 193 b && ltb b 245) {x = Lead} {y = Other} (λ _. record { same = other }) (λ _. record { same = other }))))))))))
 
 pub is_line_feed : (b : ℕ) (k : ByteClass) → class_of b ≡ k → eqb b 10 ≡ line_feed k
-is_line_feed b k e = (is_line_feed b).same ∙ ap line_feed e
+is_line_feed b k e = (class_is b).same ∙ ap line_feed e
 
 pub not_newline : (b c : ℕ) → eqb c 10 ≡ false → eqb b c ≡ true → eqb b 10 ≡ false
 not_newline b c h e = subst (λ (x : ℕ). eqb x 10 ≡ false) (sym (eq_from b c e)) h
 
 pub blank_no_newline : (b : ℕ) → is_blank b ≡ true → eqb b 10 ≡ false
-blank_no_newline b h = (is_line_feed b).same ∙ go (class_of b) h
+blank_no_newline b h = (class_is b).same ∙ go (class_of b) h
   where
     go : (k : ByteClass) → Rattle.justfile_model.specs.Lexing.Bytes.blank k ≡ true → line_feed k ≡ false
     go LineFeed h = cc
     go _ h = refl
 
 pub word_no_newline : (b : ℕ) → is_name_byte b ≡ true → eqb b 10 ≡ false
-word_no_newline b h = (is_line_feed b).same ∙ go (class_of b) h
+word_no_newline b h = (class_is b).same ∙ go (class_of b) h
   where
     go : (k : ByteClass) → in_word k ≡ true → line_feed k ≡ false
     go LineFeed h = cc
