@@ -8,7 +8,7 @@ pub mod Negations
 pub mod NextKinds
 pub mod Operators
 pub mod Parts
-pub mod SimpleValues
+pub mod ValueForms
 pub mod Lengths
 pub mod Rest
 pub mod Rows

@@ -15,6 +15,7 @@ use Rattle.justfile_model.specs.Readers.ExpressionReader.{by_text}
 use Rattle.justfile_model.specs.Readers.ReaderState.{◌>>=◌, choose}
 use Rattle.justfile_parse_expression.specs.TableReader as r
 use Rattle.justfile_parse_expression.specs.TableReader.{At, Read, ReadExpr, State, accept, accept_keyword, assert, braced, condition, enclosed, expect, format_parts, format_string, group, leaves, list, literal_string, name, note_first, part, part_by, read, string_leaf, whole_format_string}
+use Rattle.justfile_parse_expression.specs.ValueForms.{asserted, grouped}
 use Rattle.justfile_expression.specs.LeafTree.{Leaf}
 use Rattle.justfile_model.specs.declared.level.Level.TheVariants.{Expression}
 use Rattle.justfile_parse_expression.specs.Significant.{TableEntry}
@@ -32,7 +33,7 @@ note_is e (t ∷ ts) s = refl
 abbrev pub then_made : {A B : Type 0} → (A → B) → A × State → Read B
 then_made make x = Ok (make x.0, x.1)
 
-abbrev Taken : Type 0
+abbrev pub Taken : Type 0
 Taken = Option (TableEntry × State)
 
 -- ---- an expression and the delimiter after it
@@ -64,17 +65,11 @@ pub braced_is : (s : State) → braced s ≡ (expect kinds.BraceL s >>= λ o. en
 unfolding expressions.braced_rule enclosed
 braced_is s = refl
 
-pub group_is : (s : State) → group s ≡ choose {X = ReadExpr} (accept kinds.ParenL s) (list s) (λ o. enclosed kinds.ParenR o.1 >>= then_made t.Group)
+pub group_is : (s : State) → group s ≡ choose {X = ReadExpr} (accept kinds.ParenL s) (list s) grouped
 unfolding expressions.group_rule enclosed
 group_is s = choose_alike (accept kinds.ParenL s) _ _ _ _ refl (λ o. closed_by kinds.ParenR t.Group (read (At Expression false o.1)))
 
-pub assert_is : (s : State) → assert s
-    ≡ choose {X = ReadExpr} (accept_keyword (codes "assert") s) (name s) (λ w.
-    expect kinds.ParenL w.1 >>= λ o.
-    condition o.1 >>= λ c.
-    choose {X = ReadExpr} (accept kinds.Comma c.1)
-    (expect kinds.ParenR c.1 >>= then_made (λ _. t.Assert w.0.0 c.0))
-    (λ comma. enclosed kinds.ParenR comma.1 >>= then_made (t.AssertMessage w.0.0 c.0)))
+pub assert_is : (s : State) → assert s ≡ choose {X = ReadExpr} (accept_keyword (codes "assert") s) (name s) asserted
 unfolding expressions.assert_rule enclosed leaves
 assert_is s =
     choose_alike (accept_keyword (codes "assert") s) _ _ _ _ refl (λ w.

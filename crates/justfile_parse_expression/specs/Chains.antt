@@ -46,7 +46,8 @@ abbrev pub row_tree : List links.Link → (last : Tree) → Tree
 row_tree [] last = last
 row_tree (l ∷ ls) last = link_of l (row_tree ls last)
 
--- closes the expressions that a row opens: at the loosest level, each right side is an expression of its own
+-- closes the expressions that the links of a row are part of: at the loosest level, each right side is an expression of its own.
+-- Before them `join_row` closes two more: the last expression, and that of the last link, which isn't in the row.
 abbrev pub row_closed : Level → List links.Link → State → State
 row_closed k [] s = s
 row_closed k (l ∷ ls) s = closed k (row_closed k ls s)

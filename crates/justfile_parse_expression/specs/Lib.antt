@@ -5,7 +5,7 @@ pub mod FormatStrings
 pub mod Literal
 pub mod MethodResults
 pub mod ParsedResults
-pub mod SimpleValues
+pub mod ValueForms
 pub mod Significant
 pub mod TableReader
 pub mod View

@@ -1,5 +1,5 @@
 //! Parsing of literals outside of format strings.
-ghost use Rattle.std.specs.Prelude.{◌≡◌, IsTrue, IfOk, Ok, false, option_map};
+ghost use Rattle.std.specs.Prelude.{◌≡◌, ◌<◌, IsTrue, IfOk, OnOk, Ok, false};
 ghost use Rattle.justfile_token.specs.StringKind.{kind_of};
 ghost use Rattle.justfile_token.specs.Token.{lexeme_of};
 ghost use Rattle.justfile_vocabulary.specs.declared.token_kind.TokenKind.TheVariants as kinds;
@@ -10,6 +10,7 @@ ghost use Rattle.justfile_parse_expression.specs.Literal.{IsOf};
 ghost use Rattle.justfile_parse_expression.specs.TableReader as reader;
 ghost use Rattle.justfile_parse_expression.specs.MethodResults.{IsErrorOfLiteral};
 ghost use Rattle.justfile_parse_expression.specs.ParsedResults.{Parses};
+ghost use Rattle.justfile_parse_expression.specs.ValueForms as values;
 ghost use Rattle.justfile_expression.specs.LeafTree.{Literal, literal_of, leaf_tree_of};
 
 use crate::expression_error::{ExpressionError, LiteralError};
@@ -23,29 +24,28 @@ use justfile_vocabulary::{FormatStringPart, Keyword, TokenKind};
 use std::alloc::Global;
 
 impl<'run, 'src, X: Expander> TokenCursor<'run, 'src, X> {
-    ghost use Rattle.justfile_parse_expression.specs.View.{Moves};
+    ghost use Rattle.justfile_parse_expression.specs.View.{tokens_left};
 
-    /// Parses a literal, if one comes next.
-    #[tactic(auto, unfolding(justfile_model::specs::Readers::ExpressionReader::literal))]
-    pub(crate) fn parse_literal(
-        &mut self,
-    ) -> Result<Option<Box<Expression<'src>>>, ExpressionError<'src>>
-        ensures reads { Parses X.answer (option_map (λ e. leaf_tree_of e.value)) result
-            self.old self.new reader.literal }
-        ensures moves { IfOk result (λ found. Moves found self.old self.new) }
+    /// Parses a literal.
+    #[tactic(auto, unfolding(crate::specs::ValueForms::literal))]
+    #[inline(never)]
+    pub(crate) fn parse_literal(&mut self) -> Result<Box<Expression<'src>>, ExpressionError<'src>>
+        ensures reads { Parses X.answer (λ e. leaf_tree_of e.value) result self.old self.new
+            values.literal }
+        ensures progress { OnOk result (tokens_left self.new < tokens_left self.old) }
     {
         if let Some(entry) = self.accept_unrecorded(TokenKind::StringToken) {
-            return Ok(Some(self.cook_string(entry, false)?));
+            return self.cook_string(entry, false);
         }
         if let Some(entry) = self.accept_marked(Keyword::X, TokenKind::StringToken) {
-            return Ok(Some(self.cook_string(entry, true)?));
+            return self.cook_string(entry, true);
         }
         if let Some(entry) = self.accept_marked(Keyword::F, TokenKind::StringToken) {
-            return Ok(Some(self.cook_single(entry)?));
+            return self.cook_single(entry);
         }
         match self.accept_unrecorded(TokenKind::Backtick) {
-            Some(entry) => Ok(Some(self.cook_backtick(entry)?)),
-            None => Ok(None),
+            Some(entry) => self.cook_backtick(entry),
+            None => self.refuse_value(),
         }
     }
 

@@ -8,7 +8,6 @@ ghost use Rattle.justfile_model.specs.Grammars.Expressions.{front};
 ghost use Rattle.justfile_parse_expression.specs.Conditions.{conditions_of};
 ghost use Rattle.justfile_parse_expression.specs.FormatStrings.{AreEnded, IsTable, prop_ended};
 ghost use Rattle.justfile_parse_expression.specs.Literal.{IsOf, is_sound};
-ghost use Rattle.justfile_parse_expression.specs.SimpleValues.{begins_simple_value, is_markable};
 ghost use Rattle.justfile_model.specs.Readers.ReaderState.{at, is_word, marks};
 ghost use Rattle.justfile_model.specs.Meanings.Versions.{version_numbers};
 ghost use Rattle.justfile_parse_expression.specs.TableReader as reader;
@@ -166,22 +165,6 @@ impl<'run, 'src, X: Expander> TokenCursor<'run, 'src, X> {
         }
     }
 
-    /// Whether the next token begins a value that is neither a literal nor an assertion, and has no
-    /// `!` before it. It can be `false` for such a value.
-    #[tactic(auto, using(crate::proofs::SimpleValues::simple_value_at), unfolding(crate::specs::View::state_of))]
-    #[inline(always)]
-    pub(crate) fn is_simple_value(&self) -> bool
-        ensures { IsTrue result
-            → reader.value (state_of X.answer self.now) ≡ reader.name (state_of X.answer self.now) }
-    {
-        if self.tokens.len() - self.next < 2 {
-            return false;
-        }
-        let first = &self.tokens[self.next];
-        let second = &self.tokens[self.next + 1];
-        begins_simple_value(first, second.0.kind)
-    }
-
     /// Takes the next token if it is this mark, together with the string of this kind that is glued
     /// to it, and returns the string. Tests first whether the second token is a string, because it
     /// rarely is.
@@ -246,9 +229,23 @@ impl<'run, 'src, X: Expander> TokenCursor<'run, 'src, X> {
         }
     }
 
+    /// Whether the next token is this mark, with a string of this kind glued to it. Tests first
+    /// whether the second token is a string, because it rarely is.
+    #[inline(always)]
+    pub fn peek_marked(&self, mark: Keyword, kind: TokenKind) -> bool
+        ensures { result
+            ≡ is_some (reader.accept_marked (keyword_text mark) kind (state_of X.answer self.now)) }
+    {
+        if self.is_second(kind) {
+            return self.marks_next(mark, kind);
+        }
+        false
+    }
+
     /// Whether the next token is this mark, with a string of this kind glued to it.
     #[tactic(auto, using(crate::proofs::Rest::marked_is, crate::proofs::Rest::marked_none), unfolding(crate::specs::View::state_of, crate::specs::View::tokens_left))]
-    pub fn peek_marked(&self, mark: Keyword, kind: TokenKind) -> bool
+    #[inline(never)]
+    fn marks_next(&self, mark: Keyword, kind: TokenKind) -> bool
         ensures { result
             ≡ is_some (reader.accept_marked (keyword_text mark) kind (state_of X.answer self.now)) }
     {
@@ -415,20 +412,6 @@ pub(crate) fn is_marked(
     entry.0.kind == kind && entry.1 && is_word(mark, word)
 }
 
-/// Whether a token with one of this kind after it begins a value that is neither a literal nor an
-/// assertion, and has no `!` before it.
-#[tactic(auto, unfolding(crate::specs::SimpleValues::begins_simple_value, justfile_model::specs::Readers::ReaderState::same_kind))]
-#[inline(always)]
-fn begins_simple_value(entry: &SignificantToken<'_>, second: TokenKind) -> bool
-    ensures { result ≡ begins_simple_value entry.now second }
-{
-    let kind = entry.0.kind;
-    if kind == TokenKind::Identifier {
-        return !is_markable(second) && !is_word(entry, Keyword::Assert.lexeme());
-    }
-    kind == TokenKind::ParenL || kind == TokenKind::BracketL
-}
-
 /// Whether the token is this word. Compares the lengths first, because most names differ in length
 /// from the word.
 #[tactic(auto, using(crate::proofs::Lengths::unequal), unfolding(justfile_model::specs::Readers::ReaderState::is_word, justfile_model::specs::Readers::ReaderState::same_kind))]
@@ -442,13 +425,4 @@ pub fn is_word(entry: &SignificantToken<'_>, word: &str) -> bool
     }
     let lexeme = entry.0.lexeme();
     lexeme.len() == word.len() && lexeme == word
-}
-
-/// Whether a token of this kind may have a mark before it.
-#[tactic(auto, unfolding(justfile_model::specs::Readers::ReaderState::same_kind))]
-#[inline(always)]
-fn is_markable(kind: TokenKind) -> bool
-    ensures { result ≡ is_markable kind }
-{
-    kind == TokenKind::StringToken || kind == TokenKind::FormatStringStart
 }

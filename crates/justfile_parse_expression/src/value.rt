@@ -1,6 +1,6 @@
 //! How values are parsed: what can be on either side of an operator. Literals stand in a file of
 //! their own.
-ghost use Rattle.std.specs.Prelude.{◌≡◌, ◌<◌, ◌≤◌, OnOk, None};
+ghost use Rattle.std.specs.Prelude.{◌≡◌, ◌<◌, ◌≤◌, Err, OnOk, None};
 ghost use Rattle.justfile_token.specs.StringKind.{kind_of};
 ghost use Rattle.justfile_token.specs.Token.{lexeme_of};
 ghost use Rattle.justfile_vocabulary.specs.declared.token_kind.TokenKind.TheVariants as kinds;
@@ -12,6 +12,9 @@ ghost use Rattle.justfile_parse_expression.specs.Chains.{negated};
 ghost use Rattle.justfile_parse_expression.specs.TableReader as reader;
 ghost use Rattle.justfile_parse_expression.specs.MethodResults.{UnlessMemory};
 ghost use Rattle.justfile_parse_expression.specs.ParsedResults.{Parses};
+ghost use Rattle.justfile_parse_expression.specs.ValueForms as values;
+ghost use Rattle.justfile_parse_expression.specs.declared.expression_error.ExpressionError.TheVariants as causes;
+ghost use Rattle.justfile_parse_expression.specs.declared.expression_error.SyntaxError.TheVariants.{Unexpected};
 ghost use Rattle.justfile_expression.specs.LeafTree.{Literal, Named, format_string_tree, literal_of, leaf_tree_of, trees_of};
 
 use crate::expression_error::{ExpressionError, SyntaxError};
@@ -24,43 +27,44 @@ use justfile_model::Level;
 use justfile_token::{Expander, Name, StringLiteral, Token};
 use justfile_vocabulary::{FormatStringPart, Keyword, TokenKind};
 
+/// The forms of a value without `!`.
+#[derive(Clone, Copy)]
+pub(crate) enum ValueForm {
+    /// A string, a command in backticks, or a format string without interpolations.
+    Literal,
+    /// A format string with interpolations.
+    FormatString,
+    Assertion,
+    /// A variable or a call.
+    Name,
+    /// An expression in parentheses.
+    Group,
+    List,
+    /// No value comes next.
+    Missing,
+}
+
 impl<'run, 'src, X: Expander> TokenCursor<'run, 'src, X> {
     ghost use Rattle.justfile_parse_expression.specs.View.{tokens_left, state_of};
 
     /// Parses what can be on either side of an operator: a value after `!`, or a value without
-    /// operators outside of delimiters. Looks at two tokens first: for most values they rule out `!`,
-    /// a literal and an assertion.
+    /// operators outside of delimiters.
     ///
     /// # Errors
     ///
     /// The tokens are refused, a literal has no text, or memory runs out.
     #[cycle(expression)]
+    #[tactic(auto, using(crate::proofs::Negations::bare_is))]
     #[inline(never)]
     pub fn parse_value(&mut self) -> Result<Box<Expression<'src>>, ExpressionError<'src>>
         ensures reads { Parses X.answer (λ e. leaf_tree_of e.value) result self.old self.new
             reader.value }
         ensures progress { OnOk result (tokens_left self.new < tokens_left self.old) }
     {
-        if self.is_simple_value() {
-            return self.parse_name();
+        match self.probe_if(TokenKind::Bang) {
+            Some(_bang) => self.parse_negation(),
+            None => self.parse_bare(),
         }
-        self.parse_any_value()
-    }
-
-    /// Parses any value. Each of the methods below takes one form of value, and leaves the others to
-    /// the next method.
-    #[cycle(expression)]
-    #[tactic(auto, using(crate::proofs::Negations::bare_is))]
-    #[inline(never)]
-    fn parse_any_value(&mut self) -> Result<Box<Expression<'src>>, ExpressionError<'src>>
-        ensures reads { Parses X.answer (λ e. leaf_tree_of e.value) result self.old self.new
-            reader.value }
-        ensures progress { OnOk result (tokens_left self.new < tokens_left self.old) }
-    {
-        let Some(_bang) = self.probe_if(TokenKind::Bang) else {
-            return self.parse_bare();
-        };
-        self.parse_negation()
     }
 
     /// Parses a value after any number of `!`.
@@ -112,31 +116,84 @@ impl<'run, 'src, X: Expander> TokenCursor<'run, 'src, X> {
 
     /// Parses a value without `!` before it.
     #[cycle(expression)]
-    #[tactic(auto, unfolding(crate::specs::Chains::bare))]
     #[inline(always)]
     fn parse_bare(&mut self) -> Result<Box<Expression<'src>>, ExpressionError<'src>>
         ensures reads { Parses X.answer (λ e. leaf_tree_of e.value) result self.old self.new
             chains.bare }
         ensures progress { OnOk result (tokens_left self.new < tokens_left self.old) }
     {
-        match self.parse_literal()? {
-            Some(literal) => Ok(literal),
-            None => self.parse_format(),
+        match self.value_form() {
+            ValueForm::Literal => self.parse_literal(),
+            ValueForm::FormatString => self.parse_format(),
+            ValueForm::Assertion => self.parse_assert(),
+            ValueForm::Name => self.parse_name(),
+            ValueForm::Group => self.parse_group(),
+            ValueForm::List => self.parse_list(),
+            ValueForm::Missing => self.refuse_value(),
         }
     }
 
-    /// Parses a format string with interpolations, or another value.
+    /// Returns the form of the value that comes next, by its first two tokens. Takes none.
+    #[tactic(auto, using(crate::proofs::ValueForms::at_string, crate::proofs::ValueForms::at_command, crate::proofs::ValueForms::at_group, crate::proofs::ValueForms::at_list, crate::proofs::ValueForms::at_other, crate::proofs::ValueForms::at_word, crate::proofs::ValueForms::at_end))]
+    #[inline(always)]
+    fn value_form(&self) -> ValueForm
+        ensures { chains.bare (state_of X.answer self.now)
+            ≡ values.read_form result (state_of X.answer self.now) }
+    {
+        let Some(entry) = self.peek() else {
+            return ValueForm::Missing;
+        };
+        match entry.0.kind {
+            TokenKind::StringToken | TokenKind::Backtick => ValueForm::Literal,
+            TokenKind::Identifier => self.form_of_word(),
+            TokenKind::ParenL => ValueForm::Group,
+            TokenKind::BracketL => ValueForm::List,
+            _ => ValueForm::Missing,
+        }
+    }
+
+    /// Returns the form of the value that begins with the next token, a word: most are names.
+    #[tactic(auto, using(crate::proofs::ValueForms::at_expanded, crate::proofs::ValueForms::at_single, crate::proofs::ValueForms::at_format_string, crate::proofs::ValueForms::at_assertion, crate::proofs::ValueForms::at_name))]
+    #[inline(always)]
+    fn form_of_word(&self) -> ValueForm
+        requires { values.BeginsWord (state_of X.answer self.now) }
+        ensures { chains.bare (state_of X.answer self.now)
+            ≡ values.read_form result (state_of X.answer self.now) }
+    {
+        if self.peek_marked(Keyword::X, TokenKind::StringToken)
+            || self.peek_marked(Keyword::F, TokenKind::StringToken)
+        {
+            ValueForm::Literal
+        } else if self.peek_marked(Keyword::F, TokenKind::FormatStringStart) {
+            ValueForm::FormatString
+        } else if self.peek_keyword(Keyword::Assert) {
+            ValueForm::Assertion
+        } else {
+            ValueForm::Name
+        }
+    }
+
+    /// Refuses the next token, which begins no value.
+    #[inline(never)]
+    pub(crate) fn refuse_value(&self) -> Result<Box<Expression<'src>>, ExpressionError<'src>>
+        ensures { result ≡ Err (causes.Refused Unexpected) }
+    {
+        self.expected_tokens.add_value();
+        Err(ExpressionError::Refused(SyntaxError::Unexpected))
+    }
+
+    /// Parses a format string with interpolations.
     #[cycle(expression)]
-    #[tactic(auto, unfolding(justfile_model::specs::Readers::ExpressionReader::format_rule))]
+    #[tactic(auto, unfolding(crate::specs::ValueForms::format_string))]
     #[inline(never)]
     fn parse_format(&mut self) -> Result<Box<Expression<'src>>, ExpressionError<'src>>
         ensures reads { Parses X.answer (λ e. leaf_tree_of e.value) result self.old self.new
-            reader.format }
+            values.format_string }
         ensures progress { OnOk result (tokens_left self.new < tokens_left self.old) }
     {
         match self.accept_marked(Keyword::F, TokenKind::FormatStringStart) {
             Some(start) => self.parse_format_string(start),
-            None => self.parse_assert(),
+            None => self.refuse_value(),
         }
     }
 
@@ -223,16 +280,17 @@ impl<'run, 'src, X: Expander> TokenCursor<'run, 'src, X> {
         Ok((literal, true))
     }
 
-    /// Parses an assertion, or another value.
+    /// Parses an assertion.
     #[cycle(expression)]
-    #[tactic(auto, using(crate::proofs::Rules::assert_is))]
+    #[tactic(auto, unfolding(crate::specs::ValueForms::assertion))]
+    #[inline(never)]
     fn parse_assert(&mut self) -> Result<Box<Expression<'src>>, ExpressionError<'src>>
         ensures reads { Parses X.answer (λ e. leaf_tree_of e.value) result self.old self.new
-            reader.assert }
+            values.assertion }
         ensures progress { OnOk result (tokens_left self.new < tokens_left self.old) }
     {
         let Some(word) = self.accept_keyword(Keyword::Assert) else {
-            return self.parse_name();
+            return self.refuse_value();
         };
         let name = Name::from_identifier(word.0);
         self.expect(TokenKind::ParenL)?;
@@ -253,17 +311,17 @@ impl<'run, 'src, X: Expander> TokenCursor<'run, 'src, X> {
         })
     }
 
-    /// Parses a call or a variable, or another value.
+    /// Parses a call or a variable.
     #[cycle(expression)]
-    #[tactic(auto, unfolding(justfile_model::specs::Readers::ExpressionReader::name_rule, crate::specs::TableReader::call, crate::specs::TableReader::leaves))]
+    #[tactic(auto, unfolding(crate::specs::ValueForms::name))]
     #[inline(always)]
     fn parse_name(&mut self) -> Result<Box<Expression<'src>>, ExpressionError<'src>>
         ensures reads { Parses X.answer (λ e. leaf_tree_of e.value) result self.old self.new
-            reader.name }
+            values.name }
         ensures progress { OnOk result (tokens_left self.new < tokens_left self.old) }
     {
         let Some(entry) = self.accept_unrecorded(TokenKind::Identifier) else {
-            return self.parse_group();
+            return self.refuse_value();
         };
         let Some(_opening) = self.accept(TokenKind::ParenL) else {
             return self.box_variable(entry);
@@ -306,17 +364,17 @@ impl<'run, 'src, X: Expander> TokenCursor<'run, 'src, X> {
         self.box_expression(make_call(name, arguments))
     }
 
-    /// Parses an expression in parentheses, or a list.
+    /// Parses an expression in parentheses.
     #[cycle(expression)]
-    #[tactic(auto, using(crate::proofs::Rules::group_is))]
+    #[tactic(auto, unfolding(crate::specs::ValueForms::group))]
     #[inline(never)]
     fn parse_group(&mut self) -> Result<Box<Expression<'src>>, ExpressionError<'src>>
         ensures reads { Parses X.answer (λ e. leaf_tree_of e.value) result self.old self.new
-            reader.group }
+            values.group }
         ensures progress { OnOk result (tokens_left self.new < tokens_left self.old) }
     {
         let Some(_opening) = self.accept_unrecorded(TokenKind::ParenL) else {
-            return self.parse_list();
+            return self.refuse_value();
         };
         let contents = self.parse_enclosed(TokenKind::ParenR)?;
         self.box_expression(Expression::Group { contents })
@@ -325,14 +383,14 @@ impl<'run, 'src, X: Expander> TokenCursor<'run, 'src, X> {
     /// Parses a list.
     #[cycle(expression)]
     #[tactic(auto, unfolding(justfile_model::specs::Readers::ExpressionReader::list_rule, crate::specs::TableReader::leaves))]
+    #[inline(never)]
     fn parse_list(&mut self) -> Result<Box<Expression<'src>>, ExpressionError<'src>>
         ensures reads { Parses X.answer (λ e. leaf_tree_of e.value) result self.old self.new
             reader.list }
         ensures progress { OnOk result (tokens_left self.new < tokens_left self.old) }
     {
         let Some(opener) = self.accept_unrecorded(TokenKind::BracketL) else {
-            self.expected_tokens.add_value();
-            return Err(ExpressionError::Refused(SyntaxError::Unexpected));
+            return self.refuse_value();
         };
         self.note(ListFeature::ListLiteral, opener.0)?;
         let elements = self.parse_sequence(TokenKind::BracketR)?;

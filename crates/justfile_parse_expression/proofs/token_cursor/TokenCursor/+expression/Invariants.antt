@@ -36,9 +36,6 @@ decreases-parse_operation g l = 32 * tokens_left l.self.now
 abbrev pub decreases-parse_value : goal.decreases-parse_value
 decreases-parse_value g l = 32 * tokens_left l.self.now + 11
 
-abbrev pub decreases-parse_any_value : goal.decreases-parse_any_value
-decreases-parse_any_value g l = 32 * tokens_left l.self.now + 10
-
 abbrev pub decreases-parse_negation : goal.decreases-parse_negation
 decreases-parse_negation g l = 32 * tokens_left l.self.now + 9
 
