@@ -1,6 +1,6 @@
 -- Properties of the arguments of a new attribute.
 use Rattle.std.specs.Global.{Global}
-use Rattle.std.specs.Prelude.{◌≡◌, ◌&&◌, ℕ, suc, Bool, true, false, not, List, map, Option, Some, None, Ok, is_some, String}
+use Rattle.std.specs.Prelude.{◌≡◌, ◌&&◌, ℕ, zero, suc, Bool, true, false, not, List, map, Option, Some, None, Ok, is_some, String}
 use Rattle.justfile_vocabulary.specs.AttributeKind.{takes_keys}
 use Rattle.justfile_vocabulary.specs.declared.attribute_kind.AttributeKind.{AttributeKind}
 use Rattle.justfile_vocabulary.specs.declared.attribute_kind.AttributeKind.TheVariants as kinds
@@ -29,7 +29,7 @@ values_of = map (λ (p : Placed Leaf Token). p.value)
 
 abbrev pub is_zero : Option ℕ → Bool
 is_zero None = false
-is_zero (Some 0) = true
+is_zero (Some zero) = true
 is_zero (Some (suc n)) = false
 
 -- an attribute of this kind takes no arguments at all

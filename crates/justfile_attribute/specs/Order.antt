@@ -109,7 +109,24 @@ case_keys (attributes.Metadata texts) = next (row (keys_of literal_key texts.ite
 case_keys (attributes.Script interpreter) = next (option_key interpreter_key interpreter) end
 case_keys (attributes.Timestamp format) = next (option_key boxed_key format) end
 case_keys (attributes.WorkingDirectory path) = next (boxed_key path) end
-case_keys _ = end
+case_keys attributes.Android = end
+case_keys attributes.Default = end
+case_keys attributes.Dragonfly = end
+case_keys attributes.ExitMessage = end
+case_keys attributes.Freebsd = end
+case_keys attributes.Linux = end
+case_keys attributes.Macos = end
+case_keys attributes.Netbsd = end
+case_keys attributes.NoCd = end
+case_keys attributes.NoExitMessage = end
+case_keys attributes.NoQuiet = end
+case_keys attributes.Openbsd = end
+case_keys attributes.Parallel = end
+case_keys attributes.PositionalArguments = end
+case_keys attributes.Private = end
+case_keys attributes.Shell = end
+case_keys attributes.Unix = end
+case_keys attributes.Windows = end
 
 -- the key of an attribute: its kind, and then its fields
 abbrev pub content_key : Attribute → Key ContentLeaf

@@ -18,6 +18,7 @@ mod resolve;
 pub use crate::attribute::Attribute;
 pub use crate::expressions::push_attribute;
 pub use crate::interpreter::Interpreter;
+pub use crate::new::{plain_attribute, takes_no_arguments};
 pub use crate::order::attribute_content_cmp;
 pub use crate::print::{write_attribute, write_literal};
 pub use justfile_vocabulary::{AttributeKind, Signal};

@@ -202,12 +202,39 @@ fn of_plain_literals<'src>(
         AttributeKind::Group => Ok(Attribute::Group(only(literals))),
         AttributeKind::Metadata => Ok(Attribute::Metadata(literals)),
         AttributeKind::Script => Ok(script(literals)),
-        _ => Ok(plain(kind)),
+        _ => Ok(plain_attribute(kind)),
     }
 }
 
-/// Returns an attribute that takes no arguments.
-fn plain<'src>(kind: AttributeKind) -> Attribute<'src>
+/// Whether attributes of this kind take no arguments at all.
+pub fn takes_no_arguments(kind: AttributeKind) -> bool
+    ensures { result ≡ takes_no_arguments kind }
+{
+    matches!(
+        kind,
+        AttributeKind::Android
+            | AttributeKind::Default
+            | AttributeKind::Dragonfly
+            | AttributeKind::ExitMessage
+            | AttributeKind::Freebsd
+            | AttributeKind::Linux
+            | AttributeKind::Macos
+            | AttributeKind::Netbsd
+            | AttributeKind::NoCd
+            | AttributeKind::NoExitMessage
+            | AttributeKind::NoQuiet
+            | AttributeKind::Openbsd
+            | AttributeKind::Parallel
+            | AttributeKind::PositionalArguments
+            | AttributeKind::Private
+            | AttributeKind::Shell
+            | AttributeKind::Unix
+            | AttributeKind::Windows
+    )
+}
+
+/// Returns the attribute of a kind that takes no arguments.
+pub fn plain_attribute<'src>(kind: AttributeKind) -> Attribute<'src>
     requires { IsTrue (takes_no_arguments kind) }
     ensures made { leaf_attribute_of result ≡ tree.Plain kind }
     ensures fields { HasDerivedAttributeFields result }
@@ -237,6 +264,7 @@ fn plain<'src>(kind: AttributeKind) -> Attribute<'src>
 
 /// Returns a `continue` attribute.
 #[tactic(auto, using(justfile_attribute_rules::proofs::Refused::refused_first))]
+#[inline(never)]
 fn continue_attribute<'src>(
     alloc: Global,
     name: Name<'src>,
@@ -256,6 +284,7 @@ fn continue_attribute<'src>(
 
 /// Returns a `script` attribute with a program and its arguments, or without arguments.
 #[tactic(auto, using(crate::proofs::Counted::script_is))]
+#[inline(never)]
 fn script(mut literals: Vec<StringLiteral<'_>>) -> Attribute<'_>
     ensures made { leaf_attribute_of result
         ≡ texts_of views_leaves kinds.Script (quoted_leaves literals.entry.items) }
@@ -273,6 +302,7 @@ fn script(mut literals: Vec<StringLiteral<'_>>) -> Attribute<'_>
 
 /// Returns a `cache` attribute.
 #[tactic(auto, using(crate::proofs::Cached::cache_made, crate::proofs::Cached::refused_known, crate::proofs::Cached::refused_cache))]
+#[inline(never)]
 fn cache<'src>(
     alloc: Global,
     name: Name<'src>,
@@ -332,7 +362,7 @@ fn read_value<'src>(
     requires { AreKeyed keys.old }
     ensures read { Makes (λ _. option_map (λ b. leaf_tree_of b.value) value.new) result
         (new.required_at views_leaves name.entry.token word.now (key_arguments keys.old)) }
-    ensures left { IsTaken word.now keys.old keys.new }
+    ensures removed { IsTaken word.now keys.old keys.new }
 {
     match take_value(name, keys, word) {
         Ok(given) => {
@@ -358,6 +388,7 @@ fn of_values(values: Box<CacheValues<'_>>) -> Attribute<'_>
 
 /// Returns an `arg` attribute.
 #[tactic(auto, using(justfile_attribute_rules::proofs::Refused::refused_first))]
+#[inline(never)]
 fn arg<'src>(
     alloc: Global,
     name: Name<'src>,

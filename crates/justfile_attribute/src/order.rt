@@ -76,8 +76,8 @@ fn compare_fields<'src>(attribute: &Attribute<'src>, other: &Attribute<'src>) ->
 
 /// Compares the fields of two `arg` attributes.
 fn compare_arg<'src>(attribute: &Attribute<'src>, other: &Attribute<'src>) -> Ordering
-    requires one { kinds.Arg ≡ case_kind attribute.now }
-    requires another { kinds.Arg ≡ case_kind other.now }
+    requires is_arg { kinds.Arg ≡ case_kind attribute.now }
+    requires other_is_arg { kinds.Arg ≡ case_kind other.now }
     ensures { result ≡ keys_cmp content_cmp (case_keys attribute.now) (case_keys other.now) }
 {
     match attribute {

@@ -1,5 +1,5 @@
 -- Pairs in the order of their content.
-use Rattle.std.proofs.Common.{◌≡◌, ◌∙◌, List, map, refl, sym, ap}
+use Rattle.std.proofs.Common.{◌≡◌, ◌∙◌, ◌<◌, List, [], ◌∷◌, length, map, refl, sym, ap, arith}
 use Rattle.std.specs.Cmp.{IsTotalOrder, on_total}
 use Rattle.std.specs.List.{All}
 use Rattle.std.specs.Prelude.{OnOk, Result, Ok, Err}
@@ -24,6 +24,15 @@ pair_total V = on_total (λ (p : Attribute × V). content_key p.0) (key_total co
 pub sorted_in_order : (xs ys : List Pair) → ys ≡ in_order pair_cmp xs → AreInOrder attribute_content_cmp ys
 unfolding AreInOrder
 sorted_in_order xs ys e = sorted_from_order (pair_total Written) xs ys e
+
+-- fewer than two pairs are in order
+pub few_in_order : (xs : List Pair) → length xs < 2 → xs ≡ in_order pair_cmp xs
+few_in_order [] few = refl
+few_in_order (x ∷ []) few = refl
+few_in_order (x ∷ y ∷ xs) few = absurd (omega (arith, few))
+
+pub few_sorted : (xs : List Pair) → length xs < 2 → AreInOrder attribute_content_cmp xs
+few_sorted xs few = sorted_in_order xs xs (few_in_order xs few)
 
 -- sorting pairs that are in order changes nothing
 pub order_stays : (xs : List Pair) → AreInOrder attribute_content_cmp xs → in_order pair_cmp xs ≡ xs

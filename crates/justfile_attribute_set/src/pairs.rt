@@ -49,13 +49,18 @@ pub(crate) fn find_key<'pairs, K: PartialEq, V>(
     pairs.iter().find(|pair| *key == pair.0)
 }
 
-/// Sorts pairs by the content of their attributes. The sort is stable.
+/// Sorts pairs by the content of their attributes. The sort is stable. Most constructs have fewer
+/// than two attributes, so nothing to sort.
+#[tactic(auto, using(crate::proofs::Sorts::few_sorted))]
 pub(crate) fn sort_pairs<'src>(
     pairs: &mut Vec<(Attribute<'src>, Written<'src>)>,
 ) -> Result<(), AllocError>
     ensures ordered { OnOk result (pairs.new.items ≡ in_order pair_cmp pairs.old.items) }
     ensures sorted { OnOk result (AreInOrder attribute_content_cmp pairs.new.items) }
 {
+    if pairs.len() < 2 {
+        return Ok(());
+    }
     pairs.sort_by(|pair, other| attribute_content_cmp(&pair.0, &other.0))
 }
 

@@ -28,7 +28,7 @@ use justfile_vocabulary::interpolation::INTERPOLATION_END;
 /// Returns why there is no token at the start of the rest.
 pub(crate) fn explain<'src>(mode: &Mode<'src>, rest: &'src str) -> ScanError<'src>
     requires closed { length rest.now ≡ 0 → (mode_of mode.now).interpolation ≡ None }
-    requires none { result_ok (next (mode_of mode.now) rest.now) ≡ None }
+    requires no_token { result_ok (next (mode_of mode.now) rest.now) ≡ None }
     ensures { next (mode_of mode.now) rest.now ≡ Err (lexical_error_of result) }
 {
     let bytes = rest.as_bytes();
@@ -43,7 +43,7 @@ pub(crate) fn explain<'src>(mode: &Mode<'src>, rest: &'src str) -> ScanError<'sr
 /// Returns why blanks at the start of a line, which aren't a level, are no indent.
 fn explain_indent<'src>(mode: &Mode<'src>, found: &'src str) -> ScanError<'src>
     requires blanks { blank_len found.now ≡ length found.now }
-    requires none { result_ok (indent (mode_of mode.now) found.now) ≡ None }
+    requires no_token { result_ok (indent (mode_of mode.now) found.now) ≡ None }
     ensures { indent (mode_of mode.now) found.now ≡ Err (lexical_error_of result) }
 {
     let whitespace = take_tested_blanks(mode, found);
@@ -66,7 +66,7 @@ fn explain_indent<'src>(mode: &Mode<'src>, found: &'src str) -> ScanError<'src>
 fn explain_by_class<'src>(mode: &Mode<'src>, class: ByteClass, rest: &'src str) -> ScanError<'src>
     requires some { 0 < length rest.now }
     requires class { class ≡ class_of (slice_index rest.now 0) }
-    requires none { result_ok (token_by_class (mode_of mode.now) class rest.now) ≡ None }
+    requires no_token { result_ok (token_by_class (mode_of mode.now) class rest.now) ≡ None }
     ensures { token_by_class (mode_of mode.now) class rest.now ≡ Err (lexical_error_of result) }
 {
     let bytes = rest.as_bytes();
@@ -113,7 +113,7 @@ fn explain_literal<'src>(mode: &Mode, rest: &[u8]) -> ScanError<'src>
 /// of a format string without an end.
 fn explain_closer<'src>(last: Option<OpenDelimiter>, byte: u8, rest: &str) -> ScanError<'src>
     requires some { 0 < length rest.now }
-    requires none { result_ok (closing last byte rest.now) ≡ None }
+    requires no_token { result_ok (closing last byte rest.now) ≡ None }
     ensures { closing last byte rest.now ≡ Err (lexical_error_of result) }
 {
     match byte {
@@ -162,7 +162,7 @@ fn explain_closing<'src>(last: Option<OpenDelimiter>, close: Delimiter) -> ScanE
 fn explain_fixed<'src>(byte: u8, rest: &str) -> ScanError<'src>
     requires some { 0 < length rest.now }
     requires boundary { IsCharBoundary rest.now 1 }
-    requires none { result_ok (fixed_token byte rest.now) ≡ None }
+    requires no_token { result_ok (fixed_token byte rest.now) ≡ None }
     ensures { fixed_token byte rest.now ≡ Err (lexical_error_of result) }
 {
     if byte == b'&' {
@@ -194,7 +194,7 @@ fn explain_doubled<'src>(byte: u8, rest: &str) -> ScanError<'src>
 fn explain_other<'src>(byte: u8, rest: &str) -> ScanError<'src>
     requires some { 0 < length rest.now }
     requires byte { byte ≡ slice_index rest.now 0 }
-    requires none { result_ok (other_token rest.now) ≡ None }
+    requires no_token { result_ok (other_token rest.now) ≡ None }
     ensures { other_token rest.now ≡ Err (lexical_error_of result) }
 {
     if byte == b'\\' {
@@ -207,7 +207,7 @@ fn explain_other<'src>(byte: u8, rest: &str) -> ScanError<'src>
 /// Returns the error of a backslash before another character than a line end.
 fn explain_escape<'src>(rest: &str) -> ScanError<'src>
     requires boundary { IsCharBoundary rest.now 1 }
-    requires none { result_ok (escaped_line_end rest.now) ≡ None }
+    requires no_token { result_ok (escaped_line_end rest.now) ≡ None }
     ensures { escaped_line_end rest.now ≡ Err (lexical_error_of result) }
 {
     if byte_at(rest.as_bytes(), 1) == b'\r' {

@@ -101,7 +101,7 @@ impl<'src> Lexer<'src> {
     {
         let mut lexer = Lexer::new(alloc, path, src);
         let mut run = WhiteRun::before(src);
-        let mut table = Vec::new(alloc);
+        let mut table = new_table(alloc, src)?;
         let mut glued = false;
         'tokens: loop {
             if let Some(start) = lexer.unclosed_interpolation() {
@@ -188,7 +188,7 @@ impl<'src> Lexer<'src> {
         requires utf8 { IsUtf8 self.now.src.now }
         requires closed { length (drop self.now.offset self.now.src.now) ≡ 0
             → self.now.mode.interpolation ≡ None }
-        requires none { result_ok (next (mode_of self.now.mode)
+        requires no_token { result_ok (next (mode_of self.now.mode)
             (drop self.now.offset self.now.src.now)) ≡ None }
         ensures { IsLexerFault self.now.path.now self.now.src.now result }
     {
@@ -204,7 +204,7 @@ impl<'src> Lexer<'src> {
         requires utf8 { IsUtf8 self.now.src.now }
         requires closed { length (drop self.now.offset self.now.src.now) ≡ 0
             → self.now.mode.interpolation ≡ None }
-        requires none { result_ok (next (mode_of self.now.mode)
+        requires no_token { result_ok (next (mode_of self.now.mode)
             (drop self.now.offset self.now.src.now)) ≡ None }
         ensures { IfOk result (IsLexicalError self.now.path.now self.now.src.now) }
     {
@@ -252,8 +252,8 @@ impl<'src> Lexer<'src> {
         glued: bool,
     ) -> Result<bool, AllocError>
         requires reading { IsReading self.old }
-        requires cut { IsCharBoundary (drop self.old.offset self.old.src.now) length }
-        requires found { next (mode_of self.old.mode) (drop self.old.offset self.old.src.now)
+        requires boundary { IsCharBoundary (drop self.old.offset self.old.src.now) length }
+        requires next_token { next (mode_of self.old.mode) (drop self.old.offset self.old.src.now)
             ≡ Ok (kind, length) }
         ensures { IfOk result (λ after. TakesInto self.old self.new kind length
             glued after table.old.items table.new.items) }
@@ -271,8 +271,8 @@ impl<'src> Lexer<'src> {
     #[inline(always)]
     fn take(&mut self, kind: TokenKind, length: usize) -> Result<Token<'src>, AllocError>
         requires reading { IsReading self.old }
-        requires cut { IsCharBoundary (drop self.old.offset self.old.src.now) length }
-        requires found { next (mode_of self.old.mode) (drop self.old.offset self.old.src.now)
+        requires boundary { IsCharBoundary (drop self.old.offset self.old.src.now) length }
+        requires next_token { next (mode_of self.old.mode) (drop self.old.offset self.old.src.now)
             ≡ Ok (kind, length) }
         ensures takes { IfOk result (Takes self.old self.new) }
         ensures kind { IfOk result (λ token. token.kind ≡ kind) }
@@ -310,7 +310,7 @@ impl<'src> Lexer<'src> {
     fn place_past(&self, kind: TokenKind, length: usize) -> Place
         requires placed { IsPlaced self.now }
         requires within { IsWithin self.now.src.now self.now.offset length }
-        requires found { next (mode_of self.now.mode) (drop self.now.offset self.now.src.now)
+        requires next_token { next (mode_of self.now.mode) (drop self.now.offset self.now.src.now)
             ≡ Ok (kind, length) }
         ensures { IsPlace self.now.src.now (self.now.offset + length) result.line result.column }
     {
@@ -326,6 +326,15 @@ impl<'src> Lexer<'src> {
         }
         place_after(bytes, self.place, self.offset, self.offset + length)
     }
+}
+
+/// Returns an empty table with room for the tokens of a text: an entry for eight bytes, but at most
+/// 16,384 entries, so that a long text with few tokens asks for little.
+#[inline(never)]
+fn new_table<'src>(alloc: Global, src: &str) -> Result<Vec<(Token<'src>, bool)>, AllocError>
+    ensures { IfOk result (λ table. table.items ≡ []) }
+{
+    Vec::with_capacity(alloc, (src.len() / 8).min(16_384))
 }
 
 /// Whether a token of the kind that begins with this byte is known to have no line feed. The other

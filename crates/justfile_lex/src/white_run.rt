@@ -34,7 +34,7 @@ impl WhiteRun {
     #[inline(never)]
     pub(crate) fn closes_levels(&mut self, rest: &[u8]) -> bool
         requires { IsRunOf rest.now self.old }
-        ensures answer { result ≡ closes_levels false rest.now }
+        ensures closes { result ≡ closes_levels false rest.now }
         ensures run { IsRunOf rest.now self.new }
     {
         if rest.len() <= self.rest_len {

@@ -1,5 +1,5 @@
 -- The arguments parsed so far, as the definitions see them.
-use Rattle.std.proofs.Common.{◌≡◌, ◌∙◌, ℕ, ◌==◌, Bool, true, false, cond, not, ◌&&◌, ◌||◌, IsTrue, List, [], ◌∷◌, ◌++◌, map, length, Some, None, refl, sym, ap, subst, true≢false, arith}
+use Rattle.std.proofs.Common.{◌≡◌, ◌∙◌, ◌↔◌, ℕ, ◌==◌, Bool, true, false, cond, not, ◌&&◌, ◌||◌, IsTrue, List, [], ◌∷◌, ◌++◌, map, length, Some, None, refl, sym, ap, subst, true≢false, arith}
 use Rattle.std.specs.Global.{Box}
 use Rattle.std.specs.List.{list_any}
 use Rattle.std.specs.Option.{is_some, option_map}
@@ -60,6 +60,34 @@ key_counted a = go a.keyed.items ∙ sym (key_first a)
     go : (gs : List Given) → not (length gs == 0) ≡ some_in (map key_of gs)
     go [] = refl
     go (g ∷ gs) = grind (arith, nat_tests)
+
+-- ---- no arguments
+
+abbrev IsNone : Bool → List (Token × Box Expression) → List Given → Type 0
+IsNone b ps gs = IsTrue b ↔ (map positional_of ps ++ map keyed_of gs ≡ [])
+
+none_among : (b : Bool) (ps : List (Token × Box Expression)) (gs : List Given) → length ps ≡ 0 → b ≡ (length gs == 0) → IsNone b ps gs
+none_among b [] [] h k = (λ t. refl, λ e. k)
+none_among b [] (g ∷ gs) h k =
+    let more : (length (g ∷ gs) == 0) ≡ false = grind (arith, nat_tests) in
+    (λ t. absurd (true≢false (sym t ∙ k ∙ more)), λ e. absurd cc)
+none_among b (p ∷ ps) gs h k = absurd (omega (arith, h))
+
+some_among : (b : Bool) (ps : List (Token × Box Expression)) (gs : List Given) → (length ps ≡ 0 → ⊥) → b ≡ false → IsNone b ps gs
+some_among b [] gs h k = absurd (h refl)
+some_among b (p ∷ ps) gs h k = (λ t. absurd (true≢false (sym t ∙ k)), λ e. absurd cc)
+
+pub none_then : (a : Arguments) (b : Bool) → (a.positional.len == 0) ≡ true → b ≡ (a.keyed.len == 0) → IsTrue b ↔ (arguments_of a ≡ [])
+unfolding arguments_of
+none_then a b h k =
+    let none : length a.positional.items ≡ 0 = grind (arith, nat_tests, h, a.positional.ok.0) in
+    none_among b a.positional.items a.keyed.items none (k ∙ ap (λ (n : ℕ). n == 0) a.keyed.ok.0)
+
+pub none_else : (a : Arguments) (b : Bool) → (a.positional.len == 0) ≡ false → b ≡ false → IsTrue b ↔ (arguments_of a ≡ [])
+unfolding arguments_of
+none_else a b h k =
+    let some : length a.positional.items ≡ 0 → ⊥ = λ e. grind (arith, nat_tests, h, a.positional.ok.0, e) in
+    some_among b a.positional.items a.keyed.items some k
 
 found_any : (text : List ℕ) (gs : List Given) → is_some (at_key views_leaves text (map key_of gs)) ≡ list_any (λ g. bytes_eq (key_text g) text) gs
 found_any text [] = refl

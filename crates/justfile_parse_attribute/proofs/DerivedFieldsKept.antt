@@ -35,6 +35,11 @@ pushed_fields old new a written e h whole =
     let all : map attribute_of new ≡ map attribute_of old ++ a ∷ [] = ap (map attribute_of) e ∙ map-append attribute_of old ((a, written) ∷ []) in
     subst (All HasDerivedAttributeFields) (sym all) (All-push HasDerivedAttributeFields (map attribute_of old) a whole h)
 
+-- where room was reserved before
+pub reserved_fields : (old between new : List (Attribute × Written)) (a : Attribute) (written : Written) → between ≡ old → new ≡ between ++ (a, written) ∷ [] → HasDerivedAttributeFields a
+    → KeepsDerivedPairFields old new
+reserved_fields old between new a written e f h = pushed_fields old new a written (f ∙ ap (λ (pairs : List (Attribute × Written)). pairs ++ (a, written) ∷ []) e) h
+
 -- where it was added
 pub added_fields : (result : Result (Unit {0}) Fault) (old new : List (Attribute × Written)) (a : Attribute) (name : Name) → OnOk result (new ≡ old ++ uncommented (a, name) ∷ []) → HasDerivedAttributeFields a
     → OnOk result (KeepsDerivedPairFields old new)

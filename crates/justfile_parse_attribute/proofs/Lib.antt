@@ -5,5 +5,6 @@ pub mod AttributeSteps
 mod CommentedAttributes
 pub mod KeysPut
 pub mod KnownLabels
+pub mod PlainAttributes
 pub mod RepeatedAttributes
 pub mod DerivedFieldsKept

@@ -25,7 +25,7 @@ pub(crate) struct Arguments<'src> {
 }
 
 impl<'src> Arguments<'src> {
-    ghost use Rattle.std.specs.Prelude.{◌≡◌, [], ◌∷◌, ◌++◌, None, false};
+    ghost use Rattle.std.specs.Prelude.{◌≡◌, ◌↔◌, [], ◌∷◌, ◌++◌, IsTrue, None, false};
     ghost use Rattle.std.specs.Option.{is_some, option_map};
     ghost use Rattle.justfile_token.specs.Token.{lexeme_of};
     ghost use Rattle.justfile_model.specs.Meanings.Meaning.{at_key, by_key};
@@ -46,6 +46,13 @@ impl<'src> Arguments<'src> {
             keyed: Vec::new(alloc),
             texts: BTreeSet::new(alloc),
         }
+    }
+
+    /// Whether there are no arguments.
+    pub(crate) fn is_empty(&self) -> bool
+        ensures { IsTrue result ↔ (arguments_of self.now ≡ []) }
+    {
+        self.positional.is_empty() && self.keyed.is_empty()
     }
 
     /// Whether there are keyword arguments.
@@ -120,7 +127,7 @@ fn push_key<'src>(
     ensures named { OnOk result (HaveSame
         (texts_in texts.old ++ lexeme_of key.entry.token ∷ []) (texts_in texts.new)) }
     ensures kept { OnErr result (texts.new.keys ≡ texts.old.keys) }
-    ensures begins { take (length keyed.old.items) keyed.new.items ≡ keyed.old.items }
+    ensures keeps_earlier { take (length keyed.old.items) keyed.new.items ≡ keyed.old.items }
 {
     let text = key.lexeme();
     keyed.push((key, value))?;

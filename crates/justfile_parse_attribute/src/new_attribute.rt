@@ -1,11 +1,12 @@
 //! Making attributes from their arguments.
-ghost use Rattle.std.specs.Prelude.{◌≡◌, ◌∷◌, ◌++◌, [], IfErr, IfOk, IsTrue, OnErr, OnOk};
+ghost use Rattle.std.specs.Prelude.{◌≡◌, ◌∷◌, ◌++◌, [], IfErr, IfOk, IsTrue, Ok, OnErr, OnOk};
 ghost use Rattle.justfile_attribute.specs.Attribute.{leaf_attribute_of};
-ghost use Rattle.justfile_attribute.specs.New.{HasDerivedAttributeFields};
+ghost use Rattle.justfile_attribute.specs.New.{HasDerivedAttributeFields, takes_no_arguments};
 ghost use Rattle.justfile_attribute_rules.specs.KeywordArguments.{keys_of};
 ghost use Rattle.justfile_attribute_rules.specs.Made.{Makes};
 ghost use Rattle.justfile_model.specs.Meanings.Meaning.{by_key, by_position};
 ghost use Rattle.justfile_model.specs.Readers.NewAttribute as new;
+ghost use Rattle.justfile_model.specs.Trees.Tree as tree;
 ghost use Rattle.justfile_parse_attribute.specs.ArgumentKeys.{HasKeys, are_keys_distinct};
 ghost use Rattle.justfile_token.specs.declared.fault.Fault.TheVariants.{Memory};
 ghost use Rattle.justfile_parse_attribute.specs.AddedAttributes.{Adds};
@@ -15,7 +16,7 @@ ghost use Rattle.justfile_expression.specs.LeafViews.{views_leaves};
 ghost use Rattle.justfile_written.specs.Written.{uncommented};
 
 use crate::arguments::Arguments;
-use justfile_attribute::Attribute;
+use justfile_attribute::{Attribute, plain_attribute, takes_no_arguments};
 use justfile_attribute_rules::KeywordArguments;
 use justfile_expression::Expression;
 use justfile_token::{CompileResult, Name};
@@ -28,7 +29,7 @@ use std::alloc::{AllocError, Global};
 /// # Errors
 ///
 /// `Compile` if a rule is broken; `Memory` if memory runs out.
-#[tactic(auto, using(crate::proofs::RepeatedAttributes::made_added))]
+#[tactic(auto, using(crate::proofs::PlainAttributes::plain_made, crate::proofs::RepeatedAttributes::made_added))]
 pub(crate) fn add_attribute<'src>(
     alloc: Global,
     attributes: &mut Vec<(Attribute<'src>, Written<'src>)>,
@@ -43,10 +44,38 @@ pub(crate) fn add_attribute<'src>(
         (KeepsDerivedPairFields attributes.old.items attributes.new.items) }
     ensures kept { OnErr result (attributes.new.items ≡ attributes.old.items) }
 {
+    if takes_no_arguments(kind) && arguments.is_empty() {
+        return push_plain(attributes, name, kind);
+    }
     match new_attribute(alloc, name, kind, arguments) {
         Ok(attribute) => push_pair(attributes, attribute, name),
         Err(fault) => Err(fault),
     }
+}
+
+/// Appends the attribute of a kind that takes no arguments. Reserves room first, so that nothing
+/// can fail once the attribute is made, and it needs to be copied less often.
+///
+/// # Errors
+///
+/// `Memory` if memory runs out.
+#[tactic(auto, using(crate::proofs::RepeatedAttributes::made_added))]
+fn push_plain<'src>(
+    attributes: &mut Vec<(Attribute<'src>, Written<'src>)>,
+    name: Name<'src>,
+    kind: AttributeKind,
+) -> CompileResult<'src>
+    requires { IsTrue (takes_no_arguments kind) }
+    ensures added { Adds result (Ok (tree.Plain kind)) name.entry
+        attributes.old.items attributes.new.items }
+    ensures fields { OnOk result
+        (KeepsDerivedPairFields attributes.old.items attributes.new.items) }
+    ensures kept { OnErr result (attributes.new.items ≡ attributes.old.items) }
+{
+    let comment = None;
+    attributes.reserve(1)?;
+    attributes.push_reserved((plain_attribute(kind), Written { name, comment }));
+    Ok(())
 }
 
 /// Appends an attribute without a comment.

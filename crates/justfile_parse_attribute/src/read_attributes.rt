@@ -125,7 +125,7 @@ fn push_checked<'src>(
     ensures fields { OnOk result (KeepsDerivedPairFields pairs.old.items pairs.new.items) }
     ensures known { OnOk result (AreKnown labels.new (entries_of pairs.new.items)) }
     ensures kept { OnErr result (AreSame labels.old labels.new) }
-    ensures begins { take (length pairs.old.items) pairs.new.items ≡ pairs.old.items }
+    ensures keeps_earlier { take (length pairs.old.items) pairs.new.items ≡ pairs.old.items }
 {
     match add_attribute(alloc, pairs, name, kind, arguments) {
         Ok(()) => check_last(alloc, labels, pairs.as_slice()),

@@ -224,7 +224,7 @@ fn check_once<'src>(
     written: Written<'src>,
 ) -> CompileResult<'src>
     requires unlabelled { label_of views_leaves (leaf_attribute_of attribute.now) ≡ None }
-    requires once { is_repeatable (kind_of_attribute (leaf_attribute_of attribute.now)) ≡ false }
+    requires not_repeatable { is_repeatable (kind_of_attribute (leaf_attribute_of attribute.now)) ≡ false }
     ensures { Makes (λ _. tt) result (check_repeated views_leaves (entries_of before.now)
         (entry_of_pair (attribute.now, written.entry))) }
 {

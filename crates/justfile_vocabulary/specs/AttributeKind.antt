@@ -45,7 +45,7 @@ attribute_kinds = Android ∷ Arg ∷ Cache ∷ Confirm ∷ Continue ∷ Default
 unfoldable pub kind_named : List ℕ → Option AttributeKind
 kind_named name = find (λ kind. bytes_eq (attribute_name kind) name) attribute_kinds
 
--- attributes of this kind enable an item on some systems only
+-- attributes of this kind enable an item on some systems only; those of no other kind do
 abbrev pub is_enabler_kind : AttributeKind → Bool
 is_enabler_kind Android = true
 is_enabler_kind Dragonfly = true

@@ -73,11 +73,11 @@ static KINDS: [AttributeKind; 30] = [
 impl AttributeKind {
     ghost use Rattle.justfile_vocabulary.specs.AttributeKind.{attribute_name, is_enabler_kind, kind_named, takes_keys};
 
-    /// Returns the kind with this name.
+    /// Returns the kind with this name. Compares lengths first: few names are as long as another.
     pub fn from_name(name: &str) -> Option<Self>
         ensures { result ≡ kind_named name.now }
     {
-        KINDS.iter().copied().find(|kind| kind.name() == name)
+        KINDS.iter().copied().find(|kind| kind.name().len() == name.len() && kind.name() == name)
     }
 
     /// Returns the kind's name.

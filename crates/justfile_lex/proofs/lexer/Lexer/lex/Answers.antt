@@ -26,11 +26,11 @@ returns-in_default-found-clause-fault c =
     subst (λ p. IsLexerFault p c.args.src.now c.make_fault.result) runs.path_is
     (subst (λ s. IsLexerFault c.tokens.lexer.path.now s c.make_fault.result) runs.src_is c.make_fault.ensures)
 
-pub take-requires-clause-found : goal.take-requires-clause-found
-take-requires-clause-found c = ap (next (mode_of c.tokens.lexer.mode)) (sym c.rest.ensures) ∙ found_is _ _ (c.in-Some-found.ensures ∙ c.scan_token-scanned.ensures.found)
+pub take-requires-clause-next_token : goal.take-requires-clause-next_token
+take-requires-clause-next_token c = ap (next (mode_of c.tokens.lexer.mode)) (sym c.rest.ensures) ∙ found_is _ _ (c.in-Some-found.ensures ∙ c.scan_token-scanned.ensures.found)
 
-pub take-requires-clause-cut : goal.take-requires-clause-cut
-take-requires-clause-cut c =
+pub take-requires-clause-boundary : goal.take-requires-clause-boundary
+take-requires-clause-boundary c =
     let found = ap (next (mode_of c.tokens.lexer.mode)) (sym c.rest.ensures) ∙ found_is _ _ (c.in-Some-found.ensures ∙ c.scan_token-scanned.ensures.found) in
     (token_cut _ _ (subst IsUtf8 c.rest.ensures c.rest.utf8) _ _ found).0
 

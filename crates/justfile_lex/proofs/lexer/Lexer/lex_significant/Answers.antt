@@ -21,11 +21,11 @@ returns-in_default-found-clause-fault c =
     subst (λ p. IsLexerFault p c.args.src.now c.make_fault.result) runs.path_is
     (subst (λ s. IsLexerFault c.tokens.lexer.path.now s c.make_fault.result) runs.src_is c.make_fault.ensures)
 
-pub take_into-requires-clause-found : goal.take_into-requires-clause-found
-take_into-requires-clause-found c = ap (next (mode_of c.tokens.lexer.mode)) (sym c.rest.ensures) ∙ found_is _ _ (c.in-Some-found.ensures ∙ c.scan_token-scanned.ensures.found)
+pub take_into-requires-clause-next_token : goal.take_into-requires-clause-next_token
+take_into-requires-clause-next_token c = ap (next (mode_of c.tokens.lexer.mode)) (sym c.rest.ensures) ∙ found_is _ _ (c.in-Some-found.ensures ∙ c.scan_token-scanned.ensures.found)
 
-pub take_into-requires-clause-cut : goal.take_into-requires-clause-cut
-take_into-requires-clause-cut c =
+pub take_into-requires-clause-boundary : goal.take_into-requires-clause-boundary
+take_into-requires-clause-boundary c =
     let found = ap (next (mode_of c.tokens.lexer.mode)) (sym c.rest.ensures) ∙ found_is _ _ (c.in-Some-found.ensures ∙ c.scan_token-scanned.ensures.found) in
     (token_cut _ _ (subst IsUtf8 c.rest.ensures c.rest.utf8) _ _ found).0
 

@@ -10,4 +10,4 @@ returns-then-is_on_line c =
     let there : l.offset + 0 ≡ l.offset = omega arith in
     let first : get_or (drop l.offset l.src.now) 0 0 ≡ c.byte_at.result = get_or-drop l.offset l.src.now 0 0 ∙ ap (λ i. get_or l.src.now i 0) there ∙ sym (c.byte_at.ensures ∙ ap (λ bs. get_or bs l.offset 0) c.as_bytes-bytes.ensures.value) in
     let on_line : is_on_line c.args.kind c.byte_at.result ≡ true = search (rules, c.if-is_on_line.ensures) in
-    place_feedless _ _ _ _ _ c.requires.placed.place c.requires.within.0 (token_feeds _ _ _ _ c.requires.found (ap (is_on_line c.args.kind) first ∙ on_line))
+    place_feedless _ _ _ _ _ c.requires.placed.place c.requires.within.0 (token_feeds _ _ _ _ c.requires.next_token (ap (is_on_line c.args.kind) first ∙ on_line))

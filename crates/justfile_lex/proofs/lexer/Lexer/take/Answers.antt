@@ -9,27 +9,27 @@ use Rattle.justfile_lex.proofs.lexer.Lexer.take.Goals as goal
 pub make_token-token-requires : goal.make_token-token-requires
 make_token-token-requires c =
     let at = c.requires.reading.lexing.placed.cut in
-    let end = IsCharBoundary-from_rest _ _ _ at.0 c.requires.cut in
+    let end = IsCharBoundary-from_rest _ _ _ at.0 c.requires.boundary in
     (end.0, at, end)
 
 pub place_past-place-requires-clause-within : goal.place_past-place-requires-clause-within
 place_past-place-requires-clause-within c =
     let at = c.requires.reading.lexing.placed.cut in
-    let end = IsCharBoundary-from_rest _ _ _ at.0 c.requires.cut in
+    let end = IsCharBoundary-from_rest _ _ _ at.0 c.requires.boundary in
     (end.0, at, end)
 
 pub returns : goal.returns
 returns c =
     let l = c.args.self.now in
     let at = c.requires.reading.lexing.placed.cut in
-    let end = IsCharBoundary-from_rest _ _ _ at.0 c.requires.cut in
-    let fits = c.requires.cut.0 in
+    let end = IsCharBoundary-from_rest _ _ _ at.0 c.requires.boundary in
+    let fits = c.requires.boundary.0 in
     let t = c.make_token-token.result in
     let is = c.make_token-token.ensures.at in
     let len = lexeme_len l c.args.kind c.args.length (tok_of t) is fits in
     record {
       takes = record {
-        found = c.requires.found ∙ (λ i. Ok (sym is.kind_is i, sym c.make_token-token.ensures.length i));
+        found = c.requires.next_token ∙ (λ i. Ok (sym is.kind_is i, sym c.make_token-token.ensures.length i));
         stands = stands_at l c.args.kind c.args.length (tok_of t) is fits c.requires.reading.lexing.placed;
         length_is = len ∙ sym c.make_token-token.ensures.length;
         source = c.make_token-token.ensures.source;

@@ -29,7 +29,7 @@ returns-then-is_whitespace c =
 pub make_token-requires : goal.make_token-requires
 make_token-requires c =
     let at = c.requires.reading.lexing.placed.cut in
-    let end = IsCharBoundary-from_rest _ _ _ at.0 c.requires.cut in
+    let end = IsCharBoundary-from_rest _ _ _ at.0 c.requires.boundary in
     (end.0, at, end)
 
 pub returns : goal.returns
@@ -38,7 +38,7 @@ returns c =
     let taken = c.in_ok-take-2.ensures in
     let t = c.make_token.result in
     let is = c.make_token.ensures.at in
-    let fits = c.requires.cut.0 in
+    let fits = c.requires.boundary.0 in
     let so_far = c.args.table.now.items in
     let kind : is_whitespace c.args.kind ≡ false = search (rules, c.if-is_whitespace.ensures) in
     let other : is_whitespace t.kind ≡ false = ap is_whitespace is.kind_is ∙ kind in
