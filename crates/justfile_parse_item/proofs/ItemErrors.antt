@@ -1,5 +1,5 @@
--- An item is refused if a part of it is, after the parts that were read.
-use Rattle.std.proofs.Common.{◌≡◌, Bool, false, List, Option, Ok, Err, refl}
+-- An item is refused if a part of it is, after the parts that were read. An item is read if its parts are.
+use Rattle.std.proofs.Common.{◌≡◌, ℕ, Bool, false, List, Option, Ok, Err, refl}
 use Rattle.justfile_vocabulary.specs.declared.item_kind.ItemKind.TheVariants as item_kinds
 use Rattle.justfile_token.specs.declared.token.Token.{Token}
 use Rattle.justfile_vocabulary.specs.declared.keyword.Keyword.{Keyword}
@@ -7,16 +7,17 @@ use Rattle.justfile_vocabulary.specs.declared.token_kind.TokenKind.TheVariants a
 use Rattle.justfile_model.specs.Readers.Reader as files
 use Rattle.justfile_model.specs.Readers.ReaderState.{Counters}
 use Rattle.justfile_model.specs.Grammars.Settings.{setting_form}
-use Rattle.justfile_model.specs.Trees.Tree.{Expr, Quoted}
+use Rattle.justfile_model.specs.Trees.Tree as tree
+use Rattle.justfile_model.specs.Trees.Tree.{Expr, Quoted, SettingValue, assignment_of}
 use Rattle.justfile_model.specs.declared.level.Level.TheVariants as levels
 use Rattle.justfile_parse_item.specs.ItemTable as reader
 use Rattle.justfile_parse_attribute.specs.AttributeTable.{Entries}
 use Rattle.justfile_parse_base.specs.ParseErrors.{IsParseError}
 use Rattle.justfile_parse_base.specs.declared.parse_error.ParseError.{ParseError}
-use Rattle.justfile_parse_expression.specs.TableReader.{At, ReadError, State, expect, read}
+use Rattle.justfile_parse_expression.specs.TableReader.{At, ReadError, State, expect, leaves, read}
 use Rattle.justfile_parse_expression.specs.Significant.{TableEntry}
 use Rattle.justfile_parse_base.proofs.HeaderErrors.{failed}
-use Rattle.justfile_parse_base.specs.SharedTable.{path}
+use Rattle.justfile_parse_base.specs.SharedTable.{next_binding_number, path}
 use Rattle.justfile_parse_item_parts.specs.PartTable.{file_path, setting_keyword, names, optional_path, setting_value}
 use Rattle.justfile_expression.specs.LeafTree.{Leaf}
 
@@ -28,6 +29,13 @@ module _ (ws : Entries) (n : Counters) (s : State) (name : TableEntry) (named : 
     assignment_fails : (f : ReadError) → reader.check_allowed item_kinds.Assignment ws name t ≡ Err f → reader.assignment eager export ws n s ≡ Err f
     unfolding files.assignment
     assignment_fails f is = rw (taken, assigned, value, is) refl
+
+    -- all of it is read
+    pub assignment_read : reader.check_allowed item_kinds.Assignment ws name t ≡ Ok (tt, t) → (number : ℕ) (m : Counters) → next_binding_number n t ≡ Ok ((number, m), t)
+        → reader.assignment eager export ws n s
+        ≡ Ok ((tree.Construct (reader.in_content_order ws) (tree.Assignment (assignment_of eager export (leaves.assignment t.run name number) e)), m), t)
+    unfolding files.assignment
+    assignment_read allowed number m counted = rw (taken, assigned, value, allowed, counted) refl
 
     -- its attributes are refused
     pub assignment_errs : (error : ParseError) (left : State) (Wanting : Type 0) → IsParseError error left ⊥ (reader.check_allowed item_kinds.Assignment ws name t)
@@ -84,6 +92,12 @@ module _ (ws : Entries) (n : Counters) (s : State) (name : TableEntry) (named : 
       unfolding files.setting
       setting_fails f is = rw (taken, known, allowed, is) refl
 
+      -- all of it is read
+      pub setting_read : (value : SettingValue Leaf Token) (left : State) → setting_value name keyword (setting_form keyword) named ≡ Ok (value, left)
+          → reader.setting ws n s ≡ Ok ((tree.Construct (reader.in_content_order ws) (tree.Setting (record { keyword = keyword; name = leaves.name name; value = value })), n), left)
+      unfolding files.setting
+      setting_read value left is = rw (taken, known, allowed, is) refl
+
       -- its value is refused
       pub setting_value_fails : (error : ParseError) (left : State) → IsParseError error left ⊥ (setting_value name keyword (setting_form keyword) named) → IsParseError error left ⊥ (reader.setting ws n s)
       setting_value_fails error left h =
@@ -105,6 +119,14 @@ module _ (ws : Entries) (n : Counters) (s : State) (name : TableEntry) (named : 
     function_fails : (f : ReadError) → names (n, opened) ≡ Err f → reader.function ws n s ≡ Err f
     unfolding files.function
     function_fails f is = rw (taken, allowed, next, is) refl
+
+    -- all of it is read
+    pub function_read : (ps : List Leaf × Counters) (u : State) → names (n, opened) ≡ Ok (ps, u) → (operator : TableEntry) (rest : State) → expect kinds.ColonEquals u ≡ Ok (operator, rest)
+        → (e : Expr Leaf Token) (left : State) → read (At levels.Expression false rest) ≡ Ok (e, left)
+        → reader.function ws n s
+        ≡ Ok ((tree.Construct (reader.in_content_order ws) (tree.Function (record { name = leaves.name name; parameters = ps.0; body = e })), ps.1), left)
+    unfolding files.function
+    function_read ps u parameters operator rest assigned e left body = rw (taken, allowed, next, parameters, assigned, body) refl
 
     -- its parameters are refused, or no number is left for one
     pub function_errs : (error : ParseError) (left : State) (wanting : ReadError) → IsParseError error left (names (n, opened) ≡ Err wanting) (names (n, opened))

@@ -6,6 +6,7 @@ pub mod Lines
 pub mod Loop
 pub mod CounterSteps
 pub mod CounterBounds
+pub mod Pushes
 pub mod ReadEquations
 pub mod NoKeyword
 pub mod Recipes

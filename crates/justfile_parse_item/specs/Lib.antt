@@ -1,5 +1,6 @@
 pub mod Exclusions
 pub mod Filled
+pub mod Pushes
 pub mod ExtraneousFault
 pub mod ItemTable
 pub mod MethodResults

@@ -3,8 +3,8 @@ ghost use Rattle.std.specs.Prelude.{◌≡◌, ◌<◌, ◌≤◌, IfOk, OnOk, m
 ghost use Rattle.justfile_model.specs.Lexing.SignificantTokens.{identifiers};
 ghost use Rattle.justfile_parse_item.specs.ItemTable as reader;
 ghost use Rattle.justfile_parse_item.specs.MethodResults.{CountersMoved};
-ghost use Rattle.justfile_parse_item.specs.Tree.{item_tree};
-ghost use Rattle.justfile_parse_item.specs.DerivedFields.{HaveDerivedPairFields, HasDerivedItemFields};
+ghost use Rattle.justfile_parse_item.specs.Pushes.{AppendsItem, last_tree};
+ghost use Rattle.justfile_parse_item.specs.DerivedFields.{HaveDerivedPairFields};
 ghost use Rattle.justfile_parse_item.specs.ConstructKeywords.{begins_keyword, can_be_keyword, has_keyword_length, keyword_taken, after_keyword};
 ghost use Rattle.justfile_parse_attribute.specs.Attributes.{entries_of};
 ghost use Rattle.justfile_parse_base.specs.ParseErrors.{ParsesRuled};
@@ -41,22 +41,23 @@ pub(crate) enum ConstructKeyword {
     Unexport,
 }
 
-/// Parses a construct with its attributes. Requires that no expression is open.
+/// Parses a construct with its attributes, and appends it. Requires that no expression is open.
 #[tactic(auto, using(crate::proofs::CounterSteps::unmoved), unfolding(justfile_model::specs::Readers::Reader::construct))]
 pub(crate) fn parse_construct<'src, X: Expander>(
     parser: &mut TokenCursor<'_, 'src, X>,
+    items: &mut Vec<Item<'src>>,
     numerator: &mut Numerator,
-) -> Result<Item<'src>, ParseError<'src>>
+) -> Result<(), ParseError<'src>>
     requires { (state_of X.answer parser.old).depth ≡ 0 }
-    ensures reads { ParsesCounted X.answer item_tree result numerator.new parser.old parser.new
-        (reader.construct (counters_of numerator.old)) }
-    ensures fields { IfOk result HasDerivedItemFields }
+    ensures reads { ParsesCounted X.answer (λ _. last_tree items.new.items) result numerator.new
+        parser.old parser.new (reader.construct (counters_of numerator.old)) }
+    ensures appended { OnOk result (AppendsItem items.old.items items.new.items) }
     ensures progress { OnOk result (tokens_left parser.new < tokens_left parser.old) }
     ensures moved { CountersMoved numerator.old numerator.new
         (identifiers (map significant_of (state_of X.answer parser.old).left)) }
 {
     let attributes = parse_item_attributes(parser)?;
-    parse_content(parser, attributes, numerator)
+    parse_content(parser, attributes, items, numerator)
 }
 
 /// Parses the attributes before a construct. Refuses them if a blank line or a comment follows.
@@ -86,24 +87,26 @@ fn stands_alone<X: Expander>(parser: &TokenCursor<'_, '_, X>) -> bool
     parser.peek_kinds(&[TokenKind::Eol]) || parser.peek_kinds(&[TokenKind::Comment])
 }
 
-/// Parses a construct after its attributes.
+/// Parses a construct after its attributes, and appends it.
 #[tactic(auto, using(crate::proofs::ConstructKeywords::content_after_keyword, crate::proofs::ConstructKeywords::content_without_keyword))]
 fn parse_content<'src, X: Expander>(
     parser: &mut TokenCursor<'_, 'src, X>,
     attributes: Vec<(Attribute<'src>, Written<'src>)>,
+    items: &mut Vec<Item<'src>>,
     numerator: &mut Numerator,
-) -> Result<Item<'src>, ParseError<'src>>
+) -> Result<(), ParseError<'src>>
     requires { HaveDerivedPairFields attributes.items }
-    ensures reads { ParsesCounted X.answer item_tree result numerator.new parser.old parser.new
-        (reader.content (entries_of attributes.entry.items) (counters_of numerator.old)) }
-    ensures fields { IfOk result HasDerivedItemFields }
+    ensures reads { ParsesCounted X.answer (λ _. last_tree items.new.items) result numerator.new
+        parser.old parser.new (reader.content (entries_of attributes.entry.items)
+        (counters_of numerator.old)) }
+    ensures appended { OnOk result (AppendsItem items.old.items items.new.items) }
     ensures progress { OnOk result (tokens_left parser.new < tokens_left parser.old) }
     ensures moved { CountersMoved numerator.old numerator.new
         (identifiers (map significant_of (state_of X.answer parser.old).left)) }
 {
     match accept_construct_keyword(parser) {
-        Some(keyword) => parse_after_keyword(keyword, parser, attributes, numerator),
-        None => parse_without_keyword(parser, attributes, numerator),
+        Some(keyword) => parse_after_keyword(keyword, parser, attributes, items, numerator),
+        None => parse_without_keyword(parser, attributes, items, numerator),
     }
 }
 
@@ -187,55 +190,60 @@ fn accept_any_keyword<X: Expander>(parser: &mut TokenCursor<'_, '_, X>) -> Optio
     Some(ConstructKeyword::Set)
 }
 
-/// Parses a construct after its attributes and this keyword.
+/// Parses a construct after its attributes and this keyword, and appends it.
 fn parse_after_keyword<'src, X: Expander>(
     keyword: ConstructKeyword,
     parser: &mut TokenCursor<'_, 'src, X>,
     attributes: Vec<(Attribute<'src>, Written<'src>)>,
+    items: &mut Vec<Item<'src>>,
     numerator: &mut Numerator,
-) -> Result<Item<'src>, ParseError<'src>>
+) -> Result<(), ParseError<'src>>
     requires { HaveDerivedPairFields attributes.items }
-    ensures reads { ParsesCounted X.answer item_tree result numerator.new parser.old parser.new
-        (after_keyword keyword (entries_of attributes.entry.items)
+    ensures reads { ParsesCounted X.answer (λ _. last_tree items.new.items) result numerator.new
+        parser.old parser.new (after_keyword keyword (entries_of attributes.entry.items)
         (counters_of numerator.old)) }
-    ensures fields { IfOk result HasDerivedItemFields }
+    ensures appended { OnOk result (AppendsItem items.old.items items.new.items) }
     ensures progress { OnOk result (tokens_left parser.new < tokens_left parser.old) }
     ensures moved { CountersMoved numerator.old numerator.new
         (identifiers (map significant_of (state_of X.answer parser.old).left)) }
 {
     match keyword {
-        ConstructKeyword::Alias => parse_alias(parser, attributes),
-        ConstructKeyword::Eager => parse_assignment(parser, true, false, attributes, numerator),
-        ConstructKeyword::Export => parse_assignment(parser, false, true, attributes, numerator),
-        ConstructKeyword::Import => parse_import(parser, attributes),
-        ConstructKeyword::Mod => parse_module(parser, attributes),
-        ConstructKeyword::Set => parse_set(parser, attributes),
-        ConstructKeyword::Unexport => parse_unexport(parser, attributes),
+        ConstructKeyword::Alias => parse_alias(parser, attributes, items),
+        ConstructKeyword::Eager => parse_assignment(
+            parser, true, false, attributes, items, numerator,
+        ),
+        ConstructKeyword::Export => parse_assignment(
+            parser, false, true, attributes, items, numerator,
+        ),
+        ConstructKeyword::Import => parse_import(parser, attributes, items),
+        ConstructKeyword::Mod => parse_module(parser, attributes, items),
+        ConstructKeyword::Set => parse_set(parser, attributes, items),
+        ConstructKeyword::Unexport => parse_unexport(parser, attributes, items),
     }
 }
 
-/// Parses a construct without a keyword, after its attributes.
+/// Parses a construct without a keyword, after its attributes, and appends it.
 #[tactic(auto, unfolding(justfile_model::specs::Readers::Reader::without_keyword))]
 fn parse_without_keyword<'src, X: Expander>(
     parser: &mut TokenCursor<'_, 'src, X>,
     attributes: Vec<(Attribute<'src>, Written<'src>)>,
+    items: &mut Vec<Item<'src>>,
     numerator: &mut Numerator,
-) -> Result<Item<'src>, ParseError<'src>>
+) -> Result<(), ParseError<'src>>
     requires { HaveDerivedPairFields attributes.items }
-    ensures reads { ParsesCounted X.answer item_tree result numerator.new parser.old parser.new
-        (reader.without_keyword (entries_of attributes.entry.items)
+    ensures reads { ParsesCounted X.answer (λ _. last_tree items.new.items) result numerator.new
+        parser.old parser.new (reader.without_keyword (entries_of attributes.entry.items)
         (counters_of numerator.old)) }
-    ensures fields { IfOk result HasDerivedItemFields }
+    ensures appended { OnOk result (AppendsItem items.old.items items.new.items) }
     ensures progress { OnOk result (tokens_left parser.new < tokens_left parser.old) }
     ensures moved { CountersMoved numerator.old numerator.new
         (identifiers (map significant_of (state_of X.answer parser.old).left)) }
 {
     if parser.peek_kinds(&[TokenKind::Identifier, TokenKind::ParenL]) {
-        return parse_function(parser, attributes, numerator);
+        return parse_function(parser, attributes, items, numerator);
     }
     if peek_assignment(parser) {
-        return parse_assignment(parser, false, false, attributes, numerator);
+        return parse_assignment(parser, false, false, attributes, items, numerator);
     }
-    let recipe = parse_any_recipe(parser, attributes, numerator)?;
-    Ok(Item::Recipe(recipe))
+    parse_any_recipe(parser, attributes, items, numerator)
 }

@@ -1,16 +1,17 @@
 //! Functions that a file defines.
-ghost use Rattle.std.specs.Prelude.{◌<◌, IfOk, OnOk, map};
+ghost use Rattle.std.specs.Prelude.{◌<◌, OnOk, map};
 ghost use Rattle.justfile_model.specs.Lexing.SignificantTokens.{identifiers};
 ghost use Rattle.justfile_parse_item.specs.ItemTable as reader;
 ghost use Rattle.justfile_parse_item.specs.MethodResults.{CountersMoved};
-ghost use Rattle.justfile_parse_item.specs.Tree.{item_tree};
-ghost use Rattle.justfile_parse_item.specs.DerivedFields.{HaveDerivedPairFields, HasDerivedItemFields};
+ghost use Rattle.justfile_parse_item.specs.Pushes.{AppendsItem, last_tree};
+ghost use Rattle.justfile_parse_item.specs.DerivedFields.{HaveDerivedPairFields};
 ghost use Rattle.justfile_parse_attribute.specs.Attributes.{entries_of};
 ghost use Rattle.justfile_parse_expression.specs.Significant.{significant_of};
 ghost use Rattle.justfile_parse_expression.specs.View.{tokens_left, state_of};
 ghost use Rattle.justfile_parse_base.specs.Counting.{counters_of, ParsesCounted};
 
 use crate::attribute_checks::check_allowed;
+use crate::items::push_construct;
 use justfile_attribute::Attribute;
 use justfile_item::{FunctionDefinition, Item};
 use justfile_parse_base::ParseError;
@@ -22,16 +23,18 @@ use justfile_written::Written;
 
 /// Parses a function after its attributes: a name, the names of the parameters in parentheses,
 /// `:=`, and an expression.
-#[tactic(auto, using(crate::proofs::CounterSteps::unmoved), unfolding(justfile_model::specs::Readers::Reader::function, justfile_parse_expression::specs::TableReader::leaves))]
+#[tactic(auto, using(crate::proofs::CounterSteps::unmoved, crate::proofs::Pushes::reads, crate::proofs::Pushes::appends), unfolding(justfile_model::specs::Readers::Reader::function, justfile_parse_expression::specs::TableReader::leaves))]
 pub(crate) fn parse_function<'src, X: Expander>(
     parser: &mut TokenCursor<'_, 'src, X>,
     attributes: Vec<(Attribute<'src>, Written<'src>)>,
+    items: &mut Vec<Item<'src>>,
     numerator: &mut Numerator,
-) -> Result<Item<'src>, ParseError<'src>>
+) -> Result<(), ParseError<'src>>
     requires { HaveDerivedPairFields attributes.items }
-    ensures reads { ParsesCounted X.answer item_tree result numerator.new parser.old parser.new
-        (reader.function (entries_of attributes.entry.items) (counters_of numerator.old)) }
-    ensures fields { IfOk result HasDerivedItemFields }
+    ensures reads { ParsesCounted X.answer (λ _. last_tree items.new.items) result numerator.new
+        parser.old parser.new (reader.function (entries_of attributes.entry.items)
+        (counters_of numerator.old)) }
+    ensures appended { OnOk result (AppendsItem items.old.items items.new.items) }
     ensures progress { OnOk result (tokens_left parser.new < tokens_left parser.old) }
     ensures moved { CountersMoved numerator.old numerator.new
         (identifiers (map significant_of (state_of X.answer parser.old).left)) }
@@ -42,10 +45,13 @@ pub(crate) fn parse_function<'src, X: Expander>(
     let parameters = parse_parameter_names(parser, numerator)?;
     parser.expect(TokenKind::ColonEquals)?;
     let body = parser.parse_expression()?;
-    Ok(Item::Function(FunctionDefinition {
-        attributes,
-        body: Box::into_inner(body),
-        name: Name::from_identifier(name.0),
-        parameters,
-    }))
+    push_construct(
+        items,
+        Item::Function(FunctionDefinition {
+            attributes,
+            body: Box::into_inner(body),
+            name: Name::from_identifier(name.0),
+            parameters,
+        }),
+    )
 }

@@ -1,5 +1,5 @@
 //! The items of a file, and the numbers that they get.
-ghost use Rattle.std.specs.Prelude.{◌≡◌, ◌<◌, ◌≤◌, ◌∷◌, ◌++◌, [], IfOk, IsTrue, OnOk, codes, map, nat_eq};
+ghost use Rattle.std.specs.Prelude.{◌≡◌, ◌<◌, ◌≤◌, ◌∷◌, ◌++◌, [], IfOk, IsTrue, None, OnOk, codes, map, nat_eq};
 ghost use Rattle.std.specs.List.{starts_with};
 ghost use Rattle.std.specs.Str.{trim_end};
 ghost use Rattle.justfile_token.specs.Token.{lexeme_of};
@@ -10,12 +10,14 @@ ghost use Rattle.justfile_model.specs.Readers.Reader.{has_body};
 ghost use Rattle.justfile_model.specs.Readers.ReaderState.{prepend};
 ghost use Rattle.justfile_model.specs.Readers.PartReader.{after_numbered};
 ghost use Rattle.justfile_item.specs.declared.item.Item.TheVariants as variants;
+ghost use Rattle.justfile_vocabulary.specs.declared.token_kind.TokenKind.TheVariants as kinds;
 ghost use Rattle.justfile_parse_item.specs.ItemTable as reader;
 ghost use Rattle.justfile_parse_item.specs.MethodResults.{CountersMoved};
-ghost use Rattle.justfile_parse_expression.specs.MethodResults.{UnlessMemory};
 ghost use Rattle.justfile_parse_expression.specs.ParsedResults.{Parses};
 ghost use Rattle.justfile_parse_item.specs.DerivedFields.{HaveDerivedFields, HasDerivedItemFields, KeepsDerivedFields};
 ghost use Rattle.justfile_parse_expression.specs.Significant.{significant_of};
+ghost use Rattle.justfile_parse_expression.specs.TableReader.{accept};
+ghost use Rattle.justfile_parse_item.specs.Pushes.{AppendsItem, Pushes, last_tree};
 ghost use Rattle.justfile_parse_item.specs.Tree.{item_tree};
 ghost use Rattle.justfile_parse_expression.specs.View.{tokens_left, state_of};
 
@@ -27,13 +29,17 @@ use justfile_token::{Expander, Token};
 use justfile_vocabulary::{Numerator, TokenKind};
 use std::alloc::AllocError;
 
+/// How many tokens an item has at least, on average, in most files: for the first room of the list
+/// of items.
+const TOKENS_OF_AN_ITEM: usize = 8;
+
 /// Parses the items up to the end of the file. Requires that no expression is open.
 ///
 /// # Errors
 ///
 /// A `ParseError` if the rest of the table isn't a file, if the counter of bindings or of recipes
 /// has reached its maximum and a number is needed, or if memory runs out.
-#[tactic(auto, using(crate::proofs::Loop::moved, crate::proofs::Loop::moved_on))]
+#[tactic(auto, using(crate::proofs::CounterSteps::unmoved, crate::proofs::Loop::moved, crate::proofs::Loop::moved_on))]
 pub fn parse_items<'src, X: Expander>(
     parser: &mut TokenCursor<'_, 'src, X>,
     numerator: &mut Numerator,
@@ -45,7 +51,7 @@ pub fn parse_items<'src, X: Expander>(
     ensures moved { CountersMoved numerator.old numerator.new
         (identifiers (map significant_of (state_of X.answer parser.old).left)) }
 {
-    let mut items = Vec::new(parser.alloc);
+    let mut items = Vec::with_capacity(parser.alloc, parser.tokens.len() / TOKENS_OF_AN_ITEM)?;
     'lines: loop {
         if let Some(_end) = parser.accept(TokenKind::Eof) {
             expect_nothing(parser)?;
@@ -90,30 +96,65 @@ fn parse_line<'src, X: Expander>(
         push_line_end(items)?;
         return Ok(());
     }
-    let item = parse_item(parser, numerator)?;
-    let has_body = push_parsed(items, item)?;
-    parse_item_end(parser, has_body, items)?;
+    parse_item_line(parser, items, numerator)
+}
+
+/// Parses a line that isn't blank: an item and its end. Appends both. Requires that no expression
+/// is open.
+fn parse_item_line<'src, X: Expander>(
+    parser: &mut TokenCursor<'_, 'src, X>,
+    items: &mut Vec<Item<'src>>,
+    numerator: &mut Numerator,
+) -> Result<(), ParseError<'src>>
+    requires closed { (state_of X.answer parser.old).depth ≡ 0 }
+    requires item { accept kinds.Eol (state_of X.answer parser.old) ≡ None }
+    ensures reads { ParsesCounted X.answer (λ _. map item_tree items.new.items) result
+        numerator.new parser.old parser.new (λ s. after_numbered (map item_tree items.old.items)
+        (reader.line (counters_of numerator.old) s)) }
+    ensures fields { OnOk result (KeepsDerivedFields items.old.items items.new.items) }
+    ensures progress { OnOk result (tokens_left parser.new < tokens_left parser.old) }
+    ensures moved { CountersMoved numerator.old numerator.new
+        (identifiers (map significant_of (state_of X.answer parser.old).left)) }
+{
+    parse_item(parser, items, numerator)?;
+    end_item(parser, items)?;
     Ok(())
 }
 
-/// Parses an item that begins a line. Requires that no expression is open.
-#[tactic(auto, using(crate::proofs::CounterSteps::unmoved), unfolding(justfile_model::specs::Readers::Reader::any_item, justfile_parse_expression::specs::TableReader::leaves))]
+/// Parses an item that begins a line, and appends it. Requires that no expression is open.
+#[tactic(auto, using(crate::proofs::CounterSteps::unmoved, crate::proofs::Pushes::appends), unfolding(justfile_model::specs::Readers::Reader::any_item, justfile_parse_expression::specs::TableReader::leaves))]
 fn parse_item<'src, X: Expander>(
     parser: &mut TokenCursor<'_, 'src, X>,
+    items: &mut Vec<Item<'src>>,
     numerator: &mut Numerator,
-) -> Result<Item<'src>, ParseError<'src>>
+) -> Result<(), ParseError<'src>>
     requires { (state_of X.answer parser.old).depth ≡ 0 }
-    ensures reads { ParsesCounted X.answer item_tree result numerator.new parser.old parser.new
-        (reader.any_item (counters_of numerator.old)) }
-    ensures fields { IfOk result HasDerivedItemFields }
+    ensures reads { ParsesCounted X.answer (λ _. last_tree items.new.items) result numerator.new
+        parser.old parser.new (reader.any_item (counters_of numerator.old)) }
+    ensures appended { OnOk result (AppendsItem items.old.items items.new.items) }
     ensures progress { OnOk result (tokens_left parser.new < tokens_left parser.old) }
     ensures moved { CountersMoved numerator.old numerator.new
         (identifiers (map significant_of (state_of X.answer parser.old).left)) }
 {
     if let Some(comment) = parser.accept(TokenKind::Comment) {
-        return Ok(make_comment(comment.0));
+        return push_construct(items, make_comment(comment.0));
     }
-    parse_construct(parser, numerator)
+    parse_construct(parser, items, numerator)
+}
+
+/// Parses the end of the last item, and appends the line end.
+fn end_item<'src, X: Expander>(
+    parser: &mut TokenCursor<'_, 'src, X>,
+    items: &mut Vec<Item<'src>>,
+) -> Result<(), ExpressionError<'src>>
+    ensures reads { Parses X.answer (λ _. map item_tree items.new.items) result parser.old
+        parser.new (λ s. prepend (map item_tree items.old.items)
+        (reader.item_end (has_body (last_tree items.old.items)) s)) }
+    ensures fields { OnOk result (KeepsDerivedFields items.old.items items.new.items) }
+    ensures progress { OnOk result (tokens_left parser.new ≤ tokens_left parser.old) }
+{
+    let has_body = ends_in_body(items);
+    parse_item_end(parser, has_body, items)
 }
 
 /// Parses the end of an item, and appends the line end. After a body the next token begins a line
@@ -157,8 +198,7 @@ fn parse_after_item<'src, X: Expander>(
     }
 }
 
-/// Parses the end of a line, which is an item of its own, or finds the end of the file, which it
-/// doesn't take.
+/// Parses the end of a line, which is an item. At the end of the file it takes nothing.
 #[tactic(auto, using(crate::proofs::Lines::line_end_closes, crate::proofs::Lines::line_end_newline, crate::proofs::DerivedItemFields::newline_fields, crate::proofs::DerivedItemFields::same_fields))]
 fn parse_line_end<'src, X: Expander>(
     parser: &mut TokenCursor<'_, 'src, X>,
@@ -186,36 +226,26 @@ fn make_comment<'src>(comment: Token<'src>) -> Item<'src>
     Item::Comment(comment.lexeme().trim_end())
 }
 
-/// Appends an item, and returns whether it has a body. An `if` asks for that, because the checker
-/// reaches its limit at a `let` of it (`docs/TOOLCHAIN.md`, "could not tell").
-fn push_parsed<'src>(
-    items: &mut Vec<Item<'src>>,
-    item: Item<'src>,
-) -> Result<bool, ExpressionError<'src>>
-    ensures trees { UnlessMemory result (λ done. map item_tree items.new.items
-        ≡ map item_tree items.old.items ++ item_tree item.entry ∷ []) }
-    ensures pushed { OnOk result (items.new.items ≡ items.old.items ++ item.entry ∷ []) }
-    ensures body { IfOk result (λ answer. answer ≡ has_body (item_tree item.entry)) }
+/// Whether the last item has a body. Takes the list as `&mut`, and leaves it unchanged: the checker
+/// reaches its limit at a shared reference to it in the caller (`docs/TOOLCHAIN.md`, "could not
+/// tell").
+fn ends_in_body(items: &mut Vec<Item<'_>>) -> bool
+    ensures body { result ≡ has_body (last_tree items.old.items) }
+    ensures unchanged { items.new.items ≡ items.old.items }
 {
-    if is_bodied(&item) {
-        return push_known(items, item, true);
-    }
-    push_known(items, item, false)
+    has_last_body(items.as_slice())
 }
 
-/// Appends an item, and returns `has_body`, which tells whether it has a body.
-fn push_known<'src>(
-    items: &mut Vec<Item<'src>>,
-    item: Item<'src>,
-    has_body: bool,
-) -> Result<bool, ExpressionError<'src>>
-    ensures trees { UnlessMemory result (λ done. map item_tree items.new.items
-        ≡ map item_tree items.old.items ++ item_tree item.entry ∷ []) }
-    ensures pushed { OnOk result (items.new.items ≡ items.old.items ++ item.entry ∷ []) }
-    ensures body { IfOk result (λ answer. answer ≡ has_body) }
+/// Whether the last of these items has a body.
+#[tactic(auto, using(crate::proofs::Pushes::last_at, crate::proofs::Pushes::last_none))]
+fn has_last_body(items: &[Item<'_>]) -> bool
+    ensures { result ≡ has_body (last_tree items.now) }
 {
-    push_item(items, item)?;
-    Ok(has_body)
+    let count = items.len();
+    if count == 0 {
+        return false;
+    }
+    is_bodied(&items[count - 1])
 }
 
 /// Whether the item is a recipe with a body. It wraps the method, to state the result over the tree
@@ -226,12 +256,29 @@ fn is_bodied(item: &Item<'_>) -> bool
     item.has_body()
 }
 
+/// Appends an item that was parsed.
+///
+/// # Errors
+///
+/// A `ParseError` if memory runs out.
+#[inline(always)]
+pub(crate) fn push_construct<'src>(
+    items: &mut Vec<Item<'src>>,
+    item: Item<'src>,
+) -> Result<(), ParseError<'src>>
+    ensures { Pushes item.entry items.old.items items.new.items result }
+{
+    push_item(items, item)?;
+    Ok(())
+}
+
 /// Appends an item. Reserves room first: a push that can fail would return the item on failure,
 /// which costs one more copy.
 ///
 /// # Errors
 ///
 /// `AllocError` if memory runs out.
+#[inline(always)]
 fn push_item<'src>(items: &mut Vec<Item<'src>>, item: Item<'src>) -> Result<(), AllocError>
     ensures trees { OnOk result (map item_tree items.new.items
         ≡ map item_tree items.old.items ++ item_tree item.entry ∷ []) }

@@ -1,14 +1,14 @@
 //! Recipes, from their attributes to the ends of their bodies.
-ghost use Rattle.std.specs.Prelude.{◌≡◌, ◌<◌, ◌||◌, IfOk, OnErr, OnOk, map};
+ghost use Rattle.std.specs.Prelude.{◌≡◌, ◌<◌, ◌||◌, OnErr, OnOk, map};
 ghost use Rattle.justfile_attribute_set.specs.AttributeSet.{attributes_of};
 ghost use Rattle.justfile_attribute_set.specs.Attributes.{has_kind};
 ghost use Rattle.justfile_vocabulary.specs.declared.attribute_kind.AttributeKind.TheVariants as kinds;
 ghost use Rattle.justfile_model.specs.Lexing.SignificantTokens.{identifiers};
 ghost use Rattle.justfile_parse_item.specs.ItemTable as reader;
 ghost use Rattle.justfile_parse_item.specs.MethodResults.{CountersMoved};
-ghost use Rattle.justfile_parse_item.specs.Tree.{recipe_tree};
+ghost use Rattle.justfile_parse_item.specs.Pushes.{AppendsItem, last_tree};
 ghost use Rattle.justfile_parse_item_parts.specs.BodyTrees.{line_tree};
-ghost use Rattle.justfile_parse_item.specs.DerivedFields.{HaveDerivedPairFields, HasDerivedRecipeFields};
+ghost use Rattle.justfile_parse_item.specs.DerivedFields.{HaveDerivedPairFields};
 ghost use Rattle.justfile_parse_attribute.specs.Attributes.{entries_of};
 ghost use Rattle.justfile_parse_expression.specs.Significant.{significant_of};
 ghost use Rattle.justfile_parse_expression.specs.TableReader.{State};
@@ -17,9 +17,10 @@ ghost use Rattle.justfile_parse_base.specs.Counting.{ReadsCountedExpression, cou
 
 use crate::accept::accept_kind;
 use crate::attribute_checks::check_exclusions;
+use crate::items::push_construct;
 use justfile_attribute::Attribute;
 use justfile_attribute_set::AttributeSet;
-use justfile_item::{UnresolvedRecipe, is_private_item};
+use justfile_item::{Item, UnresolvedRecipe, is_private_item};
 use justfile_line::Line;
 use justfile_parse_base::{ParseError, comment_text};
 use justfile_parse_expression::{ExpressionError, TokenCursor};
@@ -29,23 +30,25 @@ use justfile_token::{Expander, Name};
 use justfile_vocabulary::{AttributeKind, Number, Numerator, TokenKind};
 use justfile_written::Written;
 
-/// Parses a recipe after its attributes, with or without `@` before its name.
+/// Parses a recipe after its attributes, with or without `@` before its name, and appends it.
 #[tactic(auto, using(crate::proofs::Recipes::any_recipe_is))]
 pub(crate) fn parse_any_recipe<'src, X: Expander>(
     parser: &mut TokenCursor<'_, 'src, X>,
     attributes: Vec<(Attribute<'src>, Written<'src>)>,
+    items: &mut Vec<Item<'src>>,
     numerator: &mut Numerator,
-) -> Result<UnresolvedRecipe<'src>, ParseError<'src>>
+) -> Result<(), ParseError<'src>>
     requires { HaveDerivedPairFields attributes.items }
-    ensures reads { ParsesCounted X.answer recipe_tree result numerator.new parser.old parser.new
-        (reader.any_recipe (entries_of attributes.entry.items) (counters_of numerator.old)) }
-    ensures fields { IfOk result HasDerivedRecipeFields }
+    ensures reads { ParsesCounted X.answer (λ _. last_tree items.new.items) result numerator.new
+        parser.old parser.new (reader.any_recipe (entries_of attributes.entry.items)
+        (counters_of numerator.old)) }
+    ensures appended { OnOk result (AppendsItem items.old.items items.new.items) }
     ensures progress { OnOk result (tokens_left parser.new < tokens_left parser.old) }
     ensures moved { CountersMoved numerator.old numerator.new
         (identifiers (map significant_of (state_of X.answer parser.old).left)) }
 {
     let quiet = accept_kind(parser, TokenKind::At);
-    parse_recipe(parser, attributes, quiet, numerator)
+    parse_recipe(parser, attributes, quiet, items, numerator)
 }
 
 /// Parses a recipe from its name to its end: its header, and its body if it has one, with the
@@ -55,13 +58,14 @@ fn parse_recipe<'src, X: Expander>(
     parser: &mut TokenCursor<'_, 'src, X>,
     attributes: Vec<(Attribute<'src>, Written<'src>)>,
     quiet: bool,
+    items: &mut Vec<Item<'src>>,
     numerator: &mut Numerator,
-) -> Result<UnresolvedRecipe<'src>, ParseError<'src>>
+) -> Result<(), ParseError<'src>>
     requires { HaveDerivedPairFields attributes.items }
-    ensures reads { ParsesCounted X.answer recipe_tree result numerator.new parser.old parser.new
-        (reader.recipe quiet (entries_of attributes.entry.items)
+    ensures reads { ParsesCounted X.answer (λ _. last_tree items.new.items) result numerator.new
+        parser.old parser.new (reader.recipe quiet (entries_of attributes.entry.items)
         (counters_of numerator.old)) }
-    ensures fields { IfOk result HasDerivedRecipeFields }
+    ensures appended { OnOk result (AppendsItem items.old.items items.new.items) }
     ensures progress { OnOk result (tokens_left parser.new < tokens_left parser.old) }
     ensures moved { CountersMoved numerator.old numerator.new
         (identifiers (map significant_of (state_of X.answer parser.old).left)) }
@@ -74,22 +78,25 @@ fn parse_recipe<'src, X: Expander>(
     let number = next_recipe_number(numerator)?;
     let private = is_private_item(header.name.0, &attributes);
     let shebang = is_script(&attributes, body.1.as_slice());
-    Ok(UnresolvedRecipe {
-        attributes,
-        body: body.1,
-        comment: comment_text(body.0),
-        dependencies: header.dependencies,
-        doc: None,
-        file_depth: parser.file_depth,
-        import_offsets,
-        name: Name::from_identifier(header.name.0),
-        number,
-        parameters: header.parameters,
-        priors: header.priors,
-        private,
-        quiet,
-        shebang,
-    })
+    push_construct(
+        items,
+        Item::Recipe(UnresolvedRecipe {
+            attributes,
+            body: body.1,
+            comment: comment_text(body.0),
+            dependencies: header.dependencies,
+            doc: None,
+            file_depth: parser.file_depth,
+            import_offsets,
+            name: Name::from_identifier(header.name.0),
+            number,
+            parameters: header.parameters,
+            priors: header.priors,
+            private,
+            quiet,
+            shebang,
+        }),
+    )
 }
 
 /// Returns the number of the next recipe.

@@ -1,13 +1,14 @@
 //! Aliases, settings and `unexport`s: a keyword, a name, and at most a target or a value.
-ghost use Rattle.std.specs.Prelude.{◌<◌, IfOk, OnOk};
+ghost use Rattle.std.specs.Prelude.{◌<◌, OnOk};
 ghost use Rattle.justfile_parse_item.specs.ItemTable as reader;
 ghost use Rattle.justfile_parse_item.specs.MethodResults.{ParsesUncounted};
-ghost use Rattle.justfile_parse_item.specs.Tree.{item_tree};
-ghost use Rattle.justfile_parse_item.specs.DerivedFields.{HaveDerivedPairFields, HasDerivedItemFields};
+ghost use Rattle.justfile_parse_item.specs.Pushes.{AppendsItem, last_tree};
+ghost use Rattle.justfile_parse_item.specs.DerivedFields.{HaveDerivedPairFields};
 ghost use Rattle.justfile_parse_attribute.specs.Attributes.{entries_of};
 ghost use Rattle.justfile_parse_expression.specs.View.{tokens_left};
 
 use crate::attribute_checks::check_allowed;
+use crate::items::push_construct;
 use justfile_attribute::Attribute;
 use justfile_item::{Alias, Item, Set};
 use justfile_parse_base::{ParseError, parse_namepath};
@@ -22,22 +23,26 @@ use justfile_written::Written;
 pub(crate) fn parse_alias<'src, X: Expander>(
     parser: &mut TokenCursor<'_, 'src, X>,
     attributes: Vec<(Attribute<'src>, Written<'src>)>,
-) -> Result<Item<'src>, ParseError<'src>>
+    items: &mut Vec<Item<'src>>,
+) -> Result<(), ParseError<'src>>
     requires { HaveDerivedPairFields attributes.items }
-    ensures reads { ParsesUncounted X.answer item_tree result parser.old parser.new
-        (reader.alias (entries_of attributes.entry.items)) }
-    ensures fields { IfOk result HasDerivedItemFields }
+    ensures reads { ParsesUncounted X.answer (λ _. last_tree items.new.items) result
+        parser.old parser.new (reader.alias (entries_of attributes.entry.items)) }
+    ensures appended { OnOk result (AppendsItem items.old.items items.new.items) }
     ensures progress { OnOk result (tokens_left parser.new < tokens_left parser.old) }
 {
     let name = parser.expect(TokenKind::Identifier)?;
     parser.expect(TokenKind::ColonEquals)?;
     let target = parse_namepath(parser)?;
     let attributes = check_allowed(parser.alloc, ItemKind::Alias, attributes, name)?;
-    Ok(Item::Alias(Alias {
-        attributes,
-        name: Name::from_identifier(name.0),
-        target,
-    }))
+    push_construct(
+        items,
+        Item::Alias(Alias {
+            attributes,
+            name: Name::from_identifier(name.0),
+            target,
+        }),
+    )
 }
 
 /// Parses a setting after its attributes and `set`: its name and its value.
@@ -45,22 +50,26 @@ pub(crate) fn parse_alias<'src, X: Expander>(
 pub(crate) fn parse_set<'src, X: Expander>(
     parser: &mut TokenCursor<'_, 'src, X>,
     attributes: Vec<(Attribute<'src>, Written<'src>)>,
-) -> Result<Item<'src>, ParseError<'src>>
+    items: &mut Vec<Item<'src>>,
+) -> Result<(), ParseError<'src>>
     requires { HaveDerivedPairFields attributes.items }
-    ensures reads { ParsesUncounted X.answer item_tree result parser.old parser.new
-        (reader.setting (entries_of attributes.entry.items)) }
-    ensures fields { IfOk result HasDerivedItemFields }
+    ensures reads { ParsesUncounted X.answer (λ _. last_tree items.new.items) result
+        parser.old parser.new (reader.setting (entries_of attributes.entry.items)) }
+    ensures appended { OnOk result (AppendsItem items.old.items items.new.items) }
     ensures progress { OnOk result (tokens_left parser.new < tokens_left parser.old) }
 {
     let name = parser.expect(TokenKind::Identifier)?;
     let keyword = setting_keyword(parser.alloc, name)?;
     let attributes = check_allowed(parser.alloc, ItemKind::Setting, attributes, name)?;
     let value = parse_setting_value(parser, name, keyword)?;
-    Ok(Item::Setting(Set {
-        attributes,
-        name: Name::from_identifier(name.0),
-        value,
-    }))
+    push_construct(
+        items,
+        Item::Setting(Set {
+            attributes,
+            name: Name::from_identifier(name.0),
+            value,
+        }),
+    )
 }
 
 /// Parses an `unexport` after its attributes and the keyword: a name.
@@ -68,17 +77,21 @@ pub(crate) fn parse_set<'src, X: Expander>(
 pub(crate) fn parse_unexport<'src, X: Expander>(
     parser: &mut TokenCursor<'_, 'src, X>,
     attributes: Vec<(Attribute<'src>, Written<'src>)>,
-) -> Result<Item<'src>, ParseError<'src>>
+    items: &mut Vec<Item<'src>>,
+) -> Result<(), ParseError<'src>>
     requires { HaveDerivedPairFields attributes.items }
-    ensures reads { ParsesUncounted X.answer item_tree result parser.old parser.new
-        (reader.unexport (entries_of attributes.entry.items)) }
-    ensures fields { IfOk result HasDerivedItemFields }
+    ensures reads { ParsesUncounted X.answer (λ _. last_tree items.new.items) result
+        parser.old parser.new (reader.unexport (entries_of attributes.entry.items)) }
+    ensures appended { OnOk result (AppendsItem items.old.items items.new.items) }
     ensures progress { OnOk result (tokens_left parser.new < tokens_left parser.old) }
 {
     let name = parser.expect(TokenKind::Identifier)?;
     let attributes = check_allowed(parser.alloc, ItemKind::Unexport, attributes, name)?;
-    Ok(Item::Unexport {
-        attributes,
-        name: Name::from_identifier(name.0),
-    })
+    push_construct(
+        items,
+        Item::Unexport {
+            attributes,
+            name: Name::from_identifier(name.0),
+        },
+    )
 }

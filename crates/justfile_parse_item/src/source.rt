@@ -1,14 +1,15 @@
 //! Imports and modules: the items that name another file.
-ghost use Rattle.std.specs.Prelude.{◌<◌, IfOk, OnOk};
+ghost use Rattle.std.specs.Prelude.{◌<◌, OnOk};
 ghost use Rattle.justfile_parse_item.specs.ItemTable as reader;
 ghost use Rattle.justfile_parse_item.specs.MethodResults.{ParsesUncounted};
-ghost use Rattle.justfile_parse_item.specs.Tree.{item_tree};
-ghost use Rattle.justfile_parse_item.specs.DerivedFields.{HaveDerivedPairFields, HasDerivedItemFields};
+ghost use Rattle.justfile_parse_item.specs.Pushes.{AppendsItem, last_tree};
+ghost use Rattle.justfile_parse_item.specs.DerivedFields.{HaveDerivedPairFields};
 ghost use Rattle.justfile_parse_attribute.specs.Attributes.{entries_of};
 ghost use Rattle.justfile_parse_expression.specs.View.{tokens_left};
 
 use crate::accept::accept_kind;
 use crate::attribute_checks::check_allowed;
+use crate::items::push_construct;
 use justfile_attribute::Attribute;
 use justfile_item::Item;
 use justfile_parse_base::ParseError;
@@ -23,15 +24,16 @@ use justfile_written::Written;
 pub(crate) fn parse_import<'src, X: Expander>(
     parser: &mut TokenCursor<'_, 'src, X>,
     attributes: Vec<(Attribute<'src>, Written<'src>)>,
-) -> Result<Item<'src>, ParseError<'src>>
+    items: &mut Vec<Item<'src>>,
+) -> Result<(), ParseError<'src>>
     requires { HaveDerivedPairFields attributes.items }
-    ensures reads { ParsesUncounted X.answer item_tree result parser.old parser.new
-        (reader.import (entries_of attributes.entry.items)) }
-    ensures fields { IfOk result HasDerivedItemFields }
+    ensures reads { ParsesUncounted X.answer (λ _. last_tree items.new.items) result
+        parser.old parser.new (reader.import (entries_of attributes.entry.items)) }
+    ensures appended { OnOk result (AppendsItem items.old.items items.new.items) }
     ensures progress { OnOk result (tokens_left parser.new < tokens_left parser.old) }
 {
     let optional = accept_kind(parser, TokenKind::QuestionMark);
-    parse_imported(parser, optional, attributes)
+    parse_imported(parser, optional, attributes, items)
 }
 
 /// Parses the path of an import.
@@ -40,20 +42,24 @@ fn parse_imported<'src, X: Expander>(
     parser: &mut TokenCursor<'_, 'src, X>,
     optional: bool,
     attributes: Vec<(Attribute<'src>, Written<'src>)>,
-) -> Result<Item<'src>, ParseError<'src>>
+    items: &mut Vec<Item<'src>>,
+) -> Result<(), ParseError<'src>>
     requires { HaveDerivedPairFields attributes.items }
-    ensures reads { ParsesUncounted X.answer item_tree result parser.old parser.new
-        (reader.imported optional (entries_of attributes.entry.items)) }
-    ensures fields { IfOk result HasDerivedItemFields }
+    ensures reads { ParsesUncounted X.answer (λ _. last_tree items.new.items) result
+        parser.old parser.new (reader.imported optional (entries_of attributes.entry.items)) }
+    ensures appended { OnOk result (AppendsItem items.old.items items.new.items) }
     ensures progress { OnOk result (tokens_left parser.new < tokens_left parser.old) }
 {
     let (literal, relative) = parse_file_path(parser)?;
     let attributes = check_allowed(parser.alloc, ItemKind::Import, attributes, &literal)?;
-    Ok(Item::Import {
-        attributes,
-        optional,
-        relative,
-    })
+    push_construct(
+        items,
+        Item::Import {
+            attributes,
+            optional,
+            relative,
+        },
+    )
 }
 
 /// Parses a module after its attributes and `mod`: `?` if it is optional, a name, and a path if it
@@ -62,15 +68,16 @@ fn parse_imported<'src, X: Expander>(
 pub(crate) fn parse_module<'src, X: Expander>(
     parser: &mut TokenCursor<'_, 'src, X>,
     attributes: Vec<(Attribute<'src>, Written<'src>)>,
-) -> Result<Item<'src>, ParseError<'src>>
+    items: &mut Vec<Item<'src>>,
+) -> Result<(), ParseError<'src>>
     requires { HaveDerivedPairFields attributes.items }
-    ensures reads { ParsesUncounted X.answer item_tree result parser.old parser.new
-        (reader.any_module (entries_of attributes.entry.items)) }
-    ensures fields { IfOk result HasDerivedItemFields }
+    ensures reads { ParsesUncounted X.answer (λ _. last_tree items.new.items) result
+        parser.old parser.new (reader.any_module (entries_of attributes.entry.items)) }
+    ensures appended { OnOk result (AppendsItem items.old.items items.new.items) }
     ensures progress { OnOk result (tokens_left parser.new < tokens_left parser.old) }
 {
     let optional = accept_kind(parser, TokenKind::QuestionMark);
-    parse_named_module(parser, optional, attributes)
+    parse_named_module(parser, optional, attributes, items)
 }
 
 /// Parses the name of a module, and its path if it has one.
@@ -79,21 +86,25 @@ fn parse_named_module<'src, X: Expander>(
     parser: &mut TokenCursor<'_, 'src, X>,
     optional: bool,
     attributes: Vec<(Attribute<'src>, Written<'src>)>,
-) -> Result<Item<'src>, ParseError<'src>>
+    items: &mut Vec<Item<'src>>,
+) -> Result<(), ParseError<'src>>
     requires { HaveDerivedPairFields attributes.items }
-    ensures reads { ParsesUncounted X.answer item_tree result parser.old parser.new
-        (reader.named_module optional (entries_of attributes.entry.items)) }
-    ensures fields { IfOk result HasDerivedItemFields }
+    ensures reads { ParsesUncounted X.answer (λ _. last_tree items.new.items) result
+        parser.old parser.new (reader.named_module optional (entries_of attributes.entry.items)) }
+    ensures appended { OnOk result (AppendsItem items.old.items items.new.items) }
     ensures progress { OnOk result (tokens_left parser.new < tokens_left parser.old) }
 {
     let name = parser.expect(TokenKind::Identifier)?;
     let relative = parse_optional_path(parser)?;
     let attributes = check_allowed(parser.alloc, ItemKind::Module, attributes, name)?;
-    Ok(Item::Module {
-        attributes,
-        doc: None,
-        name: Name::from_identifier(name.0),
-        optional,
-        relative,
-    })
+    push_construct(
+        items,
+        Item::Module {
+            attributes,
+            doc: None,
+            name: Name::from_identifier(name.0),
+            optional,
+            relative,
+        },
+    )
 }

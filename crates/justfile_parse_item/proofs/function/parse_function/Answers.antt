@@ -1,11 +1,15 @@
-use Rattle.std.proofs.Common.{map}
+use Rattle.std.proofs.Common.{◌∙◌, map}
 use Rattle.std.proofs.lemmas.Result.{err_from_is_err_and}
 use Rattle.justfile_model.specs.Readers.ReaderState as reading
 use Rattle.justfile_parse_attribute.specs.Attributes.{entry_of_pair}
 use Rattle.justfile_parse_expression.specs.View.{state_of}
 use Rattle.justfile_parse_base.specs.Counting.{counters_of, identifiers_left}
-use Rattle.justfile_parse_item.proofs.ItemErrors.{function_attributes_fail, function_errs}
+use Rattle.justfile_parse_item.proofs.ItemErrors.{function_attributes_fail, function_errs, function_read}
 use Rattle.justfile_parse_item.proofs.CounterSteps.{function_moved}
+use Rattle.std.proofs.Common.{refl}
+use Rattle.justfile_parse_item.specs.ItemTable as reader
+use Rattle.justfile_parse_item.proofs.Pushes.{appends, reads}
+use Rattle.justfile_parse_expression.specs.TableReader.{leaves}
 use Rattle.justfile_parse_item.proofs.function.parse_function.Goals as goal
 
 pub returns-in_err-attributes-clause-reads : goal.returns-in_err-attributes-clause-reads
@@ -54,3 +58,22 @@ returns-clause-moved g c =
     let opened = state_of A c.expect-2.new.self in
     function_moved c.args.numerator.now c.parse_parameter_names.new.numerator (state_of A c.args.parser.now) (state_of A c.expect.new.self) opened c.in_ok-name.name.now c.in_ok-expect.field-0.now
     (identifiers_left (state_of A c.parse_parameter_names.new.parser)) c.in_ok-name.ensures.reads c.in_ok-expect.ensures.reads c.in_ok-parameters.ensures.numbers
+
+pub returns-clause-reads : goal.returns-clause-reads
+unfolding leaves
+returns-clause-reads g c =
+    let A = g.X.Expander.answer in
+    let ws = map entry_of_pair c.args.attributes.items in
+    let n = counters_of c.args.numerator.now in
+    let here = state_of A c.args.parser.now in
+    let named = state_of A c.expect.new.self in
+    let last = state_of A c.parse_expression.new.self in
+    reads _ c.args.items.now.items c.push_construct.new.items.items c.push_construct.result c.parse_parameter_names.new.numerator last
+    (reader.function ws n here) c.push_construct.ensures
+    (function_read ws n here c.in_ok-name.name.now named c.in_ok-name.ensures.reads c.in_ok-expect.field-0.now (state_of A c.expect-2.new.self) (c.in_ok-attributes.ensures.reads named)
+    c.in_ok-expect.ensures.reads _ (state_of A c.parse_parameter_names.new.parser) c.in_ok-parameters.ensures.reads _ _ c.in_ok-expect-2.ensures.reads _ last c.in_ok-body.ensures.reads
+    ∙ rw (c.in_ok-attributes.ensures.entries, c.from_identifier.ensures, c.into_inner.ensures) refl)
+
+pub returns-clause-appended : goal.returns-clause-appended
+returns-clause-appended g c =
+    appends _ c.args.items.now.items c.push_construct.new.items.items c.push_construct.result c.push_construct.ensures (c.in_ok-attributes.ensures.fields)

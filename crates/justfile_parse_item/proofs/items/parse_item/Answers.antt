@@ -1,8 +1,16 @@
-use Rattle.std.proofs.Common.{◌≡◌, subst, sym}
+use Rattle.std.proofs.Common.{◌≡◌, Ok, ap, subst, sym}
+use Rattle.std.specs.Prelude.{ℕ}
+use Rattle.justfile_token.specs.declared.token.Token.{Token}
+use Rattle.justfile_expression.specs.LeafTree.{Leaf}
+use Rattle.justfile_model.specs.Readers.Reader as files
+use Rattle.justfile_model.specs.Trees.Tree.{OrderedItem}
+use Rattle.justfile_parse_expression.specs.TableReader.{leaves}
 use Rattle.justfile_parse_expression.specs.View.{state_of}
 use Rattle.justfile_parse_expression.specs.declared.token_cursor.TokenCursor.{TokenCursor}
 use Rattle.justfile_parse_item.specs.MethodResults.{CountersMoved}
-use Rattle.justfile_parse_base.specs.Counting.{identifiers_left}
+use Rattle.justfile_parse_base.specs.Counting.{counters_of, identifiers_left}
+use Rattle.justfile_parse_item.specs.ItemTable.{ReadItem, any_item}
+use Rattle.justfile_parse_item.proofs.Pushes.{reads}
 use Rattle.justfile_parse_item.proofs.Hashes.{begins_hash}
 use Rattle.justfile_parse_item.proofs.items.parse_item.Goals as goal
 
@@ -20,3 +28,12 @@ returns-clause-moved g c =
     let A = g.X.Expander.answer in
     let P : TokenCursor _ → Type 0 = λ p. CountersMoved c.args.numerator.now c.parse_construct.new.numerator (identifiers_left (state_of A p)) in
     subst P c.in_default.ensures.moves c.parse_construct.ensures.moved
+
+pub returns-in-Some-clause-reads : goal.returns-in-Some-clause-reads
+unfolding files.any_item leaves
+returns-in-Some-clause-reads g c =
+    let A = g.X.Expander.answer in
+    let n = counters_of c.args.numerator.now in
+    reads c.make_comment.result c.args.items.now.items c.push_construct.new.items.items c.push_construct.result c.args.numerator.now (state_of A c.accept.new.self)
+    (any_item n (state_of A c.args.parser.now)) c.push_construct.ensures
+    (rw (c.in-Some.ensures.takes) (ap (λ (i : OrderedItem Leaf Token ℕ). Ok ((i, n), state_of A c.accept.new.self)) (sym c.make_comment.ensures.tree)))

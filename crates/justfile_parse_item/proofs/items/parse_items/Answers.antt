@@ -10,12 +10,12 @@ use Rattle.justfile_parse_item.proofs.items.parse_items.Goals as goal
 use Rattle.justfile_parse_base.specs.Counting.{counters_of}
 
 pub lines-init : goal.lines-init
-lines-init g c = rw c.new-items.ensures.items (begins (state_of g.X.Expander.answer c.args.parser.now) c.args.numerator.now c.requires)
+lines-init g c = rw c.in_ok-items.ensures.items (begins (state_of g.X.Expander.answer c.args.parser.now) c.args.numerator.now c.requires)
 
 pub returns-in_err-expect_nothing-clause-reads : goal.returns-in_err-expect_nothing-clause-reads
 returns-in_err-expect_nothing-clause-reads g c =
     let A = g.X.Expander.answer in
-    let p = err_from_is_err_and c.from_residual.result c.from_residual.ensures.1 in
+    let p = err_from_is_err_and c.from_residual-in_err-expect_nothing.result c.from_residual-in_err-expect_nothing.ensures.1 in
     rw (p.1, p.2)
     (goes_past (state_of A c.args.parser.now) (state_of A c.lines.parser) c.args.numerator.now c.lines.numerator c.lines.items.items c.lines.invariant
     c.in-Some._end.now (state_of A c.accept.new.self) c.in-Some.ensures.takes c.in_err-expect_nothing.field-0.0 _ c.in_err-expect_nothing.ensures)

@@ -7,7 +7,7 @@ use Rattle.justfile_line.specs.declared.line.Line.{Line}
 use Rattle.justfile_vocabulary.specs.declared.attribute_kind.AttributeKind.TheVariants as kinds
 use Rattle.justfile_vocabulary.specs.declared.numerator.Numerator.{Numerator}
 use Rattle.justfile_model.specs.Readers.ReaderState as reading
-use Rattle.justfile_parse_item.specs.ItemTable.{has_shebang}
+use Rattle.justfile_parse_item.specs.ItemTable.{has_shebang, recipe}
 use Rattle.justfile_parse_item.specs.MethodResults.{CountersMoved}
 use Rattle.justfile_parse_item_parts.specs.BodyTrees.{line_tree}
 use Rattle.justfile_parse_item.specs.DerivedFields.{is_private_item}
@@ -19,6 +19,7 @@ use Rattle.justfile_parse_base.specs.Counting.{counters_of, identifiers_left}
 use Rattle.justfile_parse_header.specs.Tree.{header_tree}
 use Rattle.justfile_parse_item.proofs.Constructs.{set_fields, pair_fields}
 use Rattle.justfile_parse_item.proofs.CounterSteps.{took_moved, recipe_moved}
+use Rattle.justfile_parse_item.proofs.Pushes.{appends, reads}
 use Rattle.justfile_parse_item.proofs.Recipes.{body_stops, exclusion_fails, header_fails, number_stops, recipe_named, recipe_read}
 use Rattle.justfile_parse_item.proofs.recipe.parse_recipe.Goals as goal
 
@@ -70,7 +71,8 @@ returns-clause-reads g c =
     let q = c.parse_body_after_header.new.parser in
     let u = state_of A q in
     let copied : c.in_ok-import_offsets.import_offsets.items ≡ q.import_offsets.now = search (rules, c.in_ok-import_offsets.ensures.items_if_clones_equal) in
-    recipe_read c.args.quiet (map entry_of_pair c.args.attributes.items) (counters_of c.args.numerator.now) (state_of A c.args.parser.now) (leaf_entries_of c.in_ok-attributes.attributes) (c.in_ok-attributes.ensures.entries (pair_fields c.args.attributes.items c.requires))
+    reads _ c.args.items.now.items c.push_construct.new.items.items c.push_construct.result c.next_recipe_number.new.numerator u (recipe c.args.quiet (map entry_of_pair c.args.attributes.items) (counters_of c.args.numerator.now) (state_of A c.args.parser.now)) c.push_construct.ensures
+    (recipe_read c.args.quiet (map entry_of_pair c.args.attributes.items) (counters_of c.args.numerator.now) (state_of A c.args.parser.now) (leaf_entries_of c.in_ok-attributes.attributes) (c.in_ok-attributes.ensures.entries (pair_fields c.args.attributes.items c.requires))
     (header_tree c.in_ok-header.header) (counters_of c.parse_header.new.numerator) (state_of A c.parse_header.new.parser) c.in_ok-header.ensures.reads
     (c.in_ok-body.body.0, map line_tree c.in_ok-body.body.1.items) u c.in_ok-body.ensures.reads (c.in_ok-check_exclusions.ensures u)
     c.in_ok-number.number.0 (counters_of c.next_recipe_number.new.numerator) (c.in_ok-number.ensures.reads u)
@@ -78,12 +80,12 @@ returns-clause-reads g c =
     _ _
     (recipe_named q.file_depth u.run.file_depth c.in_ok-import_offsets.import_offsets.items u.run.import_offsets c.from_identifier.result.token c.in_ok-header.header.name.0 c.in_ok-number.number
     (sym (file_depth_is A q)) (copied ∙ sym (import_offsets_are A q)) c.from_identifier.ensures)
-    c.comment_text.ensures refl
+    c.comment_text.ensures refl)
 
-pub returns-clause-fields : goal.returns-clause-fields
-returns-clause-fields g c =
+pub returns-clause-appended : goal.returns-clause-appended
+returns-clause-appended g c =
     let set = c.in_ok-attributes.attributes in
-    record {
+    appends _ c.args.items.now.items c.push_construct.new.items.items c.push_construct.result c.push_construct.ensures (record {
       attributes = set_fields c.args.attributes.items (written_of set) c.in_ok-attributes.ensures.pairs c.requires;
       parameters = c.in_ok-header.ensures.fields;
       priors = c.in_ok-header.ensures.priors;
@@ -91,7 +93,7 @@ returns-clause-fields g c =
       shebang =
           c.is_script-shebang.ensures
           ∙ ap (λ (lines : List Line). has_kind kinds.Script (attributes_of set) || has_shebang (map line_tree lines)) c.as_slice.ensures.value;
-    }
+    })
 
 pub returns-clause-moved : goal.returns-clause-moved
 returns-clause-moved g c =

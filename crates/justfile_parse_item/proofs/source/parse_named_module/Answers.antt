@@ -4,6 +4,11 @@ use Rattle.justfile_parse_item.specs.MethodResults.{ParsesUncounted}
 use Rattle.justfile_parse_attribute.specs.Attributes.{entry_of_pair}
 use Rattle.justfile_parse_expression.specs.View.{state_of}
 use Rattle.justfile_parse_item.proofs.ItemErrors.{module_errs}
+use Rattle.std.proofs.Common.{refl}
+use Rattle.justfile_model.specs.Readers.Reader as files
+use Rattle.justfile_parse_item.specs.ItemTable as reader
+use Rattle.justfile_parse_item.proofs.Pushes.{appends, reads_uncounted}
+use Rattle.justfile_parse_expression.specs.TableReader.{leaves}
 use Rattle.justfile_parse_item.proofs.source.parse_named_module.Goals as goal
 
 pub returns-in_err-attributes-clause-reads : goal.returns-in_err-attributes-clause-reads
@@ -15,3 +20,16 @@ returns-in_err-attributes-clause-reads g c =
     rw (p.1, p.2)
     (λ n. module_errs (map entry_of_pair c.args.attributes.items) n (state_of A c.args.parser.now) c.in_ok-name.name.now (state_of A c.expect.new.self) c.in_ok-name.ensures.reads
     c.args.optional _ there c.in_ok-relative.ensures.reads c.in_err-attributes.field-0.0 there (c.in_err-attributes.ensures.reads there))
+
+pub returns-clause-reads : goal.returns-clause-reads
+unfolding files.named_module leaves
+returns-clause-reads g c =
+    let A = g.X.Expander.answer in
+    let there = state_of A c.parse_optional_path.new.parser in
+    reads_uncounted A _ c.args.items.now.items c.push_construct.new.items.items c.push_construct.result c.args.parser.now c.parse_optional_path.new.parser
+    (reader.named_module c.args.optional (map entry_of_pair c.args.attributes.items)) c.push_construct.ensures
+    (λ n. rw (c.in_ok-name.ensures.reads, c.in_ok-relative.ensures.reads, c.in_ok-attributes.ensures.reads there, c.in_ok-attributes.ensures.entries, c.from_identifier.ensures) refl)
+
+pub returns-clause-appended : goal.returns-clause-appended
+returns-clause-appended g c =
+    appends _ c.args.items.now.items c.push_construct.new.items.items c.push_construct.result c.push_construct.ensures (c.in_ok-attributes.ensures.fields)
