@@ -170,7 +170,7 @@ sweep_all "a justfile, --check" --check
 cp "$top/examples/build.formatted.just" "$work/input"
 sweep_all "a formatted one, --check" --check
 printf 'a := b\nfoo:\n  {{}}\n' >"$work/input"
-sweep_all "a refused text" ""
+sweep_all "a rejected text" ""
 printf 'foo:\n  a\r\r\n' >"$work/input"
 sweep_all "an unprintable file" ""
 

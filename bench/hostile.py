@@ -59,8 +59,8 @@ LONG = {
     "arguments of one call": ("a := b(", "c, ", ")\n"),
 }
 
-# Texts that are refused, after a long part that is read over.
-REFUSED = {
+# Texts that are rejected, after a long part that is read over.
+REJECTED = {
     "blanks before an error": ("a := ", " ", "]\n"),
     "digits of a number": ("[arg('b', max='", "1", "')]\na *b:\n"),
 }
@@ -71,7 +71,7 @@ def row_texts():
     for name, (part, last) in ROWS.items():
         for place, (before, after) in PLACES.items():
             yield f"{name}, {place}", OPERANDS, lambda n: before + part * n + last + after
-        yield f"{name}, refused", OPERANDS, lambda n: "a := " + part * n + "\n"
+        yield f"{name}, rejected", OPERANDS, lambda n: "a := " + part * n + "\n"
 
 
 def compared_texts():
@@ -103,7 +103,7 @@ def part_texts():
         yield name, BYTES // len(part), lambda n: part * n
     for name, (before, part, after) in LONG.items():
         yield name, BYTES // len(part), lambda n: before + part * n + after
-    for name, (before, part, after) in REFUSED.items():
+    for name, (before, part, after) in REJECTED.items():
         yield name, 10 * BYTES, lambda n: before + part * n + after
 
 

@@ -12,7 +12,7 @@ use std::fmt;
 pub enum Answer {
     /// The number of the text's tokens.
     Tokens(usize),
-    /// The byte offset of the token at which the text is refused.
+    /// The byte offset of the token at which the text is rejected.
     Refused(usize),
 }
 

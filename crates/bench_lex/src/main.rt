@@ -1,5 +1,5 @@
 //! Lexes standard input, and prints the number of its tokens or the byte offset at which it is
-//! refused.
+//! rejected.
 #![tactic(auto)]
 
 mod answer;

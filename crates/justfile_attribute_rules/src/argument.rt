@@ -102,7 +102,7 @@ fn read_names<'src>(
     requires { AreKeyed keys.old }
     ensures read { Makes (λ _. rules_of rules.new) result
         (names_read name.entry.token (key_arguments keys.old) (rules_of rules.old)) }
-    ensures left { OnOk result (key_arguments keys.new ≡ after_names (key_arguments keys.old)) }
+    ensures rest { OnOk result (key_arguments keys.new ≡ after_names (key_arguments keys.old)) }
     ensures keyed { OnOk result (AreKeyed keys.new) }
 {
     read_long(alloc, name, keys, rules)?;
@@ -120,7 +120,7 @@ fn read_long<'src>(
     requires { AreKeyed keys.old }
     ensures read { Makes (λ _. rules_of rules.new) result (long_of name.entry.token
         (at (codes "long") (key_arguments keys.old)) (rules_of rules.old)) }
-    ensures left { IsTaken (codes "long") keys.old keys.new }
+    ensures removed { IsTaken (codes "long") keys.old keys.new }
 {
     match take_option(alloc, name, &rules.name, false, keys) {
         Ok(long) => {
@@ -152,7 +152,7 @@ fn read_short<'src>(
     requires { AreKeyed keys.old }
     ensures read { Makes (λ _. rules_of rules.new) result (short_of name.entry.token
         (at (codes "short") (key_arguments keys.old)) (rules_of rules.old)) }
-    ensures left { IsTaken (codes "short") keys.old keys.new }
+    ensures removed { IsTaken (codes "short") keys.old keys.new }
 {
     match take_option(alloc, name, &rules.name, true, keys) {
         Ok(short) => {
@@ -183,7 +183,7 @@ fn read_values<'src>(
     requires { AreKeyed keys.old }
     ensures read { Makes (λ _. rules_of rules.new) result
         (values_read name.entry.token (key_arguments keys.old) (rules_of rules.old)) }
-    ensures left { OnOk result (key_arguments keys.new ≡ after_values (key_arguments keys.old)) }
+    ensures rest { OnOk result (key_arguments keys.new ≡ after_values (key_arguments keys.old)) }
     ensures keyed { OnOk result (AreKeyed keys.new) }
 {
     rules.pattern_property = take_required(name, keys, "pattern")?;
@@ -201,7 +201,7 @@ fn read_switches<'src>(
     requires { AreKeyed keys.old }
     ensures read { Makes (λ _. rules_of rules.new) result
         (switches_read rules.old.name.token (key_arguments keys.old) (rules_of rules.old)) }
-    ensures left { OnOk result (key_arguments keys.new ≡ after_switches (key_arguments keys.old)) }
+    ensures rest { OnOk result (key_arguments keys.new ≡ after_switches (key_arguments keys.old)) }
     ensures keyed { OnOk result (AreKeyed keys.new) }
 {
     rules.flag = take_flag(alloc, keys, rules)?;
@@ -220,7 +220,7 @@ fn read_bounds<'src>(
     requires { AreKeyed keys.old }
     ensures read { Makes (λ _. rules_of rules.new) result
         (bounds_read name.entry.token (key_arguments keys.old) (rules_of rules.old)) }
-    ensures left { OnOk result (key_arguments keys.new ≡ after_bounds (key_arguments keys.old)) }
+    ensures rest { OnOk result (key_arguments keys.new ≡ after_bounds (key_arguments keys.old)) }
     ensures keyed { OnOk result (AreKeyed keys.new) }
 {
     let max = take_bound(alloc, name, keys, "max")?;

@@ -59,10 +59,10 @@ pub fn take_required<'src>(
     word: &str,
 ) -> CompileResult<'src, Option<(Name<'src>, Box<Expression<'src>>)>>
     requires { AreKeyed keys.old }
-    ensures taken { Makes (option_map property_of) result
+    ensures made { Makes (option_map property_of) result
         (new.if_given (new.property views_leaves name.entry.token)
         (at_key views_leaves word.now (key_arguments keys.old))) }
-    ensures left { IsTaken word.now keys.old keys.new }
+    ensures removed { IsTaken word.now keys.old keys.new }
 {
     match take(keys, word) {
         None => Ok(None),
@@ -82,9 +82,9 @@ pub fn take_value<'src>(
     word: &str,
 ) -> CompileResult<'src, Option<Box<Expression<'src>>>>
     requires { AreKeyed keys.old }
-    ensures taken { Makes (option_map (λ e. leaf_tree_of e.value)) result
+    ensures made { Makes (option_map (λ e. leaf_tree_of e.value)) result
         (new.required_at views_leaves name.entry.token word.now (key_arguments keys.old)) }
-    ensures left { IsTaken word.now keys.old keys.new }
+    ensures removed { IsTaken word.now keys.old keys.new }
 {
     match take(keys, word) {
         None => Ok(None),
@@ -101,7 +101,7 @@ pub fn take<'src>(
     requires { AreKeyed keys.old }
     ensures taken { option_map key_argument result
         ≡ at_key views_leaves word.now (key_arguments keys.old) }
-    ensures left { IsTaken word.now keys.old keys.new }
+    ensures removed { IsTaken word.now keys.old keys.new }
 {
     keys.remove(word)
 }

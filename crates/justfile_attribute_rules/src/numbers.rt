@@ -35,10 +35,10 @@ pub(crate) fn take_bound<'src>(
     word: &str,
 ) -> CompileResult<'src, Option<(Name<'src>, u64)>>
     requires { AreKeyed keys.old }
-    ensures taken { Makes (option_map bound_at) result
+    ensures made { Makes (option_map bound_at) result
         (new.if_given (new.bound views_leaves name.entry.token [])
         (at_key views_leaves word.now (key_arguments keys.old))) }
-    ensures left { IsTaken word.now keys.old keys.new }
+    ensures removed { IsTaken word.now keys.old keys.new }
 {
     match take(keys, word) {
         None => Ok(None),

@@ -34,10 +34,10 @@ pub(crate) fn take_option<'src>(
     keys: &mut KeyMap<'src>,
 ) -> CompileResult<'src, OptionName<'src>>
     requires { AreKeyed keys.old }
-    ensures taken { Makes (λ p. option_of p.1 p.0) result
+    ensures made { Makes (λ p. option_of p.1 p.0) result
         (new.option views_leaves name.entry.token (string_bytes argument.now.cooked) is_short
         (at_key views_leaves (option_word is_short) (key_arguments keys.old))) }
-    ensures left { IsTaken (option_word is_short) keys.old keys.new }
+    ensures removed { IsTaken (option_word is_short) keys.old keys.new }
 {
     let word = if is_short { "short" } else { "long" };
     match take(keys, word) {

@@ -28,10 +28,10 @@ pub(crate) fn take_value<'src>(
     rules: &ArgumentRules<'src>,
 ) -> CompileResult<'src, Option<Box<Expression<'src>>>>
     requires { AreKeyed keys.old }
-    ensures taken { Makes (option_map (λ e. leaf_tree_of e.value)) result
+    ensures made { Makes (option_map (λ e. leaf_tree_of e.value)) result
         (new.if_given (value_made (rules_of rules.now))
         (at_key views_leaves (codes "value") (key_arguments keys.old))) }
-    ensures left { IsTaken (codes "value") keys.old keys.new }
+    ensures removed { IsTaken (codes "value") keys.old keys.new }
 {
     match take(keys, "value") {
         None => Ok(None),
@@ -55,9 +55,9 @@ pub(crate) fn take_flag<'src>(
     rules: &ArgumentRules<'src>,
 ) -> CompileResult<'src, Option<Token<'src>>>
     requires { AreKeyed keys.old }
-    ensures taken { Makes (λ token. token) result (new.if_given (flag_made (rules_of rules.now))
+    ensures made { Makes (λ token. token) result (new.if_given (flag_made (rules_of rules.now))
         (at_key views_leaves (codes "flag") (key_arguments keys.old))) }
-    ensures left { IsTaken (codes "flag") keys.old keys.new }
+    ensures removed { IsTaken (codes "flag") keys.old keys.new }
 {
     match take(keys, "flag") {
         None => Ok(None),
@@ -112,9 +112,9 @@ pub(crate) fn take_multiple<'src>(
     rules: &ArgumentRules<'src>,
 ) -> CompileResult<'src, Option<Token<'src>>>
     requires { AreKeyed keys.old }
-    ensures taken { Makes (λ token. token) result (new.if_given (multiple_made (rules_of rules.now))
+    ensures made { Makes (λ token. token) result (new.if_given (multiple_made (rules_of rules.now))
         (at_key views_leaves (codes "multiple") (key_arguments keys.old))) }
-    ensures left { IsTaken (codes "multiple") keys.old keys.new }
+    ensures removed { IsTaken (codes "multiple") keys.old keys.new }
 {
     match take(keys, "multiple") {
         None => Ok(None),

@@ -405,7 +405,7 @@ fn find_row<'a, 'src>(
 
 /// Returns the right operand of an expression or the `else` branch of a conditional, if any.
 pub fn right_side<'a, 'src>(expression: &'a Expression<'src>) -> Option<&'a Expression<'src>>
-    ensures is { option_map (λ e. e.now) result ≡ right_side expression.now }
+    ensures right_side { option_map (λ e. e.now) result ≡ right_side expression.now }
     ensures smaller { IfSome result (IsLessDeep expression.now) }
 {
     match expression {

@@ -128,7 +128,7 @@ fn rejoin<'src>(expression: &mut Expression<'src>, parents: &mut Expression<'src
 
 /// Whether an expression has a right side. That one is less deep.
 fn has_right(expression: &Expression<'_>) -> bool
-    ensures is { result ≡ is_some (right_side expression.now) }
+    ensures has_right { result ≡ is_some (right_side expression.now) }
     ensures smaller { IfSome (right_side expression.now)
         (λ right. size-Expression right < size-Expression expression.now) }
 {

@@ -9,6 +9,7 @@ abbrev pub failure_of : Refusal → Failure
 failure_of (faults.Rejected lines) = failures.Rejected lines
 failure_of (faults.Exhausted what) = failures.Exhausted what
 
+-- 2 if the text is rejected; each other failure has the status 3
 abbrev pub failure_status : Failure → ℕ
 failure_status (failures.Rejected lines) = 2
 failure_status _ = 3

@@ -37,7 +37,10 @@ IsUnformatted _ = ⊥
 -- The file's report was written, if there is one.
 abbrev pub IsReported : Outcome → Type 0
 IsReported unreported = ⊥
-IsReported _ = Unit {0}
+IsReported formatted = Unit {0}
+IsReported (differs report) = Unit {0}
+IsReported rejected = Unit {0}
+IsReported failed = Unit {0}
 
 abbrev pub greatest : List ℕ → ℕ
 greatest [] = 0

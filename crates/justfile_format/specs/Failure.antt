@@ -5,6 +5,7 @@ use Rattle.justfile_canonical.specs.declared.fault.FormatFault.TheVariants as fa
 use Rattle.justfile_format.specs.declared.failure.Failure.{Failure}
 use Rattle.justfile_format.specs.declared.failure.Failure.TheVariants.{Usage, Reading, NotUtf8, Rejected, NotPrintable, Writing, Memory, Numbers}
 
+-- 2 if the text is rejected or can't be printed; each other failure has the status 3
 abbrev pub status_of : Failure → ℕ
 status_of (Rejected lines) = 2
 status_of NotPrintable = 2

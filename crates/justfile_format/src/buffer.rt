@@ -85,7 +85,8 @@ impl<W: Write> Buffer<'_, W> {
     }
 }
 
-/// What was written is what the other writer got and what is held, joined.
+/// What was written to the buffer: the bytes that the writer beneath got, and then those that are
+/// held.
 impl<W: Write> Write for Buffer<'_, W> {
     ghost use Rattle.justfile_format.specs.Buffered.{buffered};
 

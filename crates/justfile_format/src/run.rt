@@ -134,7 +134,7 @@ fn flush<W: Write>(writer: &mut W) -> Result<(), Failure>
 
 /// Whether the reader's input is its own canonical text.
 fn check<R: Read>(alloc: Global, reader: &mut R) -> Result<bool, Failure>
-    ensures same { result ≡ Ok true
+    ensures formatted { result ≡ Ok true
         → IfSome (R.remaining reader.old) (λ source. IsFormatted source source) }
     ensures differs { result ≡ Ok false → IfSome (R.remaining reader.old) Differs }
     ensures rejected { IfErr result

@@ -19,7 +19,7 @@ fn report(rt: &HostRuntime, call: &str, first: Outcome, again: Outcome) -> io::R
     println!(rt; "{call}: {}, then {}", first.name(), again.name())
 }
 
-/// Makes each call once, and writes its outcome and that of the same call after it.
+/// Makes each call once, and writes its outcome, and the outcome of the same call made again.
 pub(crate) fn run_once(rt: &HostRuntime, text: &str) -> io::Result<()> {
     match lex(rt.alloc(), text) {
         Ok(tokens) => lex_once(rt, text, &tokens)?,

@@ -143,11 +143,11 @@ pub fn needs()
 pub fn shapes()
     ensures spelled { (source : List ℕ) (tokens : List Tok) → Lexed source tokens
         → AllSpelled (significant_tokens tokens) }
-    ensures forget { (C : Conditions) (ts : List SignificantToken) → AllSpelled ts
+    ensures shape_of_tree { (C : Conditions) (ts : List SignificantToken) → AllSpelled ts
         → (tree : Tree) (features : List (Noted Tok))
         → FileDerives C ts tree features
         → ShapeDerives C ts (shape_of tree) (map (over_noted nothing) features) }
-    ensures lift { (C : Conditions) (ts : List SignificantToken) → AllSpelled ts
+    ensures tree_of_shape { (C : Conditions) (ts : List SignificantToken) → AllSpelled ts
         → (shape : Shape) (features : List (Noted (Unit {0})))
         → ShapeDerives C ts shape features
         → (tree : Tree) × (noted : List (Noted Tok)) × FileDerives C ts tree noted

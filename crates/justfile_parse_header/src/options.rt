@@ -157,7 +157,7 @@ fn check_long<'run, 'src>(
     recipe: Token<'src>,
     before: &mut BTreeSet<&'run str>,
 ) -> Result<(), ParseError<'src>>
-    ensures step { (s : State) → ReadsRuled
+    ensures reads { (s : State) → ReadsRuled
         (λ _. then_option (texts_in before.old) (long_in (leaf_attribute_of attribute.now))) result
         s (long_step recipe.entry (texts_in before.old) (leaf_attribute_of attribute.now) s) }
     ensures added { OnOk result (HaveSame

@@ -75,7 +75,7 @@ fn push_named<'src>(
     ensures named { OnOk result (HaveSame
         (texts_in names.old ++ lexeme_of parameter.entry.name.token ∷ []) (texts_in names.new)) }
     ensures kept { OnErr result (names.new.keys ≡ names.old.keys) }
-    ensures begins { take (length list.old.items) list.new.items ≡ list.old.items }
+    ensures keeps_earlier { take (length list.old.items) list.new.items ≡ list.old.items }
 {
     let name = parameter.name.lexeme();
     list.push(parameter)?;

@@ -225,7 +225,7 @@ fn refuse_setting<'src, X: Expander>(
 ) -> Result<Setting<'src>, ParseError<'src>>
     ensures reads { ParsesRuled X.answer leaf_value_of result parser.old parser.new
         (reader.after_operator (reader.no_setting name.now)) }
-    ensures never { OnOk result ⊥ }
+    ensures fails { OnOk result ⊥ }
 {
     parser.expect(TokenKind::ColonEquals)?;
     Err(rule_error(parser.alloc, unknown_setting_error(name.0)))

@@ -1,4 +1,4 @@
-//! Checks that each beginning of a text is parsed or refused, and that what it is printed to
+//! Checks that each beginning of a text is parsed or rejected, and that what it is printed to
 //! settles: prints to itself.
 
 use crate::expansion::Expansion;
@@ -57,7 +57,7 @@ fn is_file(answer: &mut Answer, text: &str) -> bool {
 }
 
 /// Writes what is wrong with the results for a text's beginnings, and then whether the text is a
-/// file or refused.
+/// file or rejected.
 pub(crate) fn beginnings(answer: &mut Answer, text: &str) {
     let mut beginning = Text::new(answer.alloc());
     let mut is_whole = is_file(answer, "");

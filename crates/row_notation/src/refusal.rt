@@ -1,4 +1,4 @@
-//! Why texts are refused, and where.
+//! Why texts are rejected, and where.
 
 use crate::answer::Answer;
 use justfile_token::{CompileError, CompileErrorKind, Fault, StringKind, StringLiteral};

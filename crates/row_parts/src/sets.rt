@@ -103,8 +103,8 @@ fn push_set<'src>(
     push_taken(set, answer);
 }
 
-/// Writes `remade` if the set that is made of what a set was taken apart to isn't equal to it,
-/// `untaken` if its attributes by value are others, and `filled` if a new set has attributes.
+/// Writes `remade` if a set that is taken apart and made again isn't equal to it, `untaken` if its
+/// attributes by value are others, and `filled` if a new set has attributes.
 fn push_taken(set: &AttributeSet<'_>, answer: &mut Answer) {
     match (remade(set, answer.alloc()), is_taken(set, answer.alloc())) {
         (Ok(is_remade), Ok(is_taken)) => {

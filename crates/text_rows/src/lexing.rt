@@ -162,7 +162,7 @@ fn push_lexical_fault(answer: &mut Answer, text: &str, fault: &Fault<'_>) {
     }
 }
 
-/// Lexes a text, and writes what a row's word asks for about it, or why it is refused.
+/// Lexes a text, and writes what a row's word asks for about it, or why it is rejected.
 pub(crate) fn lex(answer: &mut Answer, word: Word, text: &str) {
     match Lexer::lex(answer.alloc(), "justfile", text) {
         Ok(tokens) => push_lexed(answer, word, text, tokens.as_slice()),

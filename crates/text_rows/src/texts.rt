@@ -19,7 +19,7 @@ const LITERAL: Token<'static> = Token {
     src: "a := \"\"\n",
 };
 
-/// Writes the text that a text with escapes stands for, or why it is refused.
+/// Writes the text that a text with escapes stands for, or why it is rejected.
 pub(crate) fn cooks(answer: &mut Answer, text: &str) {
     match cook_string(answer.alloc(), LITERAL, text) {
         Ok(cooked) => answer.push(cooked.as_str()),

@@ -88,7 +88,7 @@ least_count kind = (positional kind).least
 abbrev pub most_count : AttributeKind → Option ℕ
 most_count kind = (positional kind).most
 
--- an item can have several attributes of this kind
+-- an item can have several attributes of this kind; no other kind is repeatable
 abbrev pub is_repeatable : AttributeKind → Bool
 is_repeatable Arg = true
 is_repeatable Env = true
@@ -96,11 +96,12 @@ is_repeatable Group = true
 is_repeatable Metadata = true
 is_repeatable _ = false
 
+-- the kind of the attribute `private`; no other kind is
 abbrev pub is_private_kind : AttributeKind → Bool
 is_private_kind Private = true
 is_private_kind _ = false
 
--- the kinds that a module can have besides those that enable it on a system
+-- the kinds that a module can have besides those that enable it on a system; no other kind is
 abbrev pub is_module_kind : AttributeKind → Bool
 is_module_kind Doc = true
 is_module_kind Group = true

@@ -194,7 +194,7 @@ module _ {A B : Type 0} (view : LeafView A B) where
 
   -- ---- the attributes of one item, by their meaning
 
-  -- for `arg` and `group`, the literal whose text only one attribute of an item can have
+  -- for `arg` and `group`, the literal whose text only one attribute of an item can have; no other kind has one
   abbrev pub label_of : Attribute A B → Option (Quoted A)
   label_of (tree.Arg rules) = Some rules.name
   label_of (tree.Texts kinds.Group texts) = first_of texts

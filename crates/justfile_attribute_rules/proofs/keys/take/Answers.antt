@@ -7,5 +7,5 @@ use Rattle.justfile_attribute_rules.proofs.keys.take.Goals as goal
 pub returns-clause-taken : goal.returns-clause-taken
 returns-clause-taken c = ap (option_map key_argument) c.remove.ensures.value ∙ found_is c.args.word.now c.args.keys.now c.requires
 
-pub returns-clause-left : goal.returns-clause-left
-returns-clause-left c = taken_is c.args.word.now c.args.keys.now c.remove.new.self c.requires c.remove.ensures.entries
+pub returns-clause-removed : goal.returns-clause-removed
+returns-clause-removed c = taken_is c.args.word.now c.args.keys.now c.remove.new.self c.requires c.remove.ensures.entries

@@ -8,7 +8,7 @@ use Rattle.justfile_expression.proofs.expression.find_row.Goals as goal
 
 pub loop-rest-init : goal.loop-rest-init
 loop-rest-init c = record {
-  in_row = begun c.new-row.result.items c.args.expression.now _ (search rules) c.right_side-rest.ensures.is;
+  in_row = begun c.new-row.result.items c.args.expression.now _ (search rules) c.right_side-rest.ensures.right_side;
   smaller = none_deep c.new-row.result.items c.args.expression.now (search rules);
   next_smaller = c.right_side-rest.ensures.smaller;
 }
@@ -19,7 +19,7 @@ loop-rest-smaller c = omega (arith, falls c.in-Some.next.now c.right_side-rest-i
 pub loop-rest-preserved : goal.loop-rest-preserved
 loop-rest-preserved c = record {
   in_row =
-      pushed c.loop-rest.row.items c.push.new.self.items c.in-Some.next c.args.expression.now _ c.in_ok-push.ensures.items c.right_side-rest-in-Some.ensures.is
+      pushed c.loop-rest.row.items c.push.new.self.items c.in-Some.next c.args.expression.now _ c.in_ok-push.ensures.items c.right_side-rest-in-Some.ensures.right_side
       (subst (λ (r : Option (Bor Expression)). IsRow (reverse c.loop-rest.row.items) c.args.expression.now (option_map (λ (e : Bor Expression). e.now) r)) c.in-Some.is c.loop-rest.invariant.in_row);
   smaller =
       pushed_deep c.loop-rest.row.items c.push.new.self.items c.in-Some.next c.loop-rest.rest c.args.expression.now c.in_ok-push.ensures.items c.in-Some.is

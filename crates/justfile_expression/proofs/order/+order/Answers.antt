@@ -85,7 +85,7 @@ compare-loop-rest-preserved t c = record {
   same =
       stepped (leaf_order c.args.leaves) c.in-Some.next.now c.in-Some-other_rest.other_next.now c.right_side-rest.result c.right_side-other_rest.result
       c.compare_left-order.result c.compare_after.result c.loop-rest.after c.then-after.result _ c.compare_left-order.ensures (no_difference c.compare_left-order.result (sym c.is_ne.ensures ∙ c.if-is_ne.false))
-      c.right_side-rest.ensures.is c.right_side-other_rest.ensures.is c.compare_after.ensures c.then-after.ensures
+      c.right_side-rest.ensures.right_side c.right_side-other_rest.ensures.right_side c.compare_after.ensures c.then-after.ensures
       (next_two (leaf_order c.args.leaves) c.loop-rest.rest c.loop-rest.other_rest c.in-Some.next c.in-Some-other_rest.other_next c.loop-rest.after _ c.in-Some.is c.in-Some-other_rest.is c.loop-rest.invariant.same);
 }
 

@@ -64,7 +64,7 @@ resolve_parts-returns t c =
 pub resolve_row-loop-expression-preserved : goal.resolve_row-loop-expression-preserved
 resolve_row-loop-expression-preserved t c =
     let numbers = numbers_of c.args.numbers.now in
-    let present = sym c.has_right.ensures.is ∙ c.loop-expression-test.true in
+    let present = sym c.has_right.ensures.has_right ∙ c.loop-expression-test.true in
     let same = same_right numbers c.resolve_left.new.expression c.loop-expression.expression c.resolve_left.ensures in
     record {
       shallow =
@@ -87,4 +87,4 @@ pub resolve_row-returns : goal.resolve_row-returns
 resolve_row-returns t c =
     c.loop-expression.invariant.whole c.resolve_left-2.new.expression
     (resolved_alone (numbers_of c.args.numbers.now) c.resolve_left-2.new.expression c.loop-expression.expression c.resolve_left-2.ensures
-    (sym c.has_right.ensures.is ∙ c.loop-expression-test.false))
+    (sym c.has_right.ensures.has_right ∙ c.loop-expression-test.false))

@@ -7,8 +7,8 @@ use Rattle.justfile_model.proofs.grammar_laws.shapes.Goals as goal
 pub returns : goal.returns
 returns c = record {
   spelled = lexed_spelled;
-  forget = file_forgets;
-  lift = file_lifts;
+  shape_of_tree = file_forgets;
+  tree_of_shape = file_lifts;
   one = λ C ts spelled. one_shape C ts spelled (one_tree C ts);
   texts = same_texts;
 }

@@ -25,11 +25,11 @@ attributes-preserved c =
     let rest = keys_left c.next.new.self in
     let later = then_option before (long_in (leaf_attribute_of a)) in
     longs_same c.args.recipe all later (texts_in c.check_long.new.before) rest c.in_ok-check_long.ensures.added
-    (longs_go_on c.args.recipe all before (keys_left c.attributes.left) c.attributes.invariant a rest c.in-Some.ensures.steps later c.in_ok-check_long.ensures.step)
+    (longs_go_on c.args.recipe all before (keys_left c.attributes.left) c.attributes.invariant a rest c.in-Some.ensures.steps later c.in_ok-check_long.ensures.reads)
 
 pub returns-in_err-check_long : goal.returns-in_err-check_long
 returns-in_err-check_long c s =
     let p = err_from_is_err_and c.from_residual.result c.from_residual.ensures.1 in
     rw (p.1, p.2)
     (longs_fail c.args.recipe (rules_of c.args.attributes.now) (texts_in c.attributes.before) (keys_left c.attributes.left) c.attributes.invariant
-    c.in-Some.attribute.now (keys_left c.next.new.self) c.in-Some.ensures.steps c.in_err-check_long.field-0.0 s (c.in_err-check_long.ensures.step s))
+    c.in-Some.attribute.now (keys_left c.next.new.self) c.in-Some.ensures.steps c.in_err-check_long.field-0.0 s (c.in_err-check_long.ensures.reads s))
