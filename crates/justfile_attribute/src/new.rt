@@ -233,7 +233,7 @@ pub fn takes_no_arguments(kind: AttributeKind) -> bool
     )
 }
 
-/// Returns the attribute of a kind that takes no arguments.
+/// Returns the attribute of this kind. Requires that the kind takes no arguments.
 pub fn plain_attribute<'src>(kind: AttributeKind) -> Attribute<'src>
     requires { IsTrue (takes_no_arguments kind) }
     ensures made { leaf_attribute_of result ≡ tree.Plain kind }

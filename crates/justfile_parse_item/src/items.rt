@@ -29,8 +29,8 @@ use justfile_token::{Expander, Token};
 use justfile_vocabulary::{Numerator, TokenKind};
 use std::alloc::AllocError;
 
-/// How many tokens an item has at least, on average, in most files: for the first room of the list
-/// of items.
+/// In most files an item has this many tokens or more, line ends among the items counted. The list
+/// of items begins with room by it.
 const TOKENS_OF_AN_ITEM: usize = 8;
 
 /// Parses the items up to the end of the file. Requires that no expression is open.
