@@ -125,9 +125,9 @@ fn compare_arg<'src>(attribute: &Attribute<'src>, other: &Attribute<'src>) -> Or
                 .then(compare_properties(pattern_property, other_pattern))
                 .then(compare_named(short, short_key, other_short, other_short_key))
                 .then(compare_optional(value, other_value)),
-            _ => Ordering::Equal,
+            _ => unreachable!(),
         },
-        _ => Ordering::Equal,
+        _ => unreachable!(),
     }
 }
 
@@ -151,7 +151,7 @@ fn compare_cache<'src>(
         } => compare_optional(extra, other_extra)
             .then(compare_optional(inputs, other_inputs))
             .then(compare_optional(outputs, other_outputs)),
-        _ => Ordering::Equal,
+        _ => unreachable!(),
     }
 }
 
@@ -166,7 +166,7 @@ fn compare_confirm<'src>(
 {
     match other {
         Attribute::Confirm(other) => compare_optional(prompt, other),
-        _ => Ordering::Equal,
+        _ => unreachable!(),
     }
 }
 
@@ -178,7 +178,7 @@ fn compare_continue<'src>(signals: &BTreeSet<Signal>, other: &Attribute<'src>) -
 {
     match other {
         Attribute::Continue(other) => signals.cmp(other),
-        _ => Ordering::Equal,
+        _ => unreachable!(),
     }
 }
 
@@ -190,7 +190,7 @@ fn compare_doc<'src>(doc: &Option<Box<Expression<'src>>>, other: &Attribute<'src
 {
     match other {
         Attribute::Doc(other) => compare_optional(doc, other),
-        _ => Ordering::Equal,
+        _ => unreachable!(),
     }
 }
 
@@ -209,7 +209,7 @@ fn compare_env<'src>(
         Attribute::Env(other_name, other_value) => {
             compare_expressions(name, other_name).then(compare_expressions(value, other_value))
         }
-        _ => Ordering::Equal,
+        _ => unreachable!(),
     }
 }
 
@@ -221,7 +221,7 @@ fn compare_extension<'src>(extension: &StringLiteral<'src>, other: &Attribute<'s
 {
     match other {
         Attribute::Extension(other) => literal_content_cmp(extension, other),
-        _ => Ordering::Equal,
+        _ => unreachable!(),
     }
 }
 
@@ -233,7 +233,7 @@ fn compare_group<'src>(group: &StringLiteral<'src>, other: &Attribute<'src>) -> 
 {
     match other {
         Attribute::Group(other) => literal_content_cmp(group, other),
-        _ => Ordering::Equal,
+        _ => unreachable!(),
     }
 }
 
@@ -245,7 +245,7 @@ fn compare_metadata<'src>(texts: &Vec<StringLiteral<'src>>, other: &Attribute<'s
 {
     match other {
         Attribute::Metadata(other) => compare_rows(texts, other),
-        _ => Ordering::Equal,
+        _ => unreachable!(),
     }
 }
 
@@ -260,7 +260,7 @@ fn compare_script<'src>(
 {
     match other {
         Attribute::Script(other) => compare_interpreters(interpreter, other),
-        _ => Ordering::Equal,
+        _ => unreachable!(),
     }
 }
 
@@ -275,7 +275,7 @@ fn compare_timestamp<'src>(
 {
     match other {
         Attribute::Timestamp(other) => compare_optional(format, other),
-        _ => Ordering::Equal,
+        _ => unreachable!(),
     }
 }
 
@@ -287,6 +287,6 @@ fn compare_working_directory<'src>(path: &Expression<'src>, other: &Attribute<'s
 {
     match other {
         Attribute::WorkingDirectory(other) => compare_expressions(path, other),
-        _ => Ordering::Equal,
+        _ => unreachable!(),
     }
 }

@@ -8,6 +8,7 @@ use Rattle.std.proofs.lemmas.Bool.Decides.{nat_tests}
 use Rattle.std.proofs.lemmas.List.{append-nil, append_assoc, length-map, reverse-append, reverse-reverse}
 use Rattle.std.proofs.lemmas.List.Elements.{All-contains, All-drop, All-head, All-tail, All-take, All-weaker}
 use Rattle.justfile_token.specs.CompileErrorKind.{tokens_in}
+use Rattle.justfile_token.specs.Modulepath.{names_of}
 use Rattle.justfile_token.specs.StringKind.{delimiter_len, kind_of}
 use Rattle.justfile_token.specs.StringLiteral.{begins_format_string}
 use Rattle.justfile_vocabulary.specs.declared.format_string_part.FormatStringPart.TheVariants as format_parts
@@ -68,7 +69,7 @@ use Rattle.justfile_literal.specs.Literal.{IsPartOf, is_framed, is_quoted}
 use Rattle.justfile_parse.specs.Errors.{IsErrorOf, IsTooDeepError}
 use Rattle.justfile_parse_expression.specs.Literal.{is_delimited, is_sound}
 use Rattle.justfile_parse.specs.Parsing.{HasNoTree, IsOneLex, IsParsed, IsParsedText, IsUnparsed}
-use Rattle.justfile_parse.specs.MethodResults.{IsRead, IsUnread}
+use Rattle.justfile_parse.specs.MethodResults.{IsRead, IsReadFile, IsUnread}
 use Rattle.justfile_parse_expression.specs.Significant.{significant_of}
 use Rattle.justfile_parse_expression.specs.Significant.{TableEntry}
 use Rattle.justfile_model.specs.Meanings.UnstableFeatures.{unstable_features}
@@ -520,11 +521,21 @@ module _ (conditions : Conditions) (tokens : List Token) (table : List TableEntr
       }
 
   -- the same of a result
-  pub parsed_if : All (λ entry. Contains tokens entry.0) table → (file_depth : ℕ) (import_offsets : List ℕ) (result : Result Ast Fault)
-      → IfOk result (λ ast. IsRead conditions table file_depth import_offsets (map significant_of table) old new (ast.items.items, ast.list_features.items)) → IfOk result (λ ast. ast.unstable_features.keys ≡ unstable_features (tree_of ast))
-      → IfOk result (IsParsed conditions (map tok_of tokens) (Contains tokens) file_depth import_offsets old new)
-  parsed_if all file_depth import_offsets (Ok ast) h unstable = parsed_of all file_depth import_offsets ast h unstable
-  parsed_if all file_depth import_offsets (Err fault) h unstable = tt
+  pub parsed_if : All (λ entry. Contains tokens entry.0) table → (file_depth : ℕ) (import_offsets : List ℕ) (names : List (List ℕ)) (directory : List ℕ) (result : Result Ast Fault)
+      → IfOk result (IsReadFile conditions table file_depth import_offsets names directory old new) → IfOk result (IsParsed conditions (map tok_of tokens) (Contains tokens) file_depth import_offsets old new)
+  parsed_if all file_depth import_offsets names directory (Ok ast) h = parsed_of all file_depth import_offsets ast h.read h.unstable
+  parsed_if all file_depth import_offsets names directory (Err fault) h = tt
+
+-- what was passed
+module _ {conditions : Conditions} {table : List TableEntry} {file_depth : ℕ} {import_offsets : List ℕ} {names : List (List ℕ)} {directory : List ℕ} {old new : Numerator} where
+  pub module_path_of : (result : Result Ast Fault) → IfOk result (IsReadFile conditions table file_depth import_offsets names directory old new) → IfOk result (λ ast. names_of ast.module_path ≡ names)
+  module_path_of (Ok ast) h = h.module_path
+  module_path_of (Err fault) h = tt
+
+  pub working_directory_of : (result : Result Ast Fault) → IfOk result (IsReadFile conditions table file_depth import_offsets names directory old new)
+      → IfOk result (λ ast. string_bytes ast.working_directory ≡ directory)
+  working_directory_of (Ok ast) h = h.working_directory
+  working_directory_of (Err fault) h = tt
 
 -- ---- a text
 

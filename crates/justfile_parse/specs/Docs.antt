@@ -1,11 +1,12 @@
 -- The docs of recipes and modules, taken from the comments before them, from the first item to the last.
-use Rattle.std.specs.Prelude.{ℕ, Bool, true, false, ◌-◌, List, [], ◌∷◌, ◌++◌, drop, length, map, take, Option, Some, None, reverse}
+use Rattle.std.specs.Prelude.{◌≡◌, ℕ, ◌<◌, ◌≤◌, Bool, true, false, ◌-◌, List, [], ◌∷◌, ◌++◌, drop, length, map, take, Option, Some, None, Vec, reverse, vec_len}
 use Rattle.justfile_token.specs.declared.token.Token.{Token}
 use Rattle.justfile_item.specs.declared.item.Item.{Item}
 use Rattle.justfile_model.specs.Grammars.Docs.{LineEnd, Nothing, doc_in, item_with_doc, can_take_doc}
 use Rattle.justfile_model.specs.Grammars.Files.{sets_doc}
 use Rattle.justfile_model.specs.Trees.Tree as tree
 use Rattle.justfile_model.specs.Trees.Tree.{OrderedItem}
+use Rattle.justfile_parse_item.specs.DerivedFields.{HaveDerivedFields}
 use Rattle.justfile_parse_item.specs.Tree.{item_tree}
 use Rattle.justfile_expression.specs.LeafTree.{Leaf}
 
@@ -56,3 +57,14 @@ with_items before (i ∷ items) = with_items (with_item before i) items
 -- dropped.
 abbrev pub taken_docs : (kept index : ℕ) → List Item → List LeafItem
 taken_docs kept index items = with_items (map item_tree (take kept items)) (map item_tree (drop index items))
+
+-- The first `kept` items are done, and there is one at `index`, which isn't yet. The derived fields of all are right.
+pub record IsNextItem (kept index : ℕ) (items : Vec Item) : Type 0 where
+  pub order : kept ≤ index
+  pub within : index < vec_len items
+  pub fields : HaveDerivedFields items.items
+
+-- There are as many items as before, and the derived fields of all are right.
+pub record IsWhole (old new : Vec Item) : Type 0 where
+  pub len : vec_len new ≡ vec_len old
+  pub fields : HaveDerivedFields new.items

@@ -1,6 +1,7 @@
 -- Reading a table of tokens returns what the definitions read.
-use Rattle.std.specs.Prelude.{◌≡◌, ℕ, ◌≤◌, List, All, Option, Some, None, Ok, Err, map}
+use Rattle.std.specs.Prelude.{◌≡◌, ℕ, ◌≤◌, List, All, Option, Some, None, Ok, Err, map, string_bytes}
 use Rattle.justfile_token.specs.CompileErrorKind.{tokens_in}
+use Rattle.justfile_token.specs.Modulepath.{names_of}
 use Rattle.justfile_vocabulary.specs.Numerator.{bindings_of, recipes_of}
 use Rattle.justfile_token.specs.declared.compile_error.CompileError.{CompileError}
 use Rattle.justfile_token.specs.declared.compile_error_kind.CompileErrorKind.{CompileErrorKind}
@@ -11,10 +12,12 @@ use Rattle.justfile_vocabulary.specs.declared.numerator.Numerator.{Numerator}
 use Rattle.justfile_token.specs.declared.token.Token.{Token}
 use Rattle.justfile_item.specs.Item.{item_of}
 use Rattle.justfile_item.specs.declared.item.Item.{Item}
-use Rattle.justfile_ast.specs.Ast.{noted_of}
+use Rattle.justfile_ast.specs.Ast.{noted_of, tree_of}
+use Rattle.justfile_ast.specs.declared.ast.Ast.{Ast}
 use Rattle.justfile_model.specs.Grammars.Features.{Noted}
 use Rattle.justfile_model.specs.Grammars.Conditions.{Conditions, with_limit}
 use Rattle.justfile_model.specs.Grammars.Files.{NumbersSuffice, ordered}
+use Rattle.justfile_model.specs.Meanings.UnstableFeatures.{unstable_features}
 use Rattle.justfile_model.specs.Trees.LeafView.{views_tokens}
 use Rattle.justfile_model.specs.Lexing.SignificantTokens.{SignificantToken}
 use Rattle.justfile_model.specs.Lexing.Tok.{Tok}
@@ -62,6 +65,14 @@ pub record IsRead (conditions : Conditions) (table : List TableEntry) (file_dept
   pub ordered_is : ordered (views_tokens conditions.expander) written ≡ Some (map item_of x.0)
   pub given : IsFilledItems conditions.expander (IsInTable table) file_depth import_offsets old new x.0
   pub noted : AreNotedIn table x.1
+
+-- The items and the features of the file were read. Its unstable features are those of its tree, and its module and its folder are those
+-- that were passed.
+pub record IsReadFile (conditions : Conditions) (table : List TableEntry) (file_depth : ℕ) (import_offsets : List ℕ) (names : List (List ℕ)) (directory : List ℕ) (old new : Numerator) (ast : Ast) : Type 0 where
+  pub read : IsRead conditions table file_depth import_offsets (map significant_of table) old new (ast.items.items, ast.list_features.items)
+  pub unstable : ast.unstable_features.keys ≡ unstable_features (tree_of ast)
+  pub module_path : names_of ast.module_path ≡ names
+  pub working_directory : string_bytes ast.working_directory ≡ directory
 
 -- The error is that of the read error, at a token that `IsToken` allows, and holds only such tokens.
 pub record IsReadError (conditions : Conditions) (tokens : List SignificantToken) (IsToken : Token → Type 0) (e : CompileError) : Type 0 where

@@ -1,5 +1,5 @@
 //! The docs of recipes and modules: the comments before them.
-ghost use Rattle.std.specs.Prelude.{◌≡◌, ◌+◌, ◌<◌, ◌≤◌, ◌&&◌, IfOk, IsTrue, OnOk, Some, codes, map, nat_eq, not, string_bytes, true, vec_len};
+ghost use Rattle.std.specs.Prelude.{◌≡◌, ◌+◌, ◌≤◌, ◌&&◌, IfOk, IsTrue, OnOk, Some, codes, map, nat_eq, not, string_bytes, true};
 ghost use Rattle.std.specs.List.{starts_with};
 ghost use Rattle.std.specs.Option.{is_some, option_map};
 ghost use Rattle.justfile_attribute_set.specs.AttributeSet.{attributes_of};
@@ -9,7 +9,7 @@ ghost use Rattle.justfile_model.specs.Grammars.Docs.{doc_in, documented, item_wi
 ghost use Rattle.justfile_model.specs.Grammars.Docs as before;
 ghost use Rattle.justfile_model.specs.Grammars.Files.{sets_doc};
 ghost use Rattle.justfile_item.specs.declared.item.Item.TheVariants as variants;
-ghost use Rattle.justfile_parse.specs.Docs.{comment_of, doc_before, is_line_end, item_can_take_doc, taken_docs};
+ghost use Rattle.justfile_parse.specs.Docs.{IsNextItem, IsWhole, comment_of, doc_before, is_line_end, item_can_take_doc, taken_docs};
 ghost use Rattle.justfile_parse_item.specs.Tree.{item_tree};
 ghost use Rattle.justfile_parse_item.specs.DerivedFields.{HaveDerivedFields, HasDerivedItemFields};
 
@@ -60,14 +60,11 @@ fn keep_item(
     kept: usize,
     index: usize,
 ) -> Result<usize, AllocError>
-    requires order { kept ≤ index }
-    requires within { index < vec_len items.old }
-    requires fields { HaveDerivedFields items.old.items }
+    requires { IsNextItem kept index items.old }
     ensures trees { IfOk result (λ count. taken_docs count (index + 1) items.new.items
         ≡ taken_docs kept index items.old.items) }
     ensures order { IfOk result (λ count. count ≤ index + 1) }
-    ensures len { vec_len items.new ≡ vec_len items.old }
-    ensures fields { HaveDerivedFields items.new.items }
+    ensures whole { IsWhole items.old items.new }
 {
     if is_line_end(&items[index]) {
         make_line_end(&mut items[kept]);
@@ -94,14 +91,11 @@ fn move_item(
     kept: usize,
     index: usize,
 ) -> Result<usize, AllocError>
-    requires order { kept ≤ index }
-    requires within { index < vec_len items.old }
-    requires fields { HaveDerivedFields items.old.items }
+    requires { IsNextItem kept index items.old }
     ensures trees { IfOk result (λ count. taken_docs count (index + 1) items.new.items
         ≡ taken_docs kept index items.old.items) }
     ensures order { IfOk result (λ count. count ≤ index + 1) }
-    ensures len { vec_len items.new ≡ vec_len items.old }
-    ensures fields { HaveDerivedFields items.new.items }
+    ensures whole { IsWhole items.old items.new }
 {
     if can_take_doc(&items[index]) {
         if let Some(doc) = find_doc(&items[..kept]) {

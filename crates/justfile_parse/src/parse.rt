@@ -1,19 +1,17 @@
 //! Files from tokens and from texts: the public calls, and how a file begins.
-ghost use Rattle.std.specs.Prelude.{◌≡◌, ◌<◌, ◌≤◌, All, List, length, map, Contains, IfOk, IfErr, OnErr, string_bytes};
+ghost use Rattle.std.specs.Prelude.{◌≡◌, ◌<◌, List, length, map, Contains, IfOk, IfErr, OnErr, string_bytes};
 ghost use Rattle.justfile_token.specs.Modulepath.{module_names, names_of};
 ghost use Rattle.justfile_vocabulary.specs.Numerator.{constants_of};
 ghost use Rattle.justfile_model.specs.Lexing.Lexed.{Lexed};
 ghost use Rattle.justfile_model.specs.Lexing.SignificantTokens.{identifiers, significant_tokens};
 ghost use Rattle.justfile_model.specs.Lexing.Tok.{Tok, tok_of};
-ghost use Rattle.justfile_model.specs.Meanings.UnstableFeatures.{unstable_features};
-ghost use Rattle.justfile_ast.specs.Ast.{tree_of};
 ghost use Rattle.justfile_parse.specs.Parsing.{HasNoTree, IsOneLex, IsParsed, IsParsedText, IsUnparsed};
 ghost use Rattle.justfile_parse_expression.specs.Conditions.{conditions_of};
 ghost use Rattle.justfile_parse_expression.specs.FormatStrings.{IsTable};
 ghost use Rattle.justfile_parse_item.specs.Filled.{IsInTable};
 ghost use Rattle.justfile_parse_item.specs.ItemTable as reader;
 ghost use Rattle.justfile_parse_item.specs.ItemTable.{after_mark};
-ghost use Rattle.justfile_parse.specs.MethodResults.{IsErrorAt, IsFaultOfExpression, IsNextPlace, IsRead, IsUnread};
+ghost use Rattle.justfile_parse.specs.MethodResults.{IsErrorAt, IsFaultOfExpression, IsNextPlace, IsRead, IsReadFile, IsUnread};
 ghost use Rattle.justfile_parse_item.specs.MethodResults.{CountersMoved};
 ghost use Rattle.justfile_parse.specs.ErrorFaults.{IsFaultOfError};
 ghost use Rattle.justfile_parse_item.specs.DerivedFields.{HaveDerivedFields};
@@ -156,15 +154,9 @@ fn parse_significant<'src, X: Expander>(
     limit: usize,
 ) -> CompileResult<'src, Ast<'src>>
     requires { IsTable table.now }
-    ensures read { IfOk result (λ ast. IsRead (conditions_of X.answer expander.now current limit)
-        table.now file_depth import_offsets.now (map significant_of table.now)
-        numerator.old numerator.new (ast.items.items, ast.list_features.items)) }
-    ensures unstable { IfOk result (λ ast. ast.unstable_features.keys
-        ≡ unstable_features (tree_of ast)) }
-    ensures module_path { IfOk result (λ ast. names_of ast.module_path
-        ≡ module_names module_namepath.entry) }
-    ensures working_directory { IfOk result (λ ast. string_bytes ast.working_directory
-        ≡ working_directory.now) }
+    ensures file { IfOk result (IsReadFile (conditions_of X.answer expander.now current limit)
+        table.now file_depth import_offsets.now (module_names module_namepath.entry)
+        working_directory.now numerator.old numerator.new) }
     ensures unread { IfErr result (IsUnread (conditions_of X.answer expander.now current limit)
         (map significant_of table.now) (IsInTable table.now) numerator.old numerator.new) }
     ensures moved { CountersMoved numerator.old numerator.new

@@ -50,6 +50,9 @@ pub same_fields : (pairs : List (Attribute × Written)) → KeepsDerivedPairFiel
 unfolding KeepsDerivedPairFields
 same_fields pairs h = h
 
+pub unchanged_fields : (old new : List (Attribute × Written)) → new ≡ old → KeepsDerivedPairFields old new
+unchanged_fields old new e = subst (KeepsDerivedPairFields old) (sym e) (same_fields old)
+
 pub both_fields : (first between last : List (Attribute × Written)) → KeepsDerivedPairFields first between → KeepsDerivedPairFields between last → KeepsDerivedPairFields first last
 unfolding KeepsDerivedPairFields
 both_fields first between last h k whole = k (h whole)

@@ -1,5 +1,5 @@
 -- The labels of the attributes parsed so far, and what they imply for the next attribute.
-use Rattle.std.proofs.Common.{◌≡◌, ◌∙◌, ℕ, Bool, true, false, cond, ◌&&◌, ◌||◌, not, List, [], ◌∷◌, ◌++◌, map, find, length, take, Option, Some, None, Result, Ok, Err, OnOk, refl, sym, ap, subst, String, string_bytes}
+use Rattle.std.proofs.Common.{◌≡◌, ◌∙◌, ℕ, Bool, true, false, cond, ◌&&◌, ◌||◌, not, List, [], ◌∷◌, ◌++◌, map, find, length, take, Option, Some, None, Result, Ok, Err, OnErr, OnOk, refl, sym, ap, subst, String, string_bytes}
 use denote.Enum.Bare.{same_true}
 use Rattle.std.specs.BTreeMap.{BTreeMap, get_by_text, is_at, Updates}
 use Rattle.std.specs.Cmp.Lexicographic.{slice_cmp}
@@ -33,7 +33,7 @@ use Rattle.justfile_model.specs.Trees.Tree as tree
 use Rattle.justfile_model.specs.Trees.Tree.{ArgumentRules, Entry, Quoted}
 use Rattle.justfile_parse_attribute.specs.AddedAttributes.{IsAdded}
 use Rattle.justfile_parse_attribute.specs.Attributes.{entry_of_pair}
-use Rattle.justfile_parse_attribute.specs.Labels.{AreKnown, AreKnownBefore, AreSame, ChecksLabel, ChecksLine, IsLabelNoted, IsNoted, Seen, arg_label, first_line, group_label, has_text, label_rule}
+use Rattle.justfile_parse_attribute.specs.Labels.{AreKnown, AreKnownBefore, AreSame, ChecksLabel, ChecksLine, IsLabelNoted, IsNoted, KnowsLabels, Seen, arg_label, first_line, group_label, has_text, label_rule}
 use Rattle.justfile_parse_attribute.specs.declared.labels.Labels.{Labels}
 use Rattle.justfile_parse_attribute.proofs.RepeatedAttributes.{arg_rule, group_rule, label_text, last_apart}
 use Rattle.justfile_expression.specs.LeafViews.{views_leaves}
@@ -359,6 +359,12 @@ labels_known old new es same known = λ text.
     (same_line old.arguments new.arguments same.0 text ∙ (known text).0, same_line old.groups new.groups same.1 text ∙ (known text).1)
 
 -- what was added is taken away again
+-- after the last attribute was checked
+pub known_or_same : (result : Result (Unit {0}) Fault) (old new : Labels) (entries : Entries) → OnOk result (AreKnown new entries) → OnErr result (AreSame old new)
+    → KnowsLabels result old new entries
+known_or_same (Ok added) old new entries h k = h
+known_or_same (Err fault) old new entries h k = k
+
 pub still_known : (old new : Labels) (pairs later : List Pair) (count : ℕ) → AreKnown old (map entry_of_pair pairs) → AreSame old new → count ≡ length pairs
     → take (length pairs) later ≡ pairs → AreKnown new (map entry_of_pair (take count later))
 still_known old new pairs later count known same counted begins =

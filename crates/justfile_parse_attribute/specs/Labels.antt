@@ -1,5 +1,5 @@
 -- The lines where each label of an `arg` and of a `group` is first, among parsed attributes.
-use Rattle.std.specs.Prelude.{◌≡◌, ℕ, Bool, true, false, cond, List, [], ◌∷◌, ◌++◌, map, find, Option, Some, None, Result, Ok, String, string_bytes}
+use Rattle.std.specs.Prelude.{◌≡◌, ℕ, Bool, true, false, cond, List, [], ◌∷◌, ◌++◌, map, find, Option, Some, None, Result, Ok, Err, String, string_bytes}
 use Rattle.std.specs.BTreeMap.{BTreeMap, get_by_text}
 use Rattle.std.specs.Coded.{Coded-set, coded_option, coded_ℕ}
 use Rattle.std.specs.Option.{option_map}
@@ -64,6 +64,11 @@ pub record AreKnownBefore (labels : Labels) (pairs : List (Attribute × Written)
 -- The labels are unchanged.
 abbrev pub AreSame : (old new : Labels) → Type 0
 AreSame old new = (new.arguments.entries ≡ old.arguments.entries) × (new.groups.entries ≡ old.groups.entries)
+
+-- After success the labels of these attributes are known; after an error the labels are unchanged.
+abbrev pub KnowsLabels : Result (Unit {0}) Fault → (old new : Labels) → List (Entry Leaf Token) → Type 0
+KnowsLabels (Ok added) old new entries = AreKnown new entries
+KnowsLabels (Err fault) old new entries = AreSame old new
 
 -- A line is stored for this text; the other texts keep theirs.
 abbrev pub IsNoted : {Y : Type 0} → (text : List ℕ) (line : ℕ) → (old new : BTreeMap (String Y) ℕ) → Type 0

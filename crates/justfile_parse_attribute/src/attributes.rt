@@ -37,7 +37,6 @@ pub fn parse_attributes<'src, X: Expander>(
     ensures reads { ParsesRuled X.answer (λ pairs. entries_of pairs.items) result
         parser.old parser.new reader.attribute_lines }
     ensures fields { IfOk result (λ pairs. HaveDerivedPairFields pairs.items) }
-    ensures progress { OnOk result (tokens_left parser.new ≤ tokens_left parser.old) }
 {
     let mut attributes = ReadAttributes::new(parser.alloc);
     'lines: loop {
@@ -59,7 +58,6 @@ fn parse_next_line<'src, X: Expander>(
         parser.old parser.new (reader.line_step (entries_of attributes.old.pairs.items)) }
     ensures fields { OnOk result
         (KeepsDerivedPairFields attributes.old.pairs.items attributes.new.pairs.items) }
-    ensures progress { OnOk result (tokens_left parser.new ≤ tokens_left parser.old) }
     ensures shrinks { IfOk result (λ is_last. is_last ≡ false
         → tokens_left parser.new < tokens_left parser.old) }
 {
@@ -220,7 +218,7 @@ fn find_attribute_kind<'src, X: Expander>(
     parser: &TokenCursor<'_, 'src, X>,
     name: &SignificantToken<'src>,
 ) -> Result<AttributeKind, ParseError<'src>>
-    ensures reads { ParsesRuled X.answer (λ kind. kind) result parser.now parser.now
+    ensures { ParsesRuled X.answer (λ kind. kind) result parser.now parser.now
         (reader.kind_at name.now) }
 {
     match AttributeKind::from_name(name.0.lexeme()) {

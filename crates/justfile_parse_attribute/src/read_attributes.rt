@@ -1,11 +1,11 @@
 //! The attributes of an item while they are parsed.
-ghost use Rattle.std.specs.Prelude.{◌≡◌, OnErr, OnOk, length, take};
+ghost use Rattle.std.specs.Prelude.{◌≡◌};
 ghost use Rattle.justfile_model.specs.Meanings.Meaning.{by_key, by_position};
 ghost use Rattle.justfile_model.specs.Readers.NewAttribute.{new_entry};
 ghost use Rattle.justfile_parse_attribute.specs.AddedAttributes.{AddsEntry};
 ghost use Rattle.justfile_parse_attribute.specs.Attributes.{arguments_of, entries_of};
-ghost use Rattle.justfile_parse_attribute.specs.Labels.{AreKnown, AreSame, prop_known};
-ghost use Rattle.justfile_parse_attribute.specs.DerivedAttributeFields.{KeepsDerivedPairFields};
+ghost use Rattle.justfile_parse_attribute.specs.Labels.{AreKnown, KnowsLabels, prop_known};
+ghost use Rattle.justfile_parse_attribute.specs.DerivedAttributeFields.{KeepsPairs};
 ghost use Rattle.justfile_expression.specs.LeafViews.{views_leaves};
 ghost use Rattle.justfile_written.specs.Written.{line_commented};
 
@@ -109,7 +109,7 @@ impl<'src> ReadAttributes<'src> {
 /// # Errors
 ///
 /// `Compile` if a rule is broken; `Memory` if memory runs out.
-#[tactic(auto, using(crate::proofs::KnownLabels::known_before, crate::proofs::AttributeSteps::entry_checked, crate::proofs::AttributeSteps::entry_refused, crate::proofs::KnownLabels::begins_added, crate::proofs::KnownLabels::begins_same, crate::proofs::KnownLabels::labels_same))]
+#[tactic(auto, using(crate::proofs::KnownLabels::known_before, crate::proofs::AttributeSteps::entry_checked, crate::proofs::AttributeSteps::entry_refused, crate::proofs::KnownLabels::begins_added, crate::proofs::KnownLabels::begins_same, crate::proofs::KnownLabels::labels_same, crate::proofs::DerivedFieldsKept::unchanged_fields))]
 fn push_checked<'src>(
     alloc: Global,
     labels: &mut Labels,
@@ -122,10 +122,8 @@ fn push_checked<'src>(
     ensures added { AddsEntry result (new_entry views_leaves (entries_of pairs.old.items)
         name.entry.token kind (by_position (arguments_of arguments.entry))
         (by_key (arguments_of arguments.entry))) name.entry pairs.old.items pairs.new.items }
-    ensures fields { OnOk result (KeepsDerivedPairFields pairs.old.items pairs.new.items) }
-    ensures known { OnOk result (AreKnown labels.new (entries_of pairs.new.items)) }
-    ensures kept { OnErr result (AreSame labels.old labels.new) }
-    ensures keeps_earlier { take (length pairs.old.items) pairs.new.items ≡ pairs.old.items }
+    ensures keeps { KeepsPairs pairs.old.items pairs.new.items }
+    ensures labels { KnowsLabels result labels.old labels.new (entries_of pairs.new.items) }
 {
     match add_attribute(alloc, pairs, name, kind, arguments) {
         Ok(()) => check_last(alloc, labels, pairs.as_slice()),

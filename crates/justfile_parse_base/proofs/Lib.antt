@@ -4,3 +4,4 @@ pub mod BindingNumbers
 pub mod HeaderErrors
 pub mod Paths
 pub mod RuleSteps
+pub mod Progress

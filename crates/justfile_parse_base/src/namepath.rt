@@ -1,7 +1,5 @@
 //! Paths of names.
-ghost use Rattle.std.specs.Prelude.{◌<◌, OnOk};
 ghost use Rattle.justfile_parse_expression.specs.ParsedResults.{Parses};
-ghost use Rattle.justfile_parse_expression.specs.View.{tokens_left};
 ghost use Rattle.justfile_parse_base.specs.SharedTable as reader;
 ghost use Rattle.justfile_parse_base.specs.Trees.{path_tree};
 
@@ -18,8 +16,7 @@ use justfile_vocabulary::TokenKind;
 pub fn parse_namepath<'src, X: Expander>(
     parser: &mut TokenCursor<'_, 'src, X>,
 ) -> Result<Namepath<'src>, ExpressionError<'src>>
-    ensures reads { Parses X.answer path_tree result parser.old parser.new reader.path }
-    ensures progress { OnOk result (tokens_left parser.new < tokens_left parser.old) }
+    ensures { Parses X.answer path_tree result parser.old parser.new reader.path }
 {
     let first = parser.expect(TokenKind::Identifier)?;
     let mut path = Namepath::from_name(parser.alloc, Name::from_identifier(first.0))?;

@@ -6,3 +6,4 @@ pub mod ArgAttribute
 pub mod ArgNames
 pub mod ParameterResults
 pub mod Tree
+pub mod HeaderFields

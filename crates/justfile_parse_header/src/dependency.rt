@@ -1,5 +1,5 @@
 //! The dependencies of a recipe.
-ghost use Rattle.std.specs.Prelude.{◌≡◌, false, ◌<◌, ◌≤◌, ◌∷◌, ◌++◌, [], OnOk, IfOk, map};
+ghost use Rattle.std.specs.Prelude.{◌≡◌, false, ◌∷◌, ◌++◌, [], IfOk, map};
 ghost use Rattle.justfile_model.specs.Meanings.Meaning.{first_of};
 ghost use Rattle.justfile_model.specs.Readers.ReaderState.{prepend};
 ghost use Rattle.justfile_model.specs.Meanings.RecipeRules.{stars};
@@ -7,7 +7,7 @@ ghost use Rattle.justfile_model.specs.Trees.Tree.{over_dependency_argument};
 ghost use Rattle.justfile_parse_base.specs.ParseErrors.{ParsesRuled, ChecksRules};
 ghost use Rattle.justfile_parse_expression.specs.ParsedResults.{Parses};
 ghost use Rattle.justfile_parse_expression.specs.TableReader.{leaves};
-ghost use Rattle.justfile_parse_expression.specs.View.{tokens_left, state_of};
+ghost use Rattle.justfile_parse_expression.specs.View.{state_of};
 ghost use Rattle.justfile_parse_header.specs.HeaderTable as reader;
 ghost use Rattle.justfile_parse_header.specs.Tree.{argument_tree, dependency_tree, read_argument};
 
@@ -35,10 +35,9 @@ pub(crate) fn parse_subsequents<'src, X: Expander>(
     parser: &mut TokenCursor<'_, 'src, X>,
     dependencies: &mut Vec<UnresolvedDependency<'src>>,
 ) -> Result<(), ParseError<'src>>
-    ensures reads { ParsesRuled X.answer
+    ensures { ParsesRuled X.answer
         (λ _. map dependency_tree dependencies.new.items) result parser.old parser.new
         (λ s. prepend (map dependency_tree dependencies.old.items) (reader.subsequents s)) }
-    ensures progress { OnOk result (tokens_left parser.new ≤ tokens_left parser.old) }
 {
     let Some(_operator) = parser.accept(TokenKind::AmpersandAmpersand) else {
         return Ok(());
@@ -57,10 +56,9 @@ pub(crate) fn parse_dependencies<'src, X: Expander>(
     parser: &mut TokenCursor<'_, 'src, X>,
     dependencies: &mut Vec<UnresolvedDependency<'src>>,
 ) -> Result<(), ParseError<'src>>
-    ensures reads { ParsesRuled X.answer
+    ensures { ParsesRuled X.answer
         (λ _. map dependency_tree dependencies.new.items) result parser.old parser.new
         (λ s. prepend (map dependency_tree dependencies.old.items) (reader.dependencies s)) }
-    ensures progress { OnOk result (tokens_left parser.new ≤ tokens_left parser.old) }
 {
     'dependencies: loop {
         if !begins_dependency(parser) {
@@ -86,9 +84,8 @@ fn begins_dependency<X: Expander>(parser: &TokenCursor<'_, '_, X>) -> bool
 fn parse_dependency<'src, X: Expander>(
     parser: &mut TokenCursor<'_, 'src, X>,
 ) -> Result<UnresolvedDependency<'src>, ParseError<'src>>
-    ensures reads { ParsesRuled X.answer dependency_tree result parser.old parser.new
+    ensures { ParsesRuled X.answer dependency_tree result parser.old parser.new
         reader.dependency }
-    ensures progress { OnOk result (tokens_left parser.new < tokens_left parser.old) }
 {
     if parser.peek_kinds(&[TokenKind::Identifier]) {
         return Ok(parse_bare(parser)?);
@@ -104,9 +101,8 @@ fn parse_dependency<'src, X: Expander>(
 fn parse_bare<'src, X: Expander>(
     parser: &mut TokenCursor<'_, 'src, X>,
 ) -> Result<UnresolvedDependency<'src>, ExpressionError<'src>>
-    ensures reads { Parses X.answer dependency_tree result parser.old parser.new
+    ensures { Parses X.answer dependency_tree result parser.old parser.new
         reader.bare_dependency }
-    ensures progress { OnOk result (tokens_left parser.new < tokens_left parser.old) }
 {
     let recipe = parse_namepath(parser)?;
     Ok(UnresolvedDependency {
@@ -121,9 +117,8 @@ fn parse_parenthesized<'src, X: Expander>(
     parser: &mut TokenCursor<'_, 'src, X>,
     star: Option<SignificantToken<'src>>,
 ) -> Result<UnresolvedDependency<'src>, ParseError<'src>>
-    ensures reads { ParsesRuled X.answer dependency_tree result parser.old parser.new
+    ensures { ParsesRuled X.answer dependency_tree result parser.old parser.new
         (reader.parenthesized star.entry) }
-    ensures progress { OnOk result (tokens_left parser.new < tokens_left parser.old) }
 {
     parser.expect(TokenKind::ParenL)?;
     let recipe = parse_namepath(parser)?;
@@ -138,9 +133,8 @@ fn parse_parenthesized<'src, X: Expander>(
 fn parse_arguments<'src, X: Expander>(
     parser: &mut TokenCursor<'_, 'src, X>,
 ) -> Result<Vec<ReadArgument<'src>>, ParseError<'src>>
-    ensures reads { ParsesRuled X.answer (λ arguments. map read_argument arguments.items) result
+    ensures { ParsesRuled X.answer (λ arguments. map read_argument arguments.items) result
         parser.old parser.new (λ s. reader.dependency_arguments ([], s)) }
-    ensures progress { OnOk result (tokens_left parser.new < tokens_left parser.old) }
 {
     let mut arguments = Vec::new(parser.alloc);
     'arguments: loop {
@@ -158,9 +152,8 @@ fn parse_argument<'src, X: Expander>(
     parser: &mut TokenCursor<'_, 'src, X>,
     before: &[ReadArgument<'src>],
 ) -> Result<ReadArgument<'src>, ParseError<'src>>
-    ensures reads { ParsesRuled X.answer read_argument result parser.old parser.new
+    ensures { ParsesRuled X.answer read_argument result parser.old parser.new
         (reader.dependency_argument (map read_argument before.now)) }
-    ensures progress { OnOk result (tokens_left parser.new < tokens_left parser.old) }
 {
     match parser.accept(TokenKind::Asterisk) {
         Some(star) => parse_starred(parser, before, *star),
@@ -173,9 +166,8 @@ fn parse_argument<'src, X: Expander>(
 fn parse_plain<'src, X: Expander>(
     parser: &mut TokenCursor<'_, 'src, X>,
 ) -> Result<ReadArgument<'src>, ExpressionError<'src>>
-    ensures reads { Parses X.answer read_argument result parser.old parser.new
+    ensures { Parses X.answer read_argument result parser.old parser.new
         reader.plain_argument }
-    ensures progress { OnOk result (tokens_left parser.new < tokens_left parser.old) }
 {
     let value = parser.parse_expression()?;
     Ok(ReadArgument { star: None, value })
@@ -188,9 +180,8 @@ fn parse_starred<'src, X: Expander>(
     before: &[ReadArgument<'src>],
     star: SignificantToken<'src>,
 ) -> Result<ReadArgument<'src>, ParseError<'src>>
-    ensures reads { ParsesRuled X.answer read_argument result parser.old parser.new
+    ensures { ParsesRuled X.answer read_argument result parser.old parser.new
         (reader.starred_argument (map read_argument before.now) star.entry) }
-    ensures progress { OnOk result (tokens_left parser.new < tokens_left parser.old) }
 {
     refuse_second(parser.alloc, before, star)?;
     let value = parser.parse_value()?;

@@ -1,12 +1,11 @@
 //! The header of a recipe, from its name to its end.
-ghost use Rattle.std.specs.Prelude.{◌≡◌, ◌<◌, ◌≤◌, IfOk, OnOk, length};
+ghost use Rattle.std.specs.Prelude.{IfOk};
 ghost use Rattle.justfile_attribute_set.specs.AttributeSet.{attributes_of};
-ghost use Rattle.justfile_vocabulary.specs.declared.token_kind.TokenKind.TheVariants as kinds;
-ghost use Rattle.justfile_parse_expression.specs.View.{tokens_left, state_of};
+ghost use Rattle.justfile_parse_expression.specs.View.{state_of};
 ghost use Rattle.justfile_parse_header.specs.Arguments.{AreKeyed};
 ghost use Rattle.justfile_parse_base.specs.Counting.{TookBindingNumbers, counters_of, identifiers_left, identifiers_left_after_header, ParsesCounted};
 ghost use Rattle.justfile_parse_header.specs.HeaderTable as reader;
-ghost use Rattle.justfile_parse_header.specs.ArgAttribute.{HaveDerivedParameterFields};
+ghost use Rattle.justfile_parse_header.specs.HeaderFields.{HasDerivedHeaderFields};
 ghost use Rattle.justfile_parse_header.specs.Tree.{header_tree, rules_of};
 
 use crate::arguments::check_defined;
@@ -47,14 +46,10 @@ pub fn parse_header<'src, X: Expander>(
     requires { AreKeyed (attributes_of attributes.now) }
     ensures reads { ParsesCounted X.answer header_tree result numerator.new parser.old parser.new
         (reader.header (rules_of attributes.now) (counters_of numerator.old)) }
-    ensures fields { IfOk result
-        (λ header. HaveDerivedParameterFields (rules_of attributes.now) header.parameters.items) }
+    ensures fields { IfOk result (HasDerivedHeaderFields (rules_of attributes.now)) }
     ensures numbers { TookBindingNumbers numerator.old numerator.new
         (identifiers_left (state_of X.answer parser.old))
         (identifiers_left_after_header result (state_of X.answer parser.new)) }
-    ensures priors { IfOk result (λ header. header.priors ≤ length header.dependencies.items) }
-    ensures named { IfOk result (λ header. header.name.0.kind ≡ kinds.Identifier) }
-    ensures progress { OnOk result (tokens_left parser.new < tokens_left parser.old) }
 {
     let name = parser.expect(TokenKind::Identifier)?;
     note_arg_attributes(attributes, parser)?;

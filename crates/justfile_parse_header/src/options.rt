@@ -11,7 +11,7 @@ ghost use Rattle.justfile_parse_base.specs.ParseErrors.{ReadsRuled, ChecksRules}
 ghost use Rattle.justfile_parse_base.specs.TextSets.{HaveSame, texts_in};
 ghost use Rattle.justfile_parse_expression.specs.MethodResults.{UnlessMemory};
 ghost use Rattle.justfile_parse_expression.specs.TableReader.{State};
-ghost use Rattle.justfile_parse_expression.specs.View.{tokens_left, state_of};
+ghost use Rattle.justfile_parse_expression.specs.View.{state_of};
 ghost use Rattle.justfile_parse_header.specs.HeaderTable as reader;
 ghost use Rattle.justfile_parse_header.specs.OptionRules.{bound_place_in, features_in, long_step, longs_from, short_step, shorts_from, then_option};
 ghost use Rattle.justfile_parse_header.specs.Options.{long_in};
@@ -35,9 +35,8 @@ pub(crate) fn note_arg_attributes<'src, X: Expander>(
     attributes: &AttributeSet<'src>,
     parser: &mut TokenCursor<'_, 'src, X>,
 ) -> Result<(), ExpressionError<'src>>
-    ensures notes { UnlessMemory result (λ done. state_of X.answer parser.new
+    ensures { UnlessMemory result (λ done. state_of X.answer parser.new
         ≡ with (flat_map rules_features (rules_of attributes.now)) (state_of X.answer parser.old)) }
-    ensures stays { tokens_left parser.new ≡ tokens_left parser.old }
 {
     let mut rest = attributes.iter();
     'attributes: loop {
@@ -53,9 +52,8 @@ fn note_attribute<'src, X: Expander>(
     attribute: &Attribute<'src>,
     parser: &mut TokenCursor<'_, 'src, X>,
 ) -> Result<(), ExpressionError<'src>>
-    ensures notes { UnlessMemory result (λ done. state_of X.answer parser.new
+    ensures { UnlessMemory result (λ done. state_of X.answer parser.new
         ≡ with (features_in (leaf_attribute_of attribute.now)) (state_of X.answer parser.old)) }
-    ensures stays { tokens_left parser.new ≡ tokens_left parser.old }
 {
     match attribute {
         Attribute::Arg {
@@ -92,9 +90,8 @@ fn note_at<'src, X: Expander>(
     feature: ListFeature,
     key: Option<Token<'src>>,
 ) -> Result<(), ExpressionError<'src>>
-    ensures notes { UnlessMemory result (λ done. state_of X.answer parser.new
+    ensures { UnlessMemory result (λ done. state_of X.answer parser.new
         ≡ with (noted_at feature key.entry) (state_of X.answer parser.old)) }
-    ensures stays { tokens_left parser.new ≡ tokens_left parser.old }
 {
     match key {
         Some(key) => parser.note(feature, key),

@@ -1,12 +1,12 @@
 //! The parameters of a recipe.
-ghost use Rattle.std.specs.Prelude.{◌≡◌, ◌<◌, ◌≤◌, [], OnOk};
+ghost use Rattle.std.specs.Prelude.{◌≡◌, []};
 ghost use Rattle.justfile_attribute_rules.specs.Made.{IsFaultOfRule};
 ghost use Rattle.justfile_attribute_set.specs.AttributeSet.{attributes_of};
 ghost use Rattle.justfile_model.specs.Readers.NewAttribute as new;
 ghost use Rattle.justfile_model.specs.Meanings.Rules.{ArgAttributeRequiresMultipleOrVariadic, FlagWithDefault};
 ghost use Rattle.justfile_parse_base.specs.ParseErrors.{IsAfterVariadicFault, ParsesRuled, ChecksRules};
 ghost use Rattle.justfile_parse_expression.specs.ParsedResults.{Parses};
-ghost use Rattle.justfile_parse_expression.specs.View.{tokens_left, state_of};
+ghost use Rattle.justfile_parse_expression.specs.View.{state_of};
 ghost use Rattle.justfile_parse_header.specs.Arguments.{AreKeyed, rules_by, IsKeyedOption};
 ghost use Rattle.justfile_parse_header.specs.HeaderTable as reader;
 ghost use Rattle.justfile_parse_header.specs.ArgAttribute.{arg_attribute_broken};
@@ -36,10 +36,9 @@ pub(crate) fn parse_parameters<'src, X: Expander>(
     numerator: &mut Numerator,
 ) -> Result<Vec<Parameter<'src>>, ParseError<'src>>
     requires { AreKeyed (attributes_of attributes.now) }
-    ensures parses { ParsesParameters X.answer (rules_of attributes.now) (λ list. list.items)
+    ensures { ParsesParameters X.answer (rules_of attributes.now) (λ list. list.items)
         result [] numerator.old numerator.new parser.old parser.new
         (λ rules x. reader.parameters rules x.0.1 x.1) }
-    ensures progress { OnOk result (tokens_left parser.new < tokens_left parser.old) }
 {
     let firsts = find_firsts(attributes, parser.alloc)?;
     let arg_attributes = ArgAttributes { attributes, firsts };
@@ -58,10 +57,9 @@ fn parse_singulars<'src, X: Expander>(
     parameters: &mut ReadParameters<'src>,
 ) -> Result<(), ParseError<'src>>
     requires { AreFirsts arg_attributes.now.firsts (rules_of arg_attributes.now.attributes.now) }
-    ensures parses { ParsesParameters X.answer (rules_of arg_attributes.now.attributes.now)
+    ensures { ParsesParameters X.answer (rules_of arg_attributes.now.attributes.now)
         (λ _. parameters.new.list.items) result parameters.old.list.items numerator.old
         numerator.new parser.old parser.new reader.singulars }
-    ensures progress { OnOk result (tokens_left parser.new ≤ tokens_left parser.old) }
 {
     'parameters: loop {
         if !begins_parameter(parser) {
@@ -94,10 +92,9 @@ fn parse_last<'src, X: Expander>(
     parameters: &mut ReadParameters<'src>,
 ) -> Result<(), ParseError<'src>>
     requires { AreFirsts arg_attributes.now.firsts (rules_of arg_attributes.now.attributes.now) }
-    ensures parses { ParsesParameters X.answer (rules_of arg_attributes.now.attributes.now)
+    ensures { ParsesParameters X.answer (rules_of arg_attributes.now.attributes.now)
         (λ _. parameters.new.list.items) result parameters.old.list.items numerator.old
         numerator.new parser.old parser.new reader.last_parameter }
-    ensures progress { OnOk result (tokens_left parser.new ≤ tokens_left parser.old) }
 {
     if let Some(_plus) = parser.accept(TokenKind::Plus) {
         return parse_variadic(
@@ -130,10 +127,9 @@ fn parse_variadic<'src, X: Expander>(
     kind: ParameterKind,
 ) -> Result<(), ParseError<'src>>
     requires { AreFirsts arg_attributes.now.firsts (rules_of arg_attributes.now.attributes.now) }
-    ensures parses { ParsesParameters X.answer (rules_of arg_attributes.now.attributes.now)
+    ensures { ParsesParameters X.answer (rules_of arg_attributes.now.attributes.now)
         (λ _. parameters.new.list.items) result parameters.old.list.items numerator.old
         numerator.new parser.old parser.new (λ rules. reader.variadic rules kind) }
-    ensures progress { OnOk result (tokens_left parser.new < tokens_left parser.old) }
 {
     parse_parameter(arg_attributes, parser, numerator, parameters, kind)?;
     expect_no_name(parser)
@@ -170,10 +166,9 @@ fn parse_parameter<'src, X: Expander>(
     kind: ParameterKind,
 ) -> Result<(), ParseError<'src>>
     requires { AreFirsts arg_attributes.now.firsts (rules_of arg_attributes.now.attributes.now) }
-    ensures parses { ParsesParameters X.answer (rules_of arg_attributes.now.attributes.now)
+    ensures { ParsesParameters X.answer (rules_of arg_attributes.now.attributes.now)
         (λ _. parameters.new.list.items) result parameters.old.list.items numerator.old
         numerator.new parser.old parser.new (λ rules. reader.parameter rules kind) }
-    ensures progress { OnOk result (tokens_left parser.new < tokens_left parser.old) }
 {
     match parser.accept(TokenKind::Dollar) {
         Some(_dollar) => parse_named(arg_attributes, parser, numerator, parameters, kind, true),
@@ -191,11 +186,10 @@ fn parse_named<'src, X: Expander>(
     export: bool,
 ) -> Result<(), ParseError<'src>>
     requires { AreFirsts arg_attributes.now.firsts (rules_of arg_attributes.now.attributes.now) }
-    ensures parses { ParsesParameters X.answer (rules_of arg_attributes.now.attributes.now)
+    ensures { ParsesParameters X.answer (rules_of arg_attributes.now.attributes.now)
         (λ _. parameters.new.list.items) result parameters.old.list.items numerator.old
         numerator.new parser.old parser.new
         (λ rules x. reader.named_parameter rules kind export x.0 x.1) }
-    ensures progress { OnOk result (tokens_left parser.new < tokens_left parser.old) }
 {
     let name = parser.expect(TokenKind::Identifier)?;
     let default = parse_default(parser)?;
@@ -226,8 +220,7 @@ fn parse_named<'src, X: Expander>(
 fn parse_default<'src, X: Expander>(
     parser: &mut TokenCursor<'_, 'src, X>,
 ) -> Result<Option<Box<Expression<'src>>>, ExpressionError<'src>>
-    ensures reads { Parses X.answer value_tree result parser.old parser.new reader.default_value }
-    ensures progress { OnOk result (tokens_left parser.new ≤ tokens_left parser.old) }
+    ensures { Parses X.answer value_tree result parser.old parser.new reader.default_value }
 {
     let Some(_equals) = parser.accept(TokenKind::Equals) else {
         return Ok(None);

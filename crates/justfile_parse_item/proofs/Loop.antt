@@ -23,6 +23,7 @@ use Rattle.justfile_parse_expression.specs.Significant.{TableEntry}
 use Rattle.justfile_parse_expression.specs.declared.expression_error.ExpressionError.{ExpressionError}
 use Rattle.justfile_parse_expression.specs.declared.expression_error.ExpressionError.TheVariants.{Refused, Literal, Memory, Numbers}
 use Rattle.justfile_model.proofs.Readers.ItemReading as laws
+use Rattle.justfile_model.proofs.Readers.ReadingSteps as steps
 use Rattle.justfile_model.proofs.Readers.ReadingSteps.{known}
 use Rattle.justfile_parse_base.proofs.HeaderErrors.{failed}
 use Rattle.justfile_parse_item.proofs.CounterBounds.{line_moves}
@@ -53,6 +54,13 @@ refused_first done e (Err f) h = ap (λ (g : ReadError). Err g) (inside f e h)
   where
     inside : (a b : ReadError) → ◌≡◌ {A = ReadItems} (Err a) (Err b) → a ≡ b
     inside a b h = cc
+
+-- a line takes a token
+pub line_shrinks : (q : State) (first next : Numerator) (done new : List file.Item) (rest : State)
+    → after_numbered (map item_tree done) (line (counters_of first) q) ≡ Ok ((map item_tree new, counters_of next), rest) → length rest.left < length q.left
+line_shrinks q first next done new rest value =
+    let t = taken (map item_tree done) (map item_tree new) (counters_of next) rest (line (counters_of first) q) value in
+    (steps.past q (line (counters_of first) q) ((t.0, counters_of next), rest) (laws.line_goes leaves attribute_leaves (counters_of first) q) t.1).0
 
 -- from one place to another these items were read
 pub record IsReadTo (s q : State) (first next : Numerator) (done : List file.Item) : Type 0 where

@@ -2,7 +2,7 @@
 -- attributes.
 use Rattle.std.specs.Prelude.{◌≡◌, ◌≤◌, All, IsTrue, ◌||◌, List, codes, length, nat_eq, map}
 use Rattle.std.specs.List.{starts_with}
-use Rattle.justfile_attribute_set.specs.AttributeSet.{AttributeSet, attributes_of}
+use Rattle.justfile_attribute_set.specs.AttributeSet.{AttributeSet, attributes_of, leaf_entries_of}
 use Rattle.justfile_attribute_set.specs.Attributes.{has_kind}
 use Rattle.justfile_vocabulary.specs.declared.attribute_kind.AttributeKind.TheVariants as kinds
 pub use Rattle.justfile_item.specs.Private.{is_private_item}
@@ -11,8 +11,9 @@ use Rattle.justfile_item.specs.declared.item.Item.{Item}
 use Rattle.justfile_item.specs.declared.item.Item.TheVariants.{Alias, Assignment, Comment, Function, Import, Module, Newline, Recipe, Setting, Unexport}
 use Rattle.justfile_item.specs.declared.recipe.UnresolvedRecipe.{UnresolvedRecipe}
 use Rattle.justfile_item.specs.declared.set.Set.{Set}
-use Rattle.justfile_parse_item.specs.ItemTable.{has_shebang}
+use Rattle.justfile_parse_item.specs.ItemTable.{has_shebang, in_content_order}
 use Rattle.justfile_parse_item_parts.specs.BodyTrees.{line_tree}
+use Rattle.justfile_parse_attribute.specs.AttributeTable.{Entries}
 use Rattle.justfile_parse_attribute.specs.DerivedAttributeFields.{HaveDerivedAttributeFields}
 pub use Rattle.justfile_parse_attribute.specs.DerivedAttributeFields.{HaveDerivedPairFields}
 use Rattle.justfile_parse_header.specs.ArgAttribute.{HaveDerivedParameterFields}
@@ -23,6 +24,11 @@ use Rattle.justfile_expression.specs.declared.expression.Expression.{Expression}
 -- The derived fields of a construct's attributes are right.
 abbrev pub HasDerivedSetAttributes : AttributeSet → Type 0
 HasDerivedSetAttributes set = HaveDerivedAttributeFields (attributes_of set)
+
+-- The set has these entries, in the order of their contents, and the derived fields of its attributes are right.
+pub record IsSetOf (entries : Entries) (set : AttributeSet) : Type 0 where
+  pub entries : leaf_entries_of set ≡ in_content_order entries
+  pub fields : HasDerivedSetAttributes set
 
 pub record HasDerivedAssignmentFields (a : Binding Expression) : Type 0 where
   pub attributes : HasDerivedSetAttributes a.attributes

@@ -1,14 +1,15 @@
 -- The methods of the parser of items return what the definitions read.
-use Rattle.std.specs.Prelude.{◌≡◌, ℕ, ◌≤◌, ◌+◌, List, Result}
+use Rattle.std.specs.Prelude.{◌≡◌, ℕ, ◌≤◌, ◌+◌, List, None, Result}
 use Rattle.justfile_vocabulary.specs.Numerator.{bindings_of, constants_of, recipes_of}
 use Rattle.justfile_vocabulary.specs.declared.numerator.Numerator.{Numerator}
+use Rattle.justfile_vocabulary.specs.declared.token_kind.TokenKind.TheVariants as kinds
 use Rattle.justfile_token.specs.declared.token.Token.{Token}
 use Rattle.justfile_model.specs.Trees.Tree.{OrderedItem}
 use Rattle.justfile_model.specs.Readers.ReaderState.{Counters}
 use Rattle.justfile_parse_item.specs.ItemTable.{ReadItem}
 use Rattle.justfile_parse_base.specs.ParseErrors.{ParsesRuled}
 use Rattle.justfile_parse_base.specs.declared.parse_error.ParseError.{ParseError}
-use Rattle.justfile_parse_expression.specs.TableReader.{State}
+use Rattle.justfile_parse_expression.specs.TableReader.{State, accept}
 use Rattle.justfile_parse_expression.specs.declared.token_cursor.TokenCursor.{TokenCursor}
 use Rattle.justfile_expression.specs.LeafTree.{Leaf}
 
@@ -18,6 +19,11 @@ pub record CountersMoved (old new : Numerator) (most : ℕ) : Type 0 where
   pub recipes_least : recipes_of old ≤ recipes_of new
   pub most_is : bindings_of new + recipes_of new ≤ bindings_of old + recipes_of old + most
   pub constants : constants_of new ≡ constants_of old
+
+-- No expression is open, and no line end comes next: an item begins here.
+pub record IsAtItem (s : State) : Type 0 where
+  pub closed : s.depth ≡ 0
+  pub item : accept kinds.Eol s ≡ None
 
 -- For a construct that takes no number: what was returned and the parser after it are what `read` reads from the parser before it, with
 -- any counters.

@@ -1,7 +1,7 @@
 //! Tokens whose presence sets a field of an item, such as `?` and `@`.
-ghost use Rattle.std.specs.Prelude.{◌≡◌, ◌≤◌};
+ghost use Rattle.std.specs.Prelude.{◌≡◌};
 ghost use Rattle.justfile_parse_item.specs.ItemTable as reader;
-ghost use Rattle.justfile_parse_expression.specs.View.{tokens_left, state_of};
+ghost use Rattle.justfile_parse_expression.specs.View.{state_of};
 
 use justfile_parse_expression::TokenCursor;
 use justfile_token::Expander;
@@ -10,9 +10,8 @@ use justfile_vocabulary::TokenKind;
 /// Takes the next token if it is of this kind, and returns whether it is.
 #[tactic(auto, unfolding(justfile_model::specs::Readers::ReaderState::accepted))]
 pub(crate) fn accept_kind<X: Expander>(parser: &mut TokenCursor<'_, '_, X>, kind: TokenKind) -> bool
-    ensures accepts { (result, state_of X.answer parser.new)
+    ensures { (result, state_of X.answer parser.new)
         ≡ reader.accepted kind (state_of X.answer parser.old) }
-    ensures progress { tokens_left parser.new ≤ tokens_left parser.old }
 {
     match parser.accept(kind) {
         Some(_token) => true,

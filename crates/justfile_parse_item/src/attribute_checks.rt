@@ -6,7 +6,7 @@ ghost use Rattle.justfile_model.specs.Meanings.RecipeRules.{exclusions_broken};
 ghost use Rattle.justfile_parse_item.specs.Exclusions.{IsExclusion};
 ghost use Rattle.justfile_parse_item.specs.ExtraneousFault.{IsExtraneousFault};
 ghost use Rattle.justfile_parse_item.specs.ItemTable as reader;
-ghost use Rattle.justfile_parse_item.specs.DerivedFields.{HaveDerivedPairFields, HasDerivedSetAttributes};
+ghost use Rattle.justfile_parse_item.specs.DerivedFields.{HaveDerivedPairFields, IsSetOf};
 ghost use Rattle.justfile_parse_attribute.specs.Attributes.{entries_of};
 ghost use Rattle.justfile_parse_base.specs.ParseErrors.{ReadsRuled, ChecksRules};
 ghost use Rattle.justfile_parse_expression.specs.TableReader.{State};
@@ -34,9 +34,7 @@ pub(crate) fn check_allowed<'src>(
     requires fields { HaveDerivedPairFields attributes.items }
     ensures reads { (s : State) → ReadsRuled (λ _. tt) result s
         (reader.check_allowed item (entries_of attributes.entry.items) name.now s) }
-    ensures entries { IfOk result (λ set. leaf_entries_of set
-        ≡ reader.in_content_order (entries_of attributes.entry.items)) }
-    ensures fields { IfOk result HasDerivedSetAttributes }
+    ensures set { IfOk result (IsSetOf (entries_of attributes.entry.items)) }
 {
     let set = AttributeSet::from_parsed(attributes)?;
     match set.ensure_valid_attributes(item, name.0) {

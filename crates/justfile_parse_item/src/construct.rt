@@ -1,5 +1,5 @@
 //! Constructs: their attributes, the keywords that they begin with, and what follows.
-ghost use Rattle.std.specs.Prelude.{◌≡◌, ◌<◌, ◌≤◌, IfOk, OnOk, map};
+ghost use Rattle.std.specs.Prelude.{◌≡◌, IfOk, OnOk, map};
 ghost use Rattle.justfile_model.specs.Lexing.SignificantTokens.{identifiers};
 ghost use Rattle.justfile_parse_item.specs.ItemTable as reader;
 ghost use Rattle.justfile_parse_item.specs.MethodResults.{CountersMoved};
@@ -10,7 +10,7 @@ ghost use Rattle.justfile_parse_attribute.specs.Attributes.{entries_of};
 ghost use Rattle.justfile_parse_base.specs.ParseErrors.{ParsesRuled};
 ghost use Rattle.justfile_parse_expression.specs.MethodResults.{Takes};
 ghost use Rattle.justfile_parse_expression.specs.Significant.{significant_of};
-ghost use Rattle.justfile_parse_expression.specs.View.{Moves, tokens_left, state_of};
+ghost use Rattle.justfile_parse_expression.specs.View.{Moves, state_of};
 ghost use Rattle.justfile_parse_base.specs.Counting.{counters_of, ParsesCounted};
 
 use crate::assignment::parse_assignment;
@@ -52,7 +52,6 @@ pub(crate) fn parse_construct<'src, X: Expander>(
     ensures reads { ParsesCounted X.answer (λ _. last_tree items.new.items) result numerator.new
         parser.old parser.new (reader.construct (counters_of numerator.old)) }
     ensures appended { OnOk result (AppendsItem items.old.items items.new.items) }
-    ensures progress { OnOk result (tokens_left parser.new < tokens_left parser.old) }
     ensures moved { CountersMoved numerator.old numerator.new
         (identifiers (map significant_of (state_of X.answer parser.old).left)) }
 {
@@ -68,7 +67,6 @@ fn parse_item_attributes<'src, X: Expander>(
     ensures reads { ParsesRuled X.answer (λ pairs. entries_of pairs.items) result
         parser.old parser.new reader.item_attributes }
     ensures fields { IfOk result (λ pairs. HaveDerivedPairFields pairs.items) }
-    ensures progress { OnOk result (tokens_left parser.new ≤ tokens_left parser.old) }
 {
     let Some(opener) = parser.peek_if(TokenKind::BracketL) else {
         return Ok(Vec::new(parser.alloc));
@@ -100,7 +98,6 @@ fn parse_content<'src, X: Expander>(
         parser.old parser.new (reader.content (entries_of attributes.entry.items)
         (counters_of numerator.old)) }
     ensures appended { OnOk result (AppendsItem items.old.items items.new.items) }
-    ensures progress { OnOk result (tokens_left parser.new < tokens_left parser.old) }
     ensures moved { CountersMoved numerator.old numerator.new
         (identifiers (map significant_of (state_of X.answer parser.old).left)) }
 {
@@ -203,7 +200,6 @@ fn parse_after_keyword<'src, X: Expander>(
         parser.old parser.new (after_keyword keyword (entries_of attributes.entry.items)
         (counters_of numerator.old)) }
     ensures appended { OnOk result (AppendsItem items.old.items items.new.items) }
-    ensures progress { OnOk result (tokens_left parser.new < tokens_left parser.old) }
     ensures moved { CountersMoved numerator.old numerator.new
         (identifiers (map significant_of (state_of X.answer parser.old).left)) }
 {
@@ -235,7 +231,6 @@ fn parse_without_keyword<'src, X: Expander>(
         parser.old parser.new (reader.without_keyword (entries_of attributes.entry.items)
         (counters_of numerator.old)) }
     ensures appended { OnOk result (AppendsItem items.old.items items.new.items) }
-    ensures progress { OnOk result (tokens_left parser.new < tokens_left parser.old) }
     ensures moved { CountersMoved numerator.old numerator.new
         (identifiers (map significant_of (state_of X.answer parser.old).left)) }
 {

@@ -1,5 +1,5 @@
 //! The items of a file, and the numbers that they get.
-ghost use Rattle.std.specs.Prelude.{◌≡◌, ◌<◌, ◌≤◌, ◌∷◌, ◌++◌, [], IfOk, IsTrue, None, OnOk, codes, map, nat_eq};
+ghost use Rattle.std.specs.Prelude.{◌≡◌, ◌∷◌, ◌++◌, [], IfOk, IsTrue, OnOk, codes, map, nat_eq};
 ghost use Rattle.std.specs.List.{starts_with};
 ghost use Rattle.std.specs.Str.{trim_end};
 ghost use Rattle.justfile_token.specs.Token.{lexeme_of};
@@ -10,16 +10,14 @@ ghost use Rattle.justfile_model.specs.Readers.Reader.{has_body};
 ghost use Rattle.justfile_model.specs.Readers.ReaderState.{prepend};
 ghost use Rattle.justfile_model.specs.Readers.PartReader.{after_numbered};
 ghost use Rattle.justfile_item.specs.declared.item.Item.TheVariants as variants;
-ghost use Rattle.justfile_vocabulary.specs.declared.token_kind.TokenKind.TheVariants as kinds;
 ghost use Rattle.justfile_parse_item.specs.ItemTable as reader;
-ghost use Rattle.justfile_parse_item.specs.MethodResults.{CountersMoved};
+ghost use Rattle.justfile_parse_item.specs.MethodResults.{CountersMoved, IsAtItem};
 ghost use Rattle.justfile_parse_expression.specs.ParsedResults.{Parses};
 ghost use Rattle.justfile_parse_item.specs.DerivedFields.{HaveDerivedFields, HasDerivedItemFields, KeepsDerivedFields};
 ghost use Rattle.justfile_parse_expression.specs.Significant.{significant_of};
-ghost use Rattle.justfile_parse_expression.specs.TableReader.{accept};
 ghost use Rattle.justfile_parse_item.specs.Pushes.{AppendsItem, Pushes, last_tree};
 ghost use Rattle.justfile_parse_item.specs.Tree.{item_tree};
-ghost use Rattle.justfile_parse_expression.specs.View.{tokens_left, state_of};
+ghost use Rattle.justfile_parse_expression.specs.View.{state_of};
 
 use crate::construct::parse_construct;
 use justfile_item::Item;
@@ -88,7 +86,6 @@ fn parse_line<'src, X: Expander>(
         numerator.new parser.old parser.new (λ s. after_numbered (map item_tree items.old.items)
         (reader.line (counters_of numerator.old) s)) }
     ensures fields { OnOk result (KeepsDerivedFields items.old.items items.new.items) }
-    ensures progress { OnOk result (tokens_left parser.new < tokens_left parser.old) }
     ensures moved { CountersMoved numerator.old numerator.new
         (identifiers (map significant_of (state_of X.answer parser.old).left)) }
 {
@@ -99,20 +96,17 @@ fn parse_line<'src, X: Expander>(
     parse_item_line(parser, items, numerator)
 }
 
-/// Parses a line that isn't blank: an item and its end. Appends both. Requires that no expression
-/// is open.
+/// Parses a line that isn't blank: an item and its end. Appends both.
 fn parse_item_line<'src, X: Expander>(
     parser: &mut TokenCursor<'_, 'src, X>,
     items: &mut Vec<Item<'src>>,
     numerator: &mut Numerator,
 ) -> Result<(), ParseError<'src>>
-    requires closed { (state_of X.answer parser.old).depth ≡ 0 }
-    requires item { accept kinds.Eol (state_of X.answer parser.old) ≡ None }
+    requires { IsAtItem (state_of X.answer parser.old) }
     ensures reads { ParsesCounted X.answer (λ _. map item_tree items.new.items) result
         numerator.new parser.old parser.new (λ s. after_numbered (map item_tree items.old.items)
         (reader.line (counters_of numerator.old) s)) }
     ensures fields { OnOk result (KeepsDerivedFields items.old.items items.new.items) }
-    ensures progress { OnOk result (tokens_left parser.new < tokens_left parser.old) }
     ensures moved { CountersMoved numerator.old numerator.new
         (identifiers (map significant_of (state_of X.answer parser.old).left)) }
 {
@@ -132,7 +126,6 @@ fn parse_item<'src, X: Expander>(
     ensures reads { ParsesCounted X.answer (λ _. last_tree items.new.items) result numerator.new
         parser.old parser.new (reader.any_item (counters_of numerator.old)) }
     ensures appended { OnOk result (AppendsItem items.old.items items.new.items) }
-    ensures progress { OnOk result (tokens_left parser.new < tokens_left parser.old) }
     ensures moved { CountersMoved numerator.old numerator.new
         (identifiers (map significant_of (state_of X.answer parser.old).left)) }
 {
@@ -151,7 +144,6 @@ fn end_item<'src, X: Expander>(
         parser.new (λ s. prepend (map item_tree items.old.items)
         (reader.item_end (has_body (last_tree items.old.items)) s)) }
     ensures fields { OnOk result (KeepsDerivedFields items.old.items items.new.items) }
-    ensures progress { OnOk result (tokens_left parser.new ≤ tokens_left parser.old) }
 {
     let has_body = ends_in_body(items);
     parse_item_end(parser, has_body, items)
@@ -168,7 +160,6 @@ fn parse_item_end<'src, X: Expander>(
     ensures reads { Parses X.answer (λ _. map item_tree items.new.items) result parser.old
         parser.new (λ s. prepend (map item_tree items.old.items) (reader.item_end has_body s)) }
     ensures fields { OnOk result (KeepsDerivedFields items.old.items items.new.items) }
-    ensures progress { OnOk result (tokens_left parser.new ≤ tokens_left parser.old) }
 {
     if has_body {
         push_line_end(items)?;
@@ -187,7 +178,6 @@ fn parse_after_item<'src, X: Expander>(
     ensures reads { Parses X.answer (λ _. map item_tree items.new.items) result
         parser.old parser.new (λ s. prepend (map item_tree items.old.items) (reader.after_item s)) }
     ensures fields { OnOk result (KeepsDerivedFields items.old.items items.new.items) }
-    ensures progress { OnOk result (tokens_left parser.new ≤ tokens_left parser.old) }
 {
     match parser.accept(TokenKind::Comment) {
         Some(comment) => {
@@ -207,7 +197,6 @@ fn parse_line_end<'src, X: Expander>(
     ensures reads { Parses X.answer (λ _. map item_tree items.new.items) result
         parser.old parser.new (λ s. prepend (map item_tree items.old.items) (reader.line_end s)) }
     ensures fields { OnOk result (KeepsDerivedFields items.old.items items.new.items) }
-    ensures progress { OnOk result (tokens_left parser.new ≤ tokens_left parser.old) }
 {
     if let Some(_end) = parser.peek_if(TokenKind::Eof) {
         return Ok(());

@@ -1,5 +1,5 @@
 //! Recipes, from their attributes to the ends of their bodies.
-ghost use Rattle.std.specs.Prelude.{◌≡◌, ◌<◌, ◌||◌, OnErr, OnOk, map};
+ghost use Rattle.std.specs.Prelude.{◌≡◌, ◌||◌, OnErr, OnOk, map};
 ghost use Rattle.justfile_attribute_set.specs.AttributeSet.{attributes_of};
 ghost use Rattle.justfile_attribute_set.specs.Attributes.{has_kind};
 ghost use Rattle.justfile_vocabulary.specs.declared.attribute_kind.AttributeKind.TheVariants as kinds;
@@ -12,7 +12,7 @@ ghost use Rattle.justfile_parse_item.specs.DerivedFields.{HaveDerivedPairFields}
 ghost use Rattle.justfile_parse_attribute.specs.Attributes.{entries_of};
 ghost use Rattle.justfile_parse_expression.specs.Significant.{significant_of};
 ghost use Rattle.justfile_parse_expression.specs.TableReader.{State};
-ghost use Rattle.justfile_parse_expression.specs.View.{tokens_left, state_of};
+ghost use Rattle.justfile_parse_expression.specs.View.{state_of};
 ghost use Rattle.justfile_parse_base.specs.Counting.{ReadsCountedExpression, counters_of, ParsesCounted};
 
 use crate::accept::accept_kind;
@@ -43,7 +43,6 @@ pub(crate) fn parse_any_recipe<'src, X: Expander>(
         parser.old parser.new (reader.any_recipe (entries_of attributes.entry.items)
         (counters_of numerator.old)) }
     ensures appended { OnOk result (AppendsItem items.old.items items.new.items) }
-    ensures progress { OnOk result (tokens_left parser.new < tokens_left parser.old) }
     ensures moved { CountersMoved numerator.old numerator.new
         (identifiers (map significant_of (state_of X.answer parser.old).left)) }
 {
@@ -66,7 +65,6 @@ fn parse_recipe<'src, X: Expander>(
         parser.old parser.new (reader.recipe quiet (entries_of attributes.entry.items)
         (counters_of numerator.old)) }
     ensures appended { OnOk result (AppendsItem items.old.items items.new.items) }
-    ensures progress { OnOk result (tokens_left parser.new < tokens_left parser.old) }
     ensures moved { CountersMoved numerator.old numerator.new
         (identifiers (map significant_of (state_of X.answer parser.old).left)) }
 {

@@ -1,11 +1,10 @@
 //! Aliases, settings and `unexport`s: a keyword, a name, and at most a target or a value.
-ghost use Rattle.std.specs.Prelude.{◌<◌, OnOk};
+ghost use Rattle.std.specs.Prelude.{OnOk};
 ghost use Rattle.justfile_parse_item.specs.ItemTable as reader;
 ghost use Rattle.justfile_parse_item.specs.MethodResults.{ParsesUncounted};
 ghost use Rattle.justfile_parse_item.specs.Pushes.{AppendsItem, last_tree};
 ghost use Rattle.justfile_parse_item.specs.DerivedFields.{HaveDerivedPairFields};
 ghost use Rattle.justfile_parse_attribute.specs.Attributes.{entries_of};
-ghost use Rattle.justfile_parse_expression.specs.View.{tokens_left};
 
 use crate::attribute_checks::check_allowed;
 use crate::items::push_construct;
@@ -29,7 +28,6 @@ pub(crate) fn parse_alias<'src, X: Expander>(
     ensures reads { ParsesUncounted X.answer (λ _. last_tree items.new.items) result
         parser.old parser.new (reader.alias (entries_of attributes.entry.items)) }
     ensures appended { OnOk result (AppendsItem items.old.items items.new.items) }
-    ensures progress { OnOk result (tokens_left parser.new < tokens_left parser.old) }
 {
     let name = parser.expect(TokenKind::Identifier)?;
     parser.expect(TokenKind::ColonEquals)?;
@@ -56,7 +54,6 @@ pub(crate) fn parse_set<'src, X: Expander>(
     ensures reads { ParsesUncounted X.answer (λ _. last_tree items.new.items) result
         parser.old parser.new (reader.setting (entries_of attributes.entry.items)) }
     ensures appended { OnOk result (AppendsItem items.old.items items.new.items) }
-    ensures progress { OnOk result (tokens_left parser.new < tokens_left parser.old) }
 {
     let name = parser.expect(TokenKind::Identifier)?;
     let keyword = setting_keyword(parser.alloc, name)?;
@@ -83,7 +80,6 @@ pub(crate) fn parse_unexport<'src, X: Expander>(
     ensures reads { ParsesUncounted X.answer (λ _. last_tree items.new.items) result
         parser.old parser.new (reader.unexport (entries_of attributes.entry.items)) }
     ensures appended { OnOk result (AppendsItem items.old.items items.new.items) }
-    ensures progress { OnOk result (tokens_left parser.new < tokens_left parser.old) }
 {
     let name = parser.expect(TokenKind::Identifier)?;
     let attributes = check_allowed(parser.alloc, ItemKind::Unexport, attributes, name)?;

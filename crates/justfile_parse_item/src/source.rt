@@ -1,11 +1,10 @@
 //! Imports and modules: the items that name another file.
-ghost use Rattle.std.specs.Prelude.{◌<◌, OnOk};
+ghost use Rattle.std.specs.Prelude.{OnOk};
 ghost use Rattle.justfile_parse_item.specs.ItemTable as reader;
 ghost use Rattle.justfile_parse_item.specs.MethodResults.{ParsesUncounted};
 ghost use Rattle.justfile_parse_item.specs.Pushes.{AppendsItem, last_tree};
 ghost use Rattle.justfile_parse_item.specs.DerivedFields.{HaveDerivedPairFields};
 ghost use Rattle.justfile_parse_attribute.specs.Attributes.{entries_of};
-ghost use Rattle.justfile_parse_expression.specs.View.{tokens_left};
 
 use crate::accept::accept_kind;
 use crate::attribute_checks::check_allowed;
@@ -30,7 +29,6 @@ pub(crate) fn parse_import<'src, X: Expander>(
     ensures reads { ParsesUncounted X.answer (λ _. last_tree items.new.items) result
         parser.old parser.new (reader.import (entries_of attributes.entry.items)) }
     ensures appended { OnOk result (AppendsItem items.old.items items.new.items) }
-    ensures progress { OnOk result (tokens_left parser.new < tokens_left parser.old) }
 {
     let optional = accept_kind(parser, TokenKind::QuestionMark);
     parse_imported(parser, optional, attributes, items)
@@ -48,7 +46,6 @@ fn parse_imported<'src, X: Expander>(
     ensures reads { ParsesUncounted X.answer (λ _. last_tree items.new.items) result
         parser.old parser.new (reader.imported optional (entries_of attributes.entry.items)) }
     ensures appended { OnOk result (AppendsItem items.old.items items.new.items) }
-    ensures progress { OnOk result (tokens_left parser.new < tokens_left parser.old) }
 {
     let (literal, relative) = parse_file_path(parser)?;
     let attributes = check_allowed(parser.alloc, ItemKind::Import, attributes, &literal)?;
@@ -74,7 +71,6 @@ pub(crate) fn parse_module<'src, X: Expander>(
     ensures reads { ParsesUncounted X.answer (λ _. last_tree items.new.items) result
         parser.old parser.new (reader.any_module (entries_of attributes.entry.items)) }
     ensures appended { OnOk result (AppendsItem items.old.items items.new.items) }
-    ensures progress { OnOk result (tokens_left parser.new < tokens_left parser.old) }
 {
     let optional = accept_kind(parser, TokenKind::QuestionMark);
     parse_named_module(parser, optional, attributes, items)
@@ -92,7 +88,6 @@ fn parse_named_module<'src, X: Expander>(
     ensures reads { ParsesUncounted X.answer (λ _. last_tree items.new.items) result
         parser.old parser.new (reader.named_module optional (entries_of attributes.entry.items)) }
     ensures appended { OnOk result (AppendsItem items.old.items items.new.items) }
-    ensures progress { OnOk result (tokens_left parser.new < tokens_left parser.old) }
 {
     let name = parser.expect(TokenKind::Identifier)?;
     let relative = parse_optional_path(parser)?;

@@ -1,12 +1,12 @@
 //! How bodies of recipes are parsed.
-ghost use Rattle.std.specs.Prelude.{◌≡◌, ◌<◌, ◌≤◌, ◌-◌, ◌↔◌, length, OnOk, IsSomeAnd, IsTrue, map};
+ghost use Rattle.std.specs.Prelude.{◌≡◌, ◌-◌, ◌↔◌, length, IsSomeAnd, IsTrue, map};
 ghost use Rattle.std.specs.List.{slice_get};
 ghost use Rattle.justfile_line.specs.Line.{IsEmpty};
 ghost use Rattle.justfile_model.specs.Trees.Tree.{trimmed};
 ghost use Rattle.justfile_parse_item_parts.specs.BodyTable as reader;
 ghost use Rattle.justfile_parse_expression.specs.ParsedResults.{Parses};
 ghost use Rattle.justfile_parse_item_parts.specs.BodyTrees.{fragment_tree, line_tree};
-ghost use Rattle.justfile_parse_expression.specs.View.{tokens_left, state_of};
+ghost use Rattle.justfile_parse_expression.specs.View.{state_of};
 
 use justfile_line::{Fragment, Line};
 use justfile_parse_expression::significant::SignificantToken;
@@ -23,9 +23,8 @@ pub type CommentedBody<'src> = (Option<SignificantToken<'src>>, Vec<Line<'src>>)
 pub fn parse_body_after_header<'src, X: Expander>(
     parser: &mut TokenCursor<'_, 'src, X>,
 ) -> Result<CommentedBody<'src>, ExpressionError<'src>>
-    ensures reads { Parses X.answer (λ b. (b.0, map line_tree b.1.items)) result
+    ensures { Parses X.answer (λ b. (b.0, map line_tree b.1.items)) result
         parser.old parser.new reader.optional_body }
-    ensures progress { OnOk result (tokens_left parser.new ≤ tokens_left parser.old) }
 {
     if parser.peek_kinds(&[TokenKind::Eol, TokenKind::Indent]) {
         parser.skip(2);
@@ -47,9 +46,8 @@ fn parse_body_after<'src, X: Expander>(
     parser: &mut TokenCursor<'_, 'src, X>,
     comment: Option<SignificantToken<'src>>,
 ) -> Result<CommentedBody<'src>, ExpressionError<'src>>
-    ensures reads { Parses X.answer (λ b. (b.0, map line_tree b.1.items)) result
+    ensures { Parses X.answer (λ b. (b.0, map line_tree b.1.items)) result
         parser.old parser.new (reader.body_after comment.entry) }
-    ensures progress { OnOk result (tokens_left parser.new ≤ tokens_left parser.old) }
 {
     let lines = parse_body(parser)?;
     Ok((comment, lines))
@@ -61,9 +59,8 @@ fn parse_body_after<'src, X: Expander>(
 fn parse_body<'src, X: Expander>(
     parser: &mut TokenCursor<'_, 'src, X>,
 ) -> Result<Vec<Line<'src>>, ExpressionError<'src>>
-    ensures reads { Parses X.answer (λ lines. map line_tree lines.items) result
+    ensures { Parses X.answer (λ lines. map line_tree lines.items) result
         parser.old parser.new reader.body }
-    ensures progress { OnOk result (tokens_left parser.new ≤ tokens_left parser.old) }
 {
     let mut lines = parse_lines(parser)?;
     trim_lines(&mut lines);
@@ -78,9 +75,8 @@ fn parse_body<'src, X: Expander>(
 fn parse_lines<'src, X: Expander>(
     parser: &mut TokenCursor<'_, 'src, X>,
 ) -> Result<Vec<Line<'src>>, ExpressionError<'src>>
-    ensures reads { Parses X.answer (λ lines. map line_tree lines.items) result
+    ensures { Parses X.answer (λ lines. map line_tree lines.items) result
         parser.old parser.new reader.lines }
-    ensures progress { OnOk result (tokens_left parser.new ≤ tokens_left parser.old) }
 {
     let mut lines = Vec::new(parser.alloc);
     'lines: loop {
@@ -98,8 +94,7 @@ fn parse_lines<'src, X: Expander>(
 fn parse_body_line<'src, X: Expander>(
     parser: &mut TokenCursor<'_, 'src, X>,
 ) -> Result<Line<'src>, ExpressionError<'src>>
-    ensures reads { Parses X.answer line_tree result parser.old parser.new reader.body_line }
-    ensures progress { OnOk result (tokens_left parser.new ≤ tokens_left parser.old) }
+    ensures { Parses X.answer line_tree result parser.old parser.new reader.body_line }
 {
     let number = peek_line(parser);
     let fragments = parse_line_rest(parser)?;
@@ -123,9 +118,8 @@ fn peek_line<X: Expander>(parser: &TokenCursor<'_, '_, X>) -> usize
 fn parse_line_rest<'src, X: Expander>(
     parser: &mut TokenCursor<'_, 'src, X>,
 ) -> Result<Vec<Fragment<'src>>, ExpressionError<'src>>
-    ensures reads { Parses X.answer (λ fragments. map fragment_tree fragments.items) result
+    ensures { Parses X.answer (λ fragments. map fragment_tree fragments.items) result
         parser.old parser.new reader.line_rest }
-    ensures progress { OnOk result (tokens_left parser.new ≤ tokens_left parser.old) }
 {
     let mut fragments = Vec::new(parser.alloc);
     'fragments: loop {
@@ -146,8 +140,7 @@ fn parse_line_rest<'src, X: Expander>(
 fn parse_fragment<'src, X: Expander>(
     parser: &mut TokenCursor<'_, 'src, X>,
 ) -> Result<Fragment<'src>, ExpressionError<'src>>
-    ensures reads { Parses X.answer fragment_tree result parser.old parser.new reader.fragment }
-    ensures progress { OnOk result (tokens_left parser.new < tokens_left parser.old) }
+    ensures { Parses X.answer fragment_tree result parser.old parser.new reader.fragment }
 {
     if let Some(text) = parser.accept(TokenKind::Text) {
         return Ok(Fragment::Text { token: text.0 });

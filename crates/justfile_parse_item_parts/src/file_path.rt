@@ -1,11 +1,11 @@
 //! Paths of files.
-ghost use Rattle.std.specs.Prelude.{◌≡◌, ◌<◌, ◌≤◌, IfOk, OnOk};
+ghost use Rattle.std.specs.Prelude.{◌≡◌, IfOk};
 ghost use Rattle.justfile_vocabulary.specs.declared.token_kind.TokenKind.TheVariants as kinds;
 ghost use Rattle.justfile_parse_base.specs.ParseErrors.{ParsesRuled};
 ghost use Rattle.justfile_parse_expression.specs.Literal.{IsOf};
 ghost use Rattle.justfile_parse_expression.specs.ParsedResults.{Parses};
 ghost use Rattle.justfile_parse_expression.specs.TableReader as table;
-ghost use Rattle.justfile_parse_expression.specs.View.{tokens_left, state_of};
+ghost use Rattle.justfile_parse_expression.specs.View.{state_of};
 ghost use Rattle.justfile_parse_item_parts.specs.PartTable as reader;
 ghost use Rattle.justfile_parse_item_parts.specs.Parts.{optional_path_tree, path_tree};
 
@@ -25,9 +25,8 @@ use justfile_vocabulary::{Keyword, TokenKind};
 pub fn parse_optional_path<'src, X: Expander>(
     parser: &mut TokenCursor<'_, 'src, X>,
 ) -> Result<Option<StringLiteral<'src>>, ParseError<'src>>
-    ensures reads { ParsesRuled X.answer optional_path_tree result parser.old parser.new
+    ensures { ParsesRuled X.answer optional_path_tree result parser.old parser.new
         reader.optional_path }
-    ensures progress { OnOk result (tokens_left parser.new ≤ tokens_left parser.old) }
 {
     if !begins_path(parser) {
         return Ok(None);
@@ -45,8 +44,7 @@ pub fn parse_optional_path<'src, X: Expander>(
 pub fn parse_file_path<'src, X: Expander>(
     parser: &mut TokenCursor<'_, 'src, X>,
 ) -> Result<(SignificantToken<'src>, StringLiteral<'src>), ParseError<'src>>
-    ensures reads { ParsesRuled X.answer path_tree result parser.old parser.new reader.file_path }
-    ensures progress { OnOk result (tokens_left parser.new < tokens_left parser.old) }
+    ensures { ParsesRuled X.answer path_tree result parser.old parser.new reader.file_path }
 {
     let expand = parse_mark(parser)?;
     let token = expect_string(parser)?;
@@ -68,9 +66,8 @@ fn begins_path<X: Expander>(parser: &TokenCursor<'_, '_, X>) -> bool
 fn parse_mark<'src, X: Expander>(
     parser: &mut TokenCursor<'_, 'src, X>,
 ) -> Result<bool, ParseError<'src>>
-    ensures reads { ParsesRuled X.answer (λ expand. expand) result parser.old parser.new
+    ensures { ParsesRuled X.answer (λ expand. expand) result parser.old parser.new
         reader.expansion_mark }
-    ensures progress { OnOk result (tokens_left parser.new ≤ tokens_left parser.old) }
 {
     let Some(mark) = parser.accept(TokenKind::Identifier) else {
         return Ok(false);
@@ -93,7 +90,6 @@ fn expect_string<'run, 'src, X: Expander>(
     ensures reads { Parses X.answer (λ entry. entry.now) result parser.old parser.new
         (table.expect kinds.StringToken) }
     ensures entry { IfOk result (λ entry. IsOf kinds.StringToken entry.now) }
-    ensures progress { OnOk result (tokens_left parser.new < tokens_left parser.old) }
 {
     match parser.accept(TokenKind::StringToken) {
         Some(entry) => Ok(entry),

@@ -24,7 +24,6 @@ pub fn parse_parameter_names<'src, X: Expander>(
     ensures numbers { TookBindingNumbers numerator.old numerator.new
         (identifiers_left (state_of X.answer parser.old))
         (identifiers_left_after result (state_of X.answer parser.new)) }
-    ensures progress { OnOk result (tokens_left parser.new < tokens_left parser.old) }
 {
     let mut parameters = Vec::new(parser.alloc);
     'names: loop {

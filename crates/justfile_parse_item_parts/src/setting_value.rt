@@ -1,13 +1,11 @@
 //! The values of settings.
-ghost use Rattle.std.specs.Prelude.{◌≡◌, ◌<◌, ◌≤◌, IfOk, OnOk, Some, None};
-ghost use Rattle.justfile_vocabulary.specs.declared.token_kind.TokenKind.TheVariants as kinds;
+ghost use Rattle.std.specs.Prelude.{◌≡◌, IfOk, OnOk, Some};
 ghost use Rattle.justfile_model.specs.Grammars.Settings as forms;
 ghost use Rattle.justfile_model.specs.Trees.Tree as tree;
 ghost use Rattle.justfile_parse_base.specs.ParseErrors.{ReadsRuled, ParsesRuled};
 ghost use Rattle.justfile_parse_expression.specs.MethodResults.{UnlessMemory};
 ghost use Rattle.justfile_parse_expression.specs.ParsedResults.{Parses};
 ghost use Rattle.justfile_parse_expression.specs.TableReader.{State};
-ghost use Rattle.justfile_parse_expression.specs.View.{tokens_left};
 ghost use Rattle.justfile_parse_item_parts.specs.PartTable as reader;
 ghost use Rattle.justfile_parse_item_parts.specs.Parts.{interpreter_tree};
 ghost use Rattle.justfile_setting.specs.LeafSetting.{leaf_value_of};
@@ -58,7 +56,6 @@ pub fn parse_setting_value<'src, X: Expander>(
         (reader.setting_value name.now keyword (forms.setting_form keyword)) }
     ensures keyword { IfOk result (λ setting. keyword_of setting ≡ keyword) }
     ensures fields { IfOk result HasDerivedSettingFields }
-    ensures progress { OnOk result (tokens_left parser.new ≤ tokens_left parser.old) }
 {
     match setting_form(keyword) {
         Some(SettingForm::Truth) => parse_truth_setting(parser, keyword),
@@ -79,7 +76,6 @@ fn parse_truth_setting<'src, X: Expander>(
     ensures reads { ParsesRuled X.answer leaf_value_of result parser.old parser.new reader.truth }
     ensures keyword { IfOk result (λ setting. keyword_of setting ≡ keyword) }
     ensures fields { IfOk result HasDerivedSettingFields }
-    ensures progress { OnOk result (tokens_left parser.new ≤ tokens_left parser.old) }
 {
     let value = parse_truth(parser)?;
     Ok(Setting::from_truth(keyword, value))
@@ -90,8 +86,7 @@ fn parse_truth_setting<'src, X: Expander>(
 fn parse_truth<'src, X: Expander>(
     parser: &mut TokenCursor<'_, 'src, X>,
 ) -> Result<bool, ParseError<'src>>
-    ensures reads { ParsesRuled X.answer tree.Truth result parser.old parser.new reader.truth }
-    ensures progress { OnOk result (tokens_left parser.new ≤ tokens_left parser.old) }
+    ensures { ParsesRuled X.answer tree.Truth result parser.old parser.new reader.truth }
 {
     let Some(_operator) = parser.accept(TokenKind::ColonEquals) else {
         return Ok(true);
@@ -128,7 +123,6 @@ fn parse_expression_setting<'src, X: Expander>(
         (reader.after_operator reader.expression_value) }
     ensures keyword { IfOk result (λ setting. keyword_of setting ≡ keyword) }
     ensures fields { IfOk result HasDerivedSettingFields }
-    ensures progress { OnOk result (tokens_left parser.new < tokens_left parser.old) }
 {
     parser.expect(TokenKind::ColonEquals)?;
     let value = parser.parse_expression()?;
@@ -145,7 +139,6 @@ fn parse_interpreter_setting<'src, X: Expander>(
         (reader.after_operator reader.interpreter) }
     ensures keyword { IfOk result (λ setting. keyword_of setting ≡ keyword) }
     ensures fields { IfOk result HasDerivedSettingFields }
-    ensures progress { OnOk result (tokens_left parser.new < tokens_left parser.old) }
 {
     parser.expect(TokenKind::ColonEquals)?;
     let interpreter = parse_interpreter(parser)?;
@@ -157,9 +150,8 @@ fn parse_interpreter_setting<'src, X: Expander>(
 fn parse_interpreter<'src, X: Expander>(
     parser: &mut TokenCursor<'_, 'src, X>,
 ) -> Result<Box<Interpreter<Expression<'src>>>, ExpressionError<'src>>
-    ensures reads { Parses X.answer interpreter_tree result parser.old parser.new
+    ensures { Parses X.answer interpreter_tree result parser.old parser.new
         reader.interpreter }
-    ensures progress { OnOk result (tokens_left parser.new < tokens_left parser.old) }
 {
     parser.expect(TokenKind::BracketL)?;
     if parser.probe_kinds(&[TokenKind::BracketR]) {
@@ -174,9 +166,8 @@ fn parse_interpreter<'src, X: Expander>(
 fn parse_command<'src, X: Expander>(
     parser: &mut TokenCursor<'_, 'src, X>,
 ) -> Result<Box<Interpreter<Expression<'src>>>, ExpressionError<'src>>
-    ensures reads { Parses X.answer interpreter_tree result parser.old parser.new
+    ensures { Parses X.answer interpreter_tree result parser.old parser.new
         reader.command_from }
-    ensures progress { OnOk result (tokens_left parser.new < tokens_left parser.old) }
 {
     let (command, is_last) = parser.parse_element(TokenKind::BracketR)?;
     if is_last {
@@ -211,7 +202,6 @@ fn parse_plain_setting<'src, X: Expander>(
         (reader.after_operator (reader.plain_value name.now keyword)) }
     ensures keyword { IfOk result (λ setting. keyword_of setting ≡ keyword) }
     ensures fields { IfOk result HasDerivedSettingFields }
-    ensures progress { OnOk result (tokens_left parser.new < tokens_left parser.old) }
 {
     parser.expect(TokenKind::ColonEquals)?;
     let value = parser.parse_expression()?;

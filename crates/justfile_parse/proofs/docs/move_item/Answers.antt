@@ -1,4 +1,5 @@
-use Rattle.std.proofs.Common.{◌∙◌, ◌-◌, List, arith, ap, map, refl, sym, take}
+use Rattle.std.proofs.Common.{◌∙◌, ◌-◌, List, arith, ap, map, refl, rules, sym, take}
+use Rattle.std.proofs.lemmas.Grind.{common_steps}
 use Rattle.std.specs.Option.{option_map}
 use Rattle.justfile_item.specs.declared.item.Item.{Item}
 use Rattle.justfile_parse.specs.Docs.{doc_before}
@@ -24,14 +25,15 @@ returns-in-Some-clause-trees c =
     c.set_doc.new.item _ c.swap.new.self.items refl c.swap.ensures.items
     (found_taken _ _ _ c.in-Some.doc.now _ found c.in_ok-text.ensures.ok c.set_doc.ensures.tree)
 
-pub returns-in-Some-clause-fields : goal.returns-in-Some-clause-fields
-returns-in-Some-clause-fields c =
+pub returns-in-Some-clause-whole : goal.returns-in-Some-clause-whole
+returns-in-Some-clause-whole c =
     let xs = c.args.items.now.items in
     let kept = c.args.kept in
     let found = ap (λ (l : List Item). doc_before (map item_tree (take kept l))) (sym c.deref.ensures.value) ∙ sym c.find_doc.ensures ∙ ap (option_map _) c.in-Some.is in
     let two = two_kept xs kept _ found in
-    documented_fields xs kept c.args.index c.index_mut.result.now c.requires.order (omega (arith, c.requires.within, c.args.items.now.ok.0)) c.index_mut.ensures.value (kept - 2) (kept - 1) (omega (arith, two)) (omega (arith, two))
-    c.set_doc.new.item _ c.swap.new.self.items refl c.swap.ensures.items c.set_doc.ensures.fields c.requires.fields
+    let fields = documented_fields xs kept c.args.index c.index_mut.result.now c.requires.order (omega (arith, c.requires.within, c.args.items.now.ok.0)) c.index_mut.ensures.value (kept - 2) (kept - 1) (omega (arith, two)) (omega (arith, two))
+    c.set_doc.new.item _ c.swap.new.self.items refl c.swap.ensures.items c.set_doc.ensures.fields c.requires.fields in
+    record { len = first_of (grind (arith, common_steps), search rules); fields = fields }
 
 pub returns-clause-trees : goal.returns-clause-trees
 returns-clause-trees c =
@@ -41,6 +43,7 @@ returns-clause-trees c =
       | else-can_take_doc w ↦ takes_no_doc _ _ (sym c.can_take_doc.ensures ∙ w.if-can_take_doc.false)
     ])
 
-pub returns-clause-fields : goal.returns-clause-fields
-returns-clause-fields c =
-    swapped_fields c.args.items.now.items c.swap-2.new.self.items c.args.kept c.args.index (omega (arith, c.requires.order, c.requires.within, c.args.items.now.ok.0)) (omega (arith, c.requires.within, c.args.items.now.ok.0)) c.swap-2.ensures.items c.requires.fields
+pub returns-clause-whole : goal.returns-clause-whole
+returns-clause-whole c =
+    let fields = swapped_fields c.args.items.now.items c.swap-2.new.self.items c.args.kept c.args.index (omega (arith, c.requires.order, c.requires.within, c.args.items.now.ok.0)) (omega (arith, c.requires.within, c.args.items.now.ok.0)) c.swap-2.ensures.items c.requires.fields in
+    record { len = first_of (grind (arith, common_steps), search rules); fields = fields }

@@ -11,7 +11,7 @@ returns-in_err-kind-clause-reads g c =
     let p = err_from_is_err_and c.from_residual-in_err-kind.result c.from_residual-in_err-kind.ensures.1 in
     rw (p.1, p.2)
     (kind_fails (map entry_of_pair c.args.attributes.now.pairs.items) (state_of A c.args.parser.now) c.in_ok-name.name.now (state_of A c.expect.new.self) c.in_err-kind.field-0.0
-    c.in_ok-name.ensures.reads c.in_err-kind.ensures.reads)
+    c.in_ok-name.ensures.reads c.in_err-kind.ensures)
 
 pub returns-in_err-arguments-clause-reads : goal.returns-in_err-arguments-clause-reads
 returns-in_err-arguments-clause-reads g c =
@@ -20,4 +20,4 @@ returns-in_err-arguments-clause-reads g c =
     rw (p.1, p.2)
     (arguments_fail (map entry_of_pair c.args.attributes.now.pairs.items) (state_of A c.args.parser.now) c.in_ok-name.name.now (state_of A c.expect.new.self) c.in_ok-kind.kind
     c.accepts_keyword_arguments.result (state_of A c.parse_arguments.new.parser) c.in_err-arguments.field-0.0
-    c.in_ok-name.ensures.reads c.in_ok-kind.ensures.reads c.accepts_keyword_arguments.ensures c.in_err-arguments.ensures.reads)
+    c.in_ok-name.ensures.reads c.in_ok-kind.ensures c.accepts_keyword_arguments.ensures c.in_err-arguments.ensures.reads)

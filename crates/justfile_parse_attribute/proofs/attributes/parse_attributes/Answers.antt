@@ -13,7 +13,7 @@ use Rattle.justfile_parse_attribute.proofs.attributes.parse_attributes.Goals as 
 pub lines-init : goal.lines-init
 lines-init g c =
     let s = state_of g.X.Expander.answer c.args.parser.now in
-    record { ahead = omega arith; value = rw c.new-attributes.ensures (sym (lines_are s)); fields = rw c.new-attributes.ensures none_fields }
+    record { value = rw c.new-attributes.ensures (sym (lines_are s)); fields = rw c.new-attributes.ensures none_fields }
 
 pub returns-in_err-parse_next_line-clause-reads : goal.returns-in_err-parse_next_line-clause-reads
 returns-in_err-parse_next_line-clause-reads g c =

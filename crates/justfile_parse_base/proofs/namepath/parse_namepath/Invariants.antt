@@ -1,4 +1,4 @@
-use Rattle.std.proofs.Common.{◌≡◌, ◌<◌, map}
+use Rattle.std.proofs.Common.{◌≡◌, map}
 use Rattle.justfile_token.specs.Namepath.{names_in}
 use Rattle.justfile_model.specs.Readers.ReaderState.{prepend}
 use Rattle.justfile_parse_expression.specs.View.{tokens_left, state_of}
@@ -7,10 +7,7 @@ use Rattle.justfile_parse_base.specs.Trees.{name_tree}
 use Rattle.justfile_parse_base.proofs.namepath.parse_namepath.Given as goal
 
 abbrev pub invariant-names : goal.invariant-names
-invariant-names g l = record {
-  ahead : tokens_left l.parser < tokens_left l.fn.parser;
-  value : prepend (map name_tree (names_in l.path)) (path_rest (state_of g.X.Expander.answer l.parser)) ≡ path (state_of g.X.Expander.answer l.fn.parser);
-}
+invariant-names g l = prepend (map name_tree (names_in l.path)) (path_rest (state_of g.X.Expander.answer l.parser)) ≡ path (state_of g.X.Expander.answer l.fn.parser)
 
 abbrev pub decreases-names : goal.decreases-names
 decreases-names g l = tokens_left l.parser

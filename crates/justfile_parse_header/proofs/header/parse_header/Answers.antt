@@ -29,7 +29,7 @@ parameters_are : (g : Over) (c : In_ok-parameters g) → reader.parameters (rule
 parameters_are g c =
     let found = Ok ((map parameter_tree c.in_ok-parameters.parameters.items, counters_of c.parse_parameters.new.numerator), state_of g.X.Expander.answer c.parse_parameters.new.parser) in
     let P : State → Type 0 = λ s. reader.parameters (rules_of c.args.attributes.now) (counters_of c.args.numerator.now) s ≡ found in
-    subst P c.in_ok-note_arg_attributes.ensures.notes c.in_ok-parameters.ensures.parses.reads
+    subst P c.in_ok-note_arg_attributes.ensures c.in_ok-parameters.ensures.reads
 
 -- each parameter that an `arg` attribute names is among them
 all_defined : (g : Over) (c : In_ok-check_defined g)
@@ -47,7 +47,7 @@ priors_are : (g : Over) (c : In_ok-parse_dependencies g)
 priors_are g c =
     let found = Ok (map dependency_tree c.parse_dependencies.new.dependencies.items, state_of g.X.Expander.answer c.parse_dependencies.new.parser) in
     let P : List UnresolvedDependency → Type 0 = λ ds. prepend (map dependency_tree ds) (reader.dependencies (state_of g.X.Expander.answer c.parse_parameters.new.parser)) ≡ found in
-    subst P c.new-dependencies.ensures.items c.in_ok-parse_dependencies.ensures.reads
+    subst P c.new-dependencies.ensures.items c.in_ok-parse_dependencies.ensures
 
 -- the name was one of the identifiers that were left
 name_taken : (g : Over) (c : In_ok-note_arg_attributes g)
@@ -55,7 +55,7 @@ name_taken : (g : Over) (c : In_ok-note_arg_attributes g)
 name_taken g c =
     let s1 = state_of g.X.Expander.answer c.expect.new.self in
     let first = name_fewer (state_of g.X.Expander.answer c.args.parser.now) (c.in_ok-name.name.now, s1) c.in_ok-name.ensures.reads in
-    let same = noted_names _ s1 (state_of g.X.Expander.answer c.note_arg_attributes.new.parser) c.in_ok-note_arg_attributes.ensures.notes in
+    let same = noted_names _ s1 (state_of g.X.Expander.answer c.note_arg_attributes.new.parser) c.in_ok-note_arg_attributes.ensures in
     omega (arith, first, same)
 
 -- the parameters' numbers were taken
@@ -64,9 +64,9 @@ numbers_taken : (g : Over) (c : In_ok-parameters g)
 numbers_taken g c =
     let s1 = state_of g.X.Expander.answer c.expect.new.self in
     let first = name_fewer (state_of g.X.Expander.answer c.args.parser.now) (c.in_ok-name.name.now, s1) c.in_ok-name.ensures.reads in
-    let same = noted_names _ s1 (state_of g.X.Expander.answer c.note_arg_attributes.new.parser) c.in_ok-note_arg_attributes.ensures.notes in
+    let same = noted_names _ s1 (state_of g.X.Expander.answer c.note_arg_attributes.new.parser) c.in_ok-note_arg_attributes.ensures in
     within c.args.numerator.now c.parse_parameters.new.numerator (identifiers_left (state_of g.X.Expander.answer c.note_arg_attributes.new.parser))
-    (identifiers_left (state_of g.X.Expander.answer c.parse_parameters.new.parser)) (identifiers_left (state_of g.X.Expander.answer c.args.parser.now)) 0 c.in_ok-parameters.ensures.parses.numbers
+    (identifiers_left (state_of g.X.Expander.answer c.parse_parameters.new.parser)) (identifiers_left (state_of g.X.Expander.answer c.args.parser.now)) 0 c.in_ok-parameters.ensures.numbers
     (omega (arith, first, same)) (omega arith)
 
 -- ---- answers
@@ -88,7 +88,7 @@ returns-in_err-name-clause-numbers g c =
 pub returns-in_err-note_arg_attributes-clause-reads : goal.returns-in_err-note_arg_attributes-clause-reads
 returns-in_err-note_arg_attributes-clause-reads g c =
     let p = err_from_is_err_and c.from_residual-in_err-note_arg_attributes.result c.from_residual-in_err-note_arg_attributes.ensures.1 in
-    rw (p.1, p.2, c.in_err-note_arg_attributes.ensures.notes) tt
+    rw (p.1, p.2, c.in_err-note_arg_attributes.ensures) tt
 
 pub returns-in_err-note_arg_attributes-clause-numbers : goal.returns-in_err-note_arg_attributes-clause-numbers
 returns-in_err-note_arg_attributes-clause-numbers g c =
@@ -106,7 +106,7 @@ returns-in_err-check_options-clause-reads g c =
     let fails = options_fail (rules_of c.args.attributes.now) (counters_of c.args.numerator.now) (state_of g.X.Expander.answer c.args.parser.now) c.in_ok-name.ensures.reads in
     rw (p.1, p.2)
     (failed (options (ruled (rules_of c.args.attributes.now) (state_of g.X.Expander.answer c.expect.new.self))) _ fails error left ⊥ _ (λ k. absurd k)
-    (subst P c.in_ok-note_arg_attributes.ensures.notes (c.in_err-check_options.ensures left)))
+    (subst P c.in_ok-note_arg_attributes.ensures (c.in_err-check_options.ensures left)))
 
 pub returns-in_err-check_options-clause-numbers : goal.returns-in_err-check_options-clause-numbers
 returns-in_err-check_options-clause-numbers g c =
@@ -125,7 +125,7 @@ returns-in_err-parameters-clause-reads g c =
     let fails = parameters_fail (rules_of c.args.attributes.now) (counters_of c.args.numerator.now) (state_of g.X.Expander.answer c.args.parser.now) c.in_ok-name.ensures.reads (c.in_ok-check_options.ensures (ruled (rules_of c.args.attributes.now) (state_of g.X.Expander.answer c.expect.new.self))) in
     rw (p.1, p.2)
     (failed (parameters (ruled (rules_of c.args.attributes.now) (state_of g.X.Expander.answer c.expect.new.self))) _ fails error left _ _ (fails wanting)
-    (subst P c.in_ok-note_arg_attributes.ensures.notes c.in_err-parameters.ensures.parses.reads))
+    (subst P c.in_ok-note_arg_attributes.ensures c.in_err-parameters.ensures.reads))
 
 pub returns-in_err-parameters-clause-numbers : goal.returns-in_err-parameters-clause-numbers
 returns-in_err-parameters-clause-numbers g c =
@@ -133,7 +133,7 @@ returns-in_err-parameters-clause-numbers g c =
     let taken = name_taken g (goal.at.returns-in_err-parameters-clause-numbers g c).In_ok-note_arg_attributes in
     rw p.1
     (within c.args.numerator.now c.parse_parameters.new.numerator (identifiers_left (state_of g.X.Expander.answer c.note_arg_attributes.new.parser)) 0
-    (identifiers_left (state_of g.X.Expander.answer c.args.parser.now)) 0 c.in_err-parameters.ensures.parses.numbers (omega (arith, taken)) (omega arith))
+    (identifiers_left (state_of g.X.Expander.answer c.args.parser.now)) 0 c.in_err-parameters.ensures.numbers (omega (arith, taken)) (omega arith))
 
 pub returns-in_err-check_defined-clause-reads : goal.returns-in_err-check_defined-clause-reads
 returns-in_err-check_defined-clause-reads g c =
@@ -162,7 +162,7 @@ returns-in_err-parse_dependencies-clause-reads g c =
     let h = goal.at.returns-in_err-parse_dependencies-clause-reads g c in
     let fails = priors_fail (rules_of c.args.attributes.now) (counters_of c.args.numerator.now) (state_of g.X.Expander.answer c.args.parser.now) c.in_ok-name.ensures.reads (c.in_ok-check_options.ensures (ruled (rules_of c.args.attributes.now) (state_of g.X.Expander.answer c.expect.new.self))) (parameters_are g h.In_ok-parameters) (all_defined g h.In_ok-check_defined) in
     rw (p.1, p.2)
-    (failed (priors []) _ fails error left ⊥ _ (λ k. absurd k) (subst P c.new-dependencies.ensures.items c.in_err-parse_dependencies.ensures.reads))
+    (failed (priors []) _ fails error left ⊥ _ (λ k. absurd k) (subst P c.new-dependencies.ensures.items c.in_err-parse_dependencies.ensures))
 
 pub returns-in_err-parse_dependencies-clause-numbers : goal.returns-in_err-parse_dependencies-clause-numbers
 returns-in_err-parse_dependencies-clause-numbers g c =
@@ -179,7 +179,7 @@ returns-in_err-parse_subsequents-clause-reads g c =
     (parameters_are g h.In_ok-parameters) (all_defined g h.In_ok-check_defined) priors (priors_are g h.In_ok-parse_dependencies) (map dependency_tree priors) in
     rw (p.1, p.2)
     (failed (prepend (map dependency_tree priors) (reader.subsequents (state_of g.X.Expander.answer c.parse_dependencies.new.parser))) _ fails c.in_err-parse_subsequents.field-0.0
-    (state_of g.X.Expander.answer c.parse_subsequents.new.parser) ⊥ _ (λ k. absurd k) c.in_err-parse_subsequents.ensures.reads)
+    (state_of g.X.Expander.answer c.parse_subsequents.new.parser) ⊥ _ (λ k. absurd k) c.in_err-parse_subsequents.ensures)
 
 pub returns-in_err-parse_subsequents-clause-numbers : goal.returns-in_err-parse_subsequents-clause-numbers
 returns-in_err-parse_subsequents-clause-numbers g c =
@@ -191,18 +191,22 @@ returns-clause-reads g c =
     let h = goal.at.returns-clause-reads g c in
     header_read (rules_of c.args.attributes.now) (counters_of c.args.numerator.now) (state_of g.X.Expander.answer c.args.parser.now) c.in_ok-name.ensures.reads (c.in_ok-check_options.ensures (ruled (rules_of c.args.attributes.now) (state_of g.X.Expander.answer c.expect.new.self)))
     (parameters_are g h.In_ok-parameters) (all_defined g h.In_ok-check_defined) c.parse_dependencies.new.dependencies.items (priors_are g h.In_ok-parse_dependencies)
-    c.parse_subsequents.new.dependencies.items (state_of g.X.Expander.answer c.parse_subsequents.new.parser) c.in_ok-parse_subsequents.ensures.reads
+    c.parse_subsequents.new.dependencies.items (state_of g.X.Expander.answer c.parse_subsequents.new.parser) c.in_ok-parse_subsequents.ensures
     c.len-priors.result (omega (arith, c.len-priors.ensures, c.parse_dependencies.new.dependencies.ok.0))
 
-pub returns-clause-priors : goal.returns-clause-priors
-returns-clause-priors g c =
+pub returns-clause-fields : goal.returns-clause-fields
+returns-clause-fields g c =
     let A = g.X.Expander.answer in
     let before = c.parse_dependencies.new.dependencies.items in
     let all = c.parse_subsequents.new.dependencies.items in
     let s3 = state_of A c.parse_dependencies.new.parser in
     let s4 = state_of A c.parse_subsequents.new.parser in
-    let others = read_after (map dependency_tree before) (map dependency_tree all) (reader.subsequents s3) s4 c.in_ok-parse_subsequents.ensures.reads in
-    omega (arith, c.len-priors.ensures, c.parse_dependencies.new.dependencies.ok.0, priors_within before all others.0 others.2)
+    let others = read_after (map dependency_tree before) (map dependency_tree all) (reader.subsequents s3) s4 c.in_ok-parse_subsequents.ensures in
+    record {
+      parameters = then_fields (rules_of c.args.attributes.now) [] c.in_ok-parameters.parameters.items (none_fields (rules_of c.args.attributes.now)) c.in_ok-parameters.ensures.fields;
+      priors = omega (arith, c.len-priors.ensures, c.parse_dependencies.new.dependencies.ok.0, priors_within before all others.0 others.2);
+      name = c.in_ok-name.ensures.kind;
+    }
 
 pub returns-clause-numbers : goal.returns-clause-numbers
 returns-clause-numbers g c =
@@ -210,10 +214,7 @@ returns-clause-numbers g c =
     let s3 = state_of g.X.Expander.answer c.parse_dependencies.new.parser in
     let s4 = state_of g.X.Expander.answer c.parse_subsequents.new.parser in
     let taken = name_taken g (goal.at.returns-clause-numbers g c).In_ok-note_arg_attributes in
-    let before = priors_fewer _ _ s2 s3 c.in_ok-parse_dependencies.ensures.reads in
-    let after = others_fewer _ _ s3 s4 c.in_ok-parse_subsequents.ensures.reads in
+    let before = priors_fewer _ _ s2 s3 c.in_ok-parse_dependencies.ensures in
+    let after = others_fewer _ _ s3 s4 c.in_ok-parse_subsequents.ensures in
     took_in_header c.args.numerator.now c.parse_parameters.new.numerator (identifiers_left (state_of g.X.Expander.answer c.note_arg_attributes.new.parser)) (identifiers_left s2)
-    (identifiers_left (state_of g.X.Expander.answer c.args.parser.now)) (identifiers_left s4) c.in_ok-parameters.ensures.parses.numbers (omega (arith, taken)) (omega (arith, before, after))
-
-pub returns-clause-fields : goal.returns-clause-fields
-returns-clause-fields g c = then_fields (rules_of c.args.attributes.now) [] c.in_ok-parameters.parameters.items (none_fields (rules_of c.args.attributes.now)) c.in_ok-parameters.ensures.parses.fields
+    (identifiers_left (state_of g.X.Expander.answer c.args.parser.now)) (identifiers_left s4) c.in_ok-parameters.ensures.numbers (omega (arith, taken)) (omega (arith, before, after))

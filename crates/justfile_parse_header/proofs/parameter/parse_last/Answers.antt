@@ -12,18 +12,18 @@ use Rattle.justfile_parse_header.specs.Tree.{parameter_tree, rules_of}
 use Rattle.justfile_parse_header.proofs.ParameterSteps.{after_token, no_last, plus_next, star_next}
 use Rattle.justfile_parse_header.proofs.parameter.parse_last.Goals as goal
 
-pub returns-in-Some-clause-parses : goal.returns-in-Some-clause-parses
-returns-in-Some-clause-parses g c =
+pub returns-in-Some : goal.returns-in-Some
+returns-in-Some g c =
     let A = g.X.Expander.answer in
     let rules = rules_of c.args.arg_attributes.now.attributes.now in
     let x : reader.Parameters = (map parameter_tree c.args.parameters.now.list.items, counters_of c.args.numerator.now) in
     let s = state_of A c.args.parser.now in
     let plus : TableEntry × State = (c.in-Some._plus.now, state_of A c.accept.new.self) in
     after_token rules _ _ _ _ _ kinds.Plus s plus _ reader.last_parameter (λ rules. reader.variadic rules Plus) c.in-Some.ensures.takes
-    (plus_next rules x s plus c.in-Some.ensures.takes) c.parse_variadic.ensures.parses
+    (plus_next rules x s plus c.in-Some.ensures.takes) c.parse_variadic.ensures
 
-pub returns-in-Some-accept-clause-parses : goal.returns-in-Some-accept-clause-parses
-returns-in-Some-accept-clause-parses g c =
+pub returns-in-Some-accept : goal.returns-in-Some-accept
+returns-in-Some-accept g c =
     let A = g.X.Expander.answer in
     let rules = rules_of c.args.arg_attributes.now.attributes.now in
     let x : reader.Parameters = (map parameter_tree c.args.parameters.now.list.items, counters_of c.args.numerator.now) in
@@ -32,10 +32,10 @@ returns-in-Some-accept-clause-parses g c =
     let P : TokenCursor _ → Type 0 = λ p. accept kinds.Asterisk (state_of A p) ≡ Some star in
     let found = subst P c.in_default.ensures.moves c.in-Some-accept.ensures.takes in
     after_token rules _ _ _ _ _ kinds.Asterisk s star _ reader.last_parameter (λ rules. reader.variadic rules Star) found
-    (star_next rules x s c.in_default.ensures.takes star found) c.parse_variadic-in-Some-accept.ensures.parses
+    (star_next rules x s c.in_default.ensures.takes star found) c.parse_variadic-in-Some-accept.ensures
 
-pub returns-clause-parses : goal.returns-clause-parses
-returns-clause-parses g c =
+pub returns : goal.returns
+returns g c =
     let A = g.X.Expander.answer in
     let rules = rules_of c.args.arg_attributes.now.attributes.now in
     let before = c.args.parameters.now.list.items in

@@ -10,18 +10,18 @@ use Rattle.justfile_parse_header.proofs.ParameterSteps.{after_token}
 use Rattle.justfile_parse_header.proofs.Parameters.{exported, unexported}
 use Rattle.justfile_parse_header.proofs.parameter.parse_parameter.Goals as goal
 
-pub returns-in-Some-clause-parses : goal.returns-in-Some-clause-parses
-returns-in-Some-clause-parses g c =
+pub returns-in-Some : goal.returns-in-Some
+returns-in-Some g c =
     let A = g.X.Expander.answer in
     let rules = rules_of c.args.arg_attributes.now.attributes.now in
     let x : reader.Parameters = (map parameter_tree c.args.parameters.now.list.items, counters_of c.args.numerator.now) in
     let s = state_of A c.args.parser.now in
     let rest = state_of A c.accept.new.self in
     after_token rules _ _ _ _ _ kinds.Dollar s (c.in-Some._dollar.now, rest) _ (λ rules. reader.parameter rules c.args.kind) (λ rules x. reader.named_parameter rules c.args.kind true x.0 x.1) c.in-Some.ensures.takes
-    (exported rules c.args.kind x s c.in-Some._dollar.now rest c.in-Some.ensures.takes) c.parse_named.ensures.parses
+    (exported rules c.args.kind x s c.in-Some._dollar.now rest c.in-Some.ensures.takes) c.parse_named.ensures
 
-pub returns-in-None-clause-parses : goal.returns-in-None-clause-parses
-returns-in-None-clause-parses g c =
+pub returns-in-None : goal.returns-in-None
+returns-in-None g c =
     let A = g.X.Expander.answer in
     let rules = rules_of c.args.arg_attributes.now.attributes.now in
     let x : reader.Parameters = (map parameter_tree c.args.parameters.now.list.items, counters_of c.args.numerator.now) in

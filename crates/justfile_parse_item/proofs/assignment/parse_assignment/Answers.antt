@@ -46,8 +46,8 @@ returns-clause-reads g c =
     (assignment_read ws n here c.in_ok-name.name.now (state_of A c.expect.new.self) c.in_ok-name.ensures.reads c.args.eager c.args.export c.in_ok-expect.field-0.now
     (state_of A c.expect-2.new.self) _ there c.in_ok-expect.ensures.reads c.in_ok-value.ensures.reads (c.in_ok-attributes.ensures.reads there) c.in_ok-number.number.0 m
     (c.in_ok-number.ensures.reads there)
-    ∙ rw (c.in_ok-attributes.ensures.entries, c.from_identifier.ensures, c.into_inner.ensures, file_depth_is A last) refl)
+    ∙ rw (c.in_ok-attributes.ensures.set.entries, c.from_identifier.ensures, c.into_inner.ensures, file_depth_is A last) refl)
 
 pub returns-clause-appended : goal.returns-clause-appended
 returns-clause-appended g c =
-    appends _ c.args.items.now.items c.push_construct.new.items.items c.push_construct.result c.push_construct.ensures (record { attributes = c.in_ok-attributes.ensures.fields; private = c.is_private_item-private.ensures ∙ ap (λ (name : Token). is_private_item name c.in_ok-attributes.attributes) (sym c.from_identifier.ensures) })
+    appends _ c.args.items.now.items c.push_construct.new.items.items c.push_construct.result c.push_construct.ensures (record { attributes = c.in_ok-attributes.ensures.set.fields; private = c.is_private_item-private.ensures ∙ ap (λ (name : Token). is_private_item name c.in_ok-attributes.attributes) (sym c.from_identifier.ensures) })

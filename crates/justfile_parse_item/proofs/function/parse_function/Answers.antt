@@ -72,8 +72,8 @@ returns-clause-reads g c =
     (reader.function ws n here) c.push_construct.ensures
     (function_read ws n here c.in_ok-name.name.now named c.in_ok-name.ensures.reads c.in_ok-expect.field-0.now (state_of A c.expect-2.new.self) (c.in_ok-attributes.ensures.reads named)
     c.in_ok-expect.ensures.reads _ (state_of A c.parse_parameter_names.new.parser) c.in_ok-parameters.ensures.reads _ _ c.in_ok-expect-2.ensures.reads _ last c.in_ok-body.ensures.reads
-    ∙ rw (c.in_ok-attributes.ensures.entries, c.from_identifier.ensures, c.into_inner.ensures) refl)
+    ∙ rw (c.in_ok-attributes.ensures.set.entries, c.from_identifier.ensures, c.into_inner.ensures) refl)
 
 pub returns-clause-appended : goal.returns-clause-appended
 returns-clause-appended g c =
-    appends _ c.args.items.now.items c.push_construct.new.items.items c.push_construct.result c.push_construct.ensures (c.in_ok-attributes.ensures.fields)
+    appends _ c.args.items.now.items c.push_construct.new.items.items c.push_construct.result c.push_construct.ensures (c.in_ok-attributes.ensures.set.fields)

@@ -1,10 +1,6 @@
-use Rattle.std.proofs.Common.{◌≡◌, List, Ok, Err, map, subst}
-use Rattle.std.specs.Prelude.{ℕ}
+use Rattle.std.proofs.Common.{map}
 use Rattle.std.proofs.lemmas.Result.{err_from_is_err_and}
-use Rattle.justfile_token.specs.declared.token.Token.{Token}
 use Rattle.justfile_model.specs.Readers.ReaderState as reading
-use Rattle.justfile_model.specs.Trees.Tree.{OrderedItem}
-use Rattle.justfile_expression.specs.LeafTree.{Leaf}
 use Rattle.justfile_parse_base.specs.Counting.{counters_of}
 use Rattle.justfile_parse_expression.specs.View.{state_of}
 use Rattle.justfile_parse_item.specs.Pushes.{last_tree}
@@ -13,8 +9,8 @@ use Rattle.justfile_parse_item.proofs.DerivedItemFields.{both_fields}
 use Rattle.justfile_parse_item.proofs.Lines.{end_stops, line_goes_on, line_errs}
 use Rattle.justfile_parse_item.proofs.items.parse_item_line.Goals as goal
 
-abbrev Trees : Type 0
-Trees = List (OrderedItem Leaf Token ℕ)
+pub parse_item-requires : goal.parse_item-requires
+parse_item-requires g c = c.requires.closed
 
 pub returns-in_err-parse_item-clause-reads : goal.returns-in_err-parse_item-clause-reads
 returns-in_err-parse_item-clause-reads g c =

@@ -1,11 +1,12 @@
-use Rattle.std.proofs.Common.{◌≡◌, sym, subst, None}
+use Rattle.std.proofs.Common.{◌≡◌, ap, arith, sym, subst, None}
 use Rattle.std.proofs.lemmas.Result.{err_from_is_err_and}
 use Rattle.justfile_vocabulary.specs.declared.token_kind.TokenKind.TheVariants as kinds
 use Rattle.justfile_model.specs.Readers.ReaderState as reading
 use Rattle.justfile_parse_expression.specs.TableReader.{accept}
-use Rattle.justfile_parse_expression.specs.View.{state_of}
+use Rattle.justfile_parse_expression.specs.View.{tokens_left, state_of}
+use Rattle.justfile_parse_expression.proofs.Rest.{left_is}
 use Rattle.justfile_parse_expression.specs.declared.token_cursor.TokenCursor.{TokenCursor}
-use Rattle.justfile_parse_item.proofs.Loop.{IsReadTo, begins, ends, goes_on, goes_past, errs}
+use Rattle.justfile_parse_item.proofs.Loop.{IsReadTo, begins, ends, goes_on, goes_past, errs, line_shrinks}
 use Rattle.justfile_parse_item.proofs.items.parse_items.Goals as goal
 use Rattle.justfile_parse_base.specs.Counting.{counters_of}
 
@@ -34,6 +35,19 @@ lines-preserved g c =
     let Q : TokenCursor _ → Type 0 = λ q. accept kinds.Eof (state_of A q) ≡ None in
     goes_on (state_of A c.args.parser.now) (state_of A c.accept.new.self) c.args.numerator.now c.lines.numerator c.lines.items.items (subst P here c.lines.invariant)
     (subst Q here c.in_default.ensures.takes) c.parse_line.new.numerator c.parse_line.new.items.items (state_of A c.parse_line.new.parser) c.in_ok-parse_line.ensures.reads c.in_ok-parse_line.ensures.fields
+
+pub lines-smaller : goal.lines-smaller
+lines-smaller g c =
+    let A = g.X.Expander.answer in
+    let q = c.accept.new.self in
+    let rest = c.parse_line.new.parser in
+    omega (
+      arith,
+      line_shrinks (state_of A q) c.lines.numerator c.parse_line.new.numerator c.lines.items.items c.parse_line.new.items.items (state_of A rest) c.in_ok-parse_line.ensures.reads,
+      left_is A q,
+      left_is A rest,
+      ap (λ (p : TokenCursor _). tokens_left p) c.in_default.ensures.moves,
+    )
 
 pub returns-in_err-parse_line-clause-reads : goal.returns-in_err-parse_line-clause-reads
 returns-in_err-parse_line-clause-reads g c =

@@ -1,26 +1,17 @@
-use Rattle.std.proofs.Common.{◌≡◌, None, map, subst, sym}
-use Rattle.justfile_vocabulary.specs.declared.token_kind.TokenKind.TheVariants as kinds
+use Rattle.std.proofs.Common.{map, subst, sym}
 use Rattle.justfile_model.specs.Readers.PartReader.{after_numbered}
 use Rattle.justfile_parse_base.specs.Counting.{ParsesCounted, counters_of, identifiers_left}
 use Rattle.justfile_parse_expression.specs.View.{state_of}
 use Rattle.justfile_parse_expression.specs.declared.token_cursor.TokenCursor.{TokenCursor}
-use Rattle.justfile_parse_expression.specs.TableReader.{State, accept}
 use Rattle.justfile_parse_item.specs.ItemTable as reader
-use Rattle.justfile_parse_item.specs.MethodResults.{CountersMoved}
+use Rattle.justfile_parse_item.specs.MethodResults.{CountersMoved, IsAtItem}
 use Rattle.justfile_parse_item.specs.Tree.{item_tree}
 use Rattle.justfile_parse_item.proofs.items.parse_line.Goals as goal
 
-pub parse_item_line-requires-clause-closed : goal.parse_item_line-requires-clause-closed
-parse_item_line-requires-clause-closed g c =
-    let A = g.X.Expander.answer in
-    let P : TokenCursor _ → Type 0 = λ p. (state_of A p).depth ≡ 0 in
-    subst P (sym c.in_default.ensures.moves) c.requires
-
-pub parse_item_line-requires-clause-item : goal.parse_item_line-requires-clause-item
-parse_item_line-requires-clause-item g c =
-    let A = g.X.Expander.answer in
-    let P : TokenCursor _ → Type 0 = λ p. accept kinds.Eol (state_of A p) ≡ None in
-    subst P (sym c.in_default.ensures.moves) c.in_default.ensures.takes
+pub parse_item_line-requires : goal.parse_item_line-requires
+parse_item_line-requires g c =
+    let P : TokenCursor _ → Type 0 = λ p. IsAtItem (state_of g.X.Expander.answer p) in
+    subst P (sym c.in_default.ensures.moves) (record { closed = c.requires; item = c.in_default.ensures.takes })
 
 pub returns-clause-moved : goal.returns-clause-moved
 returns-clause-moved g c =

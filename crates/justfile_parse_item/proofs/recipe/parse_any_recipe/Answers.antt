@@ -14,4 +14,4 @@ returns-clause-moved g c =
     let rest = state_of A c.accept_kind-quiet.new.parser in
     let P : Bool × State → Type 0 = λ q. identifiers_left q.1 ≤ identifiers_left s in
     more_moved c.args.numerator.now c.parse_recipe.new.numerator (identifiers_left rest) (identifiers_left s) c.parse_recipe.ensures.moved
-    (subst P (sym c.accept_kind-quiet.ensures.accepts) (accepted_fewer kinds.At s))
+    (subst P (sym c.accept_kind-quiet.ensures) (accepted_fewer kinds.At s))

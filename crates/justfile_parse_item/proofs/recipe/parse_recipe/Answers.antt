@@ -27,6 +27,9 @@ pub parse_header-requires : goal.parse_header-requires
 parse_header-requires g c =
     all_keyed (attributes_of c.in_ok-attributes.attributes) (set_fields c.args.attributes.items (written_of c.in_ok-attributes.attributes) c.in_ok-attributes.ensures.pairs c.requires)
 
+pub from_identifier-requires : goal.from_identifier-requires
+from_identifier-requires g c = c.in_ok-header.ensures.fields.name
+
 pub returns-in_err-header-clause-reads : goal.returns-in_err-header-clause-reads
 returns-in_err-header-clause-reads g c =
     let A = g.X.Expander.answer in
@@ -42,7 +45,7 @@ returns-in_err-body-clause-reads g c =
     rw (p.1, p.2)
     (body_stops c.args.quiet (map entry_of_pair c.args.attributes.items) (counters_of c.args.numerator.now) (state_of A c.args.parser.now) (leaf_entries_of c.in_ok-attributes.attributes) (c.in_ok-attributes.ensures.entries (pair_fields c.args.attributes.items c.requires))
     (header_tree c.in_ok-header.header) (counters_of c.parse_header.new.numerator) (state_of A c.parse_header.new.parser) c.in_ok-header.ensures.reads
-    c.in_err-body.field-0.0 (state_of A c.parse_body_after_header.new.parser) _ c.in_err-body.ensures.reads)
+    c.in_err-body.field-0.0 (state_of A c.parse_body_after_header.new.parser) _ c.in_err-body.ensures)
 
 pub returns-in_err-check_exclusions-clause-reads : goal.returns-in_err-check_exclusions-clause-reads
 returns-in_err-check_exclusions-clause-reads g c =
@@ -52,7 +55,7 @@ returns-in_err-check_exclusions-clause-reads g c =
     rw (p.1, p.2)
     (exclusion_fails c.args.quiet (map entry_of_pair c.args.attributes.items) (counters_of c.args.numerator.now) (state_of A c.args.parser.now) (leaf_entries_of c.in_ok-attributes.attributes) (c.in_ok-attributes.ensures.entries (pair_fields c.args.attributes.items c.requires))
     (header_tree c.in_ok-header.header) (counters_of c.parse_header.new.numerator) (state_of A c.parse_header.new.parser) c.in_ok-header.ensures.reads
-    (c.in_ok-body.body.0, map line_tree c.in_ok-body.body.1.items) u c.in_ok-body.ensures.reads c.in_err-check_exclusions.field-0.0 u _ (c.in_err-check_exclusions.ensures u))
+    (c.in_ok-body.body.0, map line_tree c.in_ok-body.body.1.items) u c.in_ok-body.ensures c.in_err-check_exclusions.field-0.0 u _ (c.in_err-check_exclusions.ensures u))
 
 pub returns-in_err-number-clause-reads : goal.returns-in_err-number-clause-reads
 returns-in_err-number-clause-reads g c =
@@ -62,7 +65,7 @@ returns-in_err-number-clause-reads g c =
     rw (p.1, p.2)
     (number_stops c.args.quiet (map entry_of_pair c.args.attributes.items) (counters_of c.args.numerator.now) (state_of A c.args.parser.now) (leaf_entries_of c.in_ok-attributes.attributes) (c.in_ok-attributes.ensures.entries (pair_fields c.args.attributes.items c.requires))
     (header_tree c.in_ok-header.header) (counters_of c.parse_header.new.numerator) (state_of A c.parse_header.new.parser) c.in_ok-header.ensures.reads
-    (c.in_ok-body.body.0, map line_tree c.in_ok-body.body.1.items) u c.in_ok-body.ensures.reads (c.in_ok-check_exclusions.ensures u)
+    (c.in_ok-body.body.0, map line_tree c.in_ok-body.body.1.items) u c.in_ok-body.ensures (c.in_ok-check_exclusions.ensures u)
     c.in_err-number.field-0.0 u (reading.NoNumber (counters_of c.next_recipe_number.new.numerator)) (c.in_err-number.ensures.reads u))
 
 pub returns-clause-reads : goal.returns-clause-reads
@@ -74,7 +77,7 @@ returns-clause-reads g c =
     reads _ c.args.items.now.items c.push_construct.new.items.items c.push_construct.result c.next_recipe_number.new.numerator u (recipe c.args.quiet (map entry_of_pair c.args.attributes.items) (counters_of c.args.numerator.now) (state_of A c.args.parser.now)) c.push_construct.ensures
     (recipe_read c.args.quiet (map entry_of_pair c.args.attributes.items) (counters_of c.args.numerator.now) (state_of A c.args.parser.now) (leaf_entries_of c.in_ok-attributes.attributes) (c.in_ok-attributes.ensures.entries (pair_fields c.args.attributes.items c.requires))
     (header_tree c.in_ok-header.header) (counters_of c.parse_header.new.numerator) (state_of A c.parse_header.new.parser) c.in_ok-header.ensures.reads
-    (c.in_ok-body.body.0, map line_tree c.in_ok-body.body.1.items) u c.in_ok-body.ensures.reads (c.in_ok-check_exclusions.ensures u)
+    (c.in_ok-body.body.0, map line_tree c.in_ok-body.body.1.items) u c.in_ok-body.ensures (c.in_ok-check_exclusions.ensures u)
     c.in_ok-number.number.0 (counters_of c.next_recipe_number.new.numerator) (c.in_ok-number.ensures.reads u)
     (record { file_depth = q.file_depth; import_offsets = c.in_ok-import_offsets.import_offsets.items; name = c.from_identifier.result.token; number = c.in_ok-number.number })
     _ _
@@ -87,8 +90,8 @@ returns-clause-appended g c =
     let set = c.in_ok-attributes.attributes in
     appends _ c.args.items.now.items c.push_construct.new.items.items c.push_construct.result c.push_construct.ensures (record {
       attributes = set_fields c.args.attributes.items (written_of set) c.in_ok-attributes.ensures.pairs c.requires;
-      parameters = c.in_ok-header.ensures.fields;
-      priors = c.in_ok-header.ensures.priors;
+      parameters = c.in_ok-header.ensures.fields.parameters;
+      priors = c.in_ok-header.ensures.fields.priors;
       private = c.is_private_item-private.ensures ∙ ap (λ (name : Token). is_private_item name set) (sym c.from_identifier.ensures);
       shebang =
           c.is_script-shebang.ensures

@@ -19,7 +19,7 @@ returns-in_err-attributes-clause-reads g c =
     let there = state_of A c.parse_namepath.new.parser in
     rw (p.1, p.2)
     (λ n. alias_errs (map entry_of_pair c.args.attributes.items) n (state_of A c.args.parser.now) c.in_ok-name.name.now (state_of A c.expect.new.self) c.in_ok-name.ensures.reads
-    c.in_ok-expect.field-0.now (state_of A c.expect-2.new.self) _ there c.in_ok-expect.ensures.reads c.in_ok-target.ensures.reads
+    c.in_ok-expect.field-0.now (state_of A c.expect-2.new.self) _ there c.in_ok-expect.ensures.reads c.in_ok-target.ensures
     c.in_err-attributes.field-0.0 there (c.in_err-attributes.ensures.reads there))
 
 pub returns-clause-reads : goal.returns-clause-reads
@@ -29,8 +29,8 @@ returns-clause-reads g c =
     let there = state_of A c.parse_namepath.new.parser in
     reads_uncounted A _ c.args.items.now.items c.push_construct.new.items.items c.push_construct.result c.args.parser.now c.parse_namepath.new.parser
     (reader.alias (map entry_of_pair c.args.attributes.items)) c.push_construct.ensures
-    (λ n. rw (c.in_ok-name.ensures.reads, c.in_ok-expect.ensures.reads, c.in_ok-target.ensures.reads, c.in_ok-attributes.ensures.reads there, c.in_ok-attributes.ensures.entries, c.from_identifier.ensures) refl)
+    (λ n. rw (c.in_ok-name.ensures.reads, c.in_ok-expect.ensures.reads, c.in_ok-target.ensures, c.in_ok-attributes.ensures.reads there, c.in_ok-attributes.ensures.set.entries, c.from_identifier.ensures) refl)
 
 pub returns-clause-appended : goal.returns-clause-appended
 returns-clause-appended g c =
-    appends _ c.args.items.now.items c.push_construct.new.items.items c.push_construct.result c.push_construct.ensures (c.in_ok-attributes.ensures.fields)
+    appends _ c.args.items.now.items c.push_construct.new.items.items c.push_construct.result c.push_construct.ensures (c.in_ok-attributes.ensures.set.fields)

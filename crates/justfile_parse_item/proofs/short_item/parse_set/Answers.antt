@@ -43,8 +43,8 @@ returns-clause-reads g c =
     (reader.setting ws) c.push_construct.ensures
     (λ n. setting_read ws n (state_of A c.args.parser.now) c.in_ok-name.name.now named c.in_ok-name.ensures.reads c.in_ok-keyword.keyword (c.in_ok-keyword.ensures named)
     (c.in_ok-attributes.ensures.reads named) (leaf_value_of c.in_ok-value.value) last c.in_ok-value.ensures.reads
-    ∙ rw (c.in_ok-attributes.ensures.entries, c.from_identifier.ensures, c.in_ok-value.ensures.keyword) refl)
+    ∙ rw (c.in_ok-attributes.ensures.set.entries, c.from_identifier.ensures, c.in_ok-value.ensures.keyword) refl)
 
 pub returns-clause-appended : goal.returns-clause-appended
 returns-clause-appended g c =
-    appends _ c.args.items.now.items c.push_construct.new.items.items c.push_construct.result c.push_construct.ensures (record { attributes = c.in_ok-attributes.ensures.fields; value = c.in_ok-value.ensures.fields })
+    appends _ c.args.items.now.items c.push_construct.new.items.items c.push_construct.result c.push_construct.ensures (record { attributes = c.in_ok-attributes.ensures.set.fields; value = c.in_ok-value.ensures.fields })

@@ -18,7 +18,7 @@ returns-in_err-attributes-clause-reads g c =
     let p = err_from_is_err_and c.from_residual-in_err-attributes.result c.from_residual-in_err-attributes.ensures.1 in
     let there = state_of A c.parse_file_path.new.parser in
     rw (p.1, p.2)
-    (λ n. imported_errs (map entry_of_pair c.args.attributes.items) n (state_of A c.args.parser.now) c.args.optional _ there c.in_ok-literal.ensures.reads
+    (λ n. imported_errs (map entry_of_pair c.args.attributes.items) n (state_of A c.args.parser.now) c.args.optional _ there c.in_ok-literal.ensures
     c.in_err-attributes.field-0.0 there (c.in_err-attributes.ensures.reads there))
 
 pub returns-clause-reads : goal.returns-clause-reads
@@ -28,8 +28,8 @@ returns-clause-reads g c =
     let there = state_of A c.parse_file_path.new.parser in
     reads_uncounted A _ c.args.items.now.items c.push_construct.new.items.items c.push_construct.result c.args.parser.now c.parse_file_path.new.parser
     (reader.imported c.args.optional (map entry_of_pair c.args.attributes.items)) c.push_construct.ensures
-    (λ n. rw (c.in_ok-literal.ensures.reads, c.in_ok-attributes.ensures.reads there, c.in_ok-attributes.ensures.entries) refl)
+    (λ n. rw (c.in_ok-literal.ensures, c.in_ok-attributes.ensures.reads there, c.in_ok-attributes.ensures.set.entries) refl)
 
 pub returns-clause-appended : goal.returns-clause-appended
 returns-clause-appended g c =
-    appends _ c.args.items.now.items c.push_construct.new.items.items c.push_construct.result c.push_construct.ensures (c.in_ok-attributes.ensures.fields)
+    appends _ c.args.items.now.items c.push_construct.new.items.items c.push_construct.result c.push_construct.ensures (c.in_ok-attributes.ensures.set.fields)

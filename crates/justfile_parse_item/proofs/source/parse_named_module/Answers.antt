@@ -19,7 +19,7 @@ returns-in_err-attributes-clause-reads g c =
     let p = err_from_is_err_and c.from_residual-in_err-attributes.result c.from_residual-in_err-attributes.ensures.1 in
     rw (p.1, p.2)
     (λ n. module_errs (map entry_of_pair c.args.attributes.items) n (state_of A c.args.parser.now) c.in_ok-name.name.now (state_of A c.expect.new.self) c.in_ok-name.ensures.reads
-    c.args.optional _ there c.in_ok-relative.ensures.reads c.in_err-attributes.field-0.0 there (c.in_err-attributes.ensures.reads there))
+    c.args.optional _ there c.in_ok-relative.ensures c.in_err-attributes.field-0.0 there (c.in_err-attributes.ensures.reads there))
 
 pub returns-clause-reads : goal.returns-clause-reads
 unfolding files.named_module leaves
@@ -28,8 +28,8 @@ returns-clause-reads g c =
     let there = state_of A c.parse_optional_path.new.parser in
     reads_uncounted A _ c.args.items.now.items c.push_construct.new.items.items c.push_construct.result c.args.parser.now c.parse_optional_path.new.parser
     (reader.named_module c.args.optional (map entry_of_pair c.args.attributes.items)) c.push_construct.ensures
-    (λ n. rw (c.in_ok-name.ensures.reads, c.in_ok-relative.ensures.reads, c.in_ok-attributes.ensures.reads there, c.in_ok-attributes.ensures.entries, c.from_identifier.ensures) refl)
+    (λ n. rw (c.in_ok-name.ensures.reads, c.in_ok-relative.ensures, c.in_ok-attributes.ensures.reads there, c.in_ok-attributes.ensures.set.entries, c.from_identifier.ensures) refl)
 
 pub returns-clause-appended : goal.returns-clause-appended
 returns-clause-appended g c =
-    appends _ c.args.items.now.items c.push_construct.new.items.items c.push_construct.result c.push_construct.ensures (c.in_ok-attributes.ensures.fields)
+    appends _ c.args.items.now.items c.push_construct.new.items.items c.push_construct.result c.push_construct.ensures (c.in_ok-attributes.ensures.set.fields)

@@ -14,7 +14,7 @@ use Rattle.justfile_parse_item_parts.proofs.body.parse_lines.Goals as goal
 pub lines-init : goal.lines-init
 lines-init g c =
     let s = state_of g.X.Expander.answer c.args.parser.now in
-    record { ahead = omega arith; value = rw c.new-lines.ensures.items (begins (lines s)) }
+    rw c.new-lines.ensures.items (begins (lines s))
 
 pub lines-smaller : goal.lines-smaller
 lines-smaller g c =
@@ -24,14 +24,14 @@ lines-smaller g c =
     let Q : TokenCursor _ → Type 0 = λ p. accept kinds.Dedent (state_of A p) ≡ None in
     omega (
       arith,
-      line_shrinks (state_of A q) c.in_ok-line.line (state_of A b) (subst Q (sym c.in_default.ensures.moves) c.in_default.ensures.takes) c.in_ok-line.ensures.reads,
+      line_shrinks (state_of A q) c.in_ok-line.line (state_of A b) (subst Q (sym c.in_default.ensures.moves) c.in_default.ensures.takes) c.in_ok-line.ensures,
       left_is A q,
       left_is A b,
       ap (λ (p : TokenCursor _). tokens_left p) c.in_default.ensures.moves,
     )
 
-pub returns-in_err-line-clause-reads : goal.returns-in_err-line-clause-reads
-returns-in_err-line-clause-reads g c =
+pub returns-in_err-line : goal.returns-in_err-line
+returns-in_err-line g c =
     let A = g.X.Expander.answer in
     let done = c.lines.lines.items in
     let p = err_from_is_err_and c.from_residual.result c.from_residual.ensures.1 in
@@ -39,5 +39,5 @@ returns-in_err-line-clause-reads g c =
     let Q : TokenCursor _ → Type 0 = λ q. accept kinds.Dedent (state_of A q) ≡ None in
     let here = sym c.in_default.ensures.moves in
     rw (p.1, p.2)
-    (lines_stop (state_of A c.args.parser.now) (state_of A c.accept.new.self) done (subst P here c.lines.invariant.value) (subst Q here c.in_default.ensures.takes)
-    c.in_err-line.field-0.0 (state_of A c.parse_body_line.new.parser) c.in_err-line.ensures.reads)
+    (lines_stop (state_of A c.args.parser.now) (state_of A c.accept.new.self) done (subst P here c.lines.invariant) (subst Q here c.in_default.ensures.takes)
+    c.in_err-line.field-0.0 (state_of A c.parse_body_line.new.parser) c.in_err-line.ensures)

@@ -1,4 +1,3 @@
-use Rattle.std.proofs.Common.{◌≤◌}
 use Rattle.justfile_parse_expression.specs.View.{tokens_left, state_of}
 use Rattle.justfile_parse_item_parts.proofs.NumberedNames.{IsReadTo}
 use Rattle.justfile_parse_item_parts.proofs.parameter_names.parse_parameter_names.Given as goal
@@ -6,10 +5,7 @@ use Rattle.justfile_parse_item_parts.proofs.parameter_names.parse_parameter_name
 abbrev pub invariant-names : goal.invariant-names
 invariant-names g l =
     let A = g.X.Expander.answer in
-    record {
-      ahead : tokens_left l.parser ≤ tokens_left l.fn.parser;
-      so_far : IsReadTo (state_of A l.fn.parser) (state_of A l.parser) l.fn.numerator l.numerator l.parameters.items;
-    }
+    IsReadTo (state_of A l.fn.parser) (state_of A l.parser) l.fn.numerator l.numerator l.parameters.items
 
 abbrev pub decreases-names : goal.decreases-names
 decreases-names g l = tokens_left l.parser
