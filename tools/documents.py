@@ -9,7 +9,7 @@
 - Each script that a document names has its run bit, and each command of a block of code is there.
 - Each block of code after a line that ends in a path in backticks and a colon stands in that file, line by line.
 - Each figure that can be computed is as stated, and no command takes two times (figures.py).
-- No line has more than 300 characters, but for the tables of calls in CLAIMS.
+- No line has more than 300 characters.
 - Each source of a crate begins with a line `//!`, which says what it has.
 
 Prints what it finds, and ends with 1 if it found something. With --write it rewrites the tables of docs/SIZES.md, those
@@ -211,12 +211,9 @@ def check_commands(blocks):
 
 
 def check_widths(text):
-    """No line is too long, but for rows of calls in the sections of CLAIMS."""
-    of_calls = False
+    """No line is too long."""
     for number, line in enumerate(text.split("\n"), 1):
-        if line.startswith("## "):
-            of_calls = line.startswith("## `")
-        if len(line) > LONGEST and not (of_calls and line.startswith("|")):
+        if len(line) > LONGEST:
             yield f"{number}: {len(line)} characters"
 
 
