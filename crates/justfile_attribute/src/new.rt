@@ -47,10 +47,10 @@ impl<'src> Attribute<'src> {
         ensures made { Makes leaf_attribute_of result (new.new_attribute views_leaves
             name.entry.token kind (placed_leaves arguments.entry.items)
             (key_arguments (keys_of keyword_arguments.entry))) }
-        // The fields of an `arg` that follow from others: if there is a `long_key`, which is the
-        // key of a `long` without a value, `long` is the literal `name`; so it is for `short`.
-        // There is a `min` exactly if there is a `min_key`; so it is for `max`. `help` is `None`,
-        // since its expression, `help_property`, isn't evaluated.
+        // The fields of an `arg` that follow from others. With a `long_key` (the key of a `long`
+        // without a value) `long` is a copy of `name`; the same for `short`. `min` is there exactly
+        // if `min_key` is; the same for `max`. `help` is `None`: its expression, `help_property`,
+        // isn't evaluated.
         ensures fields { IfOk result HasDerivedAttributeFields }
     {
         let keys = keyword_arguments.into_map();

@@ -164,9 +164,9 @@ impl<'src> PairSet<Attribute<'src>, Written<'src>> {
         }
     }
 
-    /// Returns the comment at the end of the line on which this attribute was written, without
-    /// whitespace at its end. Only the last attribute in its brackets can have one. `None` if there
-    /// is no comment, or the set doesn't have the attribute.
+    /// Returns the comment at the end of the line on which this attribute was written. The parser
+    /// gives one only to the last attribute in its brackets, without trailing whitespace. `None` if
+    /// there is no comment, or the set doesn't have the attribute.
     pub fn comment(&self, attribute: &Attribute<'src>) -> Option<&'src str>
         ensures { result ≡ option_and_then (λ p. p.1.comment)
             (find (λ p. same attribute.now p.0) (written_of self.now)) }

@@ -58,7 +58,7 @@ pub(crate) fn enables_here(names_any: bool, names_linux: bool, names_unix: bool)
     !names_any || names_linux || names_unix
 }
 
-/// Whether an item of one kind may have attributes of another kind.
+/// Whether an item of this kind may have an attribute of that kind.
 pub(crate) fn may_have(item_kind: ItemKind, kind: AttributeKind) -> bool
     ensures { result ≡ is_allowed item_kind kind }
 {

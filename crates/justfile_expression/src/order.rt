@@ -83,7 +83,7 @@ fn compare_whole<'src>(expression: &Expression<'src>, other: &Expression<'src>) 
 
 /// Compares two expressions: by the declared order of the cases, and within a case by its fields in
 /// declared order. Expressions nest to the right without a limit, so a loop goes along the right
-/// sides of both. `after` is the order of what follows these, which counts only if they are equal.
+/// sides of both. `after` is the order of what follows these; it decides only if they are equal.
 #[cycle(order)]
 fn compare<'src>(
     leaves: LeafOrder,

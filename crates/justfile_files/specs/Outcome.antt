@@ -7,13 +7,17 @@ use Rattle.justfile_files.specs.Folder.{Files}
 use Rattle.justfile_files.specs.declared.request.Task.{Task}
 use Rattle.justfile_files.specs.declared.request.Task.TheVariants.{Check, Diff, Format}
 
--- What becomes of a file: it is formatted; it isn't, as the report tells; it isn't, and its report couldn't be written; it can't be formatted;
--- or none of these is known.
+-- what becomes of a file
 pub data Outcome : Type 0 where
+  -- it is formatted
   formatted : Outcome
+  -- it isn't, as the report tells
   differs : (report : List ℕ) → Outcome
+  -- it isn't, and its report couldn't be written
   unreported : Outcome
+  -- it can't be formatted
   rejected : Outcome
+  -- none of these is known
   failed : Outcome
 
 abbrev pub status_of : Outcome → ℕ

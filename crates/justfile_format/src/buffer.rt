@@ -35,7 +35,7 @@ impl<W: Write> Buffer<'_, W> {
         ensures all { OnOk result (self.new.end ≡ 0) }
     {
         let length = self.end;
-        // Never so: the bytes are in the room.
+        // This never happens: `end` is at most the room's length.
         if length > self.room.len() {
             return Err(io::Error::from(ErrorKind::InvalidInput));
         }

@@ -76,9 +76,9 @@ fn plain_run(text: RawText, bytes: &[u8], at: usize) -> usize
     }
 }
 
-/// Whether a byte is known to hide nothing and to begin no end, whatever follows. The comparison
-/// that covers the line ends also covers the control characters before them, such as a tab, though
-/// these would qualify.
+/// Whether this byte hides nothing and begins no end of the text, whatever follows it. Control
+/// characters up to the carriage return count as not plain: most could, but so one comparison finds
+/// both line ends.
 fn is_plain(text: RawText, byte: u8) -> bool
     ensures { result ≡ is_plain text byte }
 {

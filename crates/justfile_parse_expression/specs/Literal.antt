@@ -9,7 +9,7 @@ use Rattle.justfile_vocabulary.specs.declared.token_kind.TokenKind.TheVariants a
 use Rattle.justfile_literal.specs.Literal.{is_quoted, is_part}
 use Rattle.justfile_parse_expression.specs.Significant.{TableEntry}
 
--- a literal is quoted, a part of a format string has its delimiters, and a comment begins with `#`
+-- a literal is quoted, a part of a format string that another follows has its delimiters, and a comment begins with `#`
 abbrev pub is_delimited : TokenKind → List ℕ → Bool
 is_delimited kinds.StringToken lexeme = is_quoted lexeme
 is_delimited kinds.Backtick lexeme = is_quoted lexeme

@@ -10,8 +10,8 @@ use std::alloc::{AllocError, Global};
 pub struct Written<'src> {
     /// The attribute's name in the source.
     pub name: Name<'src>,
-    /// The comment at the end of the attribute's line, without trailing whitespace. Only the last
-    /// attribute between two brackets can have one.
+    /// The comment at the end of the attribute's line. The parser gives one only to the last
+    /// attribute in its brackets, without trailing whitespace.
     pub comment: Option<&'src str>,
 }
 
