@@ -12,7 +12,11 @@ failure_of (faults.Exhausted what) = failures.Exhausted what
 -- 2 if the text is rejected; each other failure has the status 3
 abbrev pub failure_status : Failure → ℕ
 failure_status (failures.Rejected lines) = 2
-failure_status _ = 3
+failure_status (failures.Reading error) = 3
+failure_status failures.NotUtf8 = 3
+failure_status (failures.Exhausted what) = 3
+failure_status (failures.Replacing error) = 3
+failure_status (failures.Writing error) = 3
 
 -- the status of a file: whether it is formatted, or why it can't be
 abbrev pub status_in : Result Bool Failure → ℕ

@@ -42,7 +42,11 @@ impl Failure {
     {
         match self {
             Failure::Rejected(_) => 2,
-            _ => 3,
+            Failure::Reading(_)
+            | Failure::NotUtf8
+            | Failure::Exhausted(_)
+            | Failure::Replacing(_)
+            | Failure::Writing(_) => 3,
         }
     }
 }

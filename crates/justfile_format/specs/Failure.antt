@@ -9,7 +9,12 @@ use Rattle.justfile_format.specs.declared.failure.Failure.TheVariants.{Usage, Re
 abbrev pub status_of : Failure → ℕ
 status_of (Rejected lines) = 2
 status_of NotPrintable = 2
-status_of _ = 3
+status_of Usage = 3
+status_of Reading = 3
+status_of NotUtf8 = 3
+status_of Writing = 3
+status_of Memory = 3
+status_of Numbers = 3
 
 abbrev pub failure_text : Failure → List ℕ
 failure_text Usage = codes "usage: justfmt [--check]\n"

@@ -82,7 +82,12 @@ impl Failure {
     {
         match self {
             Failure::Rejected(_) | Failure::NotPrintable => 2,
-            _ => 3,
+            Failure::Usage
+            | Failure::Reading
+            | Failure::NotUtf8
+            | Failure::Writing
+            | Failure::Memory
+            | Failure::Numbers => 3,
         }
     }
 

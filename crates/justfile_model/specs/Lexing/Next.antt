@@ -79,12 +79,14 @@ opening b rest =
 -- the fault of a literal that isn't terminated
 abbrev pub unterminated : StringDelimiter → LexicalFault
 unterminated delimiters.Backtick = UnterminatedBacktick
-unterminated _ = UnterminatedString
+unterminated delimiters.QuoteDouble = UnterminatedString
+unterminated delimiters.QuoteSingle = UnterminatedString
 
 -- the quote is a backtick
 abbrev pub is_backtick : StringDelimiter → Bool
 is_backtick delimiters.Backtick = true
-is_backtick _ = false
+is_backtick delimiters.QuoteDouble = false
+is_backtick delimiters.QuoteSingle = false
 
 -- A literal, or a part of a format string, with an opener and an inside of these lengths. It isn't terminated; or it ends with `{{`, another
 -- part follows, and its kind is `continued`; or it ends with the delimiter, and its kind is `ended`.

@@ -116,7 +116,8 @@ module _ {A B : Type 0} (view : LeafView A B) (at : B) where
 
     abbrev pub is_option : OptionName A B → Bool
     is_option tree.NoOption = false
-    is_option _ = true
+    is_option (tree.OwnName key) = true
+    is_option (tree.Named name) = true
 
     -- an error for a key that requires `long` or `short`, if neither is set
     abbrev pub check_has_option : (long short : OptionName A B) → KeyArgument A B → Made B (Unit {0})

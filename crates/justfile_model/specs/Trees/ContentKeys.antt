@@ -121,9 +121,37 @@ module _ {A B : Type 0} (view : LeafView A B) where
 
   -- the keys of literals; those of `script` are a command and its arguments
   abbrev pub texts_keys : AttributeKind → List (Quoted A) → Keys ContentLeaf
-  texts_keys attributes.Script (command ∷ arguments) = next (present_key (row (next (quoted_key command) (next (row (keys_of quoted_key arguments)) end)))) end
+  texts_keys attributes.Android texts = keys_of quoted_key texts
+  texts_keys attributes.Arg texts = keys_of quoted_key texts
+  texts_keys attributes.Cache texts = keys_of quoted_key texts
+  texts_keys attributes.Confirm texts = keys_of quoted_key texts
+  texts_keys attributes.Continue texts = keys_of quoted_key texts
+  texts_keys attributes.Default texts = keys_of quoted_key texts
+  texts_keys attributes.Doc texts = keys_of quoted_key texts
+  texts_keys attributes.Dragonfly texts = keys_of quoted_key texts
+  texts_keys attributes.Env texts = keys_of quoted_key texts
+  texts_keys attributes.ExitMessage texts = keys_of quoted_key texts
+  texts_keys attributes.Extension texts = keys_of quoted_key texts
+  texts_keys attributes.Freebsd texts = keys_of quoted_key texts
+  texts_keys attributes.Group texts = keys_of quoted_key texts
+  texts_keys attributes.Linux texts = keys_of quoted_key texts
+  texts_keys attributes.Macos texts = keys_of quoted_key texts
   texts_keys attributes.Metadata texts = next (row (keys_of quoted_key texts)) end
-  texts_keys _ texts = keys_of quoted_key texts
+  texts_keys attributes.Netbsd texts = keys_of quoted_key texts
+  texts_keys attributes.NoCd texts = keys_of quoted_key texts
+  texts_keys attributes.NoExitMessage texts = keys_of quoted_key texts
+  texts_keys attributes.NoQuiet texts = keys_of quoted_key texts
+  texts_keys attributes.Openbsd texts = keys_of quoted_key texts
+  texts_keys attributes.Parallel texts = keys_of quoted_key texts
+  texts_keys attributes.PositionalArguments texts = keys_of quoted_key texts
+  texts_keys attributes.Private texts = keys_of quoted_key texts
+  texts_keys attributes.Script [] = end
+  texts_keys attributes.Script (command ∷ arguments) = next (present_key (row (next (quoted_key command) (next (row (keys_of quoted_key arguments)) end)))) end
+  texts_keys attributes.Shell texts = keys_of quoted_key texts
+  texts_keys attributes.Timestamp texts = keys_of quoted_key texts
+  texts_keys attributes.Unix texts = keys_of quoted_key texts
+  texts_keys attributes.Windows texts = keys_of quoted_key texts
+  texts_keys attributes.WorkingDirectory texts = keys_of quoted_key texts
 
   -- the kinds with an optional expression
   abbrev pub is_optional : AttributeKind → Bool

@@ -21,8 +21,11 @@ rank Value = 0
 
 -- the level has binary operators
 abbrev pub is_binary : Level → Bool
+is_binary Expression = true
+is_binary Disjunct = true
+is_binary Compared = true
+is_binary Conjunct = true
 is_binary Value = false
-is_binary _ = true
 
 -- the level of the left operand
 abbrev pub operand : Level → Level

@@ -4,8 +4,8 @@ use Rattle.justfile_attribute.specs.Order.{boxed_key, by_content, count_key, lit
 use Rattle.justfile_attribute.proofs.Ordered.{chained, then_are}
 use Rattle.justfile_attribute.proofs.order.compare_arg.Goals as goal
 
-pub returns-in-Arg-other : goal.returns-in-Arg-other
-returns-in-Arg-other c =
+pub returns : goal.returns
+returns c =
     rw c.in-Arg.is
     (rw c.in-Arg-other.is
     (then_are _ (then_are _ (then_are _ (then_are _ (then_are _ (then_are _ (then_are _ (then_are _ (then_are _

@@ -4,5 +4,5 @@ use Rattle.justfile_attribute.specs.Order.{literal_key}
 use Rattle.justfile_attribute.proofs.Ordered.{listed}
 use Rattle.justfile_attribute.proofs.order.compare_metadata.Goals as goal
 
-pub returns-in-Metadata : goal.returns-in-Metadata
-returns-in-Metadata c = rw c.in-Metadata.is (c.compare_rows.ensures ∙ sym (listed literal_key c.args.texts.now.items c.in-Metadata.other.items) ∙ sym (then_end _))
+pub returns : goal.returns
+returns c = rw c.in-Metadata.is (c.compare_rows.ensures ∙ sym (listed literal_key c.args.texts.now.items c.in-Metadata.other.items) ∙ sym (then_end _))
