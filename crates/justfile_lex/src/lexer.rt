@@ -1,5 +1,5 @@
 //! The lexer: from a text to its tokens, or to its lexical fault.
-ghost use Rattle.std.specs.Prelude.{◌≡◌, ◌+◌, ◌≤◌, ◌||◌, ◌==◌, length, drop, map, Ok, Err, IfOk, IfErr, All, MatchOption, None, Some, []};
+ghost use Rattle.std.specs.Prelude.{◌≡◌, ◌+◌, ◌≤◌, ◌||◌, ◌==◌, length, drop, map, Ok, Err, IfOk, IfErr, All, IfNone, IfSome, None, Some, []};
 ghost use Rattle.std.specs.Result.{result_ok};
 ghost use Rattle.std.specs.Str.{IsCharBoundary, IsUtf8};
 ghost use Rattle.std.specs.Char.{is_ascii_alphabetic, is_ascii_digit};
@@ -152,10 +152,11 @@ impl<'src> Lexer<'src> {
     /// text is left or no interpolation is open.
     fn unclosed_interpolation(&self) -> Option<Token<'src>>
         requires { IsCharBoundary self.now.src.now self.now.offset }
-        ensures { MatchOption result (length (drop self.now.offset self.now.src.now) ≡ 0
-            → self.now.mode.interpolation ≡ None)
-            (λ t. (length (drop self.now.offset self.now.src.now) ≡ 0)
-            × (self.now.mode.interpolation ≡ Some t)) }
+        ensures none { IfNone result (length (drop self.now.offset self.now.src.now) ≡ 0
+            → self.now.mode.interpolation ≡ None) }
+        ensures at_end { IfSome result
+            (λ start. length (drop self.now.offset self.now.src.now) ≡ 0) }
+        ensures open { IfSome result (λ start. self.now.mode.interpolation ≡ Some start) }
     {
         if self.rest().is_empty() {
             self.mode.interpolation
