@@ -1,6 +1,6 @@
 -- The keys by which expressions and attributes are ordered: first by case in declaration order, then by the fields in declaration order. A
 -- token counts by its kind and lexeme, regardless of its position. The number of a variable is ignored.
-use Rattle.std.specs.Prelude.{ℕ, Bool, true, false, List, ◌∷◌, Option, codes}
+use Rattle.std.specs.Prelude.{ℕ, Bool, true, false, List, [], ◌∷◌, Option, codes}
 use denote.Enum.Declared.{tag_of}
 use Rattle.std.specs.List.{list_any}
 use Rattle.std.specs.declared.cmp.Ordering.{Ordering}
