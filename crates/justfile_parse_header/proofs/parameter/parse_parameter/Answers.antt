@@ -27,5 +27,5 @@ returns-in-None g c =
     let x : reader.Parameters = (map parameter_tree c.args.parameters.now.list.items, counters_of c.args.numerator.now) in
     let call = c.parse_named-in-None in
     let P : TokenCursor _ → Type 0 = λ p. ReadsParameters {X = Unit {0}} rules (λ _. call.new.parameters.list.items) call.result c.args.parameters.now.list.items c.args.numerator.now call.new.numerator (state_of A p) (state_of A call.new.parser) (λ rules x. reader.named_parameter rules c.args.kind false x.0 x.1) in
-    let h = subst P c.in-None.ensures.moves call.ensures.parses in
+    let h = subst P c.in-None.ensures.moves call.ensures in
     record { reads = rw (unexported rules c.args.kind x (state_of A c.args.parser.now) c.in-None.ensures.takes) h.reads; fields = h.fields; numbers = h.numbers }
