@@ -527,7 +527,7 @@ module _ (conditions : Conditions) (tokens : List Token) (table : List TableEntr
   parsed_if all file_depth import_offsets names directory (Err fault) h = tt
 
 -- what was passed
-module _ {conditions : Conditions} {table : List TableEntry} {file_depth : ℕ} {import_offsets : List ℕ} {names : List (List ℕ)} {directory : List ℕ} {old new : Numerator} where
+module _ (conditions : Conditions) (table : List TableEntry) (file_depth : ℕ) (import_offsets : List ℕ) (names : List (List ℕ)) (directory : List ℕ) (old new : Numerator) where
   pub module_path_of : (result : Result Ast Fault) → IfOk result (IsReadFile conditions table file_depth import_offsets names directory old new) → IfOk result (λ ast. names_of ast.module_path ≡ names)
   module_path_of (Ok ast) h = h.module_path
   module_path_of (Err fault) h = tt

@@ -1,5 +1,6 @@
 -- The docs of recipes and modules, taken from the comments before them, from the first item to the last.
-use Rattle.std.specs.Prelude.{◌≡◌, ℕ, ◌<◌, ◌≤◌, Bool, true, false, ◌-◌, List, [], ◌∷◌, ◌++◌, drop, length, map, take, Option, Some, None, Vec, reverse, vec_len}
+use Rattle.std.specs.Prelude.{◌≡◌, ℕ, ◌<◌, ◌≤◌, Bool, true, false, ◌-◌, List, [], ◌∷◌, ◌++◌, drop, length, map, take, Option, Some, None, reverse, vec_len}
+use Rattle.std.specs.Global.{Vec}
 use Rattle.justfile_token.specs.declared.token.Token.{Token}
 use Rattle.justfile_item.specs.declared.item.Item.{Item}
 use Rattle.justfile_model.specs.Grammars.Docs.{LineEnd, Nothing, doc_in, item_with_doc, can_take_doc}

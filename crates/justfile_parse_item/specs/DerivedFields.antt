@@ -25,9 +25,9 @@ use Rattle.justfile_expression.specs.declared.expression.Expression.{Expression}
 abbrev pub HasDerivedSetAttributes : AttributeSet → Type 0
 HasDerivedSetAttributes set = HaveDerivedAttributeFields (attributes_of set)
 
--- The set has these entries, in the order of their contents, and the derived fields of its attributes are right.
-pub record IsSetOf (entries : Entries) (set : AttributeSet) : Type 0 where
-  pub entries : leaf_entries_of set ≡ in_content_order entries
+-- The set has the entries that were read, in the order of their contents, and the derived fields of its attributes are right.
+pub record IsSetOf (read : Entries) (set : AttributeSet) : Type 0 where
+  pub entries : leaf_entries_of set ≡ in_content_order read
   pub fields : HasDerivedSetAttributes set
 
 pub record HasDerivedAssignmentFields (a : Binding Expression) : Type 0 where

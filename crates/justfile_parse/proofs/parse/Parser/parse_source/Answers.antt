@@ -68,7 +68,7 @@ returns-clause-unmoved g c none =
     absurd (none (map tok_of t.tokens) t.lexed)
 
 pub returns-clause-module_path : goal.returns-clause-module_path
-returns-clause-module_path g c = module_path_of c.parse_significant.result c.parse_significant.ensures.file
+returns-clause-module_path g c = module_path_of _ _ _ _ _ _ _ _ c.parse_significant.result c.parse_significant.ensures.file
 
 pub returns-clause-working_directory : goal.returns-clause-working_directory
-returns-clause-working_directory g c = working_directory_of c.parse_significant.result c.parse_significant.ensures.file
+returns-clause-working_directory g c = working_directory_of _ _ _ _ _ _ _ _ c.parse_significant.result c.parse_significant.ensures.file
