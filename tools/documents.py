@@ -12,8 +12,8 @@
 - No line has more than 300 characters.
 - Each source of a crate begins with a line `//!`, which says what it has.
 
-Prints what it finds, and ends with 1 if it found something. With --write it rewrites the tables of docs/SIZES.md, those
-of the times from docs/times.txt.
+Prints what it finds, and ends with 1 if it found something. With --write it rewrites the figures of docs/SIZES.md: both
+tables, how the times were measured, and the longest chain of crates, the times from docs/times.txt.
 """
 import os
 import re

@@ -1,7 +1,7 @@
 """The figures of the documents: which ones are stated, and what the repository has.
 
 - The table of sizes, counted in the sources.
-- The table of times, which are those of docs/times.txt.
+- The table of times, which are those of docs/times.txt, and the longest chain of crates by these.
 - Counts in sentences: wrong bodies, crates, files that name a neighbour.
 - Times in sentences, each that stands soon after a command. A command has one time in all documents, and one that
   proves a crate from nothing has that of the crate and of all below it.
@@ -9,6 +9,7 @@
 Counts of rows aren't stated anywhere: the outputs of `text_rows` and `justfile_rows` have them.
 """
 import re
+import textwrap
 from pathlib import Path
 from subprocess import run
 
@@ -107,8 +108,29 @@ def from_nothing(crate, times):
     return sum(times[it, "proof"][1] for it in found if (it, "proof") in times)
 
 
+def longest_chain(times):
+    """The processor's seconds of the longest chain of crates, the crates, and what of the last one ends the chain.
+    A proof and tests wait for the proofs of the crates below, and wrong bodies for both."""
+    proved, ends = {}, []
+    for crate in NAMES:
+        proof, tests, edits = (times.get((crate, part), (None, 0))[1] for part in PARTS)
+        before, chain = max((proved[it] for it in BELOW[crate] if it in proved), default=(0, []))
+        proved[crate] = (before + proof, [*chain, crate])
+        ends += [(*proved[crate], ""), (before + tests, [*chain, crate], ", by its tests")]
+        ends.append((before + max(proof, tests) + edits, [*chain, crate], ", with its wrong bodies" * (edits > 0)))
+    return max(ends, key=lambda end: end[0])
+
+
+def chain_text(times):
+    seconds, chain, end = longest_chain(times)
+    names = ", ".join(f"`{it}`" for it in chain)
+    return textwrap.fill(
+        f"The longest chain of crates takes {seconds / 60:.0f} minutes of a processor: {names}{end}.", 115,
+        break_on_hyphens=False)
+
+
 def written(write):
-    """The two tables and the sentence before that of times, as SIZES has them; with `write` they are written."""
+    """The two tables and the sentences on times, as SIZES has them; with `write` they are written."""
     how, times = measured()
     text = SIZES.read_text()
     made = text
@@ -117,12 +139,16 @@ def written(write):
         old = re.compile(r"^\| crate .*\n(?:\|.*\n)+", re.M).search(made, at).group(0)
         made = made.replace(old, body)
     made = re.sub(r"(?<=\n\nMeasured: ).*", lambda _: how, made)
+    chain = r"(?<=\n\n)The longest chain of crates takes(.+\n)*.+"
+    made, count = re.subn(chain, lambda _: chain_text(times), made)
+    if count != 1:
+        yield "docs/SIZES.md: no paragraph begins with 'The longest chain of crates takes'"
     if made == text:
         return
     if write:
         SIZES.write_text(made)
     else:
-        yield "docs/SIZES.md: its tables are not what the crates and docs/times.txt have: --write writes them"
+        yield "docs/SIZES.md: its figures are not those of the crates and of docs/times.txt: --write writes them"
 
 
 # Sentences

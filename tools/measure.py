@@ -17,7 +17,8 @@ import sys
 import time
 from pathlib import Path
 
-from figures import NAMES, PARTS, TIMES
+sys.dont_write_bytecode = True
+from figures import NAMES, PARTS, TIMES  # noqa: E402
 
 PAUSE = 0.5
 TICKS = os.sysconf("SC_CLK_TCK")

@@ -152,40 +152,41 @@ GROUPS = [
 
 
 def checked(rows, lines, title):
-    """The rows of a table with their last column rewritten; prints which files are too many or missing."""
-    listed, made = set(), []
+    """The rows of a table with their last column rewritten, and which of its files are too many or missing."""
+    listed, made, wrong = set(), [], []
     for row in rows:
         cells = row.split("|")
         files = re.findall(r"`([^`]+\.antt)`", cells[2])
         listed.update(files)
         for file in files:
             if file not in lines:
-                print(f"{title}: {file} is not cited")
+                wrong.append(f"{title}: {file} is not cited")
         cells[3] = f" {-(-sum(lines.get(it, 0) for it in files) // 10) * 10} "
         made.append("|".join(cells))
     for file in sorted(set(lines) - listed):
-        print(f"{title}: {file} is missing ({lines[file]} lines)")
-    return made
+        wrong.append(f"{title}: {file} is missing ({lines[file]} lines)")
+    return made, wrong
 
 
 def main():
     text = CLAIMS.read_text()
     start = text.index("## What you have to trust")
     end = text.index("\n## ", start)
-    section, seen = text[start:end], set()
+    section, seen, wrong = text[start:end], set(), []
     tables = re.findall(r"(?:^\|[^\n]*\|\n)+", section, re.M)
     for group, table in zip(GROUPS, tables, strict=True):
         units = closure(it for source, calls in group for it in cited(source, calls)) - seen
         seen |= units
         rows = table.rstrip("\n").split("\n")
-        made = rows[:2] + checked(rows[2:], lines_by_file(units), rows[0].split("|")[1].strip())
-        section = section.replace(table, "\n".join(made) + "\n")
+        made, found = checked(rows[2:], lines_by_file(units), rows[0].split("|")[1].strip())
+        wrong += found
+        section = section.replace(table, "\n".join(rows[:2] + made) + "\n")
     if "--write" in sys.argv:
         CLAIMS.write_text(text[:start] + section + text[end:])
     elif section != text[start:end]:
-        print("the last column is not what the definitions have: --write writes it")
-        return 1
-    return 0
+        wrong.append("the last column is not what the definitions have: --write writes it")
+    print("\n".join(f"docs/CLAIMS.md: {it}" for it in wrong), end="\n" if wrong else "")
+    return 1 if wrong else 0
 
 
 if __name__ == "__main__":

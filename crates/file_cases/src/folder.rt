@@ -36,6 +36,7 @@ pub struct MemoryFolder {
 }
 
 impl MemoryFolder {
+    /// Returns a folder with the files of `FILES`, in which these calls fail.
     pub fn new(alloc: Global, faults: Faults) -> Result<Self, AllocError> {
         let mut files = Vec::new(alloc);
         for (name, text) in FILES {

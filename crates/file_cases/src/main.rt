@@ -1,6 +1,7 @@
-//! Runs what `justfiles` does over a folder in memory, with each read, each replacement and each write
-//! of a report failing in turn. Writes a line for each run: the arguments, what fails, the status, the
-//! texts of the files, and what was written to the output and as errors.
+//! Runs what `justfiles` does over a folder in memory, with each of the first three reads, of the
+//! first three replacements and of the first three writes of a report failing in turn. Writes a
+//! line for each run: the arguments, what fails, the status, the texts of the files, and what was
+//! written to the output and as errors.
 #![tactic(auto)]
 
 mod folder;

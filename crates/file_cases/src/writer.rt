@@ -12,6 +12,7 @@ pub struct MemoryWriter {
 }
 
 impl MemoryWriter {
+    /// Returns a writer whose write with this number, from 0, fails.
     pub fn new(alloc: Global, fault: usize) -> Self {
         MemoryWriter {
             bytes: Vec::new(alloc),

@@ -3,7 +3,7 @@
 
 ghost use Rattle.std.specs.Prelude.{◌≡◌, IfOk, string_bytes};
 ghost use Rattle.justfile_syntax.specs.Files.{ast_shape};
-ghost use Rattle.justfile_syntax.specs.Formatting.{IsIndented};
+ghost use Rattle.justfile_syntax.specs.Formatting.{HasCookedIndentation};
 ghost use Rattle.justfile_syntax.specs.Printing.{printed};
 ghost use Rattle.justfile_syntax.specs.Words.{indentation_text};
 ghost use Rattle.formatted.specs.Formatted.{IsFormattedAsSet, IsFormattedAt, IsPrintedAsSet};
@@ -16,6 +16,10 @@ use justfile_syntax::parser::{parse_root, release};
 use std::alloc::{AllocError, Global};
 
 /// Returns the formatted text of a justfile, at this indentation.
+///
+/// # Errors
+///
+/// `Compile` if the text isn't a justfile, `Memory` or `Numbers` if memory or numbers run out.
 pub fn formatted(alloc: Global, text: &str, indentation: Indentation) -> CompileResult<'_, String>
     ensures { IfOk result (λ formatted. IsFormattedAt text.now (indentation_text indentation)
         (string_bytes formatted)) }
@@ -27,6 +31,10 @@ pub fn formatted(alloc: Global, text: &str, indentation: Indentation) -> Compile
 }
 
 /// Returns the formatted text of a justfile, at the indentation that it sets.
+///
+/// # Errors
+///
+/// `Compile` if the text isn't a justfile, `Memory` or `Numbers` if memory or numbers run out.
 pub fn formatted_as_set(alloc: Global, text: &str) -> CompileResult<'_, String>
     ensures { IfOk result
         (λ formatted. IsFormattedAsSet text.now (string_bytes formatted)) }
@@ -47,7 +55,8 @@ fn print(ast: &mut Ast<'_>, alloc: Global, indentation: Indentation) -> Result<S
 
 /// Returns the printed text of a file, at the indentation that it sets.
 fn print_as_set(ast: &mut Ast<'_>, alloc: Global) -> Result<String, AllocError>
-    ensures { IsIndented ast.old → IfOk result (λ text. IsPrintedAsSet ast.old (string_bytes text)) }
+    ensures { HasCookedIndentation ast.old
+        → IfOk result (λ text. IsPrintedAsSet ast.old (string_bytes text)) }
 {
     let indentation = own_indentation(ast);
     ast.print(alloc, indentation)

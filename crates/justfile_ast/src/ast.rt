@@ -122,6 +122,10 @@ impl<'src> Ast<'src> {
 
     /// Writes the printed text of the file to the writer, piece by piece. If it fails, the writer
     /// has a beginning of the text, and nothing else. The writer isn't flushed.
+    ///
+    /// # Errors
+    ///
+    /// `Failed` if a write returns an error, `Zero` if it accepts no byte.
     pub fn print_to<W: Write>(
         &self,
         indentation: Indentation,

@@ -8,7 +8,7 @@ use Rattle.justfile_vocabulary.specs.declared.attribute_kind.AttributeKind.TheVa
 use Rattle.justfile_token.specs.declared.string_literal.StringLiteral.{StringLiteral}
 use Rattle.justfile_token.specs.declared.token.Token.{Token}
 use Rattle.justfile_vocabulary.specs.declared.signal.Signal.{Signal}
-use Rattle.justfile_model.specs.Meanings.Meaning.{KeyArgument, Placed, first_of, signal_set, texts_of}
+use Rattle.justfile_model.specs.Meanings.Meaning.{KeyArgument, PositionalArgument, first_of, signal_set, texts_of}
 use Rattle.justfile_model.specs.Readers.NewAttribute.{◌>>=◌, Made, check_keys, from_expressions, make_all, new_continue, new_of_expressions, placed_literal}
 use Rattle.justfile_model.specs.Trees.Tree as tree
 use Rattle.justfile_model.specs.Trees.Tree.{Attribute, Quoted}
@@ -16,32 +16,32 @@ use Rattle.justfile_expression.specs.LeafViews.{views_leaves}
 use Rattle.justfile_expression.specs.LeafTree.{Leaf, leaf_tree_of}
 use Rattle.justfile_expression.specs.declared.expression.Expression.{Expression}
 use Rattle.justfile_attribute.specs.New.{IsCounted, continue_made, values_of, with_known}
-use Rattle.justfile_attribute_rules.specs.Made.{placed_leaves, quoted_leaf, quoted_leaves, signal_made}
+use Rattle.justfile_attribute_rules.specs.Made.{positional_leaves, quoted_leaf, quoted_leaves, signal_made}
 
 -- ---- arguments that are removed from the front
 
 abbrev Argument : Type 0
 Argument = Token × Box Expression
 
-pub as_many : (xs : List Argument) → length (placed_leaves xs) ≡ length xs
+pub as_many : (xs : List Argument) → length (positional_leaves xs) ≡ length xs
 as_many [] = refl
 as_many (x ∷ xs) = ap suc (as_many xs)
 
-pub first_is : (xs : List Argument) (p : Argument) → 0 < length xs → p ≡ get_or xs 0 p → first_of (values_of (placed_leaves xs)) ≡ Some (leaf_tree_of p.1.value)
+pub first_is : (xs : List Argument) (p : Argument) → 0 < length xs → p ≡ get_or xs 0 p → first_of (values_of (positional_leaves xs)) ≡ Some (leaf_tree_of p.1.value)
 first_is [] p h e = absurd (omega (arith, h))
 first_is (x ∷ xs) p h e = ap (λ (q : Argument). Some (leaf_tree_of q.1.value)) (sym e)
 
-pub none_first : (xs : List Argument) → length xs ≡ 0 → first_of (values_of (placed_leaves xs)) ≡ None
+pub none_first : (xs : List Argument) → length xs ≡ 0 → first_of (values_of (positional_leaves xs)) ≡ None
 none_first [] h = refl
 none_first (x ∷ xs) h = absurd (omega (arith, h))
 
 pub directory_is : (at : Token) (xs : List Argument) (p : Argument) → 1 ≤ length xs → p ≡ get_or xs 0 p
-    → tree.Single kinds.WorkingDirectory (leaf_tree_of p.1.value) ≡ new_of_expressions views_leaves at kinds.WorkingDirectory (values_of (placed_leaves xs))
+    → tree.Single kinds.WorkingDirectory (leaf_tree_of p.1.value) ≡ new_of_expressions views_leaves at kinds.WorkingDirectory (values_of (positional_leaves xs))
 directory_is at [] p h e = absurd (omega (arith, h))
 directory_is at (x ∷ xs) p h e = ap (λ (q : Argument). tree.Single kinds.WorkingDirectory (leaf_tree_of q.1.value)) e
 
 pub env_is : (at : Token) (xs ys : List Argument) (p q : Argument) → 2 ≤ length xs → p ≡ get_or xs 1 p → ys ≡ remove xs 1 → q ≡ get_or ys 0 q
-    → tree.Env (leaf_tree_of q.1.value) (leaf_tree_of p.1.value) ≡ new_of_expressions views_leaves at kinds.Env (values_of (placed_leaves xs))
+    → tree.Env (leaf_tree_of q.1.value) (leaf_tree_of p.1.value) ≡ new_of_expressions views_leaves at kinds.Env (values_of (positional_leaves xs))
 env_is at [] ys p q h e f g = absurd (omega (arith, h))
 env_is at (x ∷ []) ys p q h e f g = absurd (omega (arith, h))
 env_is at (x ∷ y ∷ zs) ys p q h e f g =
@@ -49,7 +49,7 @@ env_is at (x ∷ y ∷ zs) ys p q h e f g =
     λ i. tree.Env (leaf_tree_of (first i).1.value) (leaf_tree_of (e i).1.value)
 
 -- an attribute of any expressions, whose keys are accepted
-pub expressions_made : (at : Token) (kind wanted : AttributeKind) (placed : List (Placed Leaf Token)) (keys : List (KeyArgument Leaf Token)) (made : Attribute Leaf Token)
+pub expressions_made : (at : Token) (kind wanted : AttributeKind) (placed : List (PositionalArgument Leaf Token)) (keys : List (KeyArgument Leaf Token)) (made : Attribute Leaf Token)
     → check_keys views_leaves at kind keys ≡ Ok tt → kind ≡ wanted → made ≡ new_of_expressions views_leaves at wanted (values_of placed)
     → from_expressions views_leaves at kind placed keys ≡ Ok made
 expressions_made at kind wanted placed keys made known is same =
@@ -80,7 +80,7 @@ module _ {X Y : Type 0} (f : X → Made Token Y) where
       go (Ok y) (Err b) h e later = absurd (true≢false (sym (ap is_ok e)))
       go (Ok y) (Ok zs) h e later = let same : y ∷ zs ≡ ys = cc in ap length (sym same) ∙ ap suc (later zs h)
 
-pub same_count : (at : Token) (kind : AttributeKind) (placed : List (Placed Leaf Token)) (texts : List (Quoted Leaf))
+pub same_count : (at : Token) (kind : AttributeKind) (placed : List (PositionalArgument Leaf Token)) (texts : List (Quoted Leaf))
     → make_all (placed_literal views_leaves at) placed ≡ Ok texts → IsCounted at kind (length placed) → IsCounted at kind (length texts)
 same_count at kind placed texts e h = subst (IsCounted at kind) (sym (made_length (placed_literal views_leaves at) placed texts e)) h
 

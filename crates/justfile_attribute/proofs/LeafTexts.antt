@@ -6,13 +6,13 @@ use Rattle.std.specs.Option.{is_some, option_map}
 use Rattle.std.proofs.lemmas.List.Elements.{All-map}
 use Rattle.justfile_token.specs.declared.token.Token.{Token}
 use Rattle.justfile_model.specs.Meanings.ArgumentTexts.{ValueHasText, HasText, HasTexts}
-use Rattle.justfile_model.specs.Meanings.Meaning.{KeyArgument, Placed, quoted, quoted_text}
+use Rattle.justfile_model.specs.Meanings.Meaning.{KeyArgument, PositionalArgument, quoted, quoted_text}
 use Rattle.justfile_model.specs.Trees.Tree.{Expr, Quoted}
 use Rattle.justfile_expression.specs.LeafViews.{views_leaves}
 use Rattle.justfile_expression.specs.LeafTree.{Leaf, Literal, LiteralText, leaf_tree_of, literal_of}
 use Rattle.justfile_expression.specs.declared.expression.Expression.{Expression, StringLiteral}
 use Rattle.justfile_attribute_rules.specs.Keys.{KeyMap, key_argument, key_arguments}
-use Rattle.justfile_attribute_rules.specs.Made.{placed_leaf, placed_leaves}
+use Rattle.justfile_attribute_rules.specs.Made.{positional_leaf, positional_leaves}
 use Rattle.justfile_attribute_rules.proofs.Quoted.{not_quoted}
 
 literal_text : (expanded : Bool) (l : LiteralText) → is_some (quoted_text views_leaves (record { expanded = expanded; token = Literal l })) ≡ true
@@ -32,8 +32,8 @@ given_text : (o : Option (Box Expression)) → ValueHasText views_leaves (option
 given_text None e is = cc
 given_text (Some b) e is = let same : leaf_tree_of b.value ≡ e = cc in subst (HasText views_leaves) same (expression_text b.value)
 
-pub have_texts : (placed : List (Token × Box Expression)) (keys : KeyMap) → HasTexts views_leaves (placed_leaves placed) (key_arguments keys)
+pub have_texts : (placed : List (Token × Box Expression)) (keys : KeyMap) → HasTexts views_leaves (positional_leaves placed) (key_arguments keys)
 have_texts placed keys = record {
-  values = All-map (λ (p : Placed Leaf Token). HasText views_leaves p.value) placed_leaf placed (λ k d lt. expression_text (get_or placed k d).1.value);
+  values = All-map (λ (p : PositionalArgument Leaf Token). HasText views_leaves p.value) positional_leaf placed (λ k d lt. expression_text (get_or placed k d).1.value);
   given = All-map (λ (k : KeyArgument Leaf Token). ValueHasText views_leaves k.value) key_argument (values keys) (λ k d lt. given_text (get_or (values keys) k d).1);
 }

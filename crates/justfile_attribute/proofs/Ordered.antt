@@ -157,14 +157,14 @@ then_are r e f g = g ∙ λ i. ordering_then (e i) (f i)
 -- ---- kinds, and then fields
 
 -- the index of its kind in declared order
-abbrev pub kind_place : Attribute → ℕ
-kind_place a = tag_of attribute_kinds.the_type (case_kind a)
+abbrev pub kind_index : Attribute → ℕ
+kind_index a = tag_of attribute_kinds.the_type (case_kind a)
 
-whole : (a b : Attribute) → attribute_content_cmp a b ≡ ordering_then (nat_cmp (kind_place a) (kind_place b)) (keys_cmp content_cmp (case_keys a) (case_keys b))
+whole : (a b : Attribute) → attribute_content_cmp a b ≡ ordering_then (nat_cmp (kind_index a) (kind_index b)) (keys_cmp content_cmp (case_keys a) (case_keys b))
 whole a b = refl
 
-pub place_is : (a : Attribute) → tag_of attribute_kinds.the_type (kind_of_attribute (attribute_of a)) ≡ kind_place a
-place_is a = ap (tag_of attribute_kinds.the_type) (kind_is expr_of literal_tok tok_of a)
+pub kind_index_is : (a : Attribute) → tag_of attribute_kinds.the_type (kind_of_attribute (attribute_of a)) ≡ kind_index a
+kind_index_is a = ap (tag_of attribute_kinds.the_type) (kind_is expr_of literal_tok tok_of a)
 
 unequal : (o rest : Ordering) → is_ne o ≡ true → o ≡ ordering_then o rest
 unequal Less rest e = refl
@@ -176,14 +176,14 @@ equal Less e = absurd cc
 equal Equal e = refl
 equal Greater e = absurd cc
 
-module _ (a b : Attribute) (o : Ordering) (ordered : o ≡ nat_cmp (kind_place a) (kind_place b)) where
+module _ (a b : Attribute) (o : Ordering) (ordered : o ≡ nat_cmp (kind_index a) (kind_index b)) where
   pub kinds_decide : is_ne o ≡ true → o ≡ attribute_content_cmp a b
   kinds_decide e =
       unequal o (keys_cmp content_cmp (case_keys a) (case_keys b)) e
       ∙ ap (λ (p : Ordering). ordering_then p (keys_cmp content_cmp (case_keys a) (case_keys b))) ordered ∙ sym (whole a b)
 
   pub same_kinds : is_ne o ≡ false → case_kind a ≡ case_kind b
-  same_kinds e = tag_one attribute_kinds.the_type tt (case_kind a) (case_kind b) (exact_unsigned (kind_place a) (kind_place b) (sym ordered ∙ equal o e))
+  same_kinds e = tag_one attribute_kinds.the_type tt (case_kind a) (case_kind b) (exact_unsigned (kind_index a) (kind_index b) (sym ordered ∙ equal o e))
 
   pub fields_decide : (r : Ordering) → is_ne o ≡ false → r ≡ keys_cmp content_cmp (case_keys a) (case_keys b) → r ≡ attribute_content_cmp a b
   fields_decide r e f = f ∙ sym (whole a b ∙ ap (λ (p : Ordering). ordering_then p (keys_cmp content_cmp (case_keys a) (case_keys b))) (sym ordered ∙ equal o e))

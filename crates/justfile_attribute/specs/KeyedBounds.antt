@@ -5,11 +5,11 @@ use Rattle.justfile_attribute.specs.declared.attribute.Attribute.{Attribute}
 use Rattle.justfile_attribute.specs.declared.attribute.Attribute.TheVariants as variants
 
 -- Each bound of an attribute has its key.
-abbrev pub IsKeyed : Attribute → Type 0
-IsKeyed (variants.Arg flag help help_property long long_key max max_key min min_key multiple name pattern short short_key value) =
+abbrev pub HasBoundKeys : Attribute → Type 0
+HasBoundKeys (variants.Arg flag help help_property long long_key max max_key min min_key multiple name pattern short short_key value) =
     (IsTrue (is_some max) → IsTrue (is_some max_key)) × (IsTrue (is_some min) → IsTrue (is_some min_key))
-IsKeyed _ = Unit {0}
+HasBoundKeys _ = Unit {0}
 
 -- Each bound of the attributes has its key.
-unfoldable pub AreKeyed : List Attribute → Type 0
-AreKeyed attributes = All IsKeyed attributes
+unfoldable pub HaveBoundKeys : List Attribute → Type 0
+HaveBoundKeys attributes = All HasBoundKeys attributes

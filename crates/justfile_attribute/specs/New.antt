@@ -8,7 +8,7 @@ use Rattle.justfile_token.specs.declared.name.Name.{Name}
 use Rattle.justfile_token.specs.declared.string_literal.StringLiteral.{StringLiteral}
 use Rattle.justfile_token.specs.declared.token.Token.{Token}
 use Rattle.justfile_model.specs.Meanings.AttributeKinds.{most_count}
-use Rattle.justfile_model.specs.Meanings.Meaning.{Placed}
+use Rattle.justfile_model.specs.Meanings.Meaning.{PositionalArgument}
 use Rattle.justfile_model.specs.Readers.NewAttribute.{◌>>=◌, Made, check_count}
 use Rattle.justfile_model.specs.Trees.Tree as tree
 use Rattle.justfile_model.specs.Trees.Tree.{Attribute, Expr, Quoted}
@@ -24,8 +24,8 @@ abbrev pub IsCounted : (at : Token) → AttributeKind → (found : ℕ) → Type
 IsCounted at kind found = check_count views_leaves at kind found ≡ Ok tt
 
 -- the values of positional arguments
-abbrev pub values_of : List (Placed Leaf Token) → List (Expr Leaf Token)
-values_of = map (λ (p : Placed Leaf Token). p.value)
+abbrev pub values_of : List (PositionalArgument Leaf Token) → List (Expr Leaf Token)
+values_of = map (λ (p : PositionalArgument Leaf Token). p.value)
 
 abbrev pub is_zero : Option ℕ → Bool
 is_zero None = false
@@ -49,7 +49,7 @@ with_known known made = do
   checked ← known
   Ok attribute
 
--- an attribute of a kind without rules of its own: it has only literals, or no arguments
+-- a kind without rules of its own, besides the number and the form of its arguments: each but `arg`, `cache` and `continue`
 abbrev pub has_no_own_rules : AttributeKind → Bool
 has_no_own_rules kinds.Android = true
 has_no_own_rules kinds.Arg = false

@@ -107,7 +107,7 @@ arg_slots name long_key long short_key short pattern value flag multiple min max
     ∷ property_slot (codes "pattern=") pattern ∷ value_slot (codes "value=") value ∷ flag_slot (codes "flag") flag ∷ flag_slot (codes "multiple") multiple
     ∷ number_slot (codes "min=") min ∷ number_slot (codes "max=") max ∷ property_slot (codes "help=") help ∷ []
 
--- the slots of an attribute
+-- the slots of an attribute; the kinds that aren't named have no arguments
 abbrev pub slots : Attribute → Slots
 slots (attributes.Arg flag help property long long_key max max_key min min_key multiple name pattern short short_key value) =
     arg_slots name long_key long short_key short pattern value flag multiple min max property

@@ -26,6 +26,10 @@ impl<'src> Attribute<'src> {
 
 /// Pushes references to the expressions that an attribute has directly, in the order in which they
 /// are printed.
+///
+/// # Errors
+///
+/// Memory runs out.
 pub fn push_attribute<'a, 'src>(
     attribute: &'a Attribute<'src>,
     found: &mut Vec<&'a Expression<'src>>,

@@ -18,7 +18,7 @@ ghost use Rattle.justfile_attribute.specs.contracts.attribute.AttributePartialEq
 ghost use Rattle.justfile_attribute.specs.declared.attribute.Attribute as code;
 ghost use Rattle.justfile_attribute.specs.declared.interpreter.Interpreter.{Interpreter};
 ghost use Rattle.justfile_attribute_rules.specs.Keys.{KeyMap, key_arguments};
-ghost use Rattle.justfile_attribute_rules.specs.Made.{placed_leaves};
+ghost use Rattle.justfile_attribute_rules.specs.Made.{positional_leaves};
 
 use crate::interpreter::Interpreter;
 
@@ -28,19 +28,21 @@ use crate::interpreter::Interpreter;
 pub fn new_attributes()
     ensures made { (at : Token) (kind : AttributeKind)
         (placed : List (Token × Box Expression)) (keys : KeyMap) (a : Attribute Leaf Token)
-        → new_attribute views_leaves at kind (placed_leaves placed) (key_arguments keys) ≡ Ok a
-        → (attribute_of views_leaves kind (placed_leaves placed) (key_arguments keys) ≡ Some a)
-        × (arguments_broken views_leaves at kind (placed_leaves placed) (key_arguments keys) ≡ []) }
+        → new_attribute views_leaves at kind (positional_leaves placed) (key_arguments keys) ≡ Ok a
+        → (attribute_of views_leaves kind (positional_leaves placed) (key_arguments keys) ≡ Some a)
+        × (arguments_broken views_leaves at kind (positional_leaves placed)
+        (key_arguments keys) ≡ []) }
     ensures refused { (at : Token) (kind : AttributeKind)
         (placed : List (Token × Box Expression)) (keys : KeyMap) (r : Broken Token)
-        → new_attribute views_leaves at kind (placed_leaves placed) (key_arguments keys) ≡ Err r
+        → new_attribute views_leaves at kind (positional_leaves placed) (key_arguments keys) ≡ Err r
         → Contains
-        (arguments_broken views_leaves at kind (placed_leaves placed) (key_arguments keys)) r }
+        (arguments_broken views_leaves at kind (positional_leaves placed) (key_arguments keys)) r }
     ensures unbroken { (at : Token) (kind : AttributeKind)
         (placed : List (Token × Box Expression)) (keys : KeyMap)
-        → arguments_broken views_leaves at kind (placed_leaves placed) (key_arguments keys) ≡ []
+        → arguments_broken views_leaves at kind (positional_leaves placed) (key_arguments keys) ≡ []
         → (a : Attribute Leaf Token)
-        × (new_attribute views_leaves at kind (placed_leaves placed) (key_arguments keys) ≡ Ok a) }
+        × (new_attribute views_leaves at kind (positional_leaves placed)
+        (key_arguments keys) ≡ Ok a) }
 {}
 
 /// Two attributes are equal exactly if they are of the same case and all their fields are equal,

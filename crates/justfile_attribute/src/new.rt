@@ -15,7 +15,7 @@ ghost use Rattle.justfile_attribute.specs.New.{IsCounted, HasDerivedAttributeFie
 ghost use Rattle.justfile_attribute_rules.specs.ArgumentRules.{AreNamed, rules_of};
 ghost use Rattle.justfile_attribute_rules.specs.Keys.{AreKeyed, IsTaken, key_arguments};
 ghost use Rattle.justfile_attribute_rules.specs.KeywordArguments.{keys_of};
-ghost use Rattle.justfile_attribute_rules.specs.Made.{Makes, placed_leaves, quoted_leaf, quoted_leaves};
+ghost use Rattle.justfile_attribute_rules.specs.Made.{Makes, positional_leaves, quoted_leaf, quoted_leaves};
 
 use crate::attribute::Attribute;
 use crate::cache_values::CacheValues;
@@ -45,7 +45,7 @@ impl<'src> Attribute<'src> {
         keyword_arguments: KeywordArguments<'src>,
     ) -> CompileResult<'src, Self>
         ensures made { Makes leaf_attribute_of result (new.new_attribute views_leaves
-            name.entry.token kind (placed_leaves arguments.entry.items)
+            name.entry.token kind (positional_leaves arguments.entry.items)
             (key_arguments (keys_of keyword_arguments.entry))) }
         // The fields of an `arg` that follow from others. With a `long_key` (the key of a `long`
         // without a value) `long` is a copy of `name`; the same for `short`. `min` is there exactly
@@ -73,9 +73,10 @@ fn from_expressions<'src>(
 ) -> CompileResult<'src, Attribute<'src>>
     requires keyed { AreKeyed keys }
     requires kind { takes_expressions kind ≡ true }
-    requires counted { IsCounted name.token kind (length (placed_leaves arguments.items)) }
+    requires counted { IsCounted name.token kind (length (positional_leaves arguments.items)) }
     ensures made { Makes leaf_attribute_of result (new.from_expressions views_leaves
-        name.entry.token kind (placed_leaves arguments.entry.items) (key_arguments keys.entry)) }
+        name.entry.token kind (positional_leaves arguments.entry.items)
+        (key_arguments keys.entry)) }
     ensures fields { IfOk result HasDerivedAttributeFields }
 {
     check_keys(name, kind, &keys)?;
@@ -95,7 +96,7 @@ fn first<'src>(
     mut arguments: Vec<(Token<'src>, Box<Expression<'src>>)>,
 ) -> Option<Box<Expression<'src>>>
     ensures { option_map (λ b. leaf_tree_of b.value) result
-        ≡ first_of (values_of (placed_leaves arguments.entry.items)) }
+        ≡ first_of (values_of (positional_leaves arguments.entry.items)) }
 {
     if arguments.is_empty() {
         return None;
@@ -111,7 +112,7 @@ fn working_directory<'src>(
 ) -> Attribute<'src>
     requires { 1 ≤ length arguments.items }
     ensures made { (at : Token) → leaf_attribute_of result ≡ new.new_of_expressions views_leaves at
-        kinds.WorkingDirectory (values_of (placed_leaves arguments.entry.items)) }
+        kinds.WorkingDirectory (values_of (positional_leaves arguments.entry.items)) }
     ensures fields { HasDerivedAttributeFields result }
 {
     let (_first, value) = arguments.remove(0);
@@ -123,7 +124,7 @@ fn working_directory<'src>(
 fn env<'src>(mut arguments: Vec<(Token<'src>, Box<Expression<'src>>)>) -> Attribute<'src>
     requires { 2 ≤ length arguments.items }
     ensures made { (at : Token) → leaf_attribute_of result ≡ new.new_of_expressions views_leaves at
-        kinds.Env (values_of (placed_leaves arguments.entry.items)) }
+        kinds.Env (values_of (positional_leaves arguments.entry.items)) }
     ensures fields { HasDerivedAttributeFields result }
 {
     let (_first, value) = arguments.remove(1);
@@ -142,9 +143,9 @@ fn from_literals<'src>(
 ) -> CompileResult<'src, Attribute<'src>>
     requires keyed { AreKeyed keys }
     requires kind { takes_expressions kind ≡ false }
-    requires counted { IsCounted name.token kind (length (placed_leaves arguments.items)) }
+    requires counted { IsCounted name.token kind (length (positional_leaves arguments.items)) }
     ensures made { Makes leaf_attribute_of result (new.from_literals views_leaves name.entry.token
-        kind (placed_leaves arguments.entry.items) (key_arguments keys.entry)) }
+        kind (positional_leaves arguments.entry.items) (key_arguments keys.entry)) }
     ensures fields { IfOk result HasDerivedAttributeFields }
 {
     let literals = string_literals(alloc, name, arguments)?;

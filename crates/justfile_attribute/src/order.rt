@@ -37,12 +37,12 @@ fn compare_kinds(attribute: &Attribute<'_>, other: &Attribute<'_>) -> Ordering
     ensures { result ≡ nat_cmp (tag_of the_type (case_kind attribute.now))
         (tag_of the_type (case_kind other.now)) }
 {
-    kind_place(attribute).cmp(&kind_place(other))
+    kind_index(attribute).cmp(&kind_index(other))
 }
 
 /// Returns the index of an attribute's kind in the declared order, counted from 0.
-#[tactic(auto, using(crate::proofs::Ordered::place_is))]
-fn kind_place(attribute: &Attribute<'_>) -> u8
+#[tactic(auto, using(crate::proofs::Ordered::kind_index_is))]
+fn kind_index(attribute: &Attribute<'_>) -> u8
     ensures { result ≡ tag_of the_type (case_kind attribute.now) }
 {
     attribute.kind() as u8

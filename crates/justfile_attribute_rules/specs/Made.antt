@@ -8,7 +8,7 @@ use Rattle.justfile_token.specs.declared.name.Name.{Name}
 use Rattle.justfile_vocabulary.specs.declared.signal.Signal.{Signal}
 use Rattle.justfile_token.specs.declared.string_literal.StringLiteral.{StringLiteral}
 use Rattle.justfile_token.specs.declared.token.Token.{Token}
-use Rattle.justfile_model.specs.Meanings.Meaning.{Placed, count_of, is_count, signal_set, text_of}
+use Rattle.justfile_model.specs.Meanings.Meaning.{PositionalArgument, count_of, is_count, signal_set, text_of}
 use Rattle.justfile_model.specs.Readers.NewAttribute.{◌>>=◌, Made, check, literal, make_all, or_refuse, refuse}
 use Rattle.justfile_model.specs.Meanings.Rules.{ArgAttributeMinExceedsMax, ArgumentCountParse, ArgumentCountValue, InvalidSignal, Rule}
 use Rattle.justfile_model.specs.Trees.Tree.{Bound, Expr, Quoted}
@@ -41,11 +41,11 @@ abbrev pub quoted_leaves : List StringLiteral → List (Quoted Leaf)
 quoted_leaves = map quoted_leaf
 
 -- a positional argument with its first token
-abbrev pub placed_leaf : Token × Box Expression → Placed Leaf Token
-placed_leaf p = record { first = p.0; value = leaf_tree_of p.1.value }
+abbrev pub positional_leaf : Token × Box Expression → PositionalArgument Leaf Token
+positional_leaf p = record { first = p.0; value = leaf_tree_of p.1.value }
 
-abbrev pub placed_leaves : List (Token × Box Expression) → List (Placed Leaf Token)
-placed_leaves = map placed_leaf
+abbrev pub positional_leaves : List (Token × Box Expression) → List (PositionalArgument Leaf Token)
+positional_leaves = map positional_leaf
 
 -- the signal that a literal names, or the broken rule
 abbrev pub signal_made : Quoted Leaf → Made Token Signal

@@ -6,7 +6,7 @@ ghost use Rattle.justfile_model.specs.Readers.NewAttribute as new;
 ghost use Rattle.justfile_model.specs.Meanings.Rules.{AttributeArgumentExpression};
 ghost use Rattle.justfile_expression.specs.LeafViews.{views_leaves};
 ghost use Rattle.justfile_expression.specs.LeafTree.{Named, leaf_tree_of};
-ghost use Rattle.justfile_attribute_rules.specs.Made.{IsFaultOfRule, Makes, placed_leaf, placed_leaves, quoted_leaf, quoted_leaves};
+ghost use Rattle.justfile_attribute_rules.specs.Made.{IsFaultOfRule, Makes, positional_leaf, positional_leaves, quoted_leaf, quoted_leaves};
 
 use justfile_expression::Expression;
 use justfile_token::{
@@ -45,7 +45,8 @@ pub fn string_literals<'src>(
     arguments: Vec<(Token<'src>, Box<Expression<'src>>)>,
 ) -> CompileResult<'src, Vec<StringLiteral<'src>>>
     ensures { Makes (λ literals. quoted_leaves literals.items) result (new.make_all
-        (new.placed_literal views_leaves name.entry.token) (placed_leaves arguments.entry.items)) }
+        (new.placed_literal views_leaves name.entry.token)
+        (positional_leaves arguments.entry.items)) }
 {
     let mut literals = Vec::new(alloc);
     for (first, value) in arguments {
@@ -66,7 +67,7 @@ fn placed_literal<'src>(
     value: Box<Expression<'src>>,
 ) -> CompileResult<'src, StringLiteral<'src>>
     ensures { Makes quoted_leaf result (new.placed_literal views_leaves name.entry.token
-        (placed_leaf (first.entry, value.entry))) }
+        (positional_leaf (first.entry, value.entry))) }
 {
     match literal_of(value) {
         Some(literal) => Ok(literal),

@@ -145,7 +145,8 @@ impl<'src> PairSet<Attribute<'src>, Written<'src>> {
 
     /// Returns the first attribute of this kind, or `None` if there is none.
     pub fn get(&self, kind: AttributeKind) -> Option<&Attribute<'src>>
-        ensures { option_copied result ≡ find (definitions.is_of_kind kind) (attributes_of self.now) }
+        ensures { option_copied result
+            ≡ find (definitions.is_of_kind kind) (attributes_of self.now) }
     {
         match first_of_kind(&self.pairs, kind) {
             Some(pair) => Some(&pair.0),
@@ -269,8 +270,9 @@ impl<'src> PairSet<Attribute<'src>, Written<'src>> {
         self.pairs
     }
 
-    /// Refuses attributes that an item of this kind, named by `item_token`, may not have. The rule
-    /// is `is_allowed` of the definitions.
+    /// Refuses attributes that an item of this kind, named by `item_token`, may not have. The kind
+    /// must be one that can have attributes: any but `Comment` and `Newline`. The rule is
+    /// `is_allowed` of the definitions.
     ///
     /// # Errors
     ///
@@ -301,7 +303,8 @@ impl<'src> PairSet<Attribute<'src>, Written<'src>> {
     /// Returns the first pair whose attribute an item of this kind may not have.
     fn first_invalid(&self, item_kind: ItemKind) -> Option<&(Attribute<'src>, Written<'src>)>
         ensures { option_copied result
-            ≡ find (λ p. not (is_allowed item_kind (definitions.kind_of p.0))) (written_of self.now) }
+            ≡ find (λ p. not (is_allowed item_kind (definitions.kind_of p.0)))
+            (written_of self.now) }
     {
         self.pairs
             .iter()

@@ -31,6 +31,10 @@ impl<'src> PairSet<Attribute<'src>, Written<'src>> {
 
 /// Pushes references to the expressions that the attributes have directly, in the order in which
 /// they are printed.
+///
+/// # Errors
+///
+/// `AllocError` if memory runs out.
 pub fn push_attributes<'a, 'src>(
     attributes: &'a AttributeSet<'src>,
     found: &mut Vec<&'a Expression<'src>>,

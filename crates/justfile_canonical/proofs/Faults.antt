@@ -9,7 +9,7 @@ use Rattle.justfile_token.specs.declared.fault.Fault.TheVariants.{Compile, Numbe
 use Rattle.justfile_model.specs.Grammars.Files.{NumbersSuffice}
 use Rattle.justfile_ast.specs.declared.ast.Ast.{Ast}
 use Rattle.justfile_parse.specs.Parsing.{HasNoTree, IsTreeless}
-use Rattle.justfile_canonical.specs.Fault.{IsFaultOf, IsFaultOfPrinting, IsRejectionFor}
+use Rattle.justfile_canonical.specs.Fault.{IsFormatFaultOf, IsFaultOfPrinting, IsRejectionFor}
 use Rattle.justfile_canonical.specs.Formatting.{IsFileOf, LacksNumbers}
 use Rattle.justfile_canonical.specs.Root.{HasNoRoot, conditions}
 use Rattle.justfile_canonical.specs.declared.fault.FormatFault.{FormatFault}
@@ -21,7 +21,7 @@ without_numbers (inr q) = inr q
 
 -- a text that isn't a justfile has an error, and the fault has its message
 told : (path source : List ℕ) (old new : Numerator) (e : CompileError) (f : FormatFault) → IsUtf8 source → IsTreeless conditions path source old new e
-    → IsRejectionFor e f → IsFaultOf path source f
+    → IsRejectionFor e f → IsFormatFaultOf path source f
 told path source old new e (faults.Rejected lines) utf8 treeless is = record {
   rejected = record { utf8 = utf8; derives_none = treeless.derives_none };
   error = e;
@@ -34,7 +34,7 @@ told path source old new e faults.NotPrintable utf8 treeless is = absurd is
 told path source old new e faults.Numbers utf8 treeless is = absurd is
 
 pub rejection_of : (path source : List ℕ) (fault : Fault) (e : CompileError) (f : FormatFault) → IsUtf8 source → HasNoRoot path source fault → fault ≡ Compile e
-    → IsRejectionFor e f → IsFaultOf path source f
+    → IsRejectionFor e f → IsFormatFaultOf path source f
 rejection_of path source fault e f utf8 root is told_of =
     told path source root.old root.new e f utf8 (subst (HasNoTree conditions path source root.old root.new) is root.no_tree) told_of
 
@@ -54,7 +54,7 @@ lacking path source fault root is =
     }
 
 -- a file of the text that isn't printed
-pub unprinted : (path source : List ℕ) (ast : Ast) (f : FormatFault) → IsFileOf source ast → IsFaultOfPrinting ast f → IsFaultOf path source f
+pub unprinted : (path source : List ℕ) (ast : Ast) (f : FormatFault) → IsFileOf source ast → IsFaultOfPrinting ast f → IsFormatFaultOf path source f
 unprinted path source ast faults.NotPrintable file h = record { tree = _; features = _; derives = file.derives; cannot_be_printed = h }
 unprinted path source ast faults.Memory file h = tt
 unprinted path source ast (faults.Rejected lines) file h = absurd h

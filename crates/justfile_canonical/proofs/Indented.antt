@@ -25,7 +25,7 @@ use Rattle.justfile_item.specs.declared.item.Item.{Item}
 use Rattle.justfile_item.specs.declared.item.Item.TheVariants as items
 use Rattle.justfile_ast.specs.declared.ast.Ast.{Ast}
 use Rattle.justfile_parse_item.specs.Filled.{IsFilledItem, IsFilledLiteral, IsFilledSetting}
-use Rattle.justfile_canonical.specs.Formatting.{IsFileOf, IsIndented, IsIndentedBy, MatchesLiteral}
+use Rattle.justfile_canonical.specs.Formatting.{IsFileOf, HasCookedIndentation, IsIndentedBy, MatchesLiteral}
 use Rattle.justfile_parse.specs.Parsing.{IsParsedText}
 use Rattle.justfile_canonical.specs.Root.{IsRoot, conditions, unchanged}
 
@@ -106,10 +106,10 @@ module _ (IsToken : Token → Type 0) where
         (holds_items all (All-tail (IsFilledItem unchanged IsToken depth offsets) i all given))
 
 -- a file that was parsed has the indentation of its literal
-parsed_indented : (path source : List ℕ) (old new : Numerator) (ast : Ast) → IsParsedText conditions path source 0 [] old new ast → IsIndented ast
+parsed_indented : (path source : List ℕ) (old new : Numerator) (ast : Ast) → IsParsedText conditions path source 0 [] old new ast → HasCookedIndentation ast
 parsed_indented path source old new ast parsed = holds_items _ 0 [] ast.items.items parsed.filled.given
 
-pub indented : (path source : List ℕ) (old new : Numerator) (r : Result Ast Fault) → IfOk r (IsParsedText conditions path source 0 [] old new) → IfOk r IsIndented
+pub indented : (path source : List ℕ) (old new : Numerator) (r : Result Ast Fault) → IfOk r (IsParsedText conditions path source 0 [] old new) → IfOk r HasCookedIndentation
 indented path source old new (Ok ast) parsed = parsed_indented path source old new ast parsed
 indented path source old new (Err fault) parsed = tt
 

@@ -10,18 +10,18 @@ use Rattle.justfile_canonical.specs.declared.fault.FormatFault.{FormatFault}
 use Rattle.justfile_canonical.specs.declared.fault.FormatFault.TheVariants.{Rejected, NotPrintable, Memory, Numbers}
 
 -- the lines that tell a user about it
-abbrev pub fault_text : FormatFault → List ℕ
-fault_text (Rejected lines) = string_bytes lines
-fault_text NotPrintable = codes "error: a body line ends in a carriage return\n"
-fault_text Memory = codes "error: out of memory\n"
-fault_text Numbers = codes "error: out of numbers\n"
+abbrev pub format_fault_text : FormatFault → List ℕ
+format_fault_text (Rejected lines) = string_bytes lines
+format_fault_text NotPrintable = codes "error: a body line ends in a carriage return\n"
+format_fault_text Memory = codes "error: out of memory\n"
+format_fault_text Numbers = codes "error: out of numbers\n"
 
 -- What a fault implies about the text of a file at this path. That memory ran out implies nothing.
-abbrev pub IsFaultOf : (path source : List ℕ) → FormatFault → Type 0
-IsFaultOf path source (Rejected lines) = IsRejection path source (string_bytes lines)
-IsFaultOf path source NotPrintable = IsUnprintable source
-IsFaultOf path source Memory = Unit {0}
-IsFaultOf path source Numbers = LacksNumbers source
+abbrev pub IsFormatFaultOf : (path source : List ℕ) → FormatFault → Type 0
+IsFormatFaultOf path source (Rejected lines) = IsRejection path source (string_bytes lines)
+IsFormatFaultOf path source NotPrintable = IsUnprintable source
+IsFormatFaultOf path source Memory = Unit {0}
+IsFormatFaultOf path source Numbers = LacksNumbers source
 
 -- The fault is the one for the error, or memory ran out.
 abbrev pub IsRejectionFor : CompileError → FormatFault → Type 0

@@ -82,13 +82,13 @@ abbrev pub MatchesLiteral : StringLiteral × Indentation → Type 0
 MatchesLiteral p = string_text (literal_tok p.0).lexeme ≡ Ok (indentation_text p.1)
 
 -- The file's indentation, if it sets one, is the text of its literal.
-abbrev pub IsIndented : Ast → Type 0
-IsIndented ast = IfSome (items_indentation ast.items.items) MatchesLiteral
+abbrev pub HasCookedIndentation : Ast → Type 0
+HasCookedIndentation ast = IfSome (items_indentation ast.items.items) MatchesLiteral
 
 -- The file is that of the text.
 pub record IsFileOf (source : List ℕ) (ast : Ast) : Type 0 where
   pub derives : TextDerives conditions source (tree_of ast) (features_of ast)
-  pub indented : IsIndented ast
+  pub indented : HasCookedIndentation ast
 
 -- The file can be printed, and `canonical` is its canonical text.
 pub record IsPrinted (ast : Ast) (canonical : List ℕ) : Type 0 where

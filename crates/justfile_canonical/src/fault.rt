@@ -1,6 +1,6 @@
 //! Why a text isn't formatted.
 ghost use Rattle.std.specs.Prelude.{◌≡◌};
-ghost use Rattle.justfile_canonical.specs.Fault.{fault_text};
+ghost use Rattle.justfile_canonical.specs.Fault.{format_fault_text};
 
 use std::alloc::{AllocError, AllocFailed};
 use std::error::Error;
@@ -23,7 +23,7 @@ pub enum FormatFault {
 impl FormatFault {
     /// Returns the lines that tell a user about it. Each ends in a line feed.
     pub fn lines(&self) -> &str
-        ensures { result.now ≡ fault_text self.now }
+        ensures { result.now ≡ format_fault_text self.now }
     {
         match self {
             FormatFault::Rejected(lines) => lines.as_str(),
@@ -39,7 +39,7 @@ impl FormatFault {
 impl fmt::Display for FormatFault {
     ghost use Rattle.std.specs.Prelude.{Some};
 
-    ghost output = { λ fault. Some (fault_text fault) };
+    ghost output = { λ fault. Some (format_fault_text fault) };
 
     fn fmt<W: fmt::Write>(&self, f: &mut fmt::Formatter<W>) -> fmt::Result {
         f.write_str(self.lines())

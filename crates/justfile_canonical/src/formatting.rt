@@ -1,8 +1,8 @@
 //! From a text to its canonical text.
 ghost use Rattle.std.specs.Prelude.{◌≡◌, IfErr, IfOk, OnOk, false, string_bytes, true};
 ghost use Rattle.justfile_canonical.specs.declared.fault.FormatFault.TheVariants as faults;
-ghost use Rattle.justfile_canonical.specs.Fault.{IsFaultOf, IsFaultOfPrinting, IsRejectionFor};
-ghost use Rattle.justfile_canonical.specs.Formatting.{IsFileOf, IsFormatted, IsIndented, IsIndentedBy, IsPrinted};
+ghost use Rattle.justfile_canonical.specs.Fault.{IsFormatFaultOf, IsFaultOfPrinting, IsRejectionFor};
+ghost use Rattle.justfile_canonical.specs.Formatting.{IsFileOf, IsFormatted, HasCookedIndentation, IsIndentedBy, IsPrinted};
 ghost use Rattle.justfile_vocabulary.specs.Indentation.{indentation_text};
 ghost use Rattle.justfile_ast.specs.Ast.{ast_shape, tree_of};
 ghost use Rattle.justfile_model.specs.Meanings.Enabled.{indentation_of};
@@ -24,21 +24,21 @@ use std::mem;
 /// The text isn't a justfile or can't be printed, or memory or numbers run out.
 pub fn format_text(alloc: Global, path: &str, source: &str) -> Result<String, FormatFault>
     ensures ok { IfOk result (λ text. IsFormatted source.now (string_bytes text)) }
-    ensures err { IfErr result (IsFaultOf path.now source.now) }
+    ensures err { IfErr result (IsFormatFaultOf path.now source.now) }
 {
     let mut ast = parse(alloc, path, source)?;
     print(&mut ast, alloc)
 }
 
-/// Does the same as `format_text`, but doesn't free the tree: for a program that ends soon. Freeing
-/// it node by node takes an eighth of the time, while the system frees all memory at once.
+/// Does the same as `format_text`, but doesn't free the tree: for a program that ends soon, whose
+/// memory the system takes back at once.
 ///
 /// # Errors
 ///
 /// As for `format_text`.
 pub fn format_and_forget(alloc: Global, path: &str, source: &str) -> Result<String, FormatFault>
     ensures ok { IfOk result (λ text. IsFormatted source.now (string_bytes text)) }
-    ensures err { IfErr result (IsFaultOf path.now source.now) }
+    ensures err { IfErr result (IsFormatFaultOf path.now source.now) }
 {
     let mut ast = parse(alloc, path, source)?;
     let text = print(&mut ast, alloc)?;
@@ -57,7 +57,7 @@ pub fn parse<'src>(
     source: &'src str,
 ) -> Result<Ast<'src>, FormatFault>
     ensures ok { IfOk result (IsFileOf source.now) }
-    ensures err { IfErr result (IsFaultOf path.now source.now) }
+    ensures err { IfErr result (IsFormatFaultOf path.now source.now) }
 {
     match parse_root(alloc, path, source) {
         Ok(ast) => Ok(ast),
@@ -81,7 +81,7 @@ fn rejected_fault(alloc: Global, error: &CompileError<'_>) -> FormatFault
 /// limit where a caller that holds a file passes a shared reference (`docs/TOOLCHAIN.md`, "could
 /// not tell").
 fn print(ast: &mut Ast<'_>, alloc: Global) -> Result<String, FormatFault>
-    requires { IsIndented ast.old }
+    requires { HasCookedIndentation ast.old }
     ensures ok { IfOk result (λ text. IsPrinted ast.old (string_bytes text)) }
     ensures err { IfErr result (IsFaultOfPrinting ast.old) }
 {
@@ -89,13 +89,14 @@ fn print(ast: &mut Ast<'_>, alloc: Global) -> Result<String, FormatFault>
     Ok(ast.print(alloc, indentation)?)
 }
 
-/// Returns the `own_indentation` of a file that can be printed.
+/// Returns the `own_indentation` of a file that can be printed. Requires that the indentation that
+/// the file sets, if it sets one, is the text of its literal.
 ///
 /// # Errors
 ///
 /// `NotPrintable` if the file can't be printed.
 pub fn printing_indentation(ast: &Ast<'_>) -> Result<Indentation, FormatFault>
-    requires { IsIndented ast.now }
+    requires { HasCookedIndentation ast.now }
     ensures printable { OnOk result (printable (ast_shape ast.now) ≡ true) }
     ensures indented { IfOk result (λ indentation. IsIndentedBy (indentation_of (tree_of ast.now))
         (indentation_text indentation)) }
@@ -112,7 +113,7 @@ pub fn printing_indentation(ast: &Ast<'_>) -> Result<Indentation, FormatFault>
 /// `indentation`, or four spaces.
 #[tactic(auto, using(crate::proofs::Indented::indented_by_literal, crate::proofs::Indented::indented_by_default))]
 pub fn own_indentation(ast: &Ast<'_>) -> Indentation
-    ensures { IsIndented ast.now
+    ensures { HasCookedIndentation ast.now
         → IsIndentedBy (indentation_of (tree_of ast.now)) (indentation_text result) }
 {
     match ast.indentation() {

@@ -1,5 +1,5 @@
-//! Root files and their canonical texts: a text is parsed as the root file of a justfile, and its tree
-//! is printed with the file's own indentation.
+//! Root files and their canonical texts: a text is parsed as the root file of a justfile, and its
+//! tree is printed with the file's own indentation.
 #![tactic(auto)]
 
 pub mod fault;

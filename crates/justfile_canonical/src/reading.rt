@@ -46,7 +46,8 @@ pub fn read_root<'src, R: Reader>(
     }
 }
 
-/// Lends a file to a reader.
+/// Lends a file to a reader. The file is passed as `&mut` for the same reason as in
+/// `formatting.rt`.
 fn lend<R: Reader>(ast: &mut Ast<'_>, reader: &mut R)
     ensures { R.reads reader.old ast.old reader.new }
 {
@@ -71,7 +72,8 @@ pub fn symbols<'src>(
     Ok(outline_file(&mut ast, alloc)?)
 }
 
-/// Returns the symbols of a file.
+/// Returns the symbols of a file. The file is passed as `&mut` for the same reason as in
+/// `formatting.rt`.
 fn outline_file<'src>(ast: &mut Ast<'src>, alloc: Global) -> Result<Vec<Symbol<'src>>, AllocError>
     ensures { IfOk result (λ symbols. map shown symbols.items ≡ symbols_of ast.old) }
 {

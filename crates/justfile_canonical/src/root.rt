@@ -6,7 +6,7 @@ ghost use Rattle.justfile_model.specs.Lexing.SignificantTokens.{identifiers, sig
 ghost use Rattle.justfile_model.specs.Lexing.Tok.{Tok};
 ghost use Rattle.justfile_parse.specs.Parsing.{HasNoTree};
 ghost use Rattle.justfile_parse_item.specs.MethodResults.{CountersMoved};
-ghost use Rattle.justfile_canonical.specs.Formatting.{IsIndented};
+ghost use Rattle.justfile_canonical.specs.Formatting.{HasCookedIndentation};
 ghost use Rattle.justfile_canonical.specs.Root.{HasNoRoot, IsRoot, IsRootFrom, conditions};
 
 use justfile_ast::Ast;
@@ -29,7 +29,7 @@ pub fn parse_root<'src>(
 ) -> CompileResult<'src, Ast<'src>>
     ensures ok { IfOk result (IsRoot path.now source.now) }
     // The indentation that the file sets is the text of its literal.
-    ensures indented { IfOk result IsIndented }
+    ensures indented { IfOk result HasCookedIndentation }
     ensures err { IfErr result (HasNoRoot path.now source.now) }
 {
     let mut numerator = Numerator::new(0);
@@ -50,7 +50,7 @@ pub fn parse_root_with<'src>(
 ) -> CompileResult<'src, Ast<'src>>
     ensures ok { IfOk result (IsRootFrom numerator.old numerator.new path.now source.now) }
     // The indentation that the file sets is the text of its literal.
-    ensures indented { IfOk result IsIndented }
+    ensures indented { IfOk result HasCookedIndentation }
     ensures err { IfErr result
         (HasNoTree conditions path.now source.now numerator.old numerator.new) }
     ensures moved { (tokens : List Tok) → Lexed source.now tokens

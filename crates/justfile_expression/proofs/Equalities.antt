@@ -15,7 +15,7 @@ use Rattle.justfile_token.specs.declared.compile_error_kind.CompileErrorKind.{Co
 use Rattle.justfile_token.specs.declared.delimiter.Delimiter.{Delimiter}
 use Rattle.justfile_token.specs.declared.delimiter.Delimiter.TheVariants.{Brace, Bracket, FormatString, Paren}
 use Rattle.justfile_expression.specs.Equal as compared
-use Rattle.justfile_expression.specs.Equal.{AreCompared, case_place, delimiter_eq, switch_eq}
+use Rattle.justfile_expression.specs.Equal.{AreCompared, case_index, delimiter_eq, switch_eq}
 
 pub switches_are : (s t : Switch) → switch_equality.eq-value.it s t ≡ switch_eq s t
 switches_are (Long name) (Long other) = refl
@@ -40,7 +40,7 @@ one_case (Fs ∷ Fss) each (inl x) (inr y) e = absurd (true≢false (sym e))
 one_case (Fs ∷ Fss) each (inr x) (inl y) e = absurd (true≢false (sym e))
 one_case (Fs ∷ Fss) each (inr x) (inr y) e = ap suc (one_case Fss each.1 x y e)
 
-pub same_case : (a b : CompileErrorKind) → error_kind_equality.eq-value.it a b ≡ true → case_place a ≡ case_place b
+pub same_case : (a b : CompileErrorKind) → error_kind_equality.eq-value.it a b ≡ true → case_index a ≡ case_index b
 same_case a b e =
     one_case (error_kinds.the_parts static_lft) _ (error_kinds.as_values static_lft a) (error_kinds.as_values static_lft b) e
 

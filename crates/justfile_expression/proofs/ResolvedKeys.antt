@@ -4,7 +4,9 @@ use Rattle.std.proofs.Common.{◌≡◌, ◌∙◌, ℕ, List, Option, refl, sym
 use Rattle.justfile_vocabulary.specs.declared.number.Number.{Number}
 use Rattle.justfile_model.specs.Trees.ContentKeys.{expr_key}
 use Rattle.justfile_model.specs.Trees.ContentLeaf.{unseen}
-use Rattle.justfile_model.specs.Trees.Key.{leaf, node, end, next, row, present_key, map_key, map_keys}
+use Rattle.justfile_model.specs.Trees.ExpressionCases.{case_node}
+use Rattle.justfile_model.specs.Trees.Key.{leaf, end, next, row, present_key, map_key, map_keys}
+use Rattle.justfile_model.specs.declared.expression_case.ExpressionCase.TheVariants as cases
 use Rattle.justfile_expression.specs.Content.{content_key, content_of}
 use Rattle.justfile_expression.specs.Leaf.{literal_key, operator_key, text_key, token_key}
 use Rattle.justfile_expression.specs.LeafTree.{leaf_tree_of}
@@ -18,33 +20,36 @@ use Rattle.std.specs.Prelude.{string_bytes}
 module _ (numbers : (name : List ℕ) → Option Number) where
   mutual
     kept_content : (resolved original : Expression) → IsResolved numbers resolved original → content_key resolved ≡ content_key original
-    kept_content (And' p lhs q rhs) (And' p' lhs' q' rhs') is = λ i. node 0 (next (kept_content lhs lhs' is.0 i) (next (kept_content rhs rhs' is.1 i) end))
+    kept_content (And' p lhs q rhs) (And' p' lhs' q' rhs') is =
+        λ i. case_node cases.And (next (kept_content lhs lhs' is.0 i) (next (kept_content rhs rhs' is.1 i) end))
     kept_content (Assert' p condition message name) (Assert' p' condition' message' name') is =
-        λ i. node 1 (next (kept_content condition condition' is.0 i) (next (kept_optional message message' is.1 i) (next (map_key content_of (token_key (is.2 i).token)) end)))
+        λ i. case_node cases.Assert (next (kept_content condition condition' is.0 i) (next (kept_optional message message' is.1 i) (next (map_key content_of (token_key (is.2 i).token)) end)))
     kept_content (Backtick contents t) (Backtick contents' t') is =
-        λ i. node 2 (next (map_key content_of (text_key (string_bytes (is.0 i)))) (next (map_key content_of (token_key (is.1 i))) end))
+        λ i. case_node cases.Backtick (next (map_key content_of (text_key (string_bytes (is.0 i)))) (next (map_key content_of (token_key (is.1 i))) end))
     kept_content (Call' name m arguments) (Call' name' n arguments') is =
-        λ i. node 3 (next (map_key content_of (token_key (is.0 i).token)) (next (row (kept_row _ _ arguments arguments' is.1 i)) end))
+        λ i. case_node cases.Call (next (map_key content_of (token_key (is.0 i).token)) (next (row (kept_row _ _ arguments arguments' is.1 i)) end))
     kept_content (Comparison' p lhs o q rhs t) (Comparison' p' lhs' o' q' rhs' t') is =
-        λ i. node 4 (next (kept_content lhs lhs' is.0 i) (next (map_key content_of (operator_key (is.1 i)))
+        λ i. case_node cases.Comparison (next (kept_content lhs lhs' is.0 i) (next (map_key content_of (operator_key (is.1 i)))
         (next (kept_content rhs rhs' is.2 i) (next (map_key content_of (token_key (is.3 i))) end))))
     kept_content (Concatenation' p lhs t q rhs) (Concatenation' p' lhs' t' q' rhs') is =
-        λ i. node 5 (next (kept_content lhs lhs' is.0 i) (next (map_key content_of (token_key (is.1 i))) (next (kept_content rhs rhs' is.2 i) end)))
+        λ i. case_node cases.Concatenation (next (kept_content lhs lhs' is.0 i) (next (map_key content_of (token_key (is.1 i))) (next (kept_content rhs rhs' is.2 i) end)))
     kept_content (Conditional' p condition q branch otherwise) (Conditional' p' condition' q' branch' otherwise') is =
-        λ i. node 6 (next (kept_content condition condition' is.0 i) (next (kept_content branch branch' is.1 i) (next (kept_optional otherwise otherwise' is.2 i) end)))
+        λ i. case_node cases.Conditional (next (kept_content condition condition' is.0 i) (next (kept_content branch branch' is.1 i) (next (kept_optional otherwise otherwise' is.2 i) end)))
     kept_content (FormatString' start m parts) (FormatString' start' n parts') is =
-        λ i. node 7 (next (map_key content_of (literal_key (is.0 i))) (next (row (kept_parts _ _ parts parts' is.1 i)) end))
-    kept_content (Group' p contents) (Group' p' contents') is = λ i. node 8 (next (kept_content contents contents' is i) end)
+        λ i. case_node cases.FormatString (next (map_key content_of (literal_key (is.0 i))) (next (row (kept_parts _ _ parts parts' is.1 i)) end))
+    kept_content (Group' p contents) (Group' p' contents') is = λ i. case_node cases.Group (next (kept_content contents contents' is i) end)
     kept_content (Join' lhs t q rhs) (Join' lhs' t' q' rhs') is =
-        λ i. node 9 (next (kept_optional lhs lhs' is.0 i) (next (map_key content_of (token_key (is.1 i))) (next (kept_content rhs rhs' is.2 i) end)))
+        λ i. case_node cases.Join (next (kept_optional lhs lhs' is.0 i) (next (map_key content_of (token_key (is.1 i))) (next (kept_content rhs rhs' is.2 i) end)))
     kept_content (List' m elements opener) (List' n elements' opener') is =
-        λ i. node 10 (next (row (kept_row _ _ elements elements' is.0 i)) (next (map_key content_of (token_key (is.1 i))) end))
+        λ i. case_node cases.List (next (row (kept_row _ _ elements elements' is.0 i)) (next (map_key content_of (token_key (is.1 i))) end))
     kept_content (ListConcatenation' p lhs t q rhs) (ListConcatenation' p' lhs' t' q' rhs') is =
-        λ i. node 11 (next (kept_content lhs lhs' is.0 i) (next (map_key content_of (token_key (is.1 i))) (next (kept_content rhs rhs' is.2 i) end)))
-    kept_content (Not' p operand) (Not' p' operand') is = λ i. node 12 (next (kept_content operand operand' is i) end)
-    kept_content (Or' p lhs q rhs) (Or' p' lhs' q' rhs') is = λ i. node 13 (next (kept_content lhs lhs' is.0 i) (next (kept_content rhs rhs' is.1 i) end))
-    kept_content (StringLiteral l) (StringLiteral l') is = λ i. node 14 (next (map_key content_of (literal_key (is i))) end)
-    kept_content (Variable name n) (Variable name' n') is = λ i. node 15 (next (map_key content_of (token_key (is.0 i).token)) (next (leaf unseen) end))
+        λ i. case_node cases.ListConcatenation (next (kept_content lhs lhs' is.0 i) (next (map_key content_of (token_key (is.1 i))) (next (kept_content rhs rhs' is.2 i) end)))
+    kept_content (Not' p operand) (Not' p' operand') is = λ i. case_node cases.Not (next (kept_content operand operand' is i) end)
+    kept_content (Or' p lhs q rhs) (Or' p' lhs' q' rhs') is =
+        λ i. case_node cases.Or (next (kept_content lhs lhs' is.0 i) (next (kept_content rhs rhs' is.1 i) end))
+    kept_content (StringLiteral l) (StringLiteral l') is = λ i. case_node cases.StringLiteral (next (map_key content_of (literal_key (is i))) end)
+    kept_content (Variable name n) (Variable name' n') is =
+        λ i. case_node cases.Variable (next (map_key content_of (token_key (is.0 i).token)) (next (leaf unseen) end))
     kept_content _ _ is = absurd is
 
     kept_optional : (resolved original : OptionalExpression) → IsResolvedOptional numbers resolved original

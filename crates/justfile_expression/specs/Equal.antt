@@ -101,8 +101,8 @@ abbrev pub version_eq : Version → Version → Bool
 version_eq = versions.eq-value.it
 
 -- the index of a kind of errors among the cases, in declared order
-abbrev pub case_place : CompileErrorKind → ℕ
-case_place = tag_of (error_kinds.the_type static_lft)
+abbrev pub case_index : CompileErrorKind → ℕ
+case_index = tag_of (error_kinds.the_type static_lft)
 
 -- two kinds of errors of the same case, and whether all their fields are equal
 pub data AreCompared : (a b : CompileErrorKind) → (equal : Bool) → Type 0 where

@@ -61,6 +61,7 @@ rank (operator o) = 2
 rank (number n) = 3
 rank (text bytes) = 4
 
+-- leaves of one case compare by what they hold, and others by their cases
 abbrev pub leaf_cmp : KeyLeaf → KeyLeaf → Ordering
 leaf_cmp (token s) (token t) = token_cmp s t
 leaf_cmp (literal k) (literal l) = literal_cmp k l

@@ -1,4 +1,4 @@
--- The view of the leaves of the parser's trees that orders attributes.
+-- The view of the leaves of the parser's trees: their bytes, the texts of literals, and the contents by which attributes are ordered.
 use Rattle.std.specs.Prelude.{ℕ, false, List, [], Option, Some, None}
 use Rattle.justfile_token.specs.StringKind.{kind_of}
 use Rattle.justfile_token.specs.Token.{lexeme_of}

@@ -1,31 +1,34 @@
--- The keys of expressions: the label of the case, and then the keys of the fields in declared order. The label is the index of the case in
--- declared order, as `case_index` in `src/order.rt` lists them.
+-- The keys of expressions: the case, and then the keys of the fields in declared order.
 use Rattle.std.specs.Prelude.{Option, Some, None, string_bytes}
 use Rattle.std.specs.Global.{Box}
 use Rattle.std.specs.declared.cmp.Ordering.{Ordering}
 use Rattle.justfile_token.specs.declared.string_literal.StringLiteral as literals
-use Rattle.justfile_model.specs.Trees.Key.{Key, Keys, node, end, next, row, absent_key, present_key, key_cmp}
+use Rattle.justfile_model.specs.Trees.ExpressionCases.{case_node}
+use Rattle.justfile_model.specs.Trees.Key.{Key, Keys, end, next, row, absent_key, present_key, key_cmp}
+use Rattle.justfile_model.specs.declared.expression_case.ExpressionCase.TheVariants as cases
 use Rattle.justfile_expression.specs.Leaf.{KeyLeaf, leaf_cmp, token_key, literal_key, operator_key, number_key, text_key}
 use Rattle.justfile_expression.specs.declared.expression.Expression.{Expression, And', Assert', Backtick, Call', Comparison', Concatenation', Conditional', FormatString', Group', Join', List', ListConcatenation', Not', Or', StringLiteral, Variable, Held-Expression-Assert-1 as OptionalExpression, None', Some', Row_of-Expression as ExpressionRow, end_of-Expression as row_end, more_of-Expression as row_more, Row_of-Expression-FormatString-1-2 as FormatRow, end_of-Expression-FormatString-1-2 as format_row_end, more_of-Expression-FormatString-1-2 as format_row_more}
 
 abbrev mutual
   pub key : Expression → Key KeyLeaf
-  key (And' p lhs q rhs) = node 0 (next (key lhs) (next (key rhs) end))
-  key (Assert' p condition message name) = node 1 (next (key condition) (next (optional_key message) (next (token_key name.token) end)))
-  key (Backtick contents t) = node 2 (next (text_key (string_bytes contents)) (next (token_key t) end))
-  key (Call' name m arguments) = node 3 (next (token_key name.token) (next (row (row_keys arguments)) end))
-  key (Comparison' p lhs o q rhs t) = node 4 (next (key lhs) (next (operator_key o) (next (key rhs) (next (token_key t) end))))
-  key (Concatenation' p lhs t q rhs) = node 5 (next (key lhs) (next (token_key t) (next (key rhs) end)))
-  key (Conditional' p condition q branch otherwise) = node 6 (next (key condition) (next (key branch) (next (optional_key otherwise) end)))
-  key (FormatString' start m expressions) = node 7 (next (literal_key start) (next (row (row_parts expressions)) end))
-  key (Group' p contents) = node 8 (next (key contents) end)
-  key (Join' lhs t q rhs) = node 9 (next (optional_key lhs) (next (token_key t) (next (key rhs) end)))
-  key (List' m elements opener) = node 10 (next (row (row_keys elements)) (next (token_key opener) end))
-  key (ListConcatenation' p lhs t q rhs) = node 11 (next (key lhs) (next (token_key t) (next (key rhs) end)))
-  key (Not' p operand) = node 12 (next (key operand) end)
-  key (Or' p lhs q rhs) = node 13 (next (key lhs) (next (key rhs) end))
-  key (StringLiteral l) = node 14 (next (literal_key l) end)
-  key (Variable name n) = node 15 (next (token_key name.token) (next (number_key n) end))
+  key (And' p lhs q rhs) = case_node cases.And (next (key lhs) (next (key rhs) end))
+  key (Assert' p condition message name) =
+      case_node cases.Assert (next (key condition) (next (optional_key message) (next (token_key name.token) end)))
+  key (Backtick contents t) = case_node cases.Backtick (next (text_key (string_bytes contents)) (next (token_key t) end))
+  key (Call' name m arguments) = case_node cases.Call (next (token_key name.token) (next (row (row_keys arguments)) end))
+  key (Comparison' p lhs o q rhs t) = case_node cases.Comparison (next (key lhs) (next (operator_key o) (next (key rhs) (next (token_key t) end))))
+  key (Concatenation' p lhs t q rhs) = case_node cases.Concatenation (next (key lhs) (next (token_key t) (next (key rhs) end)))
+  key (Conditional' p condition q branch otherwise) =
+      case_node cases.Conditional (next (key condition) (next (key branch) (next (optional_key otherwise) end)))
+  key (FormatString' start m expressions) = case_node cases.FormatString (next (literal_key start) (next (row (row_parts expressions)) end))
+  key (Group' p contents) = case_node cases.Group (next (key contents) end)
+  key (Join' lhs t q rhs) = case_node cases.Join (next (optional_key lhs) (next (token_key t) (next (key rhs) end)))
+  key (List' m elements opener) = case_node cases.List (next (row (row_keys elements)) (next (token_key opener) end))
+  key (ListConcatenation' p lhs t q rhs) = case_node cases.ListConcatenation (next (key lhs) (next (token_key t) (next (key rhs) end)))
+  key (Not' p operand) = case_node cases.Not (next (key operand) end)
+  key (Or' p lhs q rhs) = case_node cases.Or (next (key lhs) (next (key rhs) end))
+  key (StringLiteral l) = case_node cases.StringLiteral (next (literal_key l) end)
+  key (Variable name n) = case_node cases.Variable (next (token_key name.token) (next (number_key n) end))
 
   -- the key of an optional expression
   pub optional_key : OptionalExpression → Key KeyLeaf

@@ -22,6 +22,10 @@ pub trait HasExpressions<'src> {
 }
 
 /// Pushes references to the expressions of several values, one value after another.
+///
+/// # Errors
+///
+/// Memory runs out.
 pub fn push_each<'a, 'src, T: HasExpressions<'src>>(
     values: &'a [T],
     found: &mut Vec<&'a Expression<'src>>,
@@ -35,6 +39,10 @@ pub fn push_each<'a, 'src, T: HasExpressions<'src>>(
 }
 
 /// Pushes references to several expressions.
+///
+/// # Errors
+///
+/// Memory runs out.
 pub fn push_all<'a, 'src>(
     expressions: &'a [Expression<'src>],
     found: &mut Vec<&'a Expression<'src>>,
@@ -48,6 +56,10 @@ pub fn push_all<'a, 'src>(
 }
 
 /// Pushes a reference to an expression, if there is one.
+///
+/// # Errors
+///
+/// Memory runs out.
 pub fn push_optional<'a, 'src>(
     expression: &'a Option<Box<Expression<'src>>>,
     found: &mut Vec<&'a Expression<'src>>,
@@ -62,6 +74,10 @@ pub fn push_optional<'a, 'src>(
 }
 
 /// Pushes a reference to an expression.
+///
+/// # Errors
+///
+/// Memory runs out.
 pub fn push_expression<'a, 'src>(
     expression: &'a Expression<'src>,
     found: &mut Vec<&'a Expression<'src>>,

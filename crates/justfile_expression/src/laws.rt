@@ -29,7 +29,7 @@ ghost use Rattle.justfile_model.specs.contracts.conditional_operator.Conditional
 ghost use Rattle.justfile_model.specs.contracts.parameter_kind.ParameterKindPartialEq.TheImpl as parameter_equality;
 ghost use Rattle.justfile_expression.specs.Cases.{IsExact, IsOrderOf, attributes_in_order, delimiters_in_order, features_in_order, kinds_in_order, operators_in_order, parts_in_order, signals_in_order};
 ghost use Rattle.justfile_expression.specs.Content.{content_key, expression_content_cmp};
-ghost use Rattle.justfile_expression.specs.Equal.{AreCompared, case_place, delimiter_eq, indentation_eq, switch_eq, token_eq};
+ghost use Rattle.justfile_expression.specs.Equal.{AreCompared, case_index, delimiter_eq, indentation_eq, switch_eq, token_eq};
 ghost use Rattle.justfile_expression.specs.Leaf.{literal_cmp, token_cmp};
 ghost use Rattle.justfile_expression.specs.Order.{expression_cmp};
 ghost use Rattle.justfile_expression.specs.Orders.{IsOrder, modulepath_cmp, name_cmp, namepath_cmp};
@@ -104,7 +104,7 @@ pub fn errors_equal()
     ensures errors { (a b : CompileError) → error_equality.eq-value.it a b
         ≡ (error_kind_equality.eq-value.it a.kind b.kind && token_eq a.token b.token) }
     ensures cases { (a b : CompileErrorKind) → error_kind_equality.eq-value.it a b ≡ true
-        → case_place a ≡ case_place b }
+        → case_index a ≡ case_index b }
     ensures fields { (a b : CompileErrorKind) (equal : Bool) → AreCompared a b equal
         → error_kind_equality.eq-value.it a b ≡ equal }
 {}

@@ -1,14 +1,14 @@
 //! The orders of expressions: by the declared order of the cases, and within a case by its fields
 //! in declared order. Tokens compare with or without their positions.
-//!
-//! The numbers from 0 to 15 are the labels of the cases, which `case_index` lists.
 ghost use Rattle.std.specs.Prelude.{◌≡◌, Some, string_bytes};
 ghost use Rattle.std.proofs.Common.{refl};
 ghost use Rattle.std.specs.Cmp.{eq_by_cmp_equiv, on_total, partial_equiv_from_equiv, partial_order_from_total};
 ghost use Rattle.std.specs.Cmp.Lexicographic.{slice_cmp};
 ghost use Rattle.std.specs.Ordering.{eq_by_cmp, nat_cmp, on};
-ghost use Rattle.justfile_model.specs.Trees.Key.{label, node, end, next, row, keys_of, key_cmp};
+ghost use Rattle.justfile_model.specs.Trees.ExpressionCases.{case_label, case_node};
+ghost use Rattle.justfile_model.specs.Trees.Key.{label, end, next, row, keys_of, key_cmp};
 ghost use Rattle.justfile_model.specs.Trees.KeyLaws.{key_total};
+ghost use Rattle.justfile_model.specs.declared.expression_case.ExpressionCase.TheVariants as cases;
 ghost use Rattle.justfile_expression.specs.Content.{expression_content_cmp, leaf_order};
 ghost use Rattle.justfile_expression.specs.Leaf.{token, token_key, literal_key, operator_key, number_key, text_key};
 ghost use Rattle.justfile_expression.specs.LeafLaws.{leaf_total};
@@ -17,7 +17,7 @@ ghost use Rattle.justfile_expression.specs.OrderSteps.{both_cmp, left_key, optio
 
 use crate::expression::{Expression, right_side};
 use crate::leaf_order::LeafOrder;
-use justfile_model::ConditionalOperator;
+use justfile_model::{ConditionalOperator, ExpressionCase};
 use justfile_token::{Name, StringLiteral, Token};
 use justfile_vocabulary::Number;
 use std::cmp::Ordering;
@@ -194,12 +194,12 @@ fn compare_and<'src>(
     lhs: &Expression<'src>,
     other: &Expression<'src>,
 ) -> Ordering
-    ensures { result
-        ≡ key_cmp (leaf_order leaves) (node 0 (next (key lhs.now) end)) (left_key other.now) }
+    ensures { result ≡ key_cmp (leaf_order leaves) (case_node cases.And (next (key lhs.now) end))
+        (left_key other.now) }
 {
     match other {
         Expression::And { lhs: other_lhs, .. } => compare(leaves, lhs, other_lhs),
-        _ => 0.cmp(&case_index(other)),
+        _ => compare_case(ExpressionCase::And, other),
     }
 }
 
@@ -212,8 +212,9 @@ fn compare_assert<'src>(
     name: &Name<'src>,
     other: &Expression<'src>,
 ) -> Ordering
-    ensures { result ≡ key_cmp (leaf_order leaves) (node 1 (next (key condition.now)
-        (next (option_key message.now) (next (token_key name.now.token) end)))) (left_key other.now) }
+    ensures { result ≡ key_cmp (leaf_order leaves) (case_node cases.Assert
+        (next (key condition.now) (next (option_key message.now)
+        (next (token_key name.now.token) end)))) (left_key other.now) }
 {
     match other {
         Expression::Assert {
@@ -223,7 +224,7 @@ fn compare_assert<'src>(
         } => compare(leaves, condition, other_condition)
             .then(compare_options(leaves, message, other_message))
             .then(leaves.tokens(&name.token, &other_name.token)),
-        _ => 1.cmp(&case_index(other)),
+        _ => compare_case(ExpressionCase::Assert, other),
     }
 }
 
@@ -234,8 +235,8 @@ fn compare_backtick<'src>(
     token: &Token<'src>,
     other: &Expression<'src>,
 ) -> Ordering
-    ensures { result ≡ key_cmp (leaf_order leaves)
-        (node 2 (next (text_key (string_bytes contents.now)) (next (token_key token.now) end)))
+    ensures { result ≡ key_cmp (leaf_order leaves) (case_node cases.Backtick
+        (next (text_key (string_bytes contents.now)) (next (token_key token.now) end)))
         (left_key other.now) }
 {
     match other {
@@ -245,7 +246,7 @@ fn compare_backtick<'src>(
         } => leaves
             .texts(contents.as_str(), other_contents.as_str())
             .then(leaves.tokens(token, other_token)),
-        _ => 2.cmp(&case_index(other)),
+        _ => compare_case(ExpressionCase::Backtick, other),
     }
 }
 
@@ -257,7 +258,7 @@ fn compare_call<'src>(
     arguments: &Vec<Expression<'src>>,
     other: &Expression<'src>,
 ) -> Ordering
-    ensures { result ≡ key_cmp (leaf_order leaves) (node 3
+    ensures { result ≡ key_cmp (leaf_order leaves) (case_node cases.Call
         (next (token_key name.now.token) (next (row (keys_of key arguments.now.items)) end)))
         (left_key other.now) }
 {
@@ -268,7 +269,7 @@ fn compare_call<'src>(
         } => leaves
             .tokens(&name.token, &other_name.token)
             .then(compare_all(leaves, arguments, other_arguments)),
-        _ => 3.cmp(&case_index(other)),
+        _ => compare_case(ExpressionCase::Call, other),
     }
 }
 
@@ -281,8 +282,8 @@ fn compare_comparison<'src>(
     operator: &ConditionalOperator,
     other: &Expression<'src>,
 ) -> Ordering
-    ensures { result ≡ key_cmp (leaf_order leaves)
-        (node 4 (next (key lhs.now) (next (operator_key operator.now) end))) (left_key other.now) }
+    ensures { result ≡ key_cmp (leaf_order leaves) (case_node cases.Comparison
+        (next (key lhs.now) (next (operator_key operator.now) end))) (left_key other.now) }
 {
     match other {
         Expression::Comparison {
@@ -290,7 +291,7 @@ fn compare_comparison<'src>(
             operator: other_operator,
             ..
         } => compare(leaves, lhs, other_lhs).then(leaves.operators(operator, other_operator)),
-        _ => 4.cmp(&case_index(other)),
+        _ => compare_case(ExpressionCase::Comparison, other),
     }
 }
 
@@ -303,8 +304,8 @@ fn compare_concatenation<'src>(
     operator: &Token<'src>,
     other: &Expression<'src>,
 ) -> Ordering
-    ensures { result ≡ key_cmp (leaf_order leaves)
-        (node 5 (next (key lhs.now) (next (token_key operator.now) end))) (left_key other.now) }
+    ensures { result ≡ key_cmp (leaf_order leaves) (case_node cases.Concatenation
+        (next (key lhs.now) (next (token_key operator.now) end))) (left_key other.now) }
 {
     match other {
         Expression::Concatenation {
@@ -312,7 +313,7 @@ fn compare_concatenation<'src>(
             operator: other_operator,
             ..
         } => compare(leaves, lhs, other_lhs).then(leaves.tokens(operator, other_operator)),
-        _ => 5.cmp(&case_index(other)),
+        _ => compare_case(ExpressionCase::Concatenation, other),
     }
 }
 
@@ -325,8 +326,9 @@ fn compare_conditional<'src>(
     otherwise: &Option<Box<Expression<'src>>>,
     other: &Expression<'src>,
 ) -> Ordering
-    ensures { result ≡ key_cmp (leaf_order leaves) (node 6 (next (key condition.now)
-        (next (key branch.now) (next (option_presence otherwise.now) end)))) (left_key other.now) }
+    ensures { result ≡ key_cmp (leaf_order leaves) (case_node cases.Conditional
+        (next (key condition.now) (next (key branch.now)
+        (next (option_presence otherwise.now) end)))) (left_key other.now) }
 {
     match other {
         Expression::Conditional {
@@ -336,7 +338,7 @@ fn compare_conditional<'src>(
         } => compare(leaves, condition, other_condition)
             .then(compare(leaves, branch, other_branch))
             .then(compare_presence(otherwise, other_otherwise)),
-        _ => 6.cmp(&case_index(other)),
+        _ => compare_case(ExpressionCase::Conditional, other),
     }
 }
 
@@ -348,8 +350,9 @@ fn compare_format_string<'src>(
     expressions: &Vec<(Expression<'src>, StringLiteral<'src>)>,
     other: &Expression<'src>,
 ) -> Ordering
-    ensures { result ≡ key_cmp (leaf_order leaves) (node 7 (next (literal_key start.now)
-        (next (row (keys_of part_key expressions.now.items)) end))) (left_key other.now) }
+    ensures { result ≡ key_cmp (leaf_order leaves) (case_node cases.FormatString
+        (next (literal_key start.now) (next (row (keys_of part_key expressions.now.items)) end)))
+        (left_key other.now) }
 {
     match other {
         Expression::FormatString {
@@ -358,7 +361,7 @@ fn compare_format_string<'src>(
         } => leaves
             .literals(start, other_start)
             .then(compare_parts(leaves, expressions, other_expressions)),
-        _ => 7.cmp(&case_index(other)),
+        _ => compare_case(ExpressionCase::FormatString, other),
     }
 }
 
@@ -393,14 +396,14 @@ fn compare_group<'src>(
     contents: &Expression<'src>,
     other: &Expression<'src>,
 ) -> Ordering
-    ensures { result
-        ≡ key_cmp (leaf_order leaves) (node 8 (next (key contents.now) end)) (left_key other.now) }
+    ensures { result ≡ key_cmp (leaf_order leaves)
+        (case_node cases.Group (next (key contents.now) end)) (left_key other.now) }
 {
     match other {
         Expression::Group {
             contents: other_contents,
         } => compare(leaves, contents, other_contents),
-        _ => 8.cmp(&case_index(other)),
+        _ => compare_case(ExpressionCase::Group, other),
     }
 }
 
@@ -413,7 +416,7 @@ fn compare_join<'src>(
     operator: &Token<'src>,
     other: &Expression<'src>,
 ) -> Ordering
-    ensures { result ≡ key_cmp (leaf_order leaves) (node 9
+    ensures { result ≡ key_cmp (leaf_order leaves) (case_node cases.Join
         (next (option_key lhs.now) (next (token_key operator.now) end))) (left_key other.now) }
 {
     match other {
@@ -422,7 +425,7 @@ fn compare_join<'src>(
             operator: other_operator,
             ..
         } => compare_options(leaves, lhs, other_lhs).then(leaves.tokens(operator, other_operator)),
-        _ => 9.cmp(&case_index(other)),
+        _ => compare_case(ExpressionCase::Join, other),
     }
 }
 
@@ -476,8 +479,8 @@ fn compare_list<'src>(
     opener: &Token<'src>,
     other: &Expression<'src>,
 ) -> Ordering
-    ensures { result ≡ key_cmp (leaf_order leaves)
-        (node 10 (next (row (keys_of key elements.now.items)) (next (token_key opener.now) end)))
+    ensures { result ≡ key_cmp (leaf_order leaves) (case_node cases.List
+        (next (row (keys_of key elements.now.items)) (next (token_key opener.now) end)))
         (left_key other.now) }
 {
     match other {
@@ -488,7 +491,7 @@ fn compare_list<'src>(
             opener,
             other_opener,
         )),
-        _ => 10.cmp(&case_index(other)),
+        _ => compare_case(ExpressionCase::List, other),
     }
 }
 
@@ -514,8 +517,8 @@ fn compare_all<'src>(
     expressions.len().cmp(&others.len())
 }
 
-/// Compares a concatenation of lists, given by its left side and operator, to another expression up to
-/// the right sides.
+/// Compares a concatenation of lists, given by its left side and operator, to another expression up
+/// to the right sides.
 #[cycle(order)]
 fn compare_list_concatenation<'src>(
     leaves: LeafOrder,
@@ -523,8 +526,8 @@ fn compare_list_concatenation<'src>(
     operator: &Token<'src>,
     other: &Expression<'src>,
 ) -> Ordering
-    ensures { result ≡ key_cmp (leaf_order leaves)
-        (node 11 (next (key lhs.now) (next (token_key operator.now) end))) (left_key other.now) }
+    ensures { result ≡ key_cmp (leaf_order leaves) (case_node cases.ListConcatenation
+        (next (key lhs.now) (next (token_key operator.now) end))) (left_key other.now) }
 {
     match other {
         Expression::ListConcatenation {
@@ -532,29 +535,29 @@ fn compare_list_concatenation<'src>(
             operator: other_operator,
             ..
         } => compare(leaves, lhs, other_lhs).then(leaves.tokens(operator, other_operator)),
-        _ => 11.cmp(&case_index(other)),
+        _ => compare_case(ExpressionCase::ListConcatenation, other),
     }
 }
 
 /// Compares a negation to another expression up to the right sides.
 fn compare_not(leaves: LeafOrder, other: &Expression<'_>) -> Ordering
-    ensures { result ≡ key_cmp (leaf_order leaves) (node 12 end) (left_key other.now) }
+    ensures { result ≡ key_cmp (leaf_order leaves) (case_node cases.Not end) (left_key other.now) }
 {
     match other {
         Expression::Not { .. } => Ordering::Equal,
-        _ => 12.cmp(&case_index(other)),
+        _ => compare_case(ExpressionCase::Not, other),
     }
 }
 
 /// Compares a disjunction, given by its left side, to another expression up to the right sides.
 #[cycle(order)]
 fn compare_or<'src>(leaves: LeafOrder, lhs: &Expression<'src>, other: &Expression<'src>) -> Ordering
-    ensures { result
-        ≡ key_cmp (leaf_order leaves) (node 13 (next (key lhs.now) end)) (left_key other.now) }
+    ensures { result ≡ key_cmp (leaf_order leaves) (case_node cases.Or (next (key lhs.now) end))
+        (left_key other.now) }
 {
     match other {
         Expression::Or { lhs: other_lhs, .. } => compare(leaves, lhs, other_lhs),
-        _ => 13.cmp(&case_index(other)),
+        _ => compare_case(ExpressionCase::Or, other),
     }
 }
 
@@ -564,14 +567,14 @@ fn compare_string_literal<'src>(
     string_literal: &StringLiteral<'src>,
     other: &Expression<'src>,
 ) -> Ordering
-    ensures { result ≡ key_cmp (leaf_order leaves)
-        (node 14 (next (literal_key string_literal.now) end)) (left_key other.now) }
+    ensures { result ≡ key_cmp (leaf_order leaves) (case_node cases.StringLiteral
+        (next (literal_key string_literal.now) end)) (left_key other.now) }
 {
     match other {
         Expression::StringLiteral {
             string_literal: other_string_literal,
         } => leaves.literals(string_literal, other_string_literal),
-        _ => 14.cmp(&case_index(other)),
+        _ => compare_case(ExpressionCase::StringLiteral, other),
     }
 }
 
@@ -582,9 +585,8 @@ fn compare_variable<'src>(
     number: &Option<Number>,
     other: &Expression<'src>,
 ) -> Ordering
-    ensures { result ≡ key_cmp (leaf_order leaves)
-        (node 15 (next (token_key name.now.token) (next (number_key number.now) end)))
-        (left_key other.now) }
+    ensures { result ≡ key_cmp (leaf_order leaves) (case_node cases.Variable
+        (next (token_key name.now.token) (next (number_key number.now) end))) (left_key other.now) }
 {
     match other {
         Expression::Variable {
@@ -593,31 +595,37 @@ fn compare_variable<'src>(
         } => leaves
             .tokens(&name.token, &other_name.token)
             .then(leaves.numbers(number, other_number)),
-        _ => 15.cmp(&case_index(other)),
+        _ => compare_case(ExpressionCase::Variable, other),
     }
 }
 
-/// Returns the label of an expression's case: its index in the declared order, counted from 0.
-/// `key` in `specs/Order.antt` and `expr_key` of the model have the same labels.
-fn case_index(expression: &Expression<'_>) -> u8
-    ensures { result ≡ label (left_key expression.now) }
+/// Compares a case with that of an expression, in declared order.
+fn compare_case(case: ExpressionCase, expression: &Expression<'_>) -> Ordering
+    ensures { result ≡ nat_cmp (case_label case) (label (left_key expression.now)) }
+{
+    (case as u8).cmp(&(case_of(expression) as u8))
+}
+
+/// Returns the case of an expression.
+fn case_of(expression: &Expression<'_>) -> ExpressionCase
+    ensures { case_label result ≡ label (left_key expression.now) }
 {
     match expression {
-        Expression::And { .. } => 0,
-        Expression::Assert { .. } => 1,
-        Expression::Backtick { .. } => 2,
-        Expression::Call { .. } => 3,
-        Expression::Comparison { .. } => 4,
-        Expression::Concatenation { .. } => 5,
-        Expression::Conditional { .. } => 6,
-        Expression::FormatString { .. } => 7,
-        Expression::Group { .. } => 8,
-        Expression::Join { .. } => 9,
-        Expression::List { .. } => 10,
-        Expression::ListConcatenation { .. } => 11,
-        Expression::Not { .. } => 12,
-        Expression::Or { .. } => 13,
-        Expression::StringLiteral { .. } => 14,
-        Expression::Variable { .. } => 15,
+        Expression::And { .. } => ExpressionCase::And,
+        Expression::Assert { .. } => ExpressionCase::Assert,
+        Expression::Backtick { .. } => ExpressionCase::Backtick,
+        Expression::Call { .. } => ExpressionCase::Call,
+        Expression::Comparison { .. } => ExpressionCase::Comparison,
+        Expression::Concatenation { .. } => ExpressionCase::Concatenation,
+        Expression::Conditional { .. } => ExpressionCase::Conditional,
+        Expression::FormatString { .. } => ExpressionCase::FormatString,
+        Expression::Group { .. } => ExpressionCase::Group,
+        Expression::Join { .. } => ExpressionCase::Join,
+        Expression::List { .. } => ExpressionCase::List,
+        Expression::ListConcatenation { .. } => ExpressionCase::ListConcatenation,
+        Expression::Not { .. } => ExpressionCase::Not,
+        Expression::Or { .. } => ExpressionCase::Or,
+        Expression::StringLiteral { .. } => ExpressionCase::StringLiteral,
+        Expression::Variable { .. } => ExpressionCase::Variable,
     }
 }

@@ -65,8 +65,8 @@ pub fn resolve_expressions<'src>(
     resolve_all(expressions, &Numbers { context, bindings });
 }
 
-/// Sets the number of each variable of an expression. Expressions nest to the right without a limit,
-/// so a loop goes along the right sides, and another one back.
+/// Sets the number of each variable of an expression. Expressions nest to the right without a
+/// limit, so a loop goes along the right sides, and another one back.
 #[cycle(resolve)]
 fn resolve<'src>(expression: &mut Expression<'src>, numbers: &Numbers<'_, 'src>)
     ensures { IsResolved (numbers_of numbers.now) expression.new expression.old }

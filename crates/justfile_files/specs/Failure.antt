@@ -1,4 +1,4 @@
--- Why a file can't be formatted.
+-- Why the task failed for a file.
 use Rattle.std.specs.Prelude.{ℕ, Bool, true, false, Result, Ok, Err}
 use Rattle.justfile_files.specs.declared.failure.Failure.{Failure}
 use Rattle.justfile_files.specs.declared.failure.Failure.TheVariants as failures
@@ -18,7 +18,7 @@ failure_status (failures.Exhausted what) = 3
 failure_status (failures.Replacing error) = 3
 failure_status (failures.Writing error) = 3
 
--- the status of a file: whether it is formatted, or why it can't be
+-- the status of a file: whether it is formatted, or why the task failed
 abbrev pub status_in : Result Bool Failure → ℕ
 status_in (Ok true) = 0
 status_in (Ok false) = 1

@@ -1,4 +1,4 @@
--- Why a text has no formatted text.
+-- Why no formatted text was returned.
 use Rattle.std.specs.Prelude.{ℕ, List, string_bytes}
 use Rattle.justfile_files.specs.declared.formatter.Refusal.{Refusal}
 use Rattle.justfile_files.specs.declared.formatter.Refusal.TheVariants.{Exhausted, Rejected}

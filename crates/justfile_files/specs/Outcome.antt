@@ -29,14 +29,19 @@ status_of failed = 3
 
 -- what is written about a file, unless writing fails
 abbrev pub report_of : Outcome → List ℕ
+report_of formatted = []
 report_of (differs report) = report
-report_of _ = []
+report_of unreported = []
+report_of rejected = []
+report_of failed = []
 
 -- The file isn't formatted.
 abbrev pub IsUnformatted : Outcome → Type 0
+IsUnformatted formatted = ⊥
 IsUnformatted (differs report) = Unit {0}
 IsUnformatted unreported = Unit {0}
-IsUnformatted _ = ⊥
+IsUnformatted rejected = ⊥
+IsUnformatted failed = ⊥
 
 -- The file's report was written, if there is one.
 abbrev pub IsReported : Outcome → Type 0

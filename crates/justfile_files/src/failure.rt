@@ -1,11 +1,11 @@
-//! Why a file can't be formatted, and how that is told.
+//! Why the task failed for a file, and how that is told.
 ghost use Rattle.std.specs.Prelude.{◌≡◌};
 ghost use Rattle.justfile_files.specs.Failure.{failure_status};
 
 use crate::formatter::Refusal;
 use std::io::{self, Write};
 
-/// Why a file can't be formatted.
+/// Why the task failed for a file.
 #[derive(Debug, Drop)]
 pub(crate) enum Failure {
     /// The file can't be read.
@@ -51,8 +51,8 @@ impl Failure {
     }
 }
 
-/// Writes the lines that tell why the file with a name can't be formatted, as far as they can be
-/// written. Returns the status of the file.
+/// Writes the lines that tell why the task failed for the file with this name, as far as they can
+/// be written. Returns the status of the file.
 pub(crate) fn report<E: Write>(name: &str, failure: &Failure, errors: &mut E) -> u8
     ensures { result ≡ failure_status failure.now }
 {

@@ -4,7 +4,7 @@ ghost use Rattle.justfile_files.specs.Formatter.{IfRejected};
 
 use std::alloc::{AllocError, Global};
 
-/// Why a text has no formatted text.
+/// Why no formatted text was returned.
 #[derive(Debug, Drop)]
 pub enum Refusal {
     /// The text can't be formatted. The lines tell why, and where in which file.

@@ -1,6 +1,6 @@
 -- What the failure for a fault of formatting implies.
 use Rattle.std.proofs.Common.{◌≡◌, ℕ, List, codes}
-use Rattle.justfile_canonical.specs.Fault.{IsFaultOf}
+use Rattle.justfile_canonical.specs.Fault.{IsFormatFaultOf}
 use Rattle.justfile_canonical.specs.Formatting.{IsUnprintable, LacksNumbers}
 use Rattle.justfile_canonical.specs.declared.fault.FormatFault.{FormatFault}
 use Rattle.justfile_canonical.specs.declared.fault.FormatFault.TheVariants as faults
@@ -9,19 +9,19 @@ use Rattle.justfile_format.specs.Formatting.{IsRejection}
 use Rattle.justfile_format.specs.declared.failure.Failure.{Failure}
 use Rattle.justfile_format.specs.declared.failure.Failure.TheVariants as failures
 
-pub rejected : (source : List ℕ) (fault : FormatFault) → IsFaultOf (codes "justfile") source fault → IfRejected (IsRejection source) (failure_of fault)
+pub rejected : (source : List ℕ) (fault : FormatFault) → IsFormatFaultOf (codes "justfile") source fault → IfRejected (IsRejection source) (failure_of fault)
 rejected source (faults.Rejected lines) why = why
 rejected source faults.NotPrintable why = tt
 rejected source faults.Memory why = tt
 rejected source faults.Numbers why = tt
 
-pub unprintable : (source : List ℕ) (fault : FormatFault) → IsFaultOf (codes "justfile") source fault → failure_of fault ≡ failures.NotPrintable → IsUnprintable source
+pub unprintable : (source : List ℕ) (fault : FormatFault) → IsFormatFaultOf (codes "justfile") source fault → failure_of fault ≡ failures.NotPrintable → IsUnprintable source
 unprintable source (faults.Rejected lines) why is = absurd (cc)
 unprintable source faults.NotPrintable why is = why
 unprintable source faults.Memory why is = absurd (cc)
 unprintable source faults.Numbers why is = absurd (cc)
 
-pub numbers : (source : List ℕ) (fault : FormatFault) → IsFaultOf (codes "justfile") source fault → failure_of fault ≡ failures.Numbers → LacksNumbers source
+pub numbers : (source : List ℕ) (fault : FormatFault) → IsFormatFaultOf (codes "justfile") source fault → failure_of fault ≡ failures.Numbers → LacksNumbers source
 numbers source (faults.Rejected lines) why is = absurd (cc)
 numbers source faults.NotPrintable why is = absurd (cc)
 numbers source faults.Memory why is = absurd (cc)

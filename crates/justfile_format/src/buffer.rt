@@ -6,8 +6,8 @@ use crate::output::write_up_to;
 use std::io::{self, ErrorKind, Write};
 
 /// A writer that holds bytes until they are many, and then writes them to another one. Bytes that
-/// couldn't be written stay held. Nothing is written when it is dropped. It borrows its room, since a
-/// caller's proof can't read what the writer has from a struct that owns memory.
+/// couldn't be written stay held. Nothing is written when it is dropped. It borrows its room, since
+/// a caller's proof can't read what the writer has from a struct that owns memory.
 #[derive(Drop)]
 pub(crate) struct Buffer<'w, W> {
     /// What the bytes are written to.
@@ -65,8 +65,8 @@ impl<W: Write> Buffer<'_, W> {
         self.pass_on()
     }
 
-    /// Takes as many bytes as there is room for, once what is held was written if there is none. Returns
-    /// how many, or 0 if a write failed.
+    /// Takes as many bytes as there is room for, once what is held was written if there is none.
+    /// Returns how many, or 0 if a write failed.
     #[inline(never)]
     #[tactic(auto, using(crate::proofs::Buffers::none_held, crate::proofs::Buffers::held_more))]
     fn write_part(&mut self, bytes: &[u8]) -> usize
@@ -92,8 +92,8 @@ impl<W: Write> Write for Buffer<'_, W> {
 
     ghost contents = { buffered W.contents };
 
-    /// Takes all of the bytes if there is room for them, and else as many as there is room for. Takes
-    /// none if a write failed.
+    /// Takes all of the bytes if there is room for them, and else as many as there is room for.
+    /// Takes none if a write failed.
     #[inline(always)]
     #[tactic(auto, using(crate::proofs::Buffers::held_all))]
     fn write(&mut self, bytes: &[u8]) -> io::Result<usize> {
@@ -114,8 +114,8 @@ impl<W: Write> Write for Buffer<'_, W> {
     }
 }
 
-/// Writes the first bytes of the room, as `write_up_to` does. The room is passed as `&mut`, because the
-/// check doesn't cover a shared reference to one field beside an exclusive one to another.
+/// Writes the first bytes of the room, as `write_up_to` does. The room is passed as `&mut`, because
+/// the check doesn't cover a shared reference to one field beside an exclusive one to another.
 fn write_front<W: Write>(room: &mut [u8], end: usize, writer: &mut W) -> usize
     requires { end ≤ length room.old }
     ensures count { result ≤ end }

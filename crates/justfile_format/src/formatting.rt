@@ -4,7 +4,7 @@ ghost use Rattle.std.specs.Io.KnownBytes.{Appends};
 ghost use Rattle.justfile_syntax.specs.Printing.{normal, printable, text};
 ghost use Rattle.justfile_syntax.specs.Words.{indentation_text};
 ghost use Rattle.justfile_ast.specs.Ast.{ast_shape};
-ghost use Rattle.justfile_canonical.specs.Formatting.{IsFormatted, IsIndented, IsUnprintable, LacksNumbers};
+ghost use Rattle.justfile_canonical.specs.Formatting.{IsFormatted, HasCookedIndentation, IsUnprintable, LacksNumbers};
 ghost use Rattle.justfile_format.specs.declared.failure.Failure.TheVariants as failures;
 ghost use Rattle.justfile_format.specs.Buffered.{buffered};
 ghost use Rattle.justfile_format.specs.Failure.{IfRejected, IsOfFile, IsOfText, IsOfTextOrWriting};
@@ -56,7 +56,7 @@ pub fn format_to<W: Write>(alloc: Global, source: &str, writer: &mut W) -> Resul
 /// tell").
 #[tactic(auto, using(crate::proofs::Files::printed, crate::proofs::Files::printed_beginning))]
 fn write_file<W: Write>(ast: &mut Ast<'_>, writer: &mut W) -> Result<(), Failure>
-    requires { IsIndented ast.old }
+    requires { HasCookedIndentation ast.old }
     ensures ok { OnOk result
         (WritesFile ast.old (W.contents writer.old) (W.contents writer.new)) }
     ensures unprintable { result ≡ Err failures.NotPrintable

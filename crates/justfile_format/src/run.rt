@@ -101,7 +101,8 @@ fn format<R: Read, W: Write>(alloc: Global, reader: &mut R, writer: &mut W) -> R
     ensures ok { OnOk result (IfSome (R.remaining reader.old)
         (λ source. Formats source (W.contents writer.old) (W.contents writer.new))) }
     ensures rejected { IfErr result
-        (IfRejected (λ lines. IfSome (R.remaining reader.old) (λ source. IsRejection source lines))) }
+        (IfRejected (λ lines. IfSome (R.remaining reader.old)
+        (λ source. IsRejection source lines))) }
     ensures unprintable { result ≡ Err failures.NotPrintable
         → IfSome (R.remaining reader.old) IsUnprintable }
     ensures not_utf8 { result ≡ Err failures.NotUtf8
@@ -138,7 +139,8 @@ fn check<R: Read>(alloc: Global, reader: &mut R) -> Result<bool, Failure>
         → IfSome (R.remaining reader.old) (λ source. IsFormatted source source) }
     ensures differs { result ≡ Ok false → IfSome (R.remaining reader.old) Differs }
     ensures rejected { IfErr result
-        (IfRejected (λ lines. IfSome (R.remaining reader.old) (λ source. IsRejection source lines))) }
+        (IfRejected (λ lines. IfSome (R.remaining reader.old)
+        (λ source. IsRejection source lines))) }
     ensures unprintable { result ≡ Err failures.NotPrintable
         → IfSome (R.remaining reader.old) IsUnprintable }
     ensures not_utf8 { result ≡ Err failures.NotUtf8

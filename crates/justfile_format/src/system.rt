@@ -33,8 +33,8 @@ fn run_on_streams(rt: &HostRuntime, arguments: &[String]) -> u8 {
     run(rt.alloc(), arguments, &mut reader, &mut writer, &mut errors)
 }
 
-/// Does what the program's arguments ask for on the standard streams, as `run` does, and returns the
-/// exit status.
+/// Does what the program's arguments ask for on the standard streams, as `run` does, and returns
+/// the exit status.
 pub fn run_on_system(rt: &HostRuntime) -> ExitCode {
     match arguments(rt) {
         Ok(arguments) => ExitCode::from(run_on_streams(rt, &arguments)),

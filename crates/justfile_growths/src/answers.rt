@@ -63,8 +63,8 @@ pub(crate) fn judge_tokens<'src>(
     }
 }
 
-/// Checks a result of parsing. If memory ran out, the numerator may not have given more numbers than
-/// the justfile has.
+/// Checks a result of parsing. If memory ran out, the numerator may not have given more numbers
+/// than the justfile has.
 pub(crate) fn judge_file<'src>(
     answer: CompileResult<'src, Ast<'src>>,
     alloc: Global,

@@ -173,12 +173,26 @@ function_parameter_number p = p.1.0
 
 -- the numbers of the bindings in an item, in order; for a recipe or a function, those of its parameters
 abbrev pub item_numbers : Item → List ℕ
+item_numbers (items.Alias a) = []
 item_numbers (items.Assignment a) = a.number.0 ∷ []
+item_numbers (items.Comment text) = []
 item_numbers (items.Function f) = map function_parameter_number f.parameters.items
+item_numbers (items.Import attributes optional relative) = []
+item_numbers (items.Module attributes doc name optional relative) = []
+item_numbers items.Newline = []
 item_numbers (items.Recipe r) = map parameter_number r.parameters.items
-item_numbers _ = []
+item_numbers (items.Setting s) = []
+item_numbers (items.Unexport attributes name) = []
 
 -- the number of a recipe, or nothing for other items
 abbrev pub item_recipe_numbers : Item → List ℕ
+item_recipe_numbers (items.Alias a) = []
+item_recipe_numbers (items.Assignment a) = []
+item_recipe_numbers (items.Comment text) = []
+item_recipe_numbers (items.Function f) = []
+item_recipe_numbers (items.Import attributes optional relative) = []
+item_recipe_numbers (items.Module attributes doc name optional relative) = []
+item_recipe_numbers items.Newline = []
 item_recipe_numbers (items.Recipe r) = r.number.0 ∷ []
-item_recipe_numbers _ = []
+item_recipe_numbers (items.Setting s) = []
+item_recipe_numbers (items.Unexport attributes name) = []

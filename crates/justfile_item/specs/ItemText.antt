@@ -73,7 +73,7 @@ item_attributes (items.Recipe r) = Some r.attributes
 item_attributes (items.Setting s) = Some s.attributes
 item_attributes (items.Unexport attributes name) = Some attributes
 
--- the printed doc of an item, as a comment on a line of its own
+-- the printed doc of an item, as a comment on a line of its own; only modules and recipes have one
 abbrev pub item_doc_text : Item → List ℕ
 item_doc_text (items.Module attributes doc name optional relative) = doc_text_of attributes doc
 item_doc_text (items.Recipe r) = doc_text_of r.attributes r.doc

@@ -59,7 +59,7 @@ doc_of None comment = option_map string_bytes comment
 abbrev pub listed_doc : AttributeSet → (comment : Option (String Global)) → Option (List ℕ)
 listed_doc set comment = doc_of (find (is_of_kind Doc) (attributes_of set)) comment
 
--- the doc of an item, which lists show beside it
+-- the doc of an item, which lists show beside it; only modules and recipes have one
 abbrev pub item_doc : Item → Option (List ℕ)
 item_doc (items.Module attributes doc name optional relative) = listed_doc attributes doc
 item_doc (items.Recipe r) = listed_doc r.attributes r.doc

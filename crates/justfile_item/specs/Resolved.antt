@@ -17,7 +17,7 @@ use Rattle.justfile_item.specs.declared.item.Item.TheVariants as items
 use Rattle.justfile_item.specs.declared.recipe.UnresolvedRecipe.{UnresolvedRecipe}
 use Rattle.justfile_item.specs.declared.set.Set.{Set}
 
--- In each case `others` says that all other fields are the same.
+-- `others` says that all other fields are the same; for a setting, `name` is the only other one.
 module _ (numbers : (name : List ℕ) → Option Number) where
   pub record IsResolvedAlias (resolved original : Alias Namepath) : Type 0 where
     pub others : resolved ≡ record original { attributes = resolved.attributes }

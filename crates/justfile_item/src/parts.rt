@@ -1,4 +1,5 @@
-//! What items of several kinds have: a kind, a name, attributes, a doc, and whether they are private.
+//! What items of several kinds have: a kind, a name, attributes, a doc, and whether they are
+//! private.
 ghost use Rattle.std.specs.Prelude.{◌≡◌, Some};
 ghost use Rattle.std.specs.Option.{option_copied};
 ghost use Rattle.justfile_item.specs.ItemText.{item_attributes};

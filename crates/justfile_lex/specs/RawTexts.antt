@@ -6,11 +6,11 @@ use Rattle.justfile_token.specs.StringKind.{quote_of}
 use Rattle.justfile_model.specs.Lexing.LiteralText.{raw_len}
 use Rattle.justfile_vocabulary.specs.ByteNames as byte
 
--- the same in a literal with this quote
+-- a byte that surely hides nothing and begins no end in a literal with this quote, whatever follows it
 abbrev pub is_plain_in : (quote : ℕ) → ℕ → Bool
 is_plain_in quote b = not (b == quote) && not (b == byte.backslash) && not (b == byte.brace_left)
 
--- a byte that hides nothing and doesn't begin an end, whatever follows it
+-- a byte that surely hides nothing and begins no end, whatever follows it; some others don't either
 abbrev pub is_plain : RawText → ℕ → Bool
 is_plain Comment b = nat_lt byte.carriage_return b
 is_plain Body b = nat_lt byte.carriage_return b && not (b == byte.brace_left)

@@ -1,4 +1,4 @@
-//! How many of the next sixteen bytes, from the first, are of a class, by one load.
+//! How many of the next sixteen bytes come before the first that isn't of a class, by one load.
 ghost use Rattle.std.specs.Prelude.{◌≡◌, ◌+◌, ◌≤◌, ◌==◌, if◌then◌else◌, length, take, drop};
 ghost use Rattle.std.specs.List.{prefix_len};
 ghost use Rattle.std.specs.Int.{w64, trailing_zeros};
@@ -23,7 +23,8 @@ fn first_set(mask: u64) -> usize
     }
 }
 
-/// Returns how many of the bytes from `at` on, of at most `LANES`, an identifier can contain.
+/// Returns how many bytes from `at` on, at most `LANES`, come before the first that an identifier
+/// can't contain.
 #[inline(always)]
 pub(crate) fn word_run(bytes: &[u8], at: usize) -> usize
     requires { at + LANES ≤ length bytes.now }
@@ -39,7 +40,8 @@ pub(crate) fn word_run(bytes: &[u8], at: usize) -> usize
     first_set(stops.to_bitmask())
 }
 
-/// Returns how many of the bytes from `at` on, of at most `LANES`, are plain in a comment.
+/// Returns how many bytes from `at` on, at most `LANES`, come before the first that isn't plain in
+/// a comment.
 #[inline(always)]
 pub(crate) fn comment_run(bytes: &[u8], at: usize) -> usize
     requires { at + LANES ≤ length bytes.now }
@@ -49,7 +51,8 @@ pub(crate) fn comment_run(bytes: &[u8], at: usize) -> usize
     first_set(v.simd_le(u8x16::splat(b'\r')).to_bitmask())
 }
 
-/// Returns how many of the bytes from `at` on, of at most `LANES`, are plain in a body.
+/// Returns how many bytes from `at` on, at most `LANES`, come before the first that isn't plain in
+/// a body.
 #[inline(always)]
 pub(crate) fn body_run(bytes: &[u8], at: usize) -> usize
     requires { at + LANES ≤ length bytes.now }
@@ -60,8 +63,8 @@ pub(crate) fn body_run(bytes: &[u8], at: usize) -> usize
     first_set(stops.to_bitmask())
 }
 
-/// Returns how many of the bytes from `at` on, of at most `LANES`, are plain in a literal with this
-/// quote.
+/// Returns how many bytes from `at` on, at most `LANES`, come before the first that isn't plain in
+/// a literal with this quote.
 #[inline(always)]
 pub(crate) fn literal_run(quote: u8, bytes: &[u8], at: usize) -> usize
     requires { at + LANES ≤ length bytes.now }

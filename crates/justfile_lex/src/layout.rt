@@ -106,8 +106,8 @@ fn continues_body(mode: &Mode, found: &str, level: &str) -> bool
     mode.in_body && begins_with(found.as_bytes(), level.as_bytes())
 }
 
-/// Scans an indent, for blanks that aren't a level. There is no token if they aren't deeper than
-/// the level.
+/// Scans an indent, for blanks that aren't a level and don't continue a body. There is no token if
+/// they mix spaces and tabs, or don't begin with the level.
 fn scan_indent(mode: &Mode, found: &str) -> Scanned
     requires { blank_len found.now ≡ length found.now }
     ensures { found_of result ≡ result_ok (indent (mode_of mode.now) found.now) }

@@ -242,8 +242,8 @@ impl<'src> Lexer<'src> {
     /// significant tokens, unless it is whitespace. Returns whether it was appended, so whether a
     /// token after it is glued to it.
     ///
-    /// Whitespace has a branch of its own, without the work that other kinds need. The token is made
-    /// in the table, since one that `take` returned would be copied twice.
+    /// Whitespace has a branch of its own, without the work that other kinds need. The token is
+    /// made in the table, since one that `take` returned would be copied twice.
     #[inline(always)]
     fn take_into(
         &mut self,

@@ -3,7 +3,7 @@ ghost use Rattle.std.specs.Prelude.{◌≡◌, ◌||◌, ◌+◌, ◌≤◌, map
 ghost use Rattle.std.specs.List.{list_any, count_by};
 ghost use Rattle.std.specs.Str.{bytes_eq};
 ghost use Rattle.justfile_model.specs.Lexing.Places.{is_line_feed};
-ghost use Rattle.justfile_model.specs.Lexing.Modes.{ends_in_newline};
+ghost use Rattle.justfile_model.specs.Lexing.Modes.{ends_in_line_feed};
 
 use justfile_model::OpenDelimiter;
 use justfile_token::{Delimiter, StringKind, Token};
@@ -117,7 +117,7 @@ impl<'src> Mode<'src> {
             TokenKind::ParenL => self.open(Delimiter::Paren, token.line)?,
             TokenKind::FormatStringStart => {
                 let bytes = token.lexeme().as_bytes();
-                let line = token.line + count_newlines(bytes);
+                let line = token.line + count_line_feeds(bytes);
                 self.open(Delimiter::FormatString(StringKind::of_opening(bytes)), line)?
             }
             TokenKind::BraceR
@@ -133,7 +133,7 @@ impl<'src> Mode<'src> {
             TokenKind::InterpolationStart => self.interpolation = Some(token),
             TokenKind::InterpolationEnd => self.interpolation = None,
             TokenKind::Eol => self.line_start = true,
-            TokenKind::Whitespace => self.line_start = ends_in_newline(token.lexeme().as_bytes()),
+            TokenKind::Whitespace => self.line_start = ends_in_line_feed(token.lexeme().as_bytes()),
             TokenKind::Identifier => self.after_f = is_letter_f(token.lexeme().as_bytes()),
             _ => {}
         }
@@ -205,15 +205,15 @@ fn is_letter_f(text: &[u8]) -> bool
 }
 
 /// Returns the number of line feeds.
-fn count_newlines(bytes: &[u8]) -> usize
+fn count_line_feeds(bytes: &[u8]) -> usize
     ensures { result ≡ count_by is_line_feed bytes.now }
 {
     bytes.iter().filter(|b| **b == b'\n').count()
 }
 
 /// Whether the last byte is a line feed.
-fn ends_in_newline(bytes: &[u8]) -> bool
-    ensures { result ≡ ends_in_newline bytes.now }
+fn ends_in_line_feed(bytes: &[u8]) -> bool
+    ensures { result ≡ ends_in_line_feed bytes.now }
 {
     match bytes.last() {
         Some(byte) => *byte == b'\n',

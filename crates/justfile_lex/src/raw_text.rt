@@ -63,7 +63,7 @@ fn plain_len_of(text: RawText, bytes: &[u8]) -> usize
     at
 }
 
-/// Returns how many of the bytes from `at` on, of at most `LANES`, are plain.
+/// Returns how many bytes from `at` on, at most `LANES`, come before the first that isn't plain.
 #[inline(always)]
 fn plain_run(text: RawText, bytes: &[u8], at: usize) -> usize
     requires { at + LANES ≤ length bytes.now }
@@ -76,9 +76,9 @@ fn plain_run(text: RawText, bytes: &[u8], at: usize) -> usize
     }
 }
 
-/// Whether this byte hides nothing and begins no end of the text, whatever follows it. Control
-/// characters up to the carriage return count as not plain: most could, but so one comparison finds
-/// both line ends.
+/// Whether this byte surely hides nothing and begins no end of the text, whatever follows it.
+/// Others that do neither count as not plain, so that few comparisons are needed: in comments and
+/// bodies the control characters up to the carriage return, and in all literals `\` and `{`.
 fn is_plain(text: RawText, byte: u8) -> bool
     ensures { result ≡ is_plain text byte }
 {

@@ -68,6 +68,10 @@ impl<'src> Line<'src> {
 
     /// Returns the sigils at the front of the line, each once. `?` is a sigil only if `guards` is
     /// set.
+    ///
+    /// # Errors
+    ///
+    /// `AllocError` if memory runs out.
     pub fn sigils(&self, alloc: Global, guards: bool) -> Result<BTreeSet<Sigil>, AllocError>
         ensures { IfOk result (λ sigils. (s : Sigil) → Contains sigils.keys s
             ↔ HasSigil guards self.now s) }

@@ -19,7 +19,7 @@ use Rattle.justfile_model.specs.LiteralTexts.Literals.{Expansions, LiteralFault,
 abbrev pub is_framed : (front end : ℕ) → List ℕ → Bool
 is_framed front end lexeme = nat_le (front + end) (length lexeme) && nat_lt (slice_index lexeme (front - 1)) byte.after_ascii && nat_lt (slice_index lexeme (length lexeme - end)) byte.after_ascii
 
--- the lexeme has a delimiter at each end
+-- a delimiter of the lexeme's kind can be cut off at each end; whether the bytes there are that delimiter isn't asked
 abbrev pub is_quoted : List ℕ → Bool
 is_quoted lexeme = is_framed (delimiter_len (kind_of lexeme)) (delimiter_len (kind_of lexeme)) lexeme
 
@@ -57,7 +57,7 @@ pub record IsStringOf (expander : Expansions) (token : Token) (expand : Bool) (l
   pub kind : literal.kind ≡ kind_of (lexeme_of token)
   pub part : literal.part ≡ None
 
--- the lexeme is this part of a format string of this kind
+-- what this part has around its text can be cut off from the lexeme; whether the bytes there are those of such a part isn't asked
 abbrev pub is_part : StringKind → FormatStringPart → List ℕ → Bool
 is_part kind part = is_framed (front_len kind part) (end_len kind part)
 

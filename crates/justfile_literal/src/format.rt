@@ -13,7 +13,8 @@ use justfile_vocabulary::interpolation::{
 use std::alloc::{AllocError, Global};
 
 /// Returns the literal for a part of a format string. `kind` is the kind of the whole format
-/// string.
+/// string. The lexeme must have the delimiters and braces of this part around its text, as that of
+/// each lexed part does.
 ///
 /// # Errors
 ///

@@ -13,7 +13,8 @@ use justfile_token::{
 };
 use std::alloc::{AllocError, Global};
 
-/// Returns the literal for a string token. With the mark `x` its text is expanded.
+/// Returns the literal for a string token. With the mark `x` its text is expanded. The lexeme must
+/// begin and end with its delimiter, as that of each lexed literal does.
 ///
 /// # Errors
 ///
@@ -46,7 +47,8 @@ pub fn string_literal<'src, X: Expander>(
 }
 
 /// Returns the text between the quotes, if that is the text of the string: the quotes aren't
-/// tripled, and there is no escape between them.
+/// tripled, and there is no escape between them. The lexeme must begin and end with its delimiter,
+/// as that of each lexed literal does.
 #[inline(always)]
 pub fn verbatim_text(lexeme: &str) -> Option<&str>
     requires { IsTrue (is_quoted lexeme.now) }
@@ -70,7 +72,8 @@ fn has_backslash(text: &str) -> bool
     text.contains('\\')
 }
 
-/// Returns the command between backticks.
+/// Returns the command between backticks, unindented if they are tripled. The lexeme must begin and
+/// end with its delimiter, as that of each lexed literal does.
 ///
 /// # Errors
 ///
@@ -129,7 +132,8 @@ fn literal_kind(lexeme: &str) -> StringKind
     StringKind::of_opening(lexeme.as_bytes())
 }
 
-/// Expands the text. If that fails, the error is at the token.
+/// Returns the expanded text. If the expander refuses it, the error is at the token; if memory runs
+/// out, it is `Memory`.
 fn expand_text<'src, X: Expander>(
     alloc: Global,
     token: Token<'src>,

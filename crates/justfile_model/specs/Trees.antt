@@ -3,6 +3,7 @@ pub mod ConditionalOperator
 pub mod ContentKeys
 pub mod ContentLeaf
 pub mod ContentLeafLaws
+pub mod ExpressionCases
 pub mod Key
 pub mod KeyLaws
 pub mod LeafView

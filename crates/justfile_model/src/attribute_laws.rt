@@ -6,7 +6,7 @@ ghost use Rattle.justfile_vocabulary.specs.declared.attribute_kind.AttributeKind
 ghost use Rattle.justfile_model.specs.Meanings.ArgumentTexts.{HasTexts};
 ghost use Rattle.justfile_model.specs.Meanings.AttributeRules.{arguments_broken};
 ghost use Rattle.justfile_model.specs.Trees.ContentKeys.{entry_cmp};
-ghost use Rattle.justfile_model.specs.Meanings.Meaning.{KeyArgument, Placed, attribute_of};
+ghost use Rattle.justfile_model.specs.Meanings.Meaning.{KeyArgument, PositionalArgument, attribute_of};
 ghost use Rattle.justfile_model.specs.Readers.NewAttribute.{new_attribute};
 ghost use Rattle.justfile_model.specs.Lists.Order.{IsStableSort, in_order};
 ghost use Rattle.justfile_model.specs.Meanings.Rules.{Broken};
@@ -32,16 +32,16 @@ pub fn content_order<A, B>()
 /// that break no rule make an attribute.
 pub fn attributes_made<A, B>()
     ensures made { (view : LeafView A B) (at : B) (kind : AttributeKind)
-        (placed : List (Placed A B)) (keys : List (KeyArgument A B))
+        (placed : List (PositionalArgument A B)) (keys : List (KeyArgument A B))
         (a : Attribute A B) → new_attribute view at kind placed keys ≡ Ok a
         → (attribute_of view kind placed keys ≡ Some a)
         × (arguments_broken view at kind placed keys ≡ []) }
     ensures refused { (view : LeafView A B) (at : B) (kind : AttributeKind)
-        (placed : List (Placed A B)) (keys : List (KeyArgument A B))
+        (placed : List (PositionalArgument A B)) (keys : List (KeyArgument A B))
         (r : Broken B) → new_attribute view at kind placed keys ≡ Err r → HasTexts view placed keys
         → Contains (arguments_broken view at kind placed keys) r }
     ensures unbroken { (view : LeafView A B) (at : B) (kind : AttributeKind)
-        (placed : List (Placed A B)) (keys : List (KeyArgument A B))
+        (placed : List (PositionalArgument A B)) (keys : List (KeyArgument A B))
         → arguments_broken view at kind placed keys ≡ [] → HasTexts view placed keys
         → (a : Attribute A B) × (new_attribute view at kind placed keys ≡ Ok a) }
 {}

@@ -2,13 +2,14 @@
 /// The precedence levels of expressions, from the loosest to the tightest.
 #[derive(Clone, Copy)]
 pub enum Level {
-    /// Operands of `||`. An expression at this level is one deeper than the expression around it.
+    /// `||`, between disjuncts. An expression at this level is one deeper than the expression
+    /// around it.
     Expression,
-    /// Operands of `&&`.
+    /// `&&`, between comparisons.
     Disjunct,
-    /// Operands of a comparison.
+    /// At most one comparison, between conjuncts.
     Compared,
-    /// Operands of `/`, `++` and `+`.
+    /// `/`, `++` and `+`, between values.
     Conjunct,
     /// A value, which has no operator.
     Value,

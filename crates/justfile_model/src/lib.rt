@@ -4,6 +4,7 @@
 pub mod attribute_laws;
 mod conditional_operator;
 pub mod examples;
+mod expression_case;
 pub mod grammar_laws;
 pub mod laws;
 mod level;
@@ -18,6 +19,7 @@ pub mod printed_examples;
 mod raw_text;
 
 pub use crate::conditional_operator::ConditionalOperator;
+pub use crate::expression_case::ExpressionCase;
 pub use crate::level::Level;
 pub use crate::open_delimiter::OpenDelimiter;
 pub use crate::operator::Operator;

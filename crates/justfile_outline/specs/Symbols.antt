@@ -19,7 +19,7 @@ use Rattle.justfile_outline.specs.Shown.{Shown}
 abbrev pub name_part : Name × Number → List ℕ
 name_part p = codes " " ++ name_text p.0
 
--- the parameters of a recipe or a function as they are printed, each after a space
+-- the parameters of a recipe as they are printed, or the names of those of a function, each after a space; other items have none
 abbrev pub item_parameters : Item → List ℕ
 item_parameters (items.Alias a) = []
 item_parameters (items.Assignment a) = []

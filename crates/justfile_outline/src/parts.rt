@@ -16,8 +16,8 @@ use justfile_token::{Name, Namepath};
 use justfile_vocabulary::Number;
 use std::alloc::{AllocError, Global};
 
-/// Returns the parameters of a recipe or a function as they are printed, each after a space. Other
-/// items have none.
+/// Returns the parameters of a recipe as they are printed, or the names of those of a function,
+/// each after a space. Other items have none.
 pub(crate) fn parameters_text(item: &Item<'_>, alloc: Global) -> Result<String, AllocError>
     ensures { IfOk result (λ text. string_bytes text ≡ item_parameters item.now) }
 {

@@ -16,7 +16,8 @@ pub struct Symbol<'src> {
     pub kind: ItemKind,
     /// Its name, whose token has the position in the text.
     pub name: Name<'src>,
-    /// The parameters of a recipe or a function as they are printed, each after a space.
+    /// The parameters of a recipe as they are printed, or the names of those of a function, each
+    /// after a space. Empty for other items.
     pub parameters: String,
     /// Its doc, as `Item::doc` returns it: that of a recipe or a module by its attribute `doc`, or
     /// else by the comment before it.

@@ -16,9 +16,9 @@ use Rattle.justfile_model.proofs.Relations.NaturalHeaders.{LacksHeader, LacksLas
 use Rattle.justfile_model.proofs.Relations.NaturalParts as parts
 use Rattle.justfile_model.proofs.Relations.NaturalParts.{LacksName}
 use Rattle.justfile_model.proofs.Readers.ReadingSteps.{past}
-use Rattle.justfile_parse.specs.WantsNumber.{AreNamed, AreNumbered, HeaderLacks, IsAfterPrefix, LacksRecipe, NamePlace, Place, Rules, a_name, attributes_at, more, no_name, none, nothing, numbered_name, parameter, plus, star}
+use Rattle.justfile_parse.specs.WantsNumber.{AreNamed, AreNumbered, HeaderLacks, IsAfterPrefix, LacksRecipe, NamePlace, Place, RuleList, a_name, attributes_at, more, no_name, none, nothing, numbered_name, parameter, plus, star}
 
-module _ (rules : Rules) where
+module _ (rules : RuleList) where
   -- what is read of parameters
   abbrev Found : Type 0
   Found = Read (r.Parameters token_leaves token_view rules)

@@ -91,24 +91,24 @@ pub record LacksName (s : State) (old new : Counters) : Type 0 where
 -- ---- of a parameter
 
 -- what `arg` attributes set for parameters
-abbrev pub Rules : Type 0
-Rules = List (ArgumentRules Tok Tok)
+abbrev pub RuleList : Type 0
+RuleList = List (ArgumentRules Tok Tok)
 
 -- parameters that got their numbers, the counters after them, and the state
-abbrev pub Place : Rules → Type 0
+abbrev pub Place : RuleList → Type 0
 Place rules = headers.ParameterPlace token_leaves token_view rules
 
 -- a parameter of this kind, after its `+` or `*`, with its default and its number
-abbrev pub parameter : (rules : Rules) → ParameterKind → Place rules → Read (headers.Parameters token_leaves token_view rules)
+abbrev pub parameter : (rules : RuleList) → ParameterKind → Place rules → Read (headers.Parameters token_leaves token_view rules)
 parameter rules = headers.parameter token_leaves token_view rules
 
 -- Parameters that take one argument come next, and each of them gets its number.
-pub data AreNumbered (rules : Rules) : (from to : Place rules) → Type 0 where
+pub data AreNumbered (rules : RuleList) : (from to : Place rules) → Type 0 where
   none : {x : Place rules} → AreNumbered rules x x
   more : {x y z : Place rules} → parameter rules Singular x ≡ Ok y → AreNumbered rules y z → AreNumbered rules x z
 
 -- the place after the prefix of a parameter of this kind: `+`, `*` or nothing
-pub data IsAfterPrefix (rules : Rules) (x : Place rules) : ParameterKind → Place rules → Type 0 where
+pub data IsAfterPrefix (rules : RuleList) (x : Place rules) : ParameterKind → Place rules → Type 0 where
   nothing : IsAfterPrefix rules x Singular x
   plus : {prefix : SignificantToken × State} → next kinds.Plus x.1 ≡ Some prefix → IsAfterPrefix rules x Plus (x.0, prefix.1)
   star : {prefix : SignificantToken × State} → next kinds.Asterisk x.1 ≡ Some prefix → IsAfterPrefix rules x Star (x.0, prefix.1)
@@ -116,7 +116,7 @@ pub data IsAfterPrefix (rules : Rules) (x : Place rules) : ParameterKind → Pla
 -- A header comes next. After its name, and after parameters that got their numbers, a parameter comes next, with its default and without
 -- breaking a rule. But the counter of bindings has reached its maximum, so the parameter gets no number. The old counters are those before
 -- the header, the new ones those at this parameter.
-pub record HeaderLacks (rules : Rules) (s : State) (old new : Counters) : Type 0 where
+pub record HeaderLacks (rules : RuleList) (s : State) (old new : Counters) : Type 0 where
   pub name : SignificantToken × State
   pub name_read : reading.expect token_leaves kinds.Identifier s ≡ Ok name
   pub options : Unit {0} × State

@@ -9,21 +9,21 @@ use Rattle.justfile_token.specs.declared.fault.Fault.{Fault}
 use Rattle.justfile_token.specs.declared.name.Name.{Name}
 use Rattle.justfile_written.specs.Written.{uncommented}
 use Rattle.justfile_written.specs.declared.written.Written.{Written}
-use Rattle.justfile_attribute.specs.KeyedBounds.{AreKeyed, IsKeyed}
+use Rattle.justfile_attribute.specs.KeyedBounds.{HaveBoundKeys, HasBoundKeys}
 use Rattle.justfile_parse_attribute.specs.DerivedAttributeFields.{HaveDerivedAttributeFields, HaveDerivedPairFields, KeepsDerivedPairFields}
 
 abbrev attribute_of : Attribute × Written → Attribute
 attribute_of p = p.0
 
 -- a bound stands with its key in each of them
-fields_keyed : (a : Attribute) → HasDerivedAttributeFields a → IsKeyed a
+fields_keyed : (a : Attribute) → HasDerivedAttributeFields a → HasBoundKeys a
 fields_keyed (variants.Arg flag help help_property long long_key max max_key min min_key multiple name pattern short short_key value) h =
     (λ some. h.max_keyed ∙ some, λ some. h.min_keyed ∙ some)
 fields_keyed a h = tt
 
-pub all_keyed : (attributes : List Attribute) → HaveDerivedAttributeFields attributes → AreKeyed attributes
-unfolding AreKeyed HaveDerivedAttributeFields
-all_keyed attributes h = All-weaker HasDerivedAttributeFields IsKeyed fields_keyed attributes h
+pub all_keyed : (attributes : List Attribute) → HaveDerivedAttributeFields attributes → HaveBoundKeys attributes
+unfolding HaveBoundKeys HaveDerivedAttributeFields
+all_keyed attributes h = All-weaker HasDerivedAttributeFields HasBoundKeys fields_keyed attributes h
 
 pub none_fields : HaveDerivedPairFields []
 unfolding HaveDerivedAttributeFields

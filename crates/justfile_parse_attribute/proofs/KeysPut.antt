@@ -13,11 +13,11 @@ use Rattle.std.proofs.lemmas.Map.Views.{All-values-insert_entry}
 use Rattle.std.proofs.lemmas.Slice.Eq.{bytes_eq-Decides}
 use denote.Ref.{Bor}
 use Rattle.justfile_attribute_rules.specs.Keys.{AreKeyed, IsInserted, KeyMap, key_argument, key_arguments, key_text, text_order}
-use Rattle.justfile_attribute_rules.specs.Made.{placed_leaf, placed_leaves}
+use Rattle.justfile_attribute_rules.specs.Made.{positional_leaf, positional_leaves}
 use Rattle.justfile_attribute_rules.proofs.PutKeys.{IsKeyed, Stored, none_keyed, stays_keyed, tied}
 use Rattle.justfile_vocabulary.specs.declared.attribute_kind.AttributeKind.{AttributeKind}
 use Rattle.justfile_token.specs.declared.token.Token.{Token}
-use Rattle.justfile_model.specs.Meanings.Meaning.{KeyArgument, Placed, by_key, by_position}
+use Rattle.justfile_model.specs.Meanings.Meaning.{KeyArgument, PositionalArgument, by_key, by_position}
 use Rattle.justfile_model.specs.Readers.NewAttribute.{new_attribute}
 use Rattle.justfile_model.proofs.Meanings.NewAttributeSteps.{contains_first, nothing_in}
 use Rattle.justfile_model.proofs.Meanings.SameKeys.{SameKeys, attribute_same}
@@ -210,11 +210,11 @@ positions_alone [] = refl
 positions_alone ((name, None) ∷ gs) = positions_alone gs
 positions_alone ((name, Some e) ∷ gs) = positions_alone gs
 
-positions_after : (ps : List (Token × Box Expression)) (gs : List Given) → by_position (map positional_of ps ++ map keyed_of gs) ≡ placed_leaves ps
+positions_after : (ps : List (Token × Box Expression)) (gs : List Given) → by_position (map positional_of ps ++ map keyed_of gs) ≡ positional_leaves ps
 positions_after [] gs = positions_alone gs
-positions_after (p ∷ ps) gs = ap (λ (l : List (Placed Leaf Token)). placed_leaf p ∷ l) (positions_after ps gs)
+positions_after (p ∷ ps) gs = ap (λ (l : List (PositionalArgument Leaf Token)). positional_leaf p ∷ l) (positions_after ps gs)
 
-positions_are : (a : Arguments) → by_position (arguments_of a) ≡ placed_leaves a.positional.items
+positions_are : (a : Arguments) → by_position (arguments_of a) ≡ positional_leaves a.positional.items
 unfolding arguments_of
 positions_are a = positions_after a.positional.items a.keyed.items
 
@@ -235,7 +235,7 @@ keys_same gs m distinct h = record {
 
 -- the attribute is that of the arguments as they were read
 pub made_same : (at : Token) (kind : AttributeKind) (a : Arguments) (m : KeyMap) → HasKeys a.keyed.items m
-    → new_attribute views_leaves at kind (by_position (arguments_of a)) (by_key (arguments_of a)) ≡ new_attribute views_leaves at kind (placed_leaves a.positional.items) (key_arguments m)
+    → new_attribute views_leaves at kind (by_position (arguments_of a)) (by_key (arguments_of a)) ≡ new_attribute views_leaves at kind (positional_leaves a.positional.items) (key_arguments m)
 made_same at kind a m h =
     (λ i. new_attribute views_leaves at kind (positions_are a i) (keys_are a i))
-    ∙ attribute_same views_leaves (map key_argument a.keyed.items) (key_arguments m) (keys_same a.keyed.items m a.distinct h) at kind (placed_leaves a.positional.items)
+    ∙ attribute_same views_leaves (map key_argument a.keyed.items) (key_arguments m) (keys_same a.keyed.items m a.distinct h) at kind (positional_leaves a.positional.items)

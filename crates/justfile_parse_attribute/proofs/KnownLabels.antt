@@ -33,7 +33,7 @@ use Rattle.justfile_model.specs.Trees.Tree as tree
 use Rattle.justfile_model.specs.Trees.Tree.{ArgumentRules, Entry, Quoted}
 use Rattle.justfile_parse_attribute.specs.AddedAttributes.{IsAdded}
 use Rattle.justfile_parse_attribute.specs.Attributes.{entry_of_pair}
-use Rattle.justfile_parse_attribute.specs.Labels.{AreKnown, AreKnownBefore, AreSame, ChecksLabel, ChecksLine, IsLabelNoted, IsNoted, KnowsLabels, Seen, arg_label, first_line, group_label, has_text, label_rule}
+use Rattle.justfile_parse_attribute.specs.Labels.{AreKnown, AreKnownBefore, AreSame, ChecksLabel, ChecksLine, IsLabelNoted, IsNoted, KnowsLabels, LeafAttribute, arg_label, first_line, group_label, has_text, label_rule}
 use Rattle.justfile_parse_attribute.specs.declared.labels.Labels.{Labels}
 use Rattle.justfile_parse_attribute.proofs.RepeatedAttributes.{arg_rule, group_rule, label_text, last_apart}
 use Rattle.justfile_expression.specs.LeafViews.{views_leaves}
@@ -48,7 +48,7 @@ abbrev Entries : Type 0
 Entries = List (Entry Leaf Token)
 
 abbrev Label : Type 0
-Label = Seen → Option (Quoted Leaf)
+Label = LeafAttribute → Option (Quoted Leaf)
 
 abbrev Pair : Type 0
 Pair = Attribute × Written
@@ -64,46 +64,46 @@ kind_is : (j k : AttributeKind) → same_attribute j k ≡ true → j ≡ k
 unfolding same_attribute
 kind_is j k e = same_true kind_type.the_type tt j k e
 
-repeatable_as : (k : AttributeKind) (d : Seen) → is_repeatable k ≡ true → same_attribute (kind_of_attribute d) k ≡ true → is_repeatable (kind_of_attribute d) ≡ true
+repeatable_as : (k : AttributeKind) (d : LeafAttribute) → is_repeatable k ≡ true → same_attribute (kind_of_attribute d) k ≡ true → is_repeatable (kind_of_attribute d) ≡ true
 repeatable_as k d h e = ap is_repeatable (kind_is (kind_of_attribute d) k e) ∙ h
 
 -- what stands before an `arg`
-arg_shares : (q : Quoted Leaf) (d : Seen) → arg_label d ≡ None → same_attribute (kind_of_attribute d) kinds.Arg ≡ true → same_label views_leaves (label_of views_leaves d) (Some q) ≡ false
+arg_shares : (q : Quoted Leaf) (d : LeafAttribute) → arg_label d ≡ None → same_attribute (kind_of_attribute d) kinds.Arg ≡ true → same_label views_leaves (label_of views_leaves d) (Some q) ≡ false
 unfolding same_attribute
 arg_shares q (tree.Arg rules) none e = cc
 arg_shares q (tree.Texts kinds.Group texts) none e = cc
 arg_shares q d none e = refl
 
-arg_apart : (rules : ArgumentRules Leaf Token) (d : Seen) → arg_label d ≡ None → excludes views_leaves d (tree.Arg rules) ≡ false
+arg_apart : (rules : ArgumentRules Leaf Token) (d : LeafAttribute) → arg_label d ≡ None → excludes views_leaves d (tree.Arg rules) ≡ false
 arg_apart rules d none =
     apart (same_attribute (kind_of_attribute d) kinds.Arg) _ _ (repeatable_as kinds.Arg d refl) (arg_shares rules.name d none)
 
-arg_excludes : (rules : ArgumentRules Leaf Token) (text : List ℕ) → quoted_text views_leaves rules.name ≡ Some text → (d : Seen)
+arg_excludes : (rules : ArgumentRules Leaf Token) (text : List ℕ) → quoted_text views_leaves rules.name ≡ Some text → (d : LeafAttribute)
     → excludes views_leaves d (tree.Arg rules) ≡ has_text text (arg_label d)
 unfolding same_attribute
 arg_excludes rules text h (tree.Arg r) = ap (same_text views_leaves (quoted_text views_leaves r.name)) h
 arg_excludes rules text h d = arg_apart rules d refl
 
 -- what stands before a `group`
-group_shares : (q : Quoted Leaf) (d : Seen) → group_label d ≡ None → same_attribute (kind_of_attribute d) kinds.Group ≡ true → same_label views_leaves (label_of views_leaves d) (Some q) ≡ false
+group_shares : (q : Quoted Leaf) (d : LeafAttribute) → group_label d ≡ None → same_attribute (kind_of_attribute d) kinds.Group ≡ true → same_label views_leaves (label_of views_leaves d) (Some q) ≡ false
 unfolding same_attribute
 group_shares q (tree.Arg rules) none e = cc
 group_shares q (tree.Texts kinds.Group []) none e = refl
 group_shares q (tree.Texts kinds.Group (p ∷ ps)) none e = cc
 group_shares q d none e = refl
 
-group_apart : (q : Quoted Leaf) (qs : List (Quoted Leaf)) (d : Seen) → group_label d ≡ None → excludes views_leaves d (tree.Texts kinds.Group (q ∷ qs)) ≡ false
+group_apart : (q : Quoted Leaf) (qs : List (Quoted Leaf)) (d : LeafAttribute) → group_label d ≡ None → excludes views_leaves d (tree.Texts kinds.Group (q ∷ qs)) ≡ false
 group_apart q qs d none =
     apart (same_attribute (kind_of_attribute d) kinds.Group) _ _ (repeatable_as kinds.Group d refl) (group_shares q d none)
 
-group_excludes : (q : Quoted Leaf) (qs : List (Quoted Leaf)) (text : List ℕ) → quoted_text views_leaves q ≡ Some text → (d : Seen)
+group_excludes : (q : Quoted Leaf) (qs : List (Quoted Leaf)) (text : List ℕ) → quoted_text views_leaves q ≡ Some text → (d : LeafAttribute)
     → excludes views_leaves d (tree.Texts kinds.Group (q ∷ qs)) ≡ has_text text (group_label d)
 unfolding same_attribute
 group_excludes q qs text h (tree.Texts kinds.Group (p ∷ ps)) = ap (same_text views_leaves (quoted_text views_leaves p)) h
 group_excludes q qs text h d = group_apart q qs d refl
 
 -- an attribute without a label excludes none, if its kind may stand again
-bare_excludes : (a : Seen) → label_of views_leaves a ≡ None → is_repeatable (kind_of_attribute a) ≡ true → (d : Seen) → excludes views_leaves d a ≡ false
+bare_excludes : (a : LeafAttribute) → label_of views_leaves a ≡ None → is_repeatable (kind_of_attribute a) ≡ true → (d : LeafAttribute) → excludes views_leaves d a ≡ false
 bare_excludes a none h d =
     apart (same_attribute (kind_of_attribute d) (kind_of_attribute a)) _ _ (repeatable_as (kind_of_attribute a) d h) (λ e. rw none (unshared (label_of views_leaves d)))
   where
@@ -112,7 +112,7 @@ bare_excludes a none h d =
     unshared (Some q) = refl
 
 -- one that may stand once excludes those of its kind
-pub excludes_kind : (d a : Seen) → is_repeatable (kind_of_attribute a) ≡ false → excludes views_leaves d a ≡ same_attribute (kind_of_attribute d) (kind_of_attribute a)
+pub excludes_kind : (d a : LeafAttribute) → is_repeatable (kind_of_attribute a) ≡ false → excludes views_leaves d a ≡ same_attribute (kind_of_attribute d) (kind_of_attribute a)
 excludes_kind d a once = go (same_attribute (kind_of_attribute d) (kind_of_attribute a)) refl
   where
     go : (b : Bool) → same_attribute (kind_of_attribute d) (kind_of_attribute a) ≡ b → b && (not (is_repeatable (kind_of_attribute d)) || same_label views_leaves (label_of views_leaves d) (label_of views_leaves a)) ≡ b
@@ -122,7 +122,7 @@ excludes_kind d a once = go (same_attribute (kind_of_attribute d) (kind_of_attri
 -- ---- checks
 
 -- nothing before it excludes it
-none_excludes : (e : Entry Leaf Token) → ((d : Seen) → excludes views_leaves d e.attribute ≡ false) → (es : Entries) → check_repeated views_leaves es e ≡ Ok tt
+none_excludes : (e : Entry Leaf Token) → ((d : LeafAttribute) → excludes views_leaves d e.attribute ≡ false) → (es : Entries) → check_repeated views_leaves es e ≡ Ok tt
 none_excludes e h [] = refl
 none_excludes e h (d ∷ es) = rw (h d.attribute) (none_excludes e h es)
 
@@ -132,7 +132,7 @@ repeatable_checked a written pairs none h = none_excludes (entry_of_pair (a, wri
 
 -- the first one whose label has this text decides
 line_checked : (label : Label) (text : List ℕ) (rule : Token → Rule Token) (e : Entry Leaf Token) (result : Result (Unit {0}) Fault)
-    → ((d : Seen) → excludes views_leaves d e.attribute ≡ has_text text (label d)) → ((first : Token) → duplicate_rule views_leaves e.name e.attribute first ≡ rule first)
+    → ((d : LeafAttribute) → excludes views_leaves d e.attribute ≡ has_text text (label d)) → ((first : Token) → duplicate_rule views_leaves e.name e.attribute first ≡ rule first)
     → (es : Entries) → ChecksLine (first_line label text es) rule e.name result → Makes (λ (u : Unit {0}). tt) result (check_repeated views_leaves es e)
 line_checked label text rule e result same ruled [] h = h
 line_checked label text rule e result same ruled (d ∷ es) h =
@@ -145,14 +145,14 @@ line_checked label text rule e result same ruled (d ∷ es) h =
     go false later k = later k
 
 -- what an `arg` or a `group` is, by its label
-arg_only : (a : Seen) (q : Quoted Leaf) → true ≡ same_attribute (kind_of_attribute a) kinds.Arg → label_of views_leaves a ≡ Some q
+arg_only : (a : LeafAttribute) (q : Quoted Leaf) → true ≡ same_attribute (kind_of_attribute a) kinds.Arg → label_of views_leaves a ≡ Some q
     → (rules : ArgumentRules Leaf Token) × (a ≡ tree.Arg rules) × (rules.name ≡ q)
 unfolding same_attribute
 arg_only (tree.Arg rules) q same e = (rules, refl, cc)
 arg_only (tree.Texts kinds.Group texts) q same e = cc
 arg_only a q same e = cc
 
-group_only : (a : Seen) (q : Quoted Leaf) → false ≡ same_attribute (kind_of_attribute a) kinds.Arg → label_of views_leaves a ≡ Some q
+group_only : (a : LeafAttribute) (q : Quoted Leaf) → false ≡ same_attribute (kind_of_attribute a) kinds.Arg → label_of views_leaves a ≡ Some q
     → (qs : List (Quoted Leaf)) × (a ≡ tree.Texts kinds.Group (q ∷ qs))
 unfolding same_attribute
 group_only (tree.Arg rules) q same e = cc
@@ -216,11 +216,11 @@ free label text rule at es u = go (find (passes label text) es)
     go None h = refl
     go (Some d) h = let refused : ◌≡◌ {A = Made Token (Unit {0})} (new.refuse (rule d.name) at) (Ok u) = h d.name refl in cc
 
-arg_none : (a : Seen) → label_of views_leaves a ≡ None → arg_label a ≡ None
+arg_none : (a : LeafAttribute) → label_of views_leaves a ≡ None → arg_label a ≡ None
 arg_none (tree.Arg rules) e = cc
 arg_none a e = refl
 
-group_none : (a : Seen) → label_of views_leaves a ≡ None → group_label a ≡ None
+group_none : (a : LeafAttribute) → label_of views_leaves a ≡ None → group_label a ≡ None
 group_none (tree.Texts kinds.Group texts) e = e
 group_none a e = refl
 
@@ -231,7 +231,7 @@ labelled_by : (label : Option (Quoted Leaf)) (q : Quoted Leaf) (text : List ℕ)
 labelled_by label q text e h t = ap (has_text t) e ∙ ap (λ s. same_text views_leaves s (Some t)) h
 
 module _ (a : Attribute) (written : Written) (pairs : List Pair) where
-  abbrev seen : Seen
+  abbrev seen : LeafAttribute
   seen = leaf_attribute_of a
 
   abbrev next : Entry Leaf Token
@@ -393,10 +393,10 @@ commented_known labels comment old new h known = λ text. rw h
     ((known text).0 ∙ sym (all_commented arg_label text comment old), (known text).1 ∙ sym (all_commented group_label text comment old))
 
 -- what was known before one was added
-pub known_before : (labels : Labels) (made : Made Token Seen) (name : Name) (old later : List Pair) → AreKnown labels (map entry_of_pair old) → IsAdded made name old later → AreKnownBefore labels later
+pub known_before : (labels : Labels) (made : Made Token LeafAttribute) (name : Name) (old later : List Pair) → AreKnown labels (map entry_of_pair old) → IsAdded made name old later → AreKnownBefore labels later
 known_before labels made name old later known h = record { before = old; last = uncommented (h.attribute, name); is = h.added; known = known }
 
-pub begins_added : (made : Made Token Seen) (name : Name) (old later : List Pair) → IsAdded made name old later → take (length old) later ≡ old
+pub begins_added : (made : Made Token LeafAttribute) (name : Name) (old later : List Pair) → IsAdded made name old later → take (length old) later ≡ old
 begins_added made name old later h = ap (take (length old)) h.added ∙ take-append_seam old (uncommented (h.attribute, name) ∷ [])
 
 pub begins_same : (old later : List Pair) → later ≡ old → take (length old) later ≡ old

@@ -29,15 +29,13 @@ use Rattle.justfile_written.specs.Written.{uncommented}
 use Rattle.justfile_written.specs.declared.written.Written.{Written}
 use Rattle.justfile_parse_attribute.specs.AddedAttributes.{ChecksLast, IsAdded}
 use Rattle.justfile_parse_attribute.specs.Attributes.{entry_of_pair}
+use Rattle.justfile_parse_attribute.specs.Labels.{LeafAttribute}
 use Rattle.justfile_expression.specs.Content.{literal_content}
 use Rattle.justfile_expression.specs.LeafViews.{views_leaves, leaf_cooked, leaf_literal}
 use Rattle.justfile_expression.specs.LeafTree.{Leaf, Literal, leaf_tree_of, literal_of}
 use Rattle.justfile_expression.specs.declared.expression.Expression.{Expression}
 
-abbrev Seen : Type 0
-Seen = tree.Attribute Leaf Token
-
-abbrev seen_single : AttributeKind → Option (Box Expression) → Seen
+abbrev seen_single : AttributeKind → Option (Box Expression) → LeafAttribute
 seen_single kind o = single_by leaf_tree_of literal_leaf (λ t. t) kind o
 
 pub single_label : (kind : AttributeKind) (o : Option (Box Expression)) → label_of views_leaves (seen_single kind o) ≡ None
@@ -71,12 +69,12 @@ copied_value copy original h = λ i. record { cooked = h.cooked i; expand = h.ex
 -- ---- the refusal, by the label
 
 module _ (name first : Token) where
-  pub other_rule : (a : Seen) → label_of views_leaves a ≡ None → duplicate_rule views_leaves name a first ≡ DuplicateAttribute name first
+  pub other_rule : (a : LeafAttribute) → label_of views_leaves a ≡ None → duplicate_rule views_leaves name a first ≡ DuplicateAttribute name first
   other_rule (tree.Arg rules) e = cc
   other_rule (tree.Texts kinds.Group (q ∷ qs)) e = cc
   other_rule a e = refl
 
-  pub arg_rule : (a : Seen) (l : StringLiteral) → kind_of_attribute a ≡ kinds.Arg → label_of views_leaves a ≡ Some (quoted_leaf l)
+  pub arg_rule : (a : LeafAttribute) (l : StringLiteral) → kind_of_attribute a ≡ kinds.Arg → label_of views_leaves a ≡ Some (quoted_leaf l)
       → duplicate_rule views_leaves name a first ≡ DuplicateArgAttribute (string_bytes l.cooked) first
   arg_rule (tree.Arg rules) l k e =
       let same : rules.name ≡ quoted_leaf l = cc in
@@ -84,7 +82,7 @@ module _ (name first : Token) where
   arg_rule (tree.Texts kinds.Group (q ∷ qs)) l k e = cc
   arg_rule a l k e = cc
 
-  pub group_rule : (a : Seen) (l : StringLiteral) → (kind_of_attribute a ≡ kinds.Arg → ⊥) → label_of views_leaves a ≡ Some (quoted_leaf l)
+  pub group_rule : (a : LeafAttribute) (l : StringLiteral) → (kind_of_attribute a ≡ kinds.Arg → ⊥) → label_of views_leaves a ≡ Some (quoted_leaf l)
       → duplicate_rule views_leaves name a first ≡ DuplicateGroupAttribute (literal_value (literal_content l)) l.token first
   group_rule (tree.Arg rules) l k e = absurd (k refl)
   group_rule (tree.Texts kinds.Group (q ∷ qs)) l k e =
@@ -144,6 +142,6 @@ module _ (result : Result (Unit {0}) Fault) (pairs : List (Attribute × Written)
 
 -- ---- what is made is added
 
-module _ (made : Made Token Seen) (name : Name) (before : List (Attribute × Written)) where
+module _ (made : Made Token LeafAttribute) (name : Name) (before : List (Attribute × Written)) where
   pub made_added : (a : Attribute) (later : List (Attribute × Written)) → made ≡ Ok (leaf_attribute_of a) → later ≡ before ++ uncommented (a, name) ∷ [] → IsAdded made name before later
   made_added a later e h = record { attribute = a; is_made = e; added = h }

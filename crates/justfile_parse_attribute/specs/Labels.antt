@@ -24,15 +24,16 @@ use Rattle.justfile_expression.specs.LeafTree.{Leaf}
 use Rattle.justfile_vocabulary.specs.declared.attribute_kind.AttributeKind.TheVariants as kinds
 use Rattle.justfile_written.specs.declared.written.Written.{Written}
 
-abbrev pub Seen : Type 0
-Seen = tree.Attribute Leaf Token
+-- an attribute as the definitions see it
+abbrev pub LeafAttribute : Type 0
+LeafAttribute = tree.Attribute Leaf Token
 
 -- the label of an `arg`, and of a `group`
-abbrev pub arg_label : Seen → Option (Quoted Leaf)
+abbrev pub arg_label : LeafAttribute → Option (Quoted Leaf)
 arg_label (tree.Arg rules) = Some rules.name
 arg_label _ = None
 
-abbrev pub group_label : Seen → Option (Quoted Leaf)
+abbrev pub group_label : LeafAttribute → Option (Quoted Leaf)
 group_label (tree.Texts kinds.Group texts) = first_of texts
 group_label _ = None
 
@@ -42,7 +43,7 @@ has_text text None = false
 has_text text (Some q) = same_text views_leaves (quoted_text views_leaves q) (Some text)
 
 -- the line of the first entry whose label has this text
-abbrev pub first_line : (Seen → Option (Quoted Leaf)) → (text : List ℕ) → List (Entry Leaf Token) → Option ℕ
+abbrev pub first_line : (LeafAttribute → Option (Quoted Leaf)) → (text : List ℕ) → List (Entry Leaf Token) → Option ℕ
 first_line label text entries = option_map (λ (e : Entry Leaf Token). e.name.line) (find (λ (e : Entry Leaf Token). has_text text (label e.attribute)) entries)
 
 -- `labels` has the labels of these entries, each with the line where it is first.

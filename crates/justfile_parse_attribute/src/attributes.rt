@@ -29,7 +29,8 @@ use justfile_written::Written;
 ///
 /// # Errors
 ///
-/// The tokens aren't lines of attributes, an attribute breaks a rule, or memory runs out.
+/// The tokens aren't lines of attributes, a literal has no text, an attribute breaks a rule, or
+/// memory runs out.
 #[tactic(auto, using(crate::proofs::AttributeLoops::lines_end, crate::proofs::AttributeLoops::lines_go_on, crate::proofs::DerivedFieldsKept::then_fields))]
 pub fn parse_attributes<'src, X: Expander>(
     parser: &mut TokenCursor<'_, 'src, X>,
@@ -223,7 +224,7 @@ fn find_attribute_kind<'src, X: Expander>(
 {
     match AttributeKind::from_name(name.0.lexeme()) {
         Some(kind) => Ok(kind),
-        None => Err(rule_error(parser.alloc, unknown_attribute_error(name.0))),
+        None => Err(rule_error(parser.alloc, unknown_attribute_fault(name.0))),
     }
 }
 
@@ -357,7 +358,7 @@ fn parse_keyed<'src, X: Expander>(
     let key = parser.expect(TokenKind::Identifier)?;
     let value = parse_key_value(parser)?;
     if arguments.has_text(key.0.lexeme()) {
-        return Err(rule_error(parser.alloc, repeated_key_error(name.0, key.0)));
+        return Err(rule_error(parser.alloc, repeated_key_fault(name.0, key.0)));
     }
     arguments.push_keyed(Name::from_identifier(key.0), value)?;
     Ok(())
@@ -390,7 +391,7 @@ fn parse_positional<'src, X: Expander>(
 {
     let (first, value) = parse_placed(parser)?;
     if arguments.has_key() {
-        return Err(rule_error(parser.alloc, after_key_error(first)));
+        return Err(rule_error(parser.alloc, after_key_fault(first)));
     }
     arguments.push_positional(first, value)?;
     Ok(())
@@ -422,14 +423,14 @@ fn peek_key<X: Expander>(parser: &TokenCursor<'_, '_, X>) -> bool
 }
 
 /// Makes the fault for a positional argument after a keyword argument.
-fn after_key_error<'src>(first: Token<'src>) -> Fault<'src>
+fn after_key_fault<'src>(first: Token<'src>) -> Fault<'src>
     ensures { IsFaultOfRule AttributePositionalFollowsKeyword first.entry result }
 {
     Fault::Compile(first.error(CompileErrorKind::AttributePositionalFollowsKeyword))
 }
 
 /// Makes the fault for a key that is repeated.
-fn repeated_key_error<'src>(name: Token<'src>, key: Token<'src>) -> Fault<'src>
+fn repeated_key_fault<'src>(name: Token<'src>, key: Token<'src>) -> Fault<'src>
     ensures { IsFaultOfRule (DuplicateAttributeKey name.entry key.entry) key.entry result }
 {
     Fault::Compile(key.error(CompileErrorKind::DuplicateAttributeKey {
@@ -439,7 +440,7 @@ fn repeated_key_error<'src>(name: Token<'src>, key: Token<'src>) -> Fault<'src>
 }
 
 /// Makes the fault for a name that isn't that of an attribute.
-fn unknown_attribute_error<'src>(name: Token<'src>) -> Fault<'src>
+fn unknown_attribute_fault<'src>(name: Token<'src>) -> Fault<'src>
     ensures { IsFaultOfRule (UnknownAttribute name.entry) name.entry result }
 {
     Fault::Compile(name.error(CompileErrorKind::UnknownAttribute {

@@ -120,13 +120,13 @@ fn check_new_label<'src>(
 {
     match labels.find(is_arg, literal.cooked.as_str()) {
         None => Ok(()),
-        Some(line) => Err(repeated_label_error(alloc, is_arg, literal, name, line)),
+        Some(line) => Err(repeated_label_fault(alloc, is_arg, literal, name, line)),
     }
 }
 
 /// Makes the fault for an `arg` (if `is_arg`) or `group` (otherwise) whose label was first on this
-/// line.
-fn repeated_label_error<'src>(
+/// line. It is `Memory` if there is no memory for a copy that the error holds.
+fn repeated_label_fault<'src>(
     alloc: Global,
     is_arg: bool,
     literal: &StringLiteral<'src>,
@@ -137,14 +137,15 @@ fn repeated_label_error<'src>(
         → IsFaultOfRule (label_rule is_arg literal.now first) name.entry.token result }
 {
     if is_arg {
-        repeated_argument_error(alloc, literal, name, line)
+        repeated_argument_fault(alloc, literal, name, line)
     } else {
-        repeated_group_error(alloc, literal, name, line)
+        repeated_group_fault(alloc, literal, name, line)
     }
 }
 
-/// Makes the fault for an `arg` whose argument was first on this line.
-fn repeated_argument_error<'src>(
+/// Makes the fault for an `arg` whose argument was first on this line. It is `Memory` if there is
+/// no memory for a copy that the error holds.
+fn repeated_argument_fault<'src>(
     alloc: Global,
     argument: &StringLiteral<'src>,
     name: Name<'src>,
@@ -162,9 +163,10 @@ fn repeated_argument_error<'src>(
     }
 }
 
-/// Makes the fault for a `group` whose name was first on this line.
+/// Makes the fault for a `group` whose name was first on this line. It is `Memory` if there is no
+/// memory for a copy that the error holds.
 #[tactic(auto, using(crate::proofs::RepeatedAttributes::copied_value))]
-fn repeated_group_error<'src>(
+fn repeated_group_fault<'src>(
     alloc: Global,
     literal: &StringLiteral<'src>,
     name: Name<'src>,
@@ -224,13 +226,14 @@ fn check_once<'src>(
     written: Written<'src>,
 ) -> CompileResult<'src>
     requires unlabelled { label_of views_leaves (leaf_attribute_of attribute.now) ≡ None }
-    requires not_repeatable { is_repeatable (kind_of_attribute (leaf_attribute_of attribute.now)) ≡ false }
+    requires not_repeatable { is_repeatable (kind_of_attribute (leaf_attribute_of attribute.now))
+        ≡ false }
     ensures { Makes (λ _. tt) result (check_repeated views_leaves (entries_of before.now)
         (entry_of_pair (attribute.now, written.entry))) }
 {
     for earlier in before {
         if is_same_kind(&earlier.0, attribute) {
-            return Err(repeated_kind_error(written.name, earlier.1.name));
+            return Err(repeated_kind_fault(written.name, earlier.1.name));
         }
     }
     Ok(())
@@ -247,7 +250,7 @@ fn is_same_kind(first: &Attribute<'_>, second: &Attribute<'_>) -> bool
 }
 
 /// Makes the fault for a repeated attribute of a kind that is allowed only once.
-fn repeated_kind_error<'src>(name: Name<'src>, first: Name<'src>) -> Fault<'src>
+fn repeated_kind_fault<'src>(name: Name<'src>, first: Name<'src>) -> Fault<'src>
     ensures { IsFaultOfRule (DuplicateAttribute name.entry.token first.entry.token)
         name.entry.token result }
 {

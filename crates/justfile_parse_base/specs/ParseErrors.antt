@@ -1,4 +1,4 @@
--- The results of methods that parse attributes, and so can find that a rule is broken.
+-- The results of methods that can find that a rule is broken: those of attributes, of headers and of items.
 use Rattle.std.specs.Prelude.{◌≡◌, ℕ, List, Result, Ok, Err}
 use Rattle.justfile_token.specs.declared.compile_error.CompileError.{CompileError}
 use Rattle.justfile_token.specs.declared.fault.Fault.{Fault}
@@ -52,12 +52,12 @@ IsErrorOfRead (Err (reading.ExpectedKeyword expected found)) e = IsExpectedKeywo
 IsErrorOfRead _ e = ⊥
 
 -- The fault tells why the tokens are refused, or memory ran out.
-abbrev pub IsFaultOf : table.ReadError → Fault → Type 0
-IsFaultOf refusal (faults.Compile e) = IsErrorOfRead {Y = Unit {0}} (Err refusal) e
-IsFaultOf refusal faults.Memory = Unit {0}
-IsFaultOf refusal faults.Numbers = ⊥
+abbrev pub IsFaultOfRead : table.ReadError → Fault → Type 0
+IsFaultOfRead refusal (faults.Compile e) = IsErrorOfRead {Y = Unit {0}} (Err refusal) e
+IsFaultOfRead refusal faults.Memory = Unit {0}
+IsFaultOfRead refusal faults.Numbers = ⊥
 
--- The error is that of the definitions: the tokens can't be read, or a rule is broken.
+-- The error is that of the definitions: the tokens can't be read, or a rule is broken; if numbers ran out, `IsShort` holds.
 abbrev pub IsParseError : {Y : Type 0} → ParseError → State → (IsShort : Type 0) → Result Y table.ReadError → Type 0
 IsParseError (errors.Expression cause) s IsShort found = IsExpressionError cause s IsShort found
 IsParseError (errors.Compile error) s IsShort found = IsErrorOfRead found error.value
@@ -76,7 +76,7 @@ ParsesRuled answer view result old new read = ReadsRuled view result (state_of a
 abbrev pub ChecksRules : {X : Type 0} → List (Broken Token) → Result X ParseError → Type 0
 ChecksRules rules result = (s : State) → ReadsRuled (λ _. tt) result s (obeying rules s)
 
--- the parse error for the fault of making an attribute
+-- the parse error for a fault; it is `Memory` if there is no memory for the box of a compile error
 abbrev pub IsErrorOfFault : ParseError → Fault → Type 0
 IsErrorOfFault (errors.Compile error) (faults.Compile e) = error.value ≡ e
 IsErrorOfFault (errors.Expression causes.Memory) (faults.Compile e) = Unit {0}

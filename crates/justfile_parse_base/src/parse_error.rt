@@ -51,7 +51,8 @@ impl<T: Drop> From<AllocFailed<T>> for ParseError<'_> {
     }
 }
 
-/// Makes the parse error for the fault of an attribute or item.
+/// Makes the parse error for the fault of an attribute, a header or an item. It is `Memory` if
+/// there is no memory for the box of a compile error.
 pub fn rule_error<'src>(alloc: Global, fault: Fault<'src>) -> ParseError<'src>
     ensures { IsErrorOfFault result fault.entry }
 {

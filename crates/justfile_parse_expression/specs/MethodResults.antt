@@ -24,8 +24,8 @@ abbrev pub read_error_at : SyntaxError → State → table.ReadError
 read_error_at Unexpected s = refused state.Unexpected s
 read_error_at TooDeep s = refused state.TooDeep s
 
--- The error is that of the definitions: the next entry or a literal is refused, or no number is left. Running out of memory implies
--- nothing.
+-- The error is that of the definitions: the next entry or a literal is refused; or numbers ran out, and `IsShort` holds. Running out of
+-- memory implies nothing.
 abbrev pub IsExpressionError : {Y : Type 0} → ExpressionError → State → (IsShort : Type 0) → Result Y table.ReadError → Type 0
 IsExpressionError (causes.Refused refusal) s IsShort found = found ≡ Err (read_error_at refusal s)
 IsExpressionError (causes.Literal refused) s IsShort found = found ≡ Err (literal_read_error refused.value.error)

@@ -155,7 +155,7 @@ enter level s = if is_within level s then Ok (tt, expressions.opened level s) el
 unfoldable pub operation : Level → (condition : Bool) → Expr Leaf Token × State → ReadExpr
 operation level condition lhs = expressions.binary_tail leaves read level condition lhs (accept_operator level lhs.1)
 
--- the operators of the levels from comparisons up to this one after a conjunct, each with its right side
+-- the operators of the levels from comparisons up to this one after a conjunct, each with its right side; the levels below have none
 unfoldable pub operations : Level → (condition : Bool) → Expr Leaf Token × State → ReadExpr
 operations Expression condition lhs = operation Compared condition lhs >>= operation Disjunct condition >>= operation Expression condition
 operations Disjunct condition lhs = operation Compared condition lhs >>= operation Disjunct condition

@@ -148,7 +148,8 @@ impl<'run, 'src, X: Expander> TokenCursor<'run, 'src, X> {
         Ok(otherwise)
     }
 
-    /// Parses the condition of an `if` or `assert`.
+    /// Parses the condition of an `if` or `assert`. Notes it at its first token if it isn't a
+    /// comparison.
     #[cycle(expression)]
     #[tactic(auto, using(crate::proofs::Rules::note_is), unfolding(justfile_model::specs::Readers::ExpressionReader::condition_rule))]
     pub(crate) fn parse_condition(&mut self) -> Result<Box<Expression<'src>>, ExpressionError<'src>>

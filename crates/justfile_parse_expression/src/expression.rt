@@ -174,7 +174,8 @@ impl<'run, 'src, X: Expander> TokenCursor<'run, 'src, X> {
         self.parse_link(lhs, Level::Conjunct)
     }
 
-    /// Returns a left side together with the operator of the level after it, if there is one.
+    /// Takes the operator of the level after a left side, if there is one, and notes its feature.
+    /// Returns both as a link, or the left side as the last expression.
     #[tactic(auto, unfolding(crate::specs::Chains::link, crate::specs::TableReader::leaves))]
     #[inline(always)]
     fn parse_link(
@@ -280,8 +281,9 @@ impl<'run, 'src, X: Expander> TokenCursor<'run, 'src, X> {
         Ok(expression)
     }
 
-    /// Joins the links of a row with its last expression, from the last link to the first. Closes
-    /// the expression that each link is part of.
+    /// Joins the links of a row with its last expression: first `link`, the last one, which isn't
+    /// in the vector, and then those in it, from the last to the first. Closes the expression that
+    /// each link is part of.
     #[tactic(auto, using(crate::proofs::Chains::row_pushed, crate::proofs::Chains::closed_pushed))]
     pub(crate) fn join_row(
         &mut self,

@@ -17,6 +17,7 @@ pub enum SyntaxError {
 /// A literal that has no text, with the error that tells why.
 #[derive(Drop)]
 pub struct LiteralError<'src> {
+    /// The error.
     pub error: CompileError<'src>,
     pub ghost is_literal: { IsTrue (is_literal_kind error.kind) },
 }
@@ -24,9 +25,11 @@ pub struct LiteralError<'src> {
 /// Why an expression can't be parsed.
 #[derive(Drop)]
 pub enum ExpressionError<'src> {
+    /// The next token is refused.
     Refused(SyntaxError),
     /// A literal has no text.
     Literal(Box<LiteralError<'src>>),
+    /// Memory ran out.
     Memory,
     /// No number is left for a binding or a recipe: the counter has reached its maximum.
     Numbers,

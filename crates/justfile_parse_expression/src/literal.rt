@@ -108,7 +108,8 @@ impl<'run, 'src, X: Expander> TokenCursor<'run, 'src, X> {
         })
     }
 
-    /// Makes the literal for a string, with its text expanded if `expand`.
+    /// Makes the literal for a string, with its text expanded if `expand`. Requires that the entry
+    /// is a string.
     ///
     /// # Errors
     ///
@@ -189,7 +190,7 @@ pub(crate) fn find_kind(entry: &SignificantToken<'_>) -> StringKind
     StringKind::of_opening(entry.0.lexeme().as_bytes())
 }
 
-/// Makes the error for a literal that has no text.
+/// Makes the error for the fault of a literal. It is `Memory` if there is no memory for its box.
 fn literal_error<'src>(alloc: Global, fault: Fault<'src>) -> ExpressionError<'src>
     requires { IsLiteralFault fault }
     ensures { IsErrorOfLiteral result fault.entry }

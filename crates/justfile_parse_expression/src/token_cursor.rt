@@ -47,7 +47,8 @@ pub struct TokenCursor<'run, 'src, X> {
     pub import_offsets: &'run [usize],
     /// How many expressions may be nested in one another.
     pub(crate) limit: usize,
-    /// The uses of features that need the setting `lists`, each with its token, in order.
+    /// The uses of features that need the setting `lists`, each with its token, in order. The
+    /// methods that parse them note them as they go.
     pub list_features: Vec<(ListFeature, Token<'src>)>,
     /// The index of the next token.
     pub(crate) next: usize,
@@ -66,7 +67,7 @@ impl<'run, 'src, X: Expander> TokenCursor<'run, 'src, X> {
     ghost use Rattle.justfile_parse_expression.specs.View.{Moves, tokens_left, state_from, state_of};
 
     /// Returns a cursor at the first token of a table, with no expression open, and up to `limit`
-    /// nested expressions allowed.
+    /// nested expressions allowed. Requires all significant tokens of one text.
     #[tactic(auto, using(crate::proofs::Rest::begin_is), unfolding(crate::specs::View::state_of))]
     pub fn new(
         alloc: Global,
@@ -384,7 +385,7 @@ impl<'run, 'src, X: Expander> TokenCursor<'run, 'src, X> {
         self.tokens.len() - self.next
     }
 
-    /// Takes `count` tokens.
+    /// Takes `count` tokens. Requires that as many are left.
     #[tactic(auto, using(crate::proofs::NextKinds::state_skip), unfolding(crate::specs::View::state_of, crate::specs::View::tokens_left))]
     pub fn skip(&mut self, count: usize)
         requires { count ≤ tokens_left self.old }

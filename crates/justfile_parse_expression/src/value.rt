@@ -81,7 +81,7 @@ impl<'run, 'src, X: Expander> TokenCursor<'run, 'src, X> {
         self.negate(operand, count)
     }
 
-    /// Takes the `!` that come next, and returns how many there are.
+    /// Takes the `!` that come next, notes each, and returns how many there are.
     #[tactic(auto, using(crate::proofs::Negations::begins, crate::proofs::Negations::goes_on, crate::proofs::Negations::ends))]
     fn accept_bangs(&mut self) -> Result<usize, ExpressionError<'src>>
         ensures reads { UnlessMemory result (λ count. reader.value (state_of X.answer self.old)

@@ -9,7 +9,7 @@ use Rattle.justfile_attribute_set.specs.Pairs.{Pair, leaf_entry_of}
 use Rattle.justfile_model.specs.Meanings.AttributeRules.{arg_rules, rules_in}
 use Rattle.justfile_model.specs.Grammars.Features.{rules_features}
 use Rattle.justfile_model.specs.Readers.ReaderState.{with}
-use Rattle.justfile_attribute.specs.KeyedBounds.{AreKeyed, IsKeyed}
+use Rattle.justfile_attribute.specs.KeyedBounds.{HaveBoundKeys, HasBoundKeys}
 use Rattle.justfile_parse_expression.proofs.Rest.{with_none}
 use Rattle.justfile_parse_expression.specs.TableReader.{State}
 use Rattle.justfile_parse_header.specs.Arguments.{is_of, is_rule_of, rules_named}
@@ -71,6 +71,6 @@ module _ (name : List ℕ) where
 
 -- ---- bounds with their keys
 
-pub keyed_rest : (left : List Attribute) (a : Attribute) (rest : List Attribute) → left ≡ a ∷ rest → AreKeyed left → AreKeyed rest
-unfolding AreKeyed
-keyed_rest left a rest is keyed = All-tail IsKeyed a rest (subst (λ (l : List Attribute). All IsKeyed l) is keyed)
+pub keyed_rest : (left : List Attribute) (a : Attribute) (rest : List Attribute) → left ≡ a ∷ rest → HaveBoundKeys left → HaveBoundKeys rest
+unfolding HaveBoundKeys
+keyed_rest left a rest is keyed = All-tail HasBoundKeys a rest (subst (λ (l : List Attribute). All HasBoundKeys l) is keyed)

@@ -20,9 +20,9 @@ use Rattle.justfile_token.specs.declared.token.Token.{Token}
 use Rattle.justfile_recipe_header.specs.declared.parameter.Parameter.{Parameter}
 use Rattle.justfile_model.specs.Meanings.AttributeRules.{arg_rules, rules_in}
 use Rattle.justfile_model.specs.Meanings.RecipeRules.{rules_for}
-use Rattle.justfile_attribute.specs.KeyedBounds.{AreKeyed, IsKeyed}
+use Rattle.justfile_attribute.specs.KeyedBounds.{HaveBoundKeys, HasBoundKeys}
 use Rattle.justfile_parse_base.specs.TextSets.{texts_in}
-use Rattle.justfile_parse_header.specs.Arguments.{AreNames, IsKeyedOption, is_of, rules_by, rules_named}
+use Rattle.justfile_parse_header.specs.Arguments.{AreNames, OptionHasBoundKeys, is_of, rules_by, rules_named}
 use Rattle.justfile_parse_header.specs.HeaderTable.{Rules}
 use Rattle.justfile_parse_header.specs.ArgNames.{AreFirsts, Firsts, IsPut, IsPutAt, attribute_at, first_at}
 use Rattle.justfile_parse_header.specs.Tree.{parameter_tree}
@@ -88,33 +88,33 @@ abbrev rules_or : Option Attribute → (rest : Option Rules) → Option Rules
 rules_or None rest = rest
 rules_or (Some a) rest = rules_in (leaf_attribute_of a)
 
-abbrev IsKeyedSome : Option Attribute → Type 0
-IsKeyedSome None = Unit {0}
-IsKeyedSome (Some a) = IsKeyed a
+abbrev SomeHasBoundKeys : Option Attribute → Type 0
+SomeHasBoundKeys None = Unit {0}
+SomeHasBoundKeys (Some a) = HasBoundKeys a
 
 rules_same : (o : Option (Bor Attribute)) → rules_by o ≡ rules_or (option_map (λ (a : Bor Attribute). a.now) o) None
 rules_same None = refl
 rules_same (Some a) = refl
 
-keyed_same : (o : Option (Bor Attribute)) → IsKeyedSome (option_map (λ (a : Bor Attribute). a.now) o) → IsKeyedOption o
+keyed_same : (o : Option (Bor Attribute)) → SomeHasBoundKeys (option_map (λ (a : Bor Attribute). a.now) o) → OptionHasBoundKeys o
 keyed_same None h = h
 keyed_same (Some a) h = h
 
 -- At each name is the first attribute so far that has it. Those in `left` come later.
 pub record AreFirstsBefore (rules : List Rules) (found : Firsts) (left : List Attribute) : Type 0 where
   pub rules_at : (name : List ℕ) → rules_or (attribute_at found name) (rules_named (rules_left left) name) ≡ rules_named rules name
-  pub found_keyed : (name : List ℕ) → IsKeyedSome (attribute_at found name)
-  pub keyed : AreKeyed left
+  pub found_keyed : (name : List ℕ) → SomeHasBoundKeys (attribute_at found name)
+  pub keyed : HaveBoundKeys left
 
 none_at : (found : Firsts) → found.entries ≡ [] → (name : List ℕ) → attribute_at found name ≡ None
 none_at found e name =
     ap (λ es. option_map (λ (a : Bor Attribute). a.now) (lookup (is_at (λ (k : Bor (List ℕ)). slice_cmp nat_cmp name k.now)) es)) e
 
-pub firsts_begin : (ps : List Pair) (found : Firsts) (left : List Attribute) → found.entries ≡ [] → left ≡ firsts ps → AreKeyed left
+pub firsts_begin : (ps : List Pair) (found : Firsts) (left : List Attribute) → found.entries ≡ [] → left ≡ firsts ps → HaveBoundKeys left
     → AreFirstsBefore (arg_rules (map leaf_entry_of ps)) found left
 firsts_begin ps found left none is keyed = record {
   rules_at = λ name. ap (λ o. rules_or o (rules_named (rules_left left) name)) (none_at found none name) ∙ rules_named_begin name ps left is;
-  found_keyed = λ name. subst IsKeyedSome (sym (none_at found none name)) tt;
+  found_keyed = λ name. subst SomeHasBoundKeys (sym (none_at found none name)) tt;
   keyed = keyed;
 }
 
@@ -142,28 +142,28 @@ module _ (rules : List Rules) (found : Firsts) (left : List Attribute) (a : Attr
       go true named = sym (rules_named_here name a rest named)
       go false named = sym (rules_named_later name a rest named)
 
-  first_keyed : (o : Option Attribute) (is_named : Bool) → IsKeyedSome o → IsKeyed a → IsKeyedSome (option_or o (put is_named))
+  first_keyed : (o : Option Attribute) (is_named : Bool) → SomeHasBoundKeys o → HasBoundKeys a → SomeHasBoundKeys (option_or o (put is_named))
   first_keyed (Some b) is_named h k = h
   first_keyed None true h k = k
   first_keyed None false h k = tt
 
-  keyed_here : IsKeyed a
-  unfolding AreKeyed
-  keyed_here = All-head IsKeyed a rest (subst (λ (l : List Attribute). All IsKeyed l) is so_far.keyed)
+  keyed_here : HasBoundKeys a
+  unfolding HaveBoundKeys
+  keyed_here = All-head HasBoundKeys a rest (subst (λ (l : List Attribute). All HasBoundKeys l) is so_far.keyed)
 
   pub firsts_go_on : (new : Firsts) → IsPut a found new → AreFirstsBefore rules new rest
   unfolding IsPut
   firsts_go_on new h = record {
     rules_at = λ name. ap (λ o. rules_or o (later name)) (h name) ∙ first_rules name (attribute_at found name)
         ∙ ap (λ l. rules_or (attribute_at found name) (rules_named (rules_left l) name)) (sym is) ∙ so_far.rules_at name;
-    found_keyed = λ name. subst IsKeyedSome (sym (h name)) (first_keyed (attribute_at found name) (is_of name (leaf_attribute_of a)) (so_far.found_keyed name) keyed_here);
+    found_keyed = λ name. subst SomeHasBoundKeys (sym (h name)) (first_keyed (attribute_at found name) (is_of name (leaf_attribute_of a)) (so_far.found_keyed name) keyed_here);
     keyed = keyed_rest left a rest is so_far.keyed;
   }
 
 -- ---- the attribute of a name
 
 module _ (rules : List Rules) (found : Firsts) (are : AreFirsts found rules) where
-  pub first_is_keyed : (name : List ℕ) → IsKeyedOption (first_at found name)
+  pub first_is_keyed : (name : List ℕ) → OptionHasBoundKeys (first_at found name)
   unfolding AreFirsts
   first_is_keyed name = (are name).1
 

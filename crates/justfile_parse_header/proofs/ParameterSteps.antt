@@ -19,7 +19,7 @@ use Rattle.justfile_parse_expression.specs.declared.expression_error.ExpressionE
 use Rattle.justfile_parse_base.specs.Counting.{TookBindingNumbers, counters_of, identifiers_left, identifiers_left_after}
 use Rattle.justfile_parse_header.specs.HeaderTable as reader
 use Rattle.justfile_parse_header.specs.HeaderTable.{Rules}
-use Rattle.justfile_parse_header.specs.ParameterResults.{Reader, ReadsParameters}
+use Rattle.justfile_parse_header.specs.ParameterResults.{ParameterReader, ReadsParameters}
 use Rattle.justfile_parse_header.specs.Tree.{parameter_tree}
 use Rattle.justfile_parse_base.proofs.BindingNumbers.{took_after_token, took_before_token, took_both, took_none, within}
 use Rattle.justfile_parse_base.proofs.HeaderErrors.{failed, stopped}
@@ -27,7 +27,7 @@ use Rattle.justfile_parse_header.proofs.Parameters.{both_fields, same_fields}
 
 -- after a token that was taken
 pub after_token : {X : Type 0} (rules : List Rules) (parameters : X → List Parameter) (result : Result X ParseError) (before : List Parameter) (old new : Numerator) (kind : TokenKind)
-    (s : State) (x : TableEntry × State) (last : State) (all rest : Reader) → accept kind s ≡ Some x
+    (s : State) (x : TableEntry × State) (last : State) (all rest : ParameterReader) → accept kind s ≡ Some x
     → all rules ((map parameter_tree before, counters_of old), s) ≡ rest rules ((map parameter_tree before, counters_of old), x.1)
     → ReadsParameters rules parameters result before old new x.1 last rest → ReadsParameters rules parameters result before old new s last all
 after_token rules parameters result before old new kind s x last all rest taken same h = record {
@@ -62,7 +62,7 @@ no_last rules before old s h k = record {
 }
 
 module _ (rules : List Rules) (kind : ParameterKind) (before after : List Parameter) (old new : Numerator) (s last : State) where
-  abbrev pub Variadic : Result (Unit {0}) ParseError → Reader → Type 0
+  abbrev pub Variadic : Result (Unit {0}) ParseError → ParameterReader → Type 0
   Variadic result read = ReadsParameters rules (λ _. after) result before old new s last read
 
   variadic_fails : (e : ReadError) → reader.parameter rules kind ((map parameter_tree before, counters_of old), s) ≡ Err e
@@ -93,7 +93,7 @@ module _ (rules : List Rules) (kind : ParameterKind) (before after : List Parame
 -- ---- all of them
 
 -- the reader of all parameters, in the form of the others
-abbrev pub all_parameters : Reader
+abbrev pub all_parameters : ParameterReader
 all_parameters rules x = reader.parameters rules x.0.1 x.1
 
 -- the parameters of a list

@@ -25,14 +25,14 @@ use Rattle.justfile_parse_base.proofs.TextSetLemmas.{same_more, same_texts}
 use Rattle.justfile_parse_expression.specs.TableReader.{Read, State}
 use Rattle.justfile_parse_header.specs.HeaderTable.{Rules}
 use Rattle.justfile_parse_header.specs.OptionRules.{long_step, longs_from, option_step, short_step, shorts_from, then_option}
-use Rattle.justfile_parse_header.specs.Options.{Meant, called, character_of, long_in, of_rules, short_in}
+use Rattle.justfile_parse_header.specs.Options.{LeafAttribute, called, character_of, long_in, of_rules, short_in}
 use Rattle.justfile_parse_base.proofs.HeaderErrors.{first_errs}
 use Rattle.justfile_parse_header.proofs.ArgAttributes.{rules_left, rules_kept}
 use Rattle.justfile_expression.specs.LeafViews.{views_leaves}
 use Rattle.justfile_expression.specs.LeafTree.{Leaf}
 
 -- the options of these attributes
-abbrev pub options_left : {X : Type 0} → (Meant → Option (X × Token)) → List Attribute → List (X × Token)
+abbrev pub options_left : {X : Type 0} → (LeafAttribute → Option (X × Token)) → List Attribute → List (X × Token)
 options_left option_in attributes = filter_map (λ (a : Attribute). option_in (leaf_attribute_of a)) attributes
 
 -- ---- options after others
@@ -73,7 +73,7 @@ module _ {X : Type 0} (same : X → X → Bool) (rule : X → Rule Token) where
 
   -- ---- along attributes, each with an option or none
 
-  module _ (option_in : Meant → Option (X × Token)) where
+  module _ (option_in : LeafAttribute → Option (X × Token)) where
     module _ (broken : List (Broken Token)) where
       -- what these attributes break after those before them is all that is broken
       abbrev pub Ahead : (before : List X) → List Attribute → Type 0
@@ -179,7 +179,7 @@ longs_same recipe all before same left h so_far s =
 
 -- ---- the steps
 
-module _ (recipe : Token) (before : List (List ℕ)) (a : Meant) (s : State) where
+module _ (recipe : Token) (before : List (List ℕ)) (a : LeafAttribute) (s : State) where
   pub long_none : None ≡ long_in a → long_step recipe before a s ≡ Ok (before, s)
   unfolding long_step
   long_none = step_none bytes_eq (λ option. DuplicateLongOption option recipe) before (long_in a) s
@@ -207,7 +207,7 @@ module _ (before : List (List ℕ)) (found : Option (List ℕ × Token)) where
   pub then_some : (option : List ℕ) (place : Token) (new : List (List ℕ)) → Some (option, place) ≡ found → HaveSame (before ++ option ∷ []) new → HaveSame (then_option before found) new
   then_some option place new is h = subst (λ (o : Option (List ℕ × Token)). HaveSame (then_option before o) new) is h
 
-module _ (recipe : Token) (before : List ℕ) (a : Meant) (s : State) where
+module _ (recipe : Token) (before : List ℕ) (a : LeafAttribute) (s : State) where
   pub short_none : None ≡ short_in a → short_step recipe before a s ≡ Ok (before, s)
   unfolding short_step
   short_none = step_none nat_eq (λ option. DuplicateShortOption option recipe) before (short_in a) s

@@ -25,7 +25,7 @@ short_character rules = option_map (λ option. option.0) (character_of (called r
 abbrev pub bound_number : Option (Bound Token) → Option ℕ
 bound_number bound = option_map (λ (b : Bound Token). b.number) bound
 
--- A parameter has what its `arg` attribute sets.
+-- A parameter has what its `arg` attribute sets, except for the help text: that is evaluated later, and is none here.
 pub record HasArgAttribute (rules : Option Rules) (p : Parameter) : Type 0 where
   pub flag : p.flag ≡ of_rules false (λ r. is_some r.flag) rules
   pub help : p.help ≡ None

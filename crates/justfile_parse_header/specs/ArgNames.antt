@@ -8,7 +8,7 @@ use Rattle.std.specs.Str.{bytes_eq}
 use denote.Ref.{Bor}
 use Rattle.justfile_attribute.specs.Attribute.{leaf_attribute_of}
 use Rattle.justfile_attribute.specs.declared.attribute.Attribute as attributes
-use Rattle.justfile_parse_header.specs.Arguments.{IsKeyedOption, is_of, rules_by, rules_named}
+use Rattle.justfile_parse_header.specs.Arguments.{OptionHasBoundKeys, is_of, rules_by, rules_named}
 use Rattle.justfile_parse_header.specs.HeaderTable.{Rules}
 
 abbrev pub Firsts : Type 0
@@ -25,7 +25,7 @@ attribute_at firsts name = option_map (λ (a : Bor attributes.Attribute). a.now)
 -- For each name, the first `arg` attribute with this name is stored, and its bounds have their keys.
 unfoldable pub AreFirsts : Firsts → List Rules → Type 0
 AreFirsts firsts rules = (name : List ℕ)
-    → (rules_by (first_at firsts name) ≡ rules_named rules name) × IsKeyedOption (first_at firsts name)
+    → (rules_by (first_at firsts name) ≡ rules_named rules name) × OptionHasBoundKeys (first_at firsts name)
 
 -- An attribute is stored for one name, unless the name already has one.
 unfoldable pub IsPutAt : (text : List ℕ) → attributes.Attribute → (old new : Firsts) → Type 0

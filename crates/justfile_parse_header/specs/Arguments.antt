@@ -13,8 +13,8 @@ use Rattle.justfile_model.specs.Meanings.AttributeRules.{least, lesser, rules_in
 use Rattle.justfile_model.specs.Meanings.Meaning.{text_of}
 use Rattle.justfile_model.specs.Meanings.RecipeRules.{is_parameter}
 use Rattle.justfile_model.specs.Trees.Tree.{Attribute, Quoted}
-pub use Rattle.justfile_attribute.specs.KeyedBounds.{IsKeyed}
-unfoldable pub use Rattle.justfile_attribute.specs.KeyedBounds.{AreKeyed}
+pub use Rattle.justfile_attribute.specs.KeyedBounds.{HasBoundKeys}
+unfoldable pub use Rattle.justfile_attribute.specs.KeyedBounds.{HaveBoundKeys}
 use Rattle.justfile_parse_base.specs.TextSets.{texts_in}
 use Rattle.justfile_parse_header.specs.HeaderTable.{LeafParameter, Rules}
 use Rattle.justfile_parse_header.specs.Options.{of_rules}
@@ -59,6 +59,6 @@ undefined_in parameters a = of_rules None (λ r. if is_parameter views_leaves pa
 abbrev pub least_undefined : List LeafParameter → List Rules → Option (Quoted Leaf)
 least_undefined parameters rules = option_map (λ (r : Rules). r.name) (least (λ (r : Rules). text_of views_leaves r.name) (filter (λ r. not (is_parameter views_leaves parameters r)) rules))
 
-abbrev pub IsKeyedOption : Option (Bor attributes.Attribute) → Type 0
-IsKeyedOption None = Unit {0}
-IsKeyedOption (Some a) = IsKeyed a.now
+abbrev pub OptionHasBoundKeys : Option (Bor attributes.Attribute) → Type 0
+OptionHasBoundKeys None = Unit {0}
+OptionHasBoundKeys (Some a) = HasBoundKeys a.now

@@ -12,11 +12,11 @@ use Rattle.justfile_model.specs.Meanings.RecipeRules.{long_options, repeated_bro
 use Rattle.justfile_model.specs.Meanings.Rules.{Broken, DuplicateLongOption, DuplicateShortOption, Rule, broken_if}
 use Rattle.justfile_parse_expression.specs.TableReader.{Read, State}
 use Rattle.justfile_parse_header.specs.HeaderTable.{Rules}
-use Rattle.justfile_parse_header.specs.Options.{Meant, long_in, of_rules, short_in}
+use Rattle.justfile_parse_header.specs.Options.{LeafAttribute, long_in, of_rules, short_in}
 use Rattle.justfile_expression.specs.LeafViews.{views_leaves}
 
 -- the features that an attribute uses
-abbrev pub features_in : Meant → List (Noted Token)
+abbrev pub features_in : LeafAttribute → List (Noted Token)
 features_in a = of_rules [] rules_features (rules_in a)
 
 -- where a bound is noted, if it is set
@@ -41,11 +41,11 @@ module _ {X : Type 0} (same : X → X → Bool) (rule : X → Rule Token) where
     Ok (before ++ option.0 ∷ [], new.1)
 
 -- adds the long option of an attribute to those of others
-unfoldable pub long_step : (recipe : Token) (before : List (List ℕ)) → Meant → State → Read (List (List ℕ))
+unfoldable pub long_step : (recipe : Token) (before : List (List ℕ)) → LeafAttribute → State → Read (List (List ℕ))
 long_step recipe before a s = option_step bytes_eq (λ option. DuplicateLongOption option recipe) before (long_in a) s
 
 -- adds the short option of an attribute to those of others
-unfoldable pub short_step : (recipe : Token) (before : List ℕ) → Meant → State → Read (List ℕ)
+unfoldable pub short_step : (recipe : Token) (before : List ℕ) → LeafAttribute → State → Read (List ℕ)
 short_step recipe before a s = option_step nat_eq (λ option. DuplicateShortOption option recipe) before (short_in a) s
 
 -- these options, and that of an attribute after them, if it has one

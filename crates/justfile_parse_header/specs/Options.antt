@@ -13,22 +13,22 @@ use Rattle.justfile_expression.specs.LeafViews.{views_leaves}
 use Rattle.justfile_expression.specs.LeafTree.{Leaf}
 
 -- an attribute as the definitions see it
-abbrev pub Meant : Type 0
-Meant = tree.Attribute Leaf Token
+abbrev pub LeafAttribute : Type 0
+LeafAttribute = tree.Attribute Leaf Token
 
 -- a function of the rules of an attribute if it is an `arg`, else the default
 abbrev pub of_rules : {X : Type 0} → (default : X) → (Rules → X) → Option Rules → X
 of_rules default of None = default
 of_rules default of (Some rules) = of rules
 
-abbrev pub sets_flag : Meant → Bool
+abbrev pub sets_flag : LeafAttribute → Bool
 sets_flag a = of_rules false (λ r. is_some r.flag) (rules_in a)
 
-abbrev pub sets_multiple : Meant → Bool
+abbrev pub sets_multiple : LeafAttribute → Bool
 sets_multiple a = of_rules false (λ r. is_some r.multiple) (rules_in a)
 
 -- the key of `max`, or else that of `min`
-abbrev pub bound_key_of : Meant → Option Token
+abbrev pub bound_key_of : LeafAttribute → Option Token
 bound_key_of a = of_rules None (λ r. bound_key views_leaves r) (rules_in a)
 
 -- the key of a number, if the number is set
@@ -45,7 +45,7 @@ option_in name literal (Some key) = Some (string_bytes name.cooked, key.token)
 option_in name (Some literal) None = Some (string_bytes literal.cooked, literal.token)
 option_in name None None = None
 
-abbrev pub long_in : Meant → Option (List ℕ × Token)
+abbrev pub long_in : LeafAttribute → Option (List ℕ × Token)
 long_in a = of_rules None (λ r. called r r.long) (rules_in a)
 
 -- the first character of the name of an option
@@ -53,5 +53,5 @@ abbrev pub character_of : Option (List ℕ × Token) → Option (ℕ × Token)
 character_of None = None
 character_of (Some option) = first_character views_leaves option
 
-abbrev pub short_in : Meant → Option (ℕ × Token)
+abbrev pub short_in : LeafAttribute → Option (ℕ × Token)
 short_in a = of_rules None (λ r. character_of (called r r.short)) (rules_in a)

@@ -12,18 +12,18 @@ use Rattle.justfile_parse_header.specs.HeaderTable.{Parameters, Rules}
 use Rattle.justfile_parse_header.specs.Tree.{parameter_tree}
 
 -- how parameters are read after others, with these rules
-abbrev pub Reader : Type 0
-Reader = List Rules → Parameters × State → Read Parameters
+abbrev pub ParameterReader : Type 0
+ParameterReader = List Rules → Parameters × State → Read Parameters
 
--- The parameters that there are with what was returned are what `read` reads after those in `before`. They have the derived fields that the
--- rules determine, and only they were given numbers.
+-- On success `parameters` of what was returned are those in `before`, and after them those that `read` reads, with the derived fields that
+-- the rules determine. Only these were given numbers.
 pub record ReadsParameters {X : Type 0} (rules : List Rules) (parameters : X → List Parameter) (result : Result X ParseError) (before : List Parameter) (old new : Numerator)
-    (first last : State) (read : Reader) : Type 0 where
+    (first last : State) (read : ParameterReader) : Type 0 where
   pub reads : ReadsCounted (λ x. map parameter_tree (parameters x)) result new last (read rules ((map parameter_tree before, counters_of old), first))
   pub fields : IfOk result (λ x. KeepsDerivedParameterFields rules before (parameters x))
   pub numbers : TookBindingNumbers old new (identifiers_left first) (identifiers_left_after result last)
 
 -- the same from the parser before it to the parser after it
 abbrev pub ParsesParameters : {X E : Type 0} (answer : E → List ℕ → Result (List ℕ) (List ℕ)) → List Rules → (X → List Parameter) → Result X ParseError → (before : List Parameter)
-    → (old new : Numerator) → (first last : TokenCursor E) → Reader → Type 0
+    → (old new : Numerator) → (first last : TokenCursor E) → ParameterReader → Type 0
 ParsesParameters answer rules parameters result before old new first last read = ReadsParameters rules parameters result before old new (state_of answer first) (state_of answer last) read

@@ -2,7 +2,7 @@
 ghost use Rattle.std.specs.Prelude.{◌≡◌, IfOk, IsTrue, None, string_bytes};
 ghost use Rattle.std.specs.Option.{is_some, option_map};
 ghost use Rattle.justfile_attribute.specs.Attribute.{leaf_attribute_of};
-ghost use Rattle.justfile_parse_header.specs.Arguments.{IsKeyed, rules_by};
+ghost use Rattle.justfile_parse_header.specs.Arguments.{HasBoundKeys, rules_by};
 ghost use Rattle.justfile_parse_header.specs.Options.{bound_token, bound_key_of, long_in, sets_flag, sets_multiple, short_in, option_in};
 ghost use Rattle.justfile_parse_header.specs.ArgAttribute.{IsArgAttribute};
 ghost use Rattle.justfile_parse_header.specs.Tree.{value_tree};
@@ -97,7 +97,7 @@ pub(crate) fn is_multiple(attribute: &Attribute<'_>) -> bool
 
 /// Returns the key of `max`, or else that of `min`, if the attribute sets one of them.
 pub(crate) fn find_bound_key<'src>(attribute: &Attribute<'src>) -> Option<Name<'src>>
-    requires { IsKeyed attribute.now }
+    requires { HasBoundKeys attribute.now }
     ensures { option_map (λ key. key.token) result
         ≡ bound_key_of (leaf_attribute_of attribute.now) }
 {

@@ -1,7 +1,7 @@
 //! `arg` attributes by the names of their parameters.
 ghost use Rattle.std.specs.Prelude.{◌≡◌, IfOk, OnOk};
 ghost use Rattle.justfile_attribute_set.specs.AttributeSet.{attributes_of};
-ghost use Rattle.justfile_parse_header.specs.Arguments.{AreKeyed};
+ghost use Rattle.justfile_parse_header.specs.Arguments.{HaveBoundKeys};
 ghost use Rattle.justfile_parse_header.specs.ArgNames.{AreFirsts, IsPut, IsPutAt, first_at};
 ghost use Rattle.justfile_parse_header.specs.Tree.{rules_of};
 
@@ -26,7 +26,7 @@ pub(crate) fn find_firsts<'run, 'src>(
     attributes: &'run AttributeSet<'src>,
     alloc: Global,
 ) -> Result<Firsts<'run, 'src>, AllocError>
-    requires { AreKeyed (attributes_of attributes.now) }
+    requires { HaveBoundKeys (attributes_of attributes.now) }
     ensures { IfOk result (λ firsts. AreFirsts firsts (rules_of attributes.now)) }
 {
     let mut firsts: Firsts<'run, 'src> = BTreeMap::new(alloc);

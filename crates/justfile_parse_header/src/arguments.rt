@@ -8,7 +8,7 @@ ghost use Rattle.justfile_model.specs.Meanings.Rules.{UndefinedArgAttribute};
 ghost use Rattle.justfile_parse_base.specs.ParseErrors.{ChecksRules};
 ghost use Rattle.justfile_parse_header.specs.HeaderTable as reader;
 ghost use Rattle.justfile_parse_header.specs.HeaderTable.{LeafParameter};
-ghost use Rattle.justfile_parse_header.specs.Arguments.{AreNames, IsKeyedOption, least_undefined, lesser_of, rules_by, undefined_in};
+ghost use Rattle.justfile_parse_header.specs.Arguments.{AreNames, OptionHasBoundKeys, least_undefined, lesser_of, rules_by, undefined_in};
 ghost use Rattle.justfile_parse_header.specs.ArgNames.{AreFirsts};
 ghost use Rattle.justfile_parse_header.specs.Tree.{parameter_tree, rules_of};
 ghost use Rattle.justfile_expression.specs.LeafViews.{views_leaves};
@@ -36,7 +36,7 @@ pub(crate) fn find_arg<'run, 'src>(
     ensures rules { rules_by result
         ≡ rules_for views_leaves (rules_of arg_attributes.now.attributes.now)
         (map parameter_tree before.now.list.items) (Named name.entry None) }
-    ensures keyed { IsKeyedOption result }
+    ensures keyed { OptionHasBoundKeys result }
 {
     if is_among(&before.names, name.lexeme()) {
         return None;
@@ -57,7 +57,7 @@ pub(crate) fn check_defined<'src>(
 {
     match find_undefined(attributes, alloc, parameters)? {
         None => Ok(()),
-        Some(argument) => Err(rule_error(alloc, undefined_argument_error(alloc, argument))),
+        Some(argument) => Err(rule_error(alloc, undefined_argument_fault(alloc, argument))),
     }
 }
 
@@ -142,8 +142,9 @@ fn min_by_text<'run, 'src>(
     }
 }
 
-/// Makes the fault for an `arg` attribute that names no parameter.
-fn undefined_argument_error<'src>(alloc: Global, argument: &StringLiteral<'src>) -> Fault<'src>
+/// Makes the fault for an `arg` attribute that names no parameter. It is `Memory` if there is no
+/// memory for a copy that the error holds.
+fn undefined_argument_fault<'src>(alloc: Global, argument: &StringLiteral<'src>) -> Fault<'src>
     ensures { IsFaultOfRule (UndefinedArgAttribute (string_bytes argument.now.cooked))
         argument.now.token result }
 {

@@ -2,7 +2,7 @@
 ghost use Rattle.std.specs.Prelude.{IfOk};
 ghost use Rattle.justfile_attribute_set.specs.AttributeSet.{attributes_of};
 ghost use Rattle.justfile_parse_expression.specs.View.{state_of};
-ghost use Rattle.justfile_parse_header.specs.Arguments.{AreKeyed};
+ghost use Rattle.justfile_parse_header.specs.Arguments.{HaveBoundKeys};
 ghost use Rattle.justfile_parse_base.specs.Counting.{TookBindingNumbers, counters_of, identifiers_left, identifiers_left_after_header, ParsesCounted};
 ghost use Rattle.justfile_parse_header.specs.HeaderTable as reader;
 ghost use Rattle.justfile_parse_header.specs.HeaderFields.{HasDerivedHeaderFields};
@@ -27,23 +27,25 @@ pub struct Header<'src> {
     pub dependencies: Vec<UnresolvedDependency<'src>>,
     /// The token of its name.
     pub name: SignificantToken<'src>,
+    /// The parameters, in source order.
     pub parameters: Vec<Parameter<'src>>,
     /// How many of the dependencies come before `&&`.
     pub priors: usize,
 }
 
 /// Parses the header of a recipe with these attributes, from its name to its end, and gives its
-/// parameters numbers.
+/// parameters numbers. Requires that each bound of an `arg` has its key.
 ///
 /// # Errors
 ///
-/// The tokens aren't a header, a rule is broken, or memory or numbers run out.
+/// The tokens aren't a header, a literal has no text, a rule is broken, or memory or numbers run
+/// out.
 pub fn parse_header<'src, X: Expander>(
     attributes: &AttributeSet<'src>,
     parser: &mut TokenCursor<'_, 'src, X>,
     numerator: &mut Numerator,
 ) -> Result<Header<'src>, ParseError<'src>>
-    requires { AreKeyed (attributes_of attributes.now) }
+    requires { HaveBoundKeys (attributes_of attributes.now) }
     ensures reads { ParsesCounted X.answer header_tree result numerator.new parser.old parser.new
         (reader.header (rules_of attributes.now) (counters_of numerator.old)) }
     ensures fields { IfOk result (HasDerivedHeaderFields (rules_of attributes.now)) }

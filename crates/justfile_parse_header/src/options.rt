@@ -71,12 +71,12 @@ fn note_attribute<'src, X: Expander>(
             note_at(
                 parser,
                 ListFeature::ArgMax,
-                find_bound_token(name.token, *max_key, *max),
+                find_bound_place(name.token, *max_key, *max),
             )?;
             note_at(
                 parser,
                 ListFeature::ArgMin,
-                find_bound_token(name.token, *min_key, *min),
+                find_bound_place(name.token, *min_key, *min),
             )
         }
         _ => Ok(()),
@@ -101,7 +101,7 @@ fn note_at<'src, X: Expander>(
 
 /// Returns where a bound is noted, if it is set: at its key, or at the name of the argument if
 /// it has no key.
-fn find_bound_token<'src>(
+fn find_bound_place<'src>(
     name: Token<'src>,
     key: Option<Name<'src>>,
     number: Option<u64>,
@@ -165,14 +165,15 @@ fn check_long<'run, 'src>(
         return Ok(());
     };
     if is_among(before, option) {
-        return Err(rule_error(alloc, same_long_error(alloc, recipe, option, token)));
+        return Err(rule_error(alloc, same_long_fault(alloc, recipe, option, token)));
     }
     add_text(before, option)?;
     Ok(())
 }
 
-/// Makes the fault for a long option whose name is taken.
-fn same_long_error<'src>(
+/// Makes the fault for a long option whose name is taken. It is `Memory` if there is no memory for
+/// a copy that the error holds.
+fn same_long_fault<'src>(
     alloc: Global,
     recipe: Token<'src>,
     option: &str,
@@ -222,14 +223,14 @@ fn check_short<'src>(
         return Ok(());
     };
     if before.as_slice().contains(&option) {
-        return Err(rule_error(alloc, same_short_error(recipe, option, token)));
+        return Err(rule_error(alloc, same_short_fault(recipe, option, token)));
     }
     before.push(option)?;
     Ok(())
 }
 
 /// Makes the fault for a short option whose name is taken.
-fn same_short_error<'src>(recipe: Token<'src>, option: char, token: Token<'src>) -> Fault<'src>
+fn same_short_fault<'src>(recipe: Token<'src>, option: char, token: Token<'src>) -> Fault<'src>
     ensures { IsFaultOfRule (DuplicateShortOption option recipe.entry) token.entry result }
 {
     Fault::Compile(token.error(CompileErrorKind::DuplicateOption {

@@ -7,7 +7,7 @@ ghost use Rattle.justfile_model.specs.Meanings.Rules.{ArgAttributeRequiresMultip
 ghost use Rattle.justfile_parse_base.specs.ParseErrors.{IsAfterVariadicFault, ParsesRuled, ChecksRules};
 ghost use Rattle.justfile_parse_expression.specs.ParsedResults.{Parses};
 ghost use Rattle.justfile_parse_expression.specs.View.{state_of};
-ghost use Rattle.justfile_parse_header.specs.Arguments.{AreKeyed, rules_by, IsKeyedOption};
+ghost use Rattle.justfile_parse_header.specs.Arguments.{HaveBoundKeys, rules_by, OptionHasBoundKeys};
 ghost use Rattle.justfile_parse_header.specs.HeaderTable as reader;
 ghost use Rattle.justfile_parse_header.specs.ArgAttribute.{arg_attribute_broken};
 ghost use Rattle.justfile_parse_header.specs.ArgNames.{AreFirsts};
@@ -35,7 +35,7 @@ pub(crate) fn parse_parameters<'src, X: Expander>(
     parser: &mut TokenCursor<'_, 'src, X>,
     numerator: &mut Numerator,
 ) -> Result<Vec<Parameter<'src>>, ParseError<'src>>
-    requires { AreKeyed (attributes_of attributes.now) }
+    requires { HaveBoundKeys (attributes_of attributes.now) }
     ensures { ParsesParameters X.answer (rules_of attributes.now) (λ list. list.items)
         result [] numerator.old numerator.new parser.old parser.new
         (λ rules x. reader.parameters rules x.0.1 x.1) }
@@ -144,12 +144,12 @@ fn expect_no_name<'src, X: Expander>(
 {
     match parser.probe_if(TokenKind::Identifier) {
         None => Ok(()),
-        Some(name) => Err(rule_error(parser.alloc, after_variadic_error(name.0))),
+        Some(name) => Err(rule_error(parser.alloc, after_variadic_fault(name.0))),
     }
 }
 
 /// Makes the fault for a name after a variadic parameter.
-fn after_variadic_error<'src>(name: Token<'src>) -> Fault<'src>
+fn after_variadic_fault<'src>(name: Token<'src>) -> Fault<'src>
     ensures { IsAfterVariadicFault name.entry result }
 {
     Fault::Compile(name.error(CompileErrorKind::ParameterFollowsVariadicParameter {
@@ -236,7 +236,7 @@ fn check_arg_attribute<'src>(
     has_default: bool,
     kind: ParameterKind,
 ) -> Result<(), ParseError<'src>>
-    requires { IsKeyedOption rules }
+    requires { OptionHasBoundKeys rules }
     ensures { ChecksRules (arg_attribute_broken name.entry has_default kind (rules_by rules.entry))
         result }
 {
@@ -244,19 +244,20 @@ fn check_arg_attribute<'src>(
         return Ok(());
     };
     if is_flag(attribute) && has_default {
-        return Err(rule_error(alloc, flag_with_default_error(alloc, name)));
+        return Err(rule_error(alloc, flag_with_default_fault(alloc, name)));
     }
     if is_multiple(attribute) || kind.is_variadic() {
         return Ok(());
     }
     match find_bound_key(attribute) {
-        Some(key) => Err(rule_error(alloc, bound_alone_error(key))),
+        Some(key) => Err(rule_error(alloc, bound_alone_fault(key))),
         None => Ok(()),
     }
 }
 
-/// Makes the fault for a flag with a default value.
-fn flag_with_default_error<'src>(alloc: Global, name: Token<'src>) -> Fault<'src>
+/// Makes the fault for a flag with a default value. It is `Memory` if there is no memory for a copy
+/// that the error holds.
+fn flag_with_default_fault<'src>(alloc: Global, name: Token<'src>) -> Fault<'src>
     ensures { IsFaultOfRule (FlagWithDefault name.entry) name.entry result }
 {
     match name.lexeme().to_string(alloc) {
@@ -269,7 +270,7 @@ fn flag_with_default_error<'src>(alloc: Global, name: Token<'src>) -> Fault<'src
 
 /// Makes the fault for `max` or `min`, whichever is the key, on a parameter that takes one
 /// argument.
-fn bound_alone_error<'src>(key: Name<'src>) -> Fault<'src>
+fn bound_alone_fault<'src>(key: Name<'src>) -> Fault<'src>
     ensures { IsFaultOfRule (ArgAttributeRequiresMultipleOrVariadic key.entry.token)
         key.entry.token result }
 {

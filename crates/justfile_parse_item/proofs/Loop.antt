@@ -56,9 +56,9 @@ refused_first done e (Err f) h = ap (λ (g : ReadError). Err g) (inside f e h)
     inside a b h = cc
 
 -- a line takes a token
-pub line_shrinks : (q : State) (first next : Numerator) (done new : List file.Item) (rest : State)
+pub item_line_shrinks : (q : State) (first next : Numerator) (done new : List file.Item) (rest : State)
     → after_numbered (map item_tree done) (line (counters_of first) q) ≡ Ok ((map item_tree new, counters_of next), rest) → length rest.left < length q.left
-line_shrinks q first next done new rest value =
+item_line_shrinks q first next done new rest value =
     let t = taken (map item_tree done) (map item_tree new) (counters_of next) rest (line (counters_of first) q) value in
     (steps.past q (line (counters_of first) q) ((t.0, counters_of next), rest) (laws.line_goes leaves attribute_leaves (counters_of first) q) t.1).0
 

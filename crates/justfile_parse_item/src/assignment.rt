@@ -11,7 +11,7 @@ ghost use Rattle.justfile_parse_expression.specs.View.{state_of};
 ghost use Rattle.justfile_parse_base.specs.Counting.{counters_of, ParsesCounted};
 
 use crate::attribute_checks::check_allowed;
-use crate::items::push_construct;
+use crate::items::push_parsed_item;
 use justfile_attribute::Attribute;
 use justfile_item::{Binding, Item, is_private_item};
 use justfile_parse_base::{ParseError, next_binding_number};
@@ -21,7 +21,7 @@ use justfile_vocabulary::{ItemKind, Numerator, TokenKind};
 use justfile_written::Written;
 
 /// Parses an assignment after its attributes and after `eager` or `export`, if it has one: a name,
-/// `:=`, and an expression.
+/// `:=`, and an expression. Checks the attributes, and appends the item.
 #[tactic(auto, using(crate::proofs::CounterSteps::unmoved, crate::proofs::Pushes::reads, crate::proofs::Pushes::appends, justfile_parse_expression::proofs::Rest::file_depth_is), unfolding(justfile_model::specs::Readers::Reader::assignment, justfile_parse_expression::specs::TableReader::leaves))]
 pub(crate) fn parse_assignment<'src, X: Expander>(
     parser: &mut TokenCursor<'_, 'src, X>,
@@ -45,7 +45,7 @@ pub(crate) fn parse_assignment<'src, X: Expander>(
     let attributes = check_allowed(parser.alloc, ItemKind::Assignment, attributes, name)?;
     let number = next_binding_number(numerator)?;
     let private = is_private_item(name.0, &attributes);
-    push_construct(
+    push_parsed_item(
         items,
         Item::Assignment(Binding {
             attributes,

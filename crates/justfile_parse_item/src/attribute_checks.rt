@@ -95,7 +95,7 @@ fn has_both(attributes: &AttributeSet<'_>, first: AttributeKind, second: Attribu
 }
 
 /// Makes the fault for `count` attributes before a blank line or a comment.
-pub(crate) fn extraneous_error<'src>(count: usize, opener: Token<'src>) -> Fault<'src>
+pub(crate) fn extraneous_fault<'src>(count: usize, opener: Token<'src>) -> Fault<'src>
     ensures { IsExtraneousFault count opener.entry result }
 {
     Fault::Compile(opener.error(CompileErrorKind::ExtraneousAttributes { count }))

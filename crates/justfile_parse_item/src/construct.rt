@@ -14,7 +14,7 @@ ghost use Rattle.justfile_parse_expression.specs.View.{Moves, state_of};
 ghost use Rattle.justfile_parse_base.specs.Counting.{counters_of, ParsesCounted};
 
 use crate::assignment::parse_assignment;
-use crate::attribute_checks::extraneous_error;
+use crate::attribute_checks::extraneous_fault;
 use crate::function::parse_function;
 use crate::recipe::parse_any_recipe;
 use crate::short_item::{parse_alias, parse_set, parse_unexport};
@@ -73,7 +73,7 @@ fn parse_item_attributes<'src, X: Expander>(
     };
     let attributes = parse_attributes(parser)?;
     if stands_alone(parser) {
-        return Err(rule_error(parser.alloc, extraneous_error(attributes.len(), opener.0)));
+        return Err(rule_error(parser.alloc, extraneous_fault(attributes.len(), opener.0)));
     }
     Ok(attributes)
 }
@@ -107,8 +107,8 @@ fn parse_content<'src, X: Expander>(
     }
 }
 
-/// Takes the keyword that the construct begins with, if it begins with one. Looks at the word
-/// first: in most constructs it is another one.
+/// Takes the keyword that the construct begins with, if it begins with one. Tests first whether the
+/// word can be such a keyword: in most constructs it can't.
 #[tactic(auto, using(crate::proofs::NoKeyword::unnamed, crate::proofs::NoKeyword::unlike))]
 fn accept_construct_keyword<X: Expander>(
     parser: &mut TokenCursor<'_, '_, X>,

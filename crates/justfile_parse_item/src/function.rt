@@ -11,7 +11,7 @@ ghost use Rattle.justfile_parse_expression.specs.View.{state_of};
 ghost use Rattle.justfile_parse_base.specs.Counting.{counters_of, ParsesCounted};
 
 use crate::attribute_checks::check_allowed;
-use crate::items::push_construct;
+use crate::items::push_parsed_item;
 use justfile_attribute::Attribute;
 use justfile_item::{FunctionDefinition, Item};
 use justfile_parse_base::ParseError;
@@ -22,7 +22,7 @@ use justfile_vocabulary::{ItemKind, Numerator, TokenKind};
 use justfile_written::Written;
 
 /// Parses a function after its attributes: a name, the names of the parameters in parentheses,
-/// `:=`, and an expression.
+/// `:=`, and an expression. Checks the attributes, and appends the item.
 #[tactic(auto, using(crate::proofs::CounterSteps::unmoved, crate::proofs::Pushes::reads, crate::proofs::Pushes::appends), unfolding(justfile_model::specs::Readers::Reader::function, justfile_parse_expression::specs::TableReader::leaves))]
 pub(crate) fn parse_function<'src, X: Expander>(
     parser: &mut TokenCursor<'_, 'src, X>,
@@ -44,7 +44,7 @@ pub(crate) fn parse_function<'src, X: Expander>(
     let parameters = parse_parameter_names(parser, numerator)?;
     parser.expect(TokenKind::ColonEquals)?;
     let body = parser.parse_expression()?;
-    push_construct(
+    push_parsed_item(
         items,
         Item::Function(FunctionDefinition {
             attributes,

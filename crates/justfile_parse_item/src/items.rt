@@ -130,7 +130,7 @@ fn parse_item<'src, X: Expander>(
         (identifiers (map significant_of (state_of X.answer parser.old).left)) }
 {
     if let Some(comment) = parser.accept(TokenKind::Comment) {
-        return push_construct(items, make_comment(comment.0));
+        return push_parsed_item(items, make_comment(comment.0));
     }
     parse_construct(parser, items, numerator)
 }
@@ -169,7 +169,7 @@ fn parse_item_end<'src, X: Expander>(
 }
 
 /// Parses what follows an item without a body: a trailing comment, if there is one, and the end of
-/// the line.
+/// the line. Appends them.
 #[tactic(auto, using(crate::proofs::Lines::after_comment, crate::proofs::Lines::after_bare))]
 fn parse_after_item<'src, X: Expander>(
     parser: &mut TokenCursor<'_, 'src, X>,
@@ -188,7 +188,8 @@ fn parse_after_item<'src, X: Expander>(
     }
 }
 
-/// Parses the end of a line, which is an item. At the end of the file it takes nothing.
+/// Parses the end of a line, and appends it, since it is an item. At the end of the file it takes
+/// and appends nothing.
 #[tactic(auto, using(crate::proofs::Lines::line_end_closes, crate::proofs::Lines::line_end_newline, crate::proofs::DerivedItemFields::newline_fields, crate::proofs::DerivedItemFields::same_fields))]
 fn parse_line_end<'src, X: Expander>(
     parser: &mut TokenCursor<'_, 'src, X>,
@@ -251,7 +252,7 @@ fn is_bodied(item: &Item<'_>) -> bool
 ///
 /// A `ParseError` if memory runs out.
 #[inline(always)]
-pub(crate) fn push_construct<'src>(
+pub(crate) fn push_parsed_item<'src>(
     items: &mut Vec<Item<'src>>,
     item: Item<'src>,
 ) -> Result<(), ParseError<'src>>

@@ -17,7 +17,7 @@ ghost use Rattle.justfile_parse_base.specs.Counting.{ReadsCountedExpression, cou
 
 use crate::accept::accept_kind;
 use crate::attribute_checks::check_exclusions;
-use crate::items::push_construct;
+use crate::items::push_parsed_item;
 use justfile_attribute::Attribute;
 use justfile_attribute_set::AttributeSet;
 use justfile_item::{Item, UnresolvedRecipe, is_private_item};
@@ -51,7 +51,8 @@ pub(crate) fn parse_any_recipe<'src, X: Expander>(
 }
 
 /// Parses a recipe from its name to its end: its header, and its body if it has one, with the
-/// comment before the body. The recipe gets its number after its body.
+/// comment before the body. The recipe gets its number after its body. Checks the attributes, and
+/// appends the item.
 #[tactic(auto, using(crate::proofs::CounterSteps::unmoved, crate::proofs::Constructs::set_fields))]
 fn parse_recipe<'src, X: Expander>(
     parser: &mut TokenCursor<'_, 'src, X>,
@@ -76,7 +77,7 @@ fn parse_recipe<'src, X: Expander>(
     let number = next_recipe_number(numerator)?;
     let private = is_private_item(header.name.0, &attributes);
     let shebang = is_script(&attributes, body.1.as_slice());
-    push_construct(
+    push_parsed_item(
         items,
         Item::Recipe(UnresolvedRecipe {
             attributes,

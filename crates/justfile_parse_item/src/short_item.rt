@@ -7,7 +7,7 @@ ghost use Rattle.justfile_parse_item.specs.DerivedFields.{HaveDerivedPairFields}
 ghost use Rattle.justfile_parse_attribute.specs.Attributes.{entries_of};
 
 use crate::attribute_checks::check_allowed;
-use crate::items::push_construct;
+use crate::items::push_parsed_item;
 use justfile_attribute::Attribute;
 use justfile_item::{Alias, Item, Set};
 use justfile_parse_base::{ParseError, parse_namepath};
@@ -17,7 +17,8 @@ use justfile_token::{Expander, Name};
 use justfile_vocabulary::{ItemKind, TokenKind};
 use justfile_written::Written;
 
-/// Parses an alias after its attributes and `alias`: a name, `:=`, and the path of a recipe.
+/// Parses an alias after its attributes and `alias`: a name, `:=`, and the path of a recipe. Checks
+/// the attributes, and appends the item.
 #[tactic(auto, unfolding(crate::specs::MethodResults::ParsesUncounted, justfile_model::specs::Readers::Reader::alias, justfile_parse_expression::specs::TableReader::leaves))]
 pub(crate) fn parse_alias<'src, X: Expander>(
     parser: &mut TokenCursor<'_, 'src, X>,
@@ -33,7 +34,7 @@ pub(crate) fn parse_alias<'src, X: Expander>(
     parser.expect(TokenKind::ColonEquals)?;
     let target = parse_namepath(parser)?;
     let attributes = check_allowed(parser.alloc, ItemKind::Alias, attributes, name)?;
-    push_construct(
+    push_parsed_item(
         items,
         Item::Alias(Alias {
             attributes,
@@ -43,7 +44,8 @@ pub(crate) fn parse_alias<'src, X: Expander>(
     )
 }
 
-/// Parses a setting after its attributes and `set`: its name and its value.
+/// Parses a setting after its attributes and `set`: its name and its value. Checks the attributes,
+/// and appends the item.
 #[tactic(auto, unfolding(crate::specs::MethodResults::ParsesUncounted, justfile_model::specs::Readers::Reader::setting, justfile_parse_expression::specs::TableReader::leaves))]
 pub(crate) fn parse_set<'src, X: Expander>(
     parser: &mut TokenCursor<'_, 'src, X>,
@@ -59,7 +61,7 @@ pub(crate) fn parse_set<'src, X: Expander>(
     let keyword = setting_keyword(parser.alloc, name)?;
     let attributes = check_allowed(parser.alloc, ItemKind::Setting, attributes, name)?;
     let value = parse_setting_value(parser, name, keyword)?;
-    push_construct(
+    push_parsed_item(
         items,
         Item::Setting(Set {
             attributes,
@@ -69,7 +71,8 @@ pub(crate) fn parse_set<'src, X: Expander>(
     )
 }
 
-/// Parses an `unexport` after its attributes and the keyword: a name.
+/// Parses an `unexport` after its attributes and the keyword: a name. Checks the attributes, and
+/// appends the item.
 #[tactic(auto, unfolding(crate::specs::MethodResults::ParsesUncounted, justfile_model::specs::Readers::Reader::unexport, justfile_parse_expression::specs::TableReader::leaves))]
 pub(crate) fn parse_unexport<'src, X: Expander>(
     parser: &mut TokenCursor<'_, 'src, X>,
@@ -83,7 +86,7 @@ pub(crate) fn parse_unexport<'src, X: Expander>(
 {
     let name = parser.expect(TokenKind::Identifier)?;
     let attributes = check_allowed(parser.alloc, ItemKind::Unexport, attributes, name)?;
-    push_construct(
+    push_parsed_item(
         items,
         Item::Unexport {
             attributes,

@@ -8,7 +8,7 @@ ghost use Rattle.justfile_parse_attribute.specs.Attributes.{entries_of};
 
 use crate::accept::accept_kind;
 use crate::attribute_checks::check_allowed;
-use crate::items::push_construct;
+use crate::items::push_parsed_item;
 use justfile_attribute::Attribute;
 use justfile_item::Item;
 use justfile_parse_base::ParseError;
@@ -18,7 +18,8 @@ use justfile_token::{Expander, Name};
 use justfile_vocabulary::{ItemKind, TokenKind};
 use justfile_written::Written;
 
-/// Parses an import after its attributes and `import`: `?` if it is optional, and a path.
+/// Parses an import after its attributes and `import`: `?` if it is optional, and a path. Checks
+/// the attributes, and appends the item.
 #[tactic(auto, unfolding(crate::specs::MethodResults::ParsesUncounted, justfile_model::specs::Readers::Reader::import))]
 pub(crate) fn parse_import<'src, X: Expander>(
     parser: &mut TokenCursor<'_, 'src, X>,
@@ -34,7 +35,7 @@ pub(crate) fn parse_import<'src, X: Expander>(
     parse_imported(parser, optional, attributes, items)
 }
 
-/// Parses the path of an import.
+/// Parses the path of an import. Checks the attributes, and appends the item.
 #[tactic(auto, unfolding(crate::specs::MethodResults::ParsesUncounted, justfile_model::specs::Readers::Reader::imported, justfile_parse_expression::specs::TableReader::leaves))]
 fn parse_imported<'src, X: Expander>(
     parser: &mut TokenCursor<'_, 'src, X>,
@@ -49,7 +50,7 @@ fn parse_imported<'src, X: Expander>(
 {
     let (literal, relative) = parse_file_path(parser)?;
     let attributes = check_allowed(parser.alloc, ItemKind::Import, attributes, &literal)?;
-    push_construct(
+    push_parsed_item(
         items,
         Item::Import {
             attributes,
@@ -60,7 +61,7 @@ fn parse_imported<'src, X: Expander>(
 }
 
 /// Parses a module after its attributes and `mod`: `?` if it is optional, a name, and a path if it
-/// has one.
+/// has one. Checks the attributes, and appends the item.
 #[tactic(auto, unfolding(crate::specs::MethodResults::ParsesUncounted, justfile_model::specs::Readers::Reader::any_module))]
 pub(crate) fn parse_module<'src, X: Expander>(
     parser: &mut TokenCursor<'_, 'src, X>,
@@ -76,7 +77,8 @@ pub(crate) fn parse_module<'src, X: Expander>(
     parse_named_module(parser, optional, attributes, items)
 }
 
-/// Parses the name of a module, and its path if it has one.
+/// Parses the name of a module, and its path if it has one. Checks the attributes, and appends the
+/// item.
 #[tactic(auto, unfolding(crate::specs::MethodResults::ParsesUncounted, justfile_model::specs::Readers::Reader::named_module, justfile_parse_expression::specs::TableReader::leaves))]
 fn parse_named_module<'src, X: Expander>(
     parser: &mut TokenCursor<'_, 'src, X>,
@@ -92,7 +94,7 @@ fn parse_named_module<'src, X: Expander>(
     let name = parser.expect(TokenKind::Identifier)?;
     let relative = parse_optional_path(parser)?;
     let attributes = check_allowed(parser.alloc, ItemKind::Module, attributes, name)?;
-    push_construct(
+    push_parsed_item(
         items,
         Item::Module {
             attributes,

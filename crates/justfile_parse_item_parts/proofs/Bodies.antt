@@ -87,8 +87,8 @@ module _ (s q : State) (done : List Line) (so_far : prepend (map line_tree done)
     lines_stop stop left = stops line_tree lines s q done so_far (body_line q) stop left (λ e h. laws.lines_fail leaves (map line_tree done) q e none h)
 
 -- a line takes an entry where no body ends
-pub line_shrinks : (q : State) (l : Line) (rest : State) → accept kinds.Dedent q ≡ None → body_line q ≡ Ok (line_tree l, rest) → length rest.left < length q.left
-line_shrinks q l rest none value = (known {X = BodyLine Leaf Token ℕ × State} (line_tree l, rest) (λ x. length x.1.left < length q.left × (x.1.depth ≡ q.depth) × (x.1.run ≡ q.run)) value (laws.body_line_goes leaves q none)).0
+pub body_line_shrinks : (q : State) (l : Line) (rest : State) → accept kinds.Dedent q ≡ None → body_line q ≡ Ok (line_tree l, rest) → length rest.left < length q.left
+body_line_shrinks q l rest none value = (known {X = BodyLine Leaf Token ℕ × State} (line_tree l, rest) (λ x. length x.1.left < length q.left × (x.1.depth ≡ q.depth) × (x.1.run ≡ q.run)) value (laws.body_line_goes leaves q none)).0
 
 -- ---- a body
 

@@ -19,7 +19,7 @@ use Rattle.justfile_model.specs.Trees.Tree as tree
 use Rattle.justfile_model.specs.Trees.Tree.{Expr, Quoted}
 use Rattle.justfile_model.specs.Meanings.Versions.{is_above, version_of}
 use Rattle.justfile_parse_expression.specs.TableReader.{State}
-use Rattle.justfile_parse_item_parts.specs.PartTable.{literal_made, literal_value, obeyed_value, plain_made}
+use Rattle.justfile_parse_item_parts.specs.PartTable.{literal_made, literal_setting, obeyed_value, plain_made}
 use Rattle.justfile_expression.specs.LeafViews.{views_leaves}
 use Rattle.justfile_expression.specs.LeafTree.{Leaf, Literal, literal_of}
 
@@ -65,25 +65,25 @@ module _ (current : VersionNumbers) (l : StringLiteral) (s : State) where
   abbrev refused_for : Option (List ℕ) → List (Broken Token)
   refused_for reason = of_some (λ message. broken_if true (InvalidIndentation message) l.token) reason
 
-  pub is_indentation : indentation_refusal text ≡ None → literal_made current words.Indentation l s ≡ Ok (literal_value l, s)
-  is_indentation h = ap (λ (o : Option (List ℕ)). obeyed_value (refused_for o) (literal_value l) s) h
+  pub is_indentation : indentation_refusal text ≡ None → literal_made current words.Indentation l s ≡ Ok (literal_setting l, s)
+  is_indentation h = ap (λ (o : Option (List ℕ)). obeyed_value (refused_for o) (literal_setting l) s) h
 
   pub no_indentation : (message : List ℕ) → indentation_refusal text ≡ Some message
       → literal_made current words.Indentation l s ≡ Err (BreaksRule (record { rule = InvalidIndentation message; token = l.token }))
-  no_indentation message h = ap (λ (o : Option (List ℕ)). obeyed_value (refused_for o) (literal_value l) s) h
+  no_indentation message h = ap (λ (o : Option (List ℕ)). obeyed_value (refused_for o) (literal_setting l) s) h
 
-  version_made : (o : Option VersionNumbers) → version_of text ≡ o → literal_made current words.MinimumVersion l s ≡ obeyed_value (version_broken current l.token text o) (literal_value l) s
-  version_made o h = ap (λ (o : Option VersionNumbers). obeyed_value (version_broken current l.token text o) (literal_value l) s) h
+  version_made : (o : Option VersionNumbers) → version_of text ≡ o → literal_made current words.MinimumVersion l s ≡ obeyed_value (version_broken current l.token text o) (literal_setting l) s
+  version_made o h = ap (λ (o : Option VersionNumbers). obeyed_value (version_broken current l.token text o) (literal_setting l) s) h
 
   module _ (minimum : VersionNumbers) (h : version_of text ≡ Some minimum) where
-    pub is_version : is_above minimum current ≡ false → literal_made current words.MinimumVersion l s ≡ Ok (literal_value l, s)
+    pub is_version : is_above minimum current ≡ false → literal_made current words.MinimumVersion l s ≡ Ok (literal_setting l, s)
     is_version not_above =
-        version_made (Some minimum) h ∙ ap (λ (b : Bool). obeyed_value (broken_if b (MinimumVersion minimum current) l.token) (literal_value l) s) not_above
+        version_made (Some minimum) h ∙ ap (λ (b : Bool). obeyed_value (broken_if b (MinimumVersion minimum current) l.token) (literal_setting l) s) not_above
 
     pub later_version : is_above minimum current ≡ true
         → literal_made current words.MinimumVersion l s ≡ Err (BreaksRule (record { rule = MinimumVersion minimum current; token = l.token }))
     later_version above =
-        version_made (Some minimum) h ∙ ap (λ (b : Bool). obeyed_value (broken_if b (MinimumVersion minimum current) l.token) (literal_value l) s) above
+        version_made (Some minimum) h ∙ ap (λ (b : Bool). obeyed_value (broken_if b (MinimumVersion minimum current) l.token) (literal_setting l) s) above
 
   pub no_version : version_of text ≡ None → literal_made current words.MinimumVersion l s ≡ Err (BreaksRule (record { rule = InvalidMinimumVersion text; token = l.token }))
   no_version h = version_made None h

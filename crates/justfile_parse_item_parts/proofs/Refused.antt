@@ -4,7 +4,7 @@ use Rattle.justfile_token.specs.declared.compile_error.CompileError.{CompileErro
 use Rattle.justfile_token.specs.declared.fault.Fault.{Fault}
 use Rattle.justfile_token.specs.declared.fault.Fault.TheVariants as faults
 use Rattle.justfile_model.specs.Readers.ReaderState as reading
-use Rattle.justfile_parse_base.specs.ParseErrors.{IsParseError, IsErrorOfFault, IsErrorOfRead, IsFaultOf}
+use Rattle.justfile_parse_base.specs.ParseErrors.{IsParseError, IsErrorOfFault, IsErrorOfRead, IsFaultOfRead}
 use Rattle.justfile_parse_base.specs.declared.parse_error.ParseError.{ParseError}
 use Rattle.justfile_parse_base.specs.declared.parse_error.ParseError.TheVariants.{Expression, Compile}
 use Rattle.justfile_parse_expression.specs.TableReader.{ReadError, State}
@@ -22,7 +22,7 @@ broken Y (reading.UnknownSetting name) e h = h
 broken Y (reading.ExpectedKeyword expected t) e h = h
 broken Y (reading.NoNumber counters) e h = absurd h
 
-pub errs : (Y : Type 0) (refusal : ReadError) (fault : Fault) (failure : ParseError) (s : State) → IsErrorOfFault failure fault → IsFaultOf refusal fault
+pub errs : (Y : Type 0) (refusal : ReadError) (fault : Fault) (failure : ParseError) (s : State) → IsErrorOfFault failure fault → IsFaultOfRead refusal fault
     → IsParseError {Y = Y} failure s ⊥ (Err refusal)
 errs Y refusal (faults.Compile e) (Compile error) s h k = rw h (broken Y refusal e k)
 errs Y refusal faults.Memory (Compile error) s h k = absurd h

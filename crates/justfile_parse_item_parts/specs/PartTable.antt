@@ -181,9 +181,9 @@ abbrev pub plain_made : VersionNumbers → (name : Token) → Keyword → Expr L
 plain_made current name keyword e =
     obeyed_value (rules.literal_broken current views_leaves keyword name (rules.plain_literal current views_leaves e)) (tree.Value e)
 
-abbrev pub literal_value : StringLiteral → LeafValue
-literal_value l = tree.Value (tree.StringLiteral l.expand (Literal (literal_of l)))
+abbrev pub literal_setting : StringLiteral → LeafValue
+literal_setting l = tree.Value (tree.StringLiteral l.expand (Literal (literal_of l)))
 
--- the same, from a plain literal
+-- the value of a setting that takes a plain literal, from that literal, under this running version
 abbrev pub literal_made : VersionNumbers → Keyword → StringLiteral → State → Read LeafValue
-literal_made current keyword l = obeyed_value (rules.text_broken current keyword l.token (string_bytes l.cooked)) (literal_value l)
+literal_made current keyword l = obeyed_value (rules.text_broken current keyword l.token (string_bytes l.cooked)) (literal_setting l)

@@ -15,8 +15,8 @@ use Rattle.justfile_expression.specs.LeafTree.{Leaf, Named, leaf_tree_of, trees_
 use Rattle.justfile_expression.specs.declared.expression.Expression.{Expression}
 
 -- the path of a file, with the token of its literal
-abbrev pub path_tree : TableEntry × StringLiteral → TableEntry × Quoted Leaf
-path_tree path = (path.0, quoted_leaf path.1)
+abbrev pub file_path_tree : TableEntry × StringLiteral → TableEntry × Quoted Leaf
+file_path_tree path = (path.0, quoted_leaf path.1)
 
 abbrev pub optional_path_tree : Option StringLiteral → Option (Quoted Leaf)
 optional_path_tree = option_map quoted_leaf

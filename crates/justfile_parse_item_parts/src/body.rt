@@ -19,6 +19,10 @@ pub type CommentedBody<'src> = (Option<SignificantToken<'src>>, Vec<Line<'src>>)
 
 /// Parses the body of a recipe, from the end of its header on, and the comment before it. Returns
 /// neither if the recipe has no body.
+///
+/// # Errors
+///
+/// The tokens are refused, a literal has no text, or memory runs out.
 #[tactic(auto, using(crate::proofs::Bodies::body_at_once, crate::proofs::Bodies::body_commented, crate::proofs::Bodies::body_missing))]
 pub fn parse_body_after_header<'src, X: Expander>(
     parser: &mut TokenCursor<'_, 'src, X>,
@@ -71,7 +75,7 @@ fn parse_body<'src, X: Expander>(
 }
 
 /// Parses the lines of a body, and its end.
-#[tactic(auto, using(crate::proofs::Bodies::lines_end, crate::proofs::Bodies::lines_go_on, crate::proofs::Bodies::line_shrinks, crate::proofs::Bodies::lines_stop))]
+#[tactic(auto, using(crate::proofs::Bodies::lines_end, crate::proofs::Bodies::lines_go_on, crate::proofs::Bodies::body_line_shrinks, crate::proofs::Bodies::lines_stop))]
 fn parse_lines<'src, X: Expander>(
     parser: &mut TokenCursor<'_, 'src, X>,
 ) -> Result<Vec<Line<'src>>, ExpressionError<'src>>

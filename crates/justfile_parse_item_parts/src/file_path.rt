@@ -7,9 +7,9 @@ ghost use Rattle.justfile_parse_expression.specs.ParsedResults.{Parses};
 ghost use Rattle.justfile_parse_expression.specs.TableReader as table;
 ghost use Rattle.justfile_parse_expression.specs.View.{state_of};
 ghost use Rattle.justfile_parse_item_parts.specs.PartTable as reader;
-ghost use Rattle.justfile_parse_item_parts.specs.Parts.{optional_path_tree, path_tree};
+ghost use Rattle.justfile_parse_item_parts.specs.Parts.{optional_path_tree, file_path_tree};
 
-use crate::errors::expected_keyword_error;
+use crate::errors::expected_keyword_fault;
 use justfile_parse_base::{ParseError, rule_error};
 use justfile_parse_expression::significant::SignificantToken;
 use justfile_parse_expression::{ExpressionError, SyntaxError, TokenCursor, is_word};
@@ -20,7 +20,8 @@ use justfile_vocabulary::{Keyword, TokenKind};
 ///
 /// # Errors
 ///
-/// The tokens are refused, a literal has no text, or memory runs out.
+/// The tokens are refused, a name other than `x` comes before the literal, the literal has no text,
+/// or memory runs out.
 #[tactic(auto, using(justfile_parse_base::proofs::RuleSteps::broken_first), unfolding(justfile_model::specs::Readers::PartReader::optional_path))]
 pub fn parse_optional_path<'src, X: Expander>(
     parser: &mut TokenCursor<'_, 'src, X>,
@@ -39,12 +40,13 @@ pub fn parse_optional_path<'src, X: Expander>(
 ///
 /// # Errors
 ///
-/// The tokens are refused, a literal has no text, or memory runs out.
+/// The tokens are refused, a name other than `x` comes before the literal, the literal has no text,
+/// or memory runs out.
 #[tactic(auto, using(justfile_parse_base::proofs::RuleSteps::broken_first, crate::proofs::FilePaths::path_is))]
 pub fn parse_file_path<'src, X: Expander>(
     parser: &mut TokenCursor<'_, 'src, X>,
 ) -> Result<(SignificantToken<'src>, StringLiteral<'src>), ParseError<'src>>
-    ensures { ParsesRuled X.answer path_tree result parser.old parser.new reader.file_path }
+    ensures { ParsesRuled X.answer file_path_tree result parser.old parser.new reader.file_path }
 {
     let expand = parse_mark(parser)?;
     let token = expect_string(parser)?;
@@ -77,7 +79,7 @@ fn parse_mark<'src, X: Expander>(
     } else {
         Err(rule_error(
             parser.alloc,
-            expected_keyword_error(parser.alloc, &[Keyword::X], mark.0),
+            expected_keyword_fault(parser.alloc, &[Keyword::X], mark.0),
         ))
     }
 }

@@ -10,7 +10,7 @@ ghost use Rattle.justfile_model.specs.Meanings.Rules as rules;
 ghost use Rattle.justfile_model.specs.Grammars.Settings as forms;
 ghost use Rattle.justfile_model.specs.Trees.Tree as tree;
 ghost use Rattle.justfile_model.specs.Meanings.Versions.{version_numbers};
-ghost use Rattle.justfile_parse_base.specs.ParseErrors.{IsFaultOf, ReadsRuled};
+ghost use Rattle.justfile_parse_base.specs.ParseErrors.{IsFaultOfRead, ReadsRuled};
 ghost use Rattle.justfile_parse_expression.specs.TableReader.{State};
 ghost use Rattle.justfile_parse_item_parts.specs.PartTable as reader;
 ghost use Rattle.justfile_setting.specs.LeafSetting.{leaf_value_of};
@@ -41,10 +41,10 @@ pub(crate) fn make_plain<'src>(
     ensures fields { IfOk result HasDerivedSettingFields }
 {
     let Some(literal) = into_literal(value) else {
-        return Err(rule_error(alloc, setting_expression_error(name, keyword)));
+        return Err(rule_error(alloc, setting_expression_fault(name, keyword)));
     };
     if !is_plain_literal(&literal) {
-        return Err(rule_error(alloc, setting_expression_error(name, keyword)));
+        return Err(rule_error(alloc, setting_expression_fault(name, keyword)));
     }
     make_literal(alloc, current, keyword, literal)
 }
@@ -59,7 +59,8 @@ fn into_literal(value: Box<Expression<'_>>) -> Option<StringLiteral<'_>>
     Box::into_inner(value).into_string_literal()
 }
 
-/// Makes the setting with this keyword from a plain literal.
+/// Makes the setting with this keyword from a plain literal: `indentation`, or `minimum-version`,
+/// the only other setting that takes one.
 #[tactic(auto, using(crate::proofs::PlainValues::other_plain))]
 fn make_literal<'src>(
     alloc: Global,
@@ -100,7 +101,7 @@ fn make_indentation<'src>(
 {
     match literal.cooked.as_str().parse::<Indentation>() {
         Ok(indentation) => Ok(Setting::Indentation(literal, indentation)),
-        Err(message) => Err(rule_error(alloc, invalid_indentation_error(literal.token, message))),
+        Err(message) => Err(rule_error(alloc, invalid_indentation_fault(literal.token, message))),
     }
 }
 
@@ -118,40 +119,40 @@ fn make_minimum_version<'src>(
     match literal.cooked.as_str().parse::<Version>() {
         Ok(minimum) if current < minimum => Err(rule_error(
             alloc,
-            minimum_version_error(literal.token, current, minimum),
+            minimum_version_fault(literal.token, current, minimum),
         )),
         Ok(_minimum) => Ok(Setting::MinimumVersion(literal)),
         Err(source) => Err(rule_error(
             alloc,
-            invalid_minimum_version_error(literal.token, source, literal.cooked),
+            invalid_minimum_version_fault(literal.token, source, literal.cooked),
         )),
     }
 }
 
 /// Makes the fault for an expression that isn't a plain literal.
-fn setting_expression_error<'src>(name: Token<'src>, setting: Keyword) -> Fault<'src>
-    ensures { IsFaultOf (BreaksRule
+fn setting_expression_fault<'src>(name: Token<'src>, setting: Keyword) -> Fault<'src>
+    ensures { IsFaultOfRead (BreaksRule
         (record { rule = rules.SettingExpression setting; token = name.entry })) result }
 {
     Fault::Compile(name.error(CompileErrorKind::SettingExpression { setting }))
 }
 
 /// Makes the fault for a text that isn't an indentation, with the reason as `message`.
-fn invalid_indentation_error<'src>(token: Token<'src>, message: &'static str) -> Fault<'src>
-    ensures { IsFaultOf (BreaksRule
+fn invalid_indentation_fault<'src>(token: Token<'src>, message: &'static str) -> Fault<'src>
+    ensures { IsFaultOfRead (BreaksRule
         (record { rule = rules.InvalidIndentation message.now; token = token.entry })) result }
 {
     Fault::Compile(token.error(CompileErrorKind::InvalidIndentation { message }))
 }
 
 /// Makes the fault for a text that isn't a version.
-fn invalid_minimum_version_error<'src>(
+fn invalid_minimum_version_fault<'src>(
     token: Token<'src>,
     source: &'static str,
     version: String,
 ) -> Fault<'src>
     requires { source.now ≡ codes "invalid version" }
-    ensures { IsFaultOf (BreaksRule
+    ensures { IsFaultOfRead (BreaksRule
         (record { rule = rules.InvalidMinimumVersion (string_bytes version); token = token.entry }))
         result }
 {
@@ -159,12 +160,12 @@ fn invalid_minimum_version_error<'src>(
 }
 
 /// Makes the fault for a version that is later than the running one.
-fn minimum_version_error<'src>(
+fn minimum_version_fault<'src>(
     token: Token<'src>,
     current: Version,
     minimum: Version,
 ) -> Fault<'src>
-    ensures { IsFaultOf (BreaksRule (record {
+    ensures { IsFaultOfRead (BreaksRule (record {
       rule = rules.MinimumVersion (version_numbers minimum) (version_numbers current);
       token = token.entry;
     })) result }

@@ -12,7 +12,7 @@ ghost use Rattle.justfile_setting.specs.LeafSetting.{leaf_value_of};
 ghost use Rattle.justfile_setting.specs.Setting.{HasDerivedSettingFields, keyword_of};
 ghost use Rattle.justfile_expression.specs.LeafTree.{leaf_tree_of, trees_of};
 
-use crate::errors::{expected_keyword_error, unknown_setting_error};
+use crate::errors::{expected_keyword_fault, unknown_setting_fault};
 use crate::plain::make_plain;
 use justfile_attribute::Interpreter;
 use justfile_expression::Expression;
@@ -38,7 +38,7 @@ pub fn setting_keyword<'src>(
 {
     match Keyword::from_lexeme(name.0.lexeme()) {
         Some(keyword) => Ok(keyword),
-        None => Err(rule_error(alloc, unknown_setting_error(name.0))),
+        None => Err(rule_error(alloc, unknown_setting_fault(name.0))),
     }
 }
 
@@ -46,7 +46,8 @@ pub fn setting_keyword<'src>(
 ///
 /// # Errors
 ///
-/// The tokens are refused, a literal has no text, the value breaks a rule, or memory runs out.
+/// The tokens are refused, a literal has no text, the keyword isn't the name of a setting, the
+/// value breaks a rule, or memory runs out.
 pub fn parse_setting_value<'src, X: Expander>(
     parser: &mut TokenCursor<'_, 'src, X>,
     name: &SignificantToken<'src>,
@@ -107,7 +108,7 @@ fn find_truth<'src>(alloc: Global, word: &SignificantToken<'src>) -> Result<bool
     } else {
         Err(rule_error(
             alloc,
-            expected_keyword_error(alloc, &[Keyword::True, Keyword::False], word.0),
+            expected_keyword_fault(alloc, &[Keyword::True, Keyword::False], word.0),
         ))
     }
 }
@@ -218,5 +219,5 @@ fn refuse_setting<'src, X: Expander>(
     ensures fails { OnOk result ⊥ }
 {
     parser.expect(TokenKind::ColonEquals)?;
-    Err(rule_error(parser.alloc, unknown_setting_error(name.0)))
+    Err(rule_error(parser.alloc, unknown_setting_fault(name.0)))
 }

@@ -117,8 +117,8 @@ fn recipe_part(word: Word, fields: &[String]) -> RecipePart {
     }
 }
 
-/// Writes the indentation that a file sets, or `none`. Writes `own` after it if the file isn't printed
-/// at this indentation, or else at four spaces.
+/// Writes the indentation that a file sets, or `none`. Writes `own` after it if the file isn't
+/// printed at this indentation, or else at four spaces.
 fn indented(ast: &Ast<'_>, answer: &mut Answer) {
     push_indentation(ast, answer);
     let expected = ast.indentation().unwrap_or_default();

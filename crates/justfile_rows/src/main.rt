@@ -1,5 +1,5 @@
-//! Runs rows of data about justfiles and about the program `justfmt`, and compares what they find with
-//! what they expect.
+//! Runs rows of data about justfiles and about the program `justfmt`, and compares what they find
+//! with what they expect.
 //!
 //! The arguments are the names of files of rows. A row has a word, which says what it does, then
 //! its input, and then what it expects:

@@ -78,8 +78,8 @@ fn prints_once(ast: &mut Ast<'_>, answer: &mut Answer, indentation: Indentation)
 
 /// Writes whether the first item of a file has a body, and the item's own printed text at an
 /// indentation. For an alias, an assignment or a setting, also writes the text that it displays.
-/// Then drops the other items, and writes what the file prints to writers unless that is the text of
-/// its item and a line feed.
+/// Then drops the other items, and writes what the file prints to writers unless that is the text
+/// of its item and a line feed.
 pub(crate) fn prints_item(ast: &mut Ast<'_>, answer: &mut Answer, indentation: Indentation) {
     if ast.items.is_empty() {
         return answer.push("none");

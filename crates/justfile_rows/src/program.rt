@@ -87,8 +87,8 @@ fn push_run(answer: &mut Answer, listed: &str, streams: &mut Streams<'_>) {
     answer.push(streams.errors.text());
 }
 
-/// Writes `library` if `format_text` doesn't return the text or the lines that a run without arguments
-/// writes.
+/// Writes `library` if `format_text` doesn't return the text or the lines that a run without
+/// arguments writes.
 fn push_library(answer: &mut Answer, source: &str, streams: &Streams<'_>) {
     let (output, errors) = (streams.output.text(), streams.errors.text());
     let is_same = match format_text(answer.alloc(), "justfile", source) {

@@ -7,8 +7,8 @@ use justfile_syntax::parser::{parse_root_with, release};
 use row_items::items::push_items;
 use row_notation::{Answer, field_at, number_at, push_fault};
 
-/// Writes the items of a root file that is parsed after as many constants as the first field says,
-/// after the numbers that the next binding and the next recipe would get.
+/// Parses a root file after as many constants as the first field says. Writes the numbers that the
+/// next binding and the next recipe would get, and then the file's items.
 pub(crate) fn roots(answer: &mut Answer, fields: &[String]) {
     let mut numerator = Numerator::new(number_at(fields, 0));
     let text = field_at(fields, 1);

@@ -24,8 +24,8 @@ pub(crate) struct Stream<'row> {
 }
 
 impl<'row> Stream<'row> {
-    /// Makes a stream with these bytes to read, which moves at most `most_bytes` bytes in a call and
-    /// doesn't fail.
+    /// Makes a stream with these bytes to read, which moves at most `most_bytes` bytes in a call
+    /// and doesn't fail.
     pub(crate) fn new(alloc: Global, unread: &'row [u8], most_bytes: usize) -> Self {
         Stream {
             unread,

@@ -6,8 +6,8 @@ use justfile_syntax::parser::{Reader, parse_root, read_root, release};
 use row_notation::{Answer, Text, push_fault};
 use row_parts::shown::{put_if, put_marked};
 
-/// Writes the symbols of a text. Writes `parsed` and what is found if the outline of the parsed file
-/// has others, and `read` if the file that is lent to a reader does.
+/// Writes the symbols of a text. Writes `parsed` and what is found if the outline of the parsed
+/// file has others, and `read` if the file that is lent to a reader does.
 pub(crate) fn push_symbols(answer: &mut Answer, text: &str) {
     let mut found = Answer::new(answer.alloc());
     match symbols(answer.alloc(), "justfile", text) {
@@ -77,8 +77,8 @@ fn push_all(answer: &mut Answer, symbols: &[Symbol<'_>]) {
     }
 }
 
-/// Writes a symbol: its kind, its name, its parameters, its doc, its groups, its target, and whether
-/// it is private or disabled on this system.
+/// Writes a symbol: its kind, its name, its parameters, its doc, its groups, its target, and
+/// whether it is private or disabled on this system.
 fn push_symbol(symbol: &Symbol<'_>, answer: &mut Answer) {
     let mut shown = Text::new(answer.alloc());
     shown.put_made(symbol.kind.to_string(answer.alloc()));

@@ -26,6 +26,10 @@ impl<'src> Setting<'src> {
 
 /// Pushes references to the expressions that a setting has directly, in the order in which they
 /// are printed.
+///
+/// # Errors
+///
+/// Memory runs out.
 pub fn push_setting<'a, 'src>(
     setting: &'a Setting<'src>,
     found: &mut Vec<&'a Expression<'src>>,

@@ -66,7 +66,7 @@ pub fn setting_form(keyword: Keyword) -> Option<SettingForm>
 }
 
 impl<'src> Setting<'src> {
-    /// Returns a setting that is true or false.
+    /// Returns a setting that is true or false. Requires that the keyword's setting has this form.
     pub fn from_truth(keyword: Keyword, value: bool) -> Self
         requires { forms.setting_form keyword ≡ Some forms.TruthForm }
         ensures keyword { keyword_of result ≡ keyword }
@@ -97,7 +97,7 @@ impl<'src> Setting<'src> {
         }
     }
 
-    /// Returns a setting with an expression.
+    /// Returns a setting with an expression. Requires that the keyword's setting has this form.
     pub fn from_expression(keyword: Keyword, value: Box<Expression<'src>>) -> Self
         requires { forms.setting_form keyword ≡ Some forms.ExpressionForm }
         ensures keyword { keyword_of result ≡ keyword }
@@ -114,7 +114,7 @@ impl<'src> Setting<'src> {
         }
     }
 
-    /// Returns a setting with an interpreter.
+    /// Returns a setting with an interpreter. Requires that the keyword's setting has this form.
     pub fn from_interpreter(
         keyword: Keyword,
         interpreter: Box<Interpreter<Expression<'src>>>,

@@ -1,4 +1,4 @@
-//! The syntax of justfiles: its parts, under the module names of the Rust crate.
+//! The syntax of justfiles: its parts, under the module names of the Rust crate where it has them.
 #![tactic(auto)]
 
 pub mod alias {
@@ -28,8 +28,8 @@ pub mod attribute {
 }
 
 pub mod attribute_set {
-    //! The attributes of an item, in the order of their content. A set of them is a `PairSet`, which
-    //! keeps pairs of any type in the `ContentOrder` of their first parts.
+    //! The attributes of an item, in the order of their content. A set of them is a `PairSet`,
+    //! which keeps pairs of any type in the `ContentOrder` of their first parts.
 
     pub use justfile_attribute_set::{
         AttributeSet, ContentOrder, IntoKeys, IntoNamed, Keys, PairSet, Written,
@@ -73,7 +73,7 @@ pub mod count {
 }
 
 pub mod delimiter {
-    //! Brackets, as messages name them.
+    //! Delimiters that a text can leave open: braces, brackets, parentheses and interpolations.
 
     pub use justfile_token::Delimiter;
 }
@@ -149,8 +149,9 @@ pub mod keyword {
 pub mod laws {
     //! Statements about the definitions, as contracts of functions that do nothing.
 
-    // What users rely on: what tokens and lines are joined, what there is only one of, what doesn't
-    // change when it is done again, and what rises.
+    // What users rely on: tokens and lines, joined, are the text; there is one answer; printed
+    // texts read back; the orders are total; sorting, normalizing and formatting again change
+    // nothing; and offsets and numbers rise.
     pub use justfile_ast::laws::same_numbers;
     pub use justfile_attribute_set::laws::sets_in_order;
     pub use justfile_canonical::laws::formatted_texts;
@@ -217,7 +218,7 @@ pub mod list_feature {
 }
 
 pub mod list_operator {
-    //! The operators that join lists: `+` and `/`.
+    //! The operators that join the elements of a list to one text: `+` and `/`.
 
     pub use justfile_expression::ListOperator;
 }

@@ -25,6 +25,10 @@ impl Modulepath {
     }
 
     /// Returns the path with the names of a namepath, or the path of the root if there is none.
+    ///
+    /// # Errors
+    ///
+    /// `AllocError` if memory runs out.
     pub fn from_namepath(alloc: Global, namepath: Option<&Namepath<'_>>) -> Result<Self, AllocError>
         ensures { IfOk result (λ path. names_of path ≡ module_names namepath.entry) }
     {
@@ -46,6 +50,10 @@ impl Modulepath {
     }
 
     /// Appends the name of a module.
+    ///
+    /// # Errors
+    ///
+    /// `AllocError` if memory runs out; the path is unchanged.
     pub fn push(&mut self, name: String) -> Result<(), AllocError>
         ensures ok { OnOk result (names_of self.new ≡ names_of self.old ++ string_bytes name ∷ []) }
         ensures err { OnErr result (names_of self.new ≡ names_of self.old) }

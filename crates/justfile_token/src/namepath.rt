@@ -18,6 +18,10 @@ impl<'src> Namepath<'src> {
     ghost use Rattle.justfile_token.specs.Namepath.{names_in};
 
     /// Returns the path of a single name.
+    ///
+    /// # Errors
+    ///
+    /// `AllocError` if memory runs out.
     pub fn from_name(alloc: Global, name: Name<'src>) -> Result<Self, AllocError>
         ensures { IfOk result (λ path. names_in path ≡ name.entry ∷ []) }
     {
@@ -27,6 +31,10 @@ impl<'src> Namepath<'src> {
     }
 
     /// Returns the path with this name appended.
+    ///
+    /// # Errors
+    ///
+    /// `AllocError` if memory runs out.
     pub fn join(&self, alloc: Global, name: Name<'src>) -> Result<Self, AllocError>
         ensures { IfOk result (λ path. names_in path ≡ names_in self.now ++ name.entry ∷ []) }
     {
@@ -36,6 +44,10 @@ impl<'src> Namepath<'src> {
     }
 
     /// Appends a name.
+    ///
+    /// # Errors
+    ///
+    /// `AllocError` if memory runs out; the path is unchanged.
     pub fn push(&mut self, name: Name<'src>) -> Result<(), AllocError>
         ensures ok { OnOk result (names_in self.new ≡ names_in self.old ++ name.entry ∷ []) }
         ensures err { OnErr result (names_in self.new ≡ names_in self.old) }

@@ -3,7 +3,8 @@ ghost use Rattle.std.specs.Prelude.{◌≡◌, None, []};
 
 use crate::namepath::Namepath;
 
-/// The origin of a text: the file, its imports and its module.
+/// The origin of a text: how deep its file lies, the imports that lead to it, its module, and the
+/// working directory there.
 #[derive(Debug, Drop)]
 pub struct Source<'a, 'src> {
     /// The number of imports and modules between the file and the root.

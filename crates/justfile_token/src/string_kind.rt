@@ -116,7 +116,11 @@ impl StringKind {
         })
     }
 
-    /// Returns the kind of a string or backtick token. Any other token is an error.
+    /// Returns the kind of a string or backtick token.
+    ///
+    /// # Errors
+    ///
+    /// `Internal` at any other token.
     pub fn from_string_or_backtick(token: Token<'_>) -> Result<Self, CompileError<'_>>
         ensures ok { result_ok result ≡ kind_at_start (lexeme_of token.entry) }
         ensures token { IfErr result (λ error. error.token ≡ token.entry) }

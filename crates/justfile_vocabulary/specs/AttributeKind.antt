@@ -58,7 +58,7 @@ is_enabler_kind Unix = true
 is_enabler_kind Windows = true
 is_enabler_kind _ = false
 
--- attributes of this kind take arguments by key
+-- attributes of this kind take arguments by key; those of no other kind do
 abbrev pub takes_keys : AttributeKind → Bool
 takes_keys Arg = true
 takes_keys Cache = true

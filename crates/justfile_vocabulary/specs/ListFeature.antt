@@ -3,7 +3,7 @@ use Rattle.std.specs.Prelude.{ℕ, Bool, true, false, List, codes}
 use Rattle.justfile_vocabulary.specs.declared.list_feature.ListFeature.{ListFeature}
 use Rattle.justfile_vocabulary.specs.declared.list_feature.ListFeature.TheVariants as features
 
--- the feature is the call of a function
+-- the feature is the call of a function; no other feature is
 abbrev pub is_function : ListFeature → Bool
 is_function features.BoolFunction = true
 is_function features.JoinListFunction = true

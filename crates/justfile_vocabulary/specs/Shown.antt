@@ -18,7 +18,7 @@ blank_text character = if character == byte.space then encode_utf8 0x2420 else (
 abbrev pub blanks_text : List ℕ → List ℕ
 blanks_text text = flat_map blank_text (chars text)
 
--- the code point of a character in lowercase hexadecimal digits
+-- the escape of a character: its code point in lowercase hexadecimal digits, in braces
 abbrev pub code_text : ℕ → List ℕ
 code_text character = codes "\\u{" & digits 16 false character & codes "}"
 
@@ -34,7 +34,7 @@ escaped_text character = if character == byte.backtick then codes "\\`"
 abbrev pub four_digits : ℕ → List ℕ
 four_digits number = replicate (4 - length (digits 16 true number)) byte.digit_zero & digits 16 true number
 
--- a character in quotes, and its code point if it isn't graphic
+-- a character in quotes, and its code point unless it is a graphic character of ASCII
 abbrev pub start_text : ℕ → List ℕ
 start_text character = codes "'" & encode_utf8 character & codes "'"
     & (if is_ascii_graphic character then [] else codes " (U+" & four_digits character & codes ")")

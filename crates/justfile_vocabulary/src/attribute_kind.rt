@@ -73,7 +73,8 @@ static KINDS: [AttributeKind; 30] = [
 impl AttributeKind {
     ghost use Rattle.justfile_vocabulary.specs.AttributeKind.{attribute_name, is_enabler_kind, kind_named, takes_keys};
 
-    /// Returns the kind with this name. Compares lengths first: few names are as long as another.
+    /// Returns the kind with this name, or `None` if no kind has it. Compares lengths first: few
+    /// kinds have names of one length.
     pub fn from_name(name: &str) -> Option<Self>
         ensures { result ≡ kind_named name.now }
     {

@@ -56,7 +56,8 @@ impl Numerator {
         Some(Number(number))
     }
 
-    /// Returns the number of the constant with this index.
+    /// Returns the number of the constant with this index, which must be below the number of
+    /// constants.
     pub fn constant(&self, i: u32) -> Number
         requires { i < constants_of self.now }
         ensures { result ≡ number_of i }

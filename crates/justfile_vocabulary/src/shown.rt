@@ -56,8 +56,8 @@ impl fmt::Display for Blanks<'_> {
     }
 }
 
-/// A character that may not follow a backslash, as messages show it: an invisible character is
-/// written as an escape, and a backtick after a backslash.
+/// A character that may not follow a backslash, as messages show it: a backtick after a backslash,
+/// a space and the other graphic characters of ASCII as they are, and any other one as an escape.
 #[derive(Clone, Copy)]
 pub struct Escaped(pub char);
 
@@ -92,7 +92,7 @@ fn write_four_digits<W: fmt::Write>(number: u32, f: &mut fmt::Formatter<W>) -> f
     write!(f, "{number:04X}")
 }
 
-/// A character in quotes, with its code point if it isn't graphic.
+/// A character in quotes, with its code point unless it is a graphic character of ASCII.
 #[derive(Clone, Copy)]
 pub struct Start(pub char);
 

@@ -12,9 +12,9 @@ pub record TellsReturn (lines : List ℕ) : Type 0 where
   pub is : lines ≡ codes "error: a body line ends in a carriage return\n" ++ excerpt
 
 -- The text isn't a justfile, or a line of a body ends in a carriage return; and the lines tell that of the file with this name.
-pub data IsRefused (name source lines : List ℕ) : Type 0 where
-  rejected : IsRejection name source lines → IsRefused name source lines
-  unprintable : IsUnprintable source → TellsReturn lines → IsRefused name source lines
+pub data IsRejected (name source lines : List ℕ) : Type 0 where
+  rejected : IsRejection name source lines → IsRejected name source lines
+  unprintable : IsUnprintable source → TellsReturn lines → IsRejected name source lines
 
 -- The refusal tells the fault, or memory ran out.
 abbrev pub IsRefusalOf : FormatFault → Refusal → Type 0

@@ -17,6 +17,7 @@ pub struct FileSystem<'a> {
 }
 
 impl<'a> FileSystem<'a> {
+    /// Returns the file system that the runtime gives access to.
     pub fn new(rt: &'a HostRuntime) -> Self {
         FileSystem { rt }
     }

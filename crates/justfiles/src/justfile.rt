@@ -3,7 +3,7 @@ ghost use Rattle.std.specs.Prelude.{IfOk, string_bytes};
 ghost use Rattle.justfile_canonical.specs.declared.fault.FormatFault.TheVariants as faults;
 ghost use Rattle.justfile_canonical.specs.Formatting.{IsFormatted};
 ghost use Rattle.justfile_canonical.proofs.Formatted as formatted;
-ghost use Rattle.justfiles.specs.Justfile.{IsRefusalOf, IsRefused, TellsReturn};
+ghost use Rattle.justfiles.specs.Justfile.{IsRefusalOf, IsRejected, TellsReturn};
 ghost use Rattle.justfiles.specs.Laws.{never_both};
 
 use crate::returned::returned_excerpt;
@@ -17,7 +17,7 @@ pub struct Justfile;
 impl Formatter for Justfile {
     ghost formats = { IsFormatted };
 
-    ghost rejects = { IsRefused };
+    ghost rejects = { IsRejected };
 
     ghost one = { λ source text other f g. formatted.one source text other f g };
 
@@ -34,7 +34,7 @@ impl Formatter for Justfile {
     }
 }
 
-/// Returns why the text of a file with a name isn't formatted.
+/// Returns the refusal for a fault of formatting the text of the file with this name.
 fn refusal(alloc: Global, name: &str, source: &str, fault: FormatFault) -> Refusal
     ensures { IsRefusalOf fault result }
 {
@@ -56,7 +56,8 @@ fn unprintable(alloc: Global, name: &str, source: &str) -> Refusal
     }
 }
 
-/// Returns the lines that tell of such a text, with the excerpt of the first body line.
+/// Returns the lines that tell that a body line ends in a carriage return, with the excerpt of the
+/// first such line.
 fn unprintable_lines(alloc: Global, name: &str, source: &str) -> Result<String, AllocError>
     ensures { IfOk result (λ lines. TellsReturn (string_bytes lines)) }
 {

@@ -1,4 +1,5 @@
-//! The program `justfmt` again: `rt ci` runs it with the argument in `args`, and `justfmt` without one.
+//! The program `justfmt` again: `rt ci` runs it with the argument in `args`, and `justfmt` without
+//! one.
 #![tactic(auto)]
 
 use justfile_format::system::run_on_system;

@@ -29,7 +29,7 @@ sign Keep = codes " "
 sign Remove = codes "-"
 sign Insert = codes "+"
 
--- a line, on a line of its own
+-- a line with its line feed; one without is followed by a line feed and the line `\ No newline at end of file`
 abbrev pub ended_line : List ℕ → List ℕ
 ended_line line = if ends_with nat_eq line (codes "\n") then line else line ++ codes "\n\\ No newline at end of file\n"
 

@@ -33,14 +33,14 @@ fn has_quoted(name: &str) -> bool
     false
 }
 
-/// Whether a name with a character is in quotes.
+/// Whether a name that has this character is written in quotes.
 fn is_quoted(character: char) -> bool
     ensures { result ≡ is_quoted character }
 {
     character == ' ' || is_special(character)
 }
 
-/// Whether a character is written as its number.
+/// Whether a character of a name in quotes is written as a backslash and its number.
 fn is_special(character: char) -> bool
     ensures { result ≡ is_special character }
 {

@@ -102,7 +102,8 @@ fn push_range(
     text.push_str(range.as_str())
 }
 
-/// Adds the line of an edit after its sign.
+/// Adds the line of an edit after its sign, and after a line without a line feed the line that says
+/// so.
 fn push_edit(text: &mut String, edit: &Edit<'_>) -> Result<(), AllocError>
     ensures { OnOk result (string_bytes text.new ≡ string_bytes text.old ++ edit_text edit.now) }
 {

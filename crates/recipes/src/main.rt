@@ -1,5 +1,5 @@
-//! Lists the recipes of the justfile on standard input, as `just --list --unsorted` does, but without
-//! its first line, its indentation, its columns, aliases and modules.
+//! Lists the recipes of the justfile on standard input, as `just --list --unsorted` does, but
+//! without its first line, its indentation, its columns, aliases and modules.
 #![tactic(auto)]
 
 mod listing;

@@ -10,7 +10,8 @@ use std::alloc::Global;
 use std::io::{Read, Write};
 
 /// Writes the list of the recipes of the reader's justfile. Returns the exit status: 0 if it was
-/// written, 1 if the text isn't a justfile, memory ran out, or reading or writing failed.
+/// written, 1 if the text isn't a justfile, memory or numbers ran out, or reading or writing
+/// failed.
 pub fn run<R: Read, W: Write, E: Write>(
     alloc: Global,
     reader: &mut R,

@@ -5,13 +5,13 @@ use justfile_token::Namepath;
 use row_notation::Answer;
 use row_parts::copies::{copies_dependency, copies_parameter, push_copy};
 
-/// Writes the copy of an assignment if it isn't equal to it.
+/// Writes `uncopied` if the copy of an assignment isn't equal to it.
 pub(crate) fn copies_assignment(assignment: &Assignment<'_>, answer: &mut Answer) {
     push_copy(assignment, assignment.clone(answer.alloc()), answer);
 }
 
-/// Writes `uncopied` for each copy that isn't equal to its original: of aliases and functions, and of
-/// the parameters, the dependencies and the arguments of recipes.
+/// Writes `uncopied` for each copy that isn't equal to its original: of aliases and functions, and
+/// of the parameters, the dependencies and the arguments of recipes.
 pub fn copies_items(items: &[Item<'_>], answer: &mut Answer) {
     for item in items {
         match item {

@@ -11,6 +11,7 @@ use row_parts::lines::put_line;
 use row_parts::settings::put_setting;
 use row_parts::shown::{put_doc, put_if, put_literal, put_marked, put_name, put_value};
 
+/// The working directory with which rows parse files.
 pub const WORKING_DIRECTORY: &str = "/home";
 
 /// Writes a recipe: its doc, its attributes, whether it is quiet, its name, its number, its

@@ -7,8 +7,8 @@ use row_parts::shown::{put_expression_of, put_if, put_marked};
 use std::alloc::AllocError;
 
 /// Writes what each item has: its kind, its name, whether it is private, the kinds of its
-/// attributes, its groups, its doc, the truth of a setting, and its expressions, each with the lexeme
-/// that it begins with.
+/// attributes, its groups, its doc, the truth of a setting, and its expressions, each with the
+/// lexeme that it begins with.
 pub fn parts(items: &[Item<'_>], answer: &mut Answer) {
     for item in items {
         push_parts(item, answer);

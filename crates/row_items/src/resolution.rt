@@ -33,7 +33,8 @@ fn insert<'row>(
     }
 }
 
-/// Resolves the items with the numbers in a row's fields.
+/// Resolves the first of the items, and writes the numbers of its variables: with the bindings of
+/// the second field, then also with the context of the first field, and then with neither.
 pub fn resolve_by_fields<'src>(
     items: &mut [Item<'src>],
     answer: &mut Answer,
@@ -48,7 +49,7 @@ pub fn resolve_by_fields<'src>(
     }
 }
 
-/// Resolves the first of the items.
+/// Resolves the first of the items three times, and writes the numbers of its variables each time.
 fn resolve_first<'src>(
     items: &mut [Item<'src>],
     answer: &mut Answer,
@@ -68,7 +69,8 @@ fn resolve_first<'src>(
     }
 }
 
-/// Resolves an item.
+/// Resolves it with the bindings, with the context and the bindings, and with neither, and writes
+/// the numbers of its variables each time.
 fn resolve_item<'src>(
     item: &mut Item<'src>,
     answer: &mut Answer,

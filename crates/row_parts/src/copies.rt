@@ -5,7 +5,7 @@ use justfile_recipe_header::{DependencyArgument, Parameter, UnresolvedDependency
 use row_notation::Answer;
 use std::alloc::AllocError;
 
-/// Writes the copy of a value if it isn't equal to the value.
+/// Writes `uncopied` if the copy of a value isn't equal to the value.
 pub fn push_copy<T: PartialEq + Drop>(value: &T, copy: Result<T, AllocError>, answer: &mut Answer) {
     match copy {
         Ok(copy) => answer.push_if("uncopied", copy != *value),
@@ -17,7 +17,8 @@ fn copies_fragment(fragment: &Fragment<'_>, answer: &mut Answer) {
     push_copy(fragment, fragment.clone(answer.alloc()), answer);
 }
 
-/// Writes the copy of a line if it isn't equal to it, or the copy of a fragment of it.
+/// Writes `uncopied` if the copy of a line isn't equal to it, and for each fragment whose copy
+/// isn't.
 pub(crate) fn copies_line(line: &Line<'_>, answer: &mut Answer) {
     push_copy(line, line.clone(answer.alloc()), answer);
     for fragment in &line.fragments {
@@ -25,12 +26,13 @@ pub(crate) fn copies_line(line: &Line<'_>, answer: &mut Answer) {
     }
 }
 
-/// Writes the copy of a parameter if it isn't equal to it.
+/// Writes `uncopied` if the copy of a parameter isn't equal to it.
 pub fn copies_parameter(parameter: &Parameter<'_>, answer: &mut Answer) {
     push_copy(parameter, parameter.clone(answer.alloc()), answer);
 }
 
-/// Writes the copy of a dependency if it isn't equal to it, or the copy of an argument of it.
+/// Writes `uncopied` if the copy of a dependency isn't equal to it, and for each argument whose
+/// copy isn't.
 pub fn copies_dependency(dependency: &UnresolvedDependency<'_>, answer: &mut Answer) {
     push_copy(dependency, dependency.clone(answer.alloc()), answer);
     for argument in &dependency.arguments {

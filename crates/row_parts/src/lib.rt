@@ -1,5 +1,5 @@
-//! The parts of items, as rows show them: attributes, settings, headers of recipes, lines of bodies, and
-//! values. `docs/ROWS.md` describes the words that show them.
+//! The parts of items, as rows show them: attributes, settings, headers of recipes, lines of
+//! bodies, and values. `docs/ROWS.md` describes the words that show them.
 #![tactic(auto)]
 
 pub mod attributes;

@@ -24,7 +24,7 @@ pub(crate) fn copy_of<'src>(
     boxed(alloc, value.clone(alloc))
 }
 
-/// Writes the copy of a value if it differs from the value.
+/// Writes `uncopied` if the copy of a value differs from the value, by `==` or by `cmp`.
 pub fn push_with_copy(value: &Expression<'_>, answer: &mut Answer) {
     match copy_of(value, answer.alloc()) {
         Ok(copy) => push_other(value, &copy, answer),

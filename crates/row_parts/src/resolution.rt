@@ -9,7 +9,8 @@ use row_notation::{Answer, Text};
 use std::alloc::AllocError;
 use std::collections::HashMap;
 
-/// Resolves a setting.
+/// Resolves it with the bindings, with the context and the bindings, and with neither, and writes
+/// the numbers of its variables each time.
 pub fn resolve_setting<'src>(
     setting: &mut Setting<'src>,
     answer: &mut Answer,
@@ -25,7 +26,8 @@ pub fn resolve_setting<'src>(
     push_setting(setting, answer);
 }
 
-/// Resolves a value, and compares it with its earlier state.
+/// Resolves it with the bindings, with the context and the bindings, and with neither, and writes
+/// the numbers of its variables each time, and how its earlier state compares with it.
 pub fn resolve_value<'src>(
     value: &mut Expression<'src>,
     answer: &mut Answer,

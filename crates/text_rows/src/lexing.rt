@@ -114,7 +114,8 @@ fn push_kinds(answer: &mut Answer, tokens: &[Token<'_>]) {
     }
 }
 
-/// Writes the kinds of the significant tokens, with `glued` after one without whitespace before it.
+/// Writes the kinds of the significant tokens, with `glued` after one that directly follows
+/// another.
 fn push_significant(answer: &mut Answer, tokens: &[Token<'_>]) {
     match significant(answer.alloc(), tokens) {
         Ok(table) => push_table(answer, table.as_slice()),

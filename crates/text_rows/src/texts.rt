@@ -8,7 +8,7 @@ use justfile_vocabulary::byte_class::byte_class;
 use justfile_vocabulary::{Indentation, Keyword, TokenKind, Version};
 use row_notation::{Answer, Text, number_at, push_fault, push_string_kind};
 
-/// The token at which texts with bad escapes are refused.
+/// The token at which texts with bad escapes are rejected.
 const LITERAL: Token<'static> = Token {
     column: 5,
     kind: TokenKind::StringToken,

@@ -21,7 +21,7 @@ use Rattle.justfile_model.specs.Grammars.Features.{Noted}
 use Rattle.justfile_model.specs.Grammars.Grammar.{NotEmpty}
 use Rattle.justfile_model.specs.Grammars.Files.{argument_literals, expr_literals, written_literals}
 use Rattle.justfile_model.specs.LiteralTexts.Literals.{string_of}
-use Rattle.justfile_model.specs.Meanings.Meaning.{KeyArgument, Placed, attribute_of, by_key, by_position, entry_of}
+use Rattle.justfile_model.specs.Meanings.Meaning.{KeyArgument, PositionalArgument, attribute_of, by_key, by_position, entry_of}
 use Rattle.justfile_model.specs.Readers.NewAttribute.{Made, new_entry}
 use Rattle.justfile_model.specs.Meanings.ReadAttribute.{ReadAttribute, commented_both, entry_read, keep_both, token_view}
 use Rattle.justfile_model.specs.Readers.ReaderState.{◌>>=◌, comment_in}
@@ -203,7 +203,7 @@ module _ (conditions : Conditions) (Hit : Option SignificantToken → Type 0) wh
   has_text _ a q is = cc
 
   placed_texts : (all : List (Argument Tok Tok)) → AllCook conditions.expander (flat_map argument_literals all)
-      → AllByRecursion (λ (p : Placed Tok Tok). HasText (token_view conditions) p.value) (by_position all)
+      → AllByRecursion (λ (p : PositionalArgument Tok Tok). HasText (token_view conditions) p.value) (by_position all)
   placed_texts [] a = tt
   placed_texts (tree.Positional first value ∷ all) a = (
     has_text value (first_cook conditions.expander (expr_literals value) (flat_map argument_literals all) a),
@@ -233,7 +233,7 @@ module _ (conditions : Conditions) (Hit : Option SignificantToken → Type 0) wh
   have_texts : (all : List (Argument Tok Tok)) → AllCook conditions.expander (flat_map argument_literals all)
       → HasTexts (token_view conditions) (by_position all) (by_key all)
   have_texts all a = record {
-    values = All-from_recursion (λ (p : Placed Tok Tok). HasText (token_view conditions) p.value) (by_position all) (placed_texts all a);
+    values = All-from_recursion (λ (p : PositionalArgument Tok Tok). HasText (token_view conditions) p.value) (by_position all) (placed_texts all a);
     given = All-from_recursion (λ (k : KeyArgument Tok Tok). ValueHasText (token_view conditions) k.value) (by_key all) (key_texts all a);
   }
 

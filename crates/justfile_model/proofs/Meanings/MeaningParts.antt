@@ -8,7 +8,7 @@ use Rattle.justfile_vocabulary.specs.AttributeKind.{kind_named}
 use Rattle.justfile_vocabulary.specs.declared.attribute_kind.AttributeKind.{AttributeKind}
 use Rattle.justfile_vocabulary.specs.declared.attribute_kind.AttributeKind.TheVariants as kinds
 use Rattle.justfile_model.specs.Meanings.AttributeKinds.{takes_expressions}
-use Rattle.justfile_model.specs.Meanings.Meaning.{all_of, of_given, quoted, Placed, KeyArgument, by_position, by_key, count_of, signal_set, text_of, at_key, property_of, value_of, bare_of, option_at, bound_of, rules_of, single_of, texts_of, env_of, signal_of, of_expressions, of_literals, by_takes, attribute_of, entry_of}
+use Rattle.justfile_model.specs.Meanings.Meaning.{all_of, of_given, quoted, PositionalArgument, KeyArgument, by_position, by_key, count_of, signal_set, text_of, at_key, property_of, value_of, bare_of, option_at, bound_of, rules_of, single_of, texts_of, env_of, signal_of, of_expressions, of_literals, by_takes, attribute_of, entry_of}
 use Rattle.justfile_model.specs.Trees.LeafView.{LeafView}
 use Rattle.justfile_model.specs.Trees.Tree as tree
 use Rattle.justfile_model.specs.Trees.Tree.{Expr, Quoted, Argument, WrittenAttribute, OptionName, Property, Bound, ArgumentRules, Attribute, Entry}
@@ -131,7 +131,7 @@ module _ {A B : Type 0} (OfExpr : Expr A B → Type 0) (OfQuoted : Quoted A → 
       keys_in (tree.Keyed key value ∷ arguments) h = (h.0, keys_in arguments h.1)
 
       values_in : (arguments : List (Argument A B)) → AllByRecursion (InArgument OfExpr OfKey) arguments
-          → AllByRecursion OfExpr (map (λ (p : Placed A B). p.value) (by_position arguments))
+          → AllByRecursion OfExpr (map (λ (p : PositionalArgument A B). p.value) (by_position arguments))
       values_in [] h = tt
       values_in (tree.Positional first value ∷ arguments) h = (h.0, values_in arguments h.1)
       values_in (tree.Bare key ∷ arguments) h = values_in arguments h.1
@@ -273,7 +273,7 @@ module _ {A B : Type 0} (OfExpr : Expr A B → Type 0) (OfQuoted : Quoted A → 
           let k = bind_back (kind_named (view.bytes w.name)) _ e m in
           let a = bind_back (attribute_of view k.first (by_position w.arguments) (by_key w.arguments)) _ e k.gives in
           of_some_is (λ (e : Entry A B). InMeaning e.attribute) (record { name = view.place w.name; attribute = a.first; comment = w.comment }) e a.gives
-          (takes_in (takes_expressions k.first) k.first (map (λ (p : Placed A B). p.value) (by_position w.arguments)) (by_key w.arguments) a.first
+          (takes_in (takes_expressions k.first) k.first (map (λ (p : PositionalArgument A B). p.value) (by_position w.arguments)) (by_key w.arguments) a.first
           (values_in w.arguments h) (keys_in w.arguments h) a.is)
 
       pub entries_in : (ws : List (WrittenAttribute A B)) (es : List (Entry A B))

@@ -6,7 +6,7 @@ use Rattle.std.proofs.lemmas.List.Elements.{recursion_from_All}
 use Rattle.justfile_model.specs.Meanings.ArgumentTexts.{ValueHasText, KeysHaveTexts}
 use Rattle.justfile_model.specs.Meanings.AttributeRules.{arg_broken, has, bound_broken, exceeds_broken, flag_broken, key_broken, multiple_broken, number_of, of_some, option_broken, option_key_broken, value_broken, missing_broken, wants_option}
 use Rattle.justfile_model.specs.Meanings.Meaning as means
-use Rattle.justfile_model.specs.Meanings.Meaning.{KeyArgument, Placed, at_key, bare_key, bare_of, bound_of, is_key, count_of, is_count, of_given, option_at, option_named, property_of, quoted, quoted_text, rules_of, text_of, value_of}
+use Rattle.justfile_model.specs.Meanings.Meaning.{KeyArgument, PositionalArgument, at_key, bare_key, bare_of, bound_of, is_key, count_of, is_count, of_given, option_at, option_named, property_of, quoted, quoted_text, rules_of, text_of, value_of}
 use Rattle.justfile_model.specs.Readers.NewAttribute as new
 use Rattle.justfile_model.specs.Readers.NewAttribute.{Made, bound, check, check_bounds, check_has_option, flag, if_given, is_option, multiple, new_rules, option, option_by, option_value, or_refuse, property, required}
 use Rattle.justfile_model.specs.Meanings.Rules.{ArgAttributeMinExceedsMax, ArgAttributeRequiresOption, ArgumentCountParse, ArgumentCountValue, Broken, FlagAndPatternArgAttribute, FlagAndValueArgAttribute, FlagAttributeTakesNoValue, Rule, broken_if}

@@ -10,7 +10,7 @@ use Rattle.justfile_vocabulary.specs.Signal.{signal_named}
 use Rattle.justfile_model.specs.Meanings.AttributeKinds.{least_count, most_count, takes_expressions}
 use Rattle.justfile_model.specs.Meanings.AttributeRules.{arg_broken, arguments_broken, count_broken, duplicate_broken, duplicate_rule, excludes, expression_broken, expressions_broken, has_more, is_known, kind_broken, least, missing_broken, of_some, signal_broken, signals_broken, unknown_broken}
 use Rattle.justfile_model.specs.Meanings.Meaning as means
-use Rattle.justfile_model.specs.Meanings.Meaning.{KeyArgument, Placed, all_of, at_key, attribute_of, of_given, of_literals, quoted, quoted_text, rules_of, signal_of, signal_set, text_of, texts_of, value_of}
+use Rattle.justfile_model.specs.Meanings.Meaning.{KeyArgument, PositionalArgument, all_of, at_key, attribute_of, of_given, of_literals, quoted, quoted_text, rules_of, signal_of, signal_set, text_of, texts_of, value_of}
 use Rattle.justfile_model.specs.Readers.NewAttribute as new
 use Rattle.justfile_model.specs.Readers.NewAttribute.{Made, check_count, check_keys, check_repeated, from_expressions, from_literals, if_given, make_all, new_attribute, new_entry, new_of_expressions, new_of_literals, new_rules, or_refuse, placed_literal, refuse, refuse_key, required, required_at, signal}
 use Rattle.justfile_model.specs.Meanings.Rules.{Broken, InvalidSignal, UnknownAttributeKey}
@@ -34,8 +34,8 @@ too_many false most found h e = true≢false (sym (lt-ltb most found h) ∙ e)
 module _ {A B : Type 0} (view : LeafView A B) (at : B) (T : Type 0) where
   module _ (keys : List (KeyArgument A B)) where
     -- the values of the arguments by position
-    abbrev values : List (Placed A B) → List (Expr A B)
-    values = map (λ (p : Placed A B). p.value)
+    abbrev values : List (PositionalArgument A B) → List (Expr A B)
+    values = map (λ (p : PositionalArgument A B). p.value)
 
     abbrev refused_key : KeyArgument A B → List (Broken B)
     refused_key k = record { rule = UnknownAttributeKey at (view.place k.key); token = view.place k.key } ∷ []
@@ -49,7 +49,7 @@ module _ {A B : Type 0} (view : LeafView A B) (at : B) (T : Type 0) where
 
     -- ---- attributes that take literals alone
 
-    literals_as_meant : (placed : List (Placed A B))
+    literals_as_meant : (placed : List (PositionalArgument A B))
         → Agrees T (make_all (placed_literal view at) placed) (all_of quoted (values placed)) (flat_map (expression_broken view at) placed)
     literals_as_meant placed = each quoted placed (λ p. one_some (quoted p.value) _ _)
 
@@ -59,7 +59,7 @@ module _ {A B : Type 0} (view : LeafView A B) (at : B) (T : Type 0) where
     required_as_meant : (word : List ℕ) → Agrees T (required_at view at word keys) (of_given (value_of view) (at_key view word keys)) (missing word)
     required_as_meant word = if_there (at_key view word keys) (λ k e. one_some k.value _ _)
 
-    cache_as_meant : (placed : List (Placed A B)) (texts : List (Quoted A))
+    cache_as_meant : (placed : List (PositionalArgument A B)) (texts : List (Quoted A))
         → Agrees T (new_of_literals view at kinds.Cache texts keys) (of_literals view kinds.Cache texts keys) (kind_broken view at kinds.Cache placed keys)
     cache_as_meant placed texts =
         rw (append_assoc (missing (codes "extra")) (missing (codes "inputs")) (missing (codes "outputs")))
@@ -73,8 +73,8 @@ module _ {A B : Type 0} (view : LeafView A B) (at : B) (T : Type 0) where
         (λ s. one_some (signal_named s) _ _)
 
     -- what is placed is these literals
-    signals_as_meant : (placed : List (Placed A B)) (texts : List (Quoted A)) → all_of quoted (values placed) ≡ Some texts
-        → (T → All (λ (p : Placed A B). HasText view p.value) placed)
+    signals_as_meant : (placed : List (PositionalArgument A B)) (texts : List (Quoted A)) → all_of quoted (values placed) ≡ Some texts
+        → (T → All (λ (p : PositionalArgument A B). HasText view p.value) placed)
         → Agrees T (make_all (signal view at) texts) (all_of (signal_of view) texts) (flat_map (signals_broken view at) placed)
     signals_as_meant [] texts e h =
         let same : [] ≡ texts = cc in
@@ -82,11 +82,11 @@ module _ {A B : Type 0} (view : LeafView A B) (at : B) (T : Type 0) where
     signals_as_meant (p ∷ ps) texts e h =
         let f = first_of_all quoted p.value (values ps) texts e in
         rw (f.all_are, f.first_is)
-        (step (signal_as_meant f.first (λ t. All-head (λ (p : Placed A B). HasText view p.value) p ps (h t) f.first f.first_is)) (λ x is_x.
-        last_step (signals_as_meant ps f.others f.others_are (λ t. All-tail (λ (p : Placed A B). HasText view p.value) p ps (h t)))
+        (step (signal_as_meant f.first (λ t. All-head (λ (p : PositionalArgument A B). HasText view p.value) p ps (h t) f.first f.first_is)) (λ x is_x.
+        last_step (signals_as_meant ps f.others f.others_are (λ t. All-tail (λ (p : PositionalArgument A B). HasText view p.value) p ps (h t)))
         (λ xs is_xs. then_is _ is_x (then_is _ is_xs refl))))
 
-    arg_as_meant : (placed : List (Placed A B)) (texts : List (Quoted A)) → IsCounted (length placed) 1 (Some 1)
+    arg_as_meant : (placed : List (PositionalArgument A B)) (texts : List (Quoted A)) → IsCounted (length placed) 1 (Some 1)
         → all_of quoted (values placed) ≡ Some texts → (T → HasTexts view placed keys)
         → Agrees T (new_of_literals view at kinds.Arg texts keys) (of_literals view kinds.Arg texts keys) (kind_broken view at kinds.Arg placed keys)
     arg_as_meant [] texts counted e h = absurd (true≢false counted)
@@ -97,19 +97,19 @@ module _ {A B : Type 0} (view : LeafView A B) (at : B) (T : Type 0) where
         rw (f.all_are, f.first_is, append-nil (of_some (λ argument. arg_broken view at argument keys) (quoted_text view f.first)))
         (with_text view at T f.first (λ s. new.◌>>=◌ (new_rules view at s f.first keys) (λ rules. Ok (tree.Arg rules)))
         (λ s. means.◌>>=◌ (rules_of view (f.first ∷ f.others) keys) (λ rules. Some (tree.Arg rules))) (λ argument. arg_broken view at argument keys)
-        (λ t. All-head (λ (p : Placed A B). HasText view p.value) p [] (h t).values f.first f.first_is)
+        (λ t. All-head (λ (p : PositionalArgument A B). HasText view p.value) p [] (h t).values f.first f.first_is)
         (λ s. last_step (rules_as_meant view at T s keys f.first f.others (λ t. (h t).given)) (λ rules is_rules. then_is _ is_rules refl)))
 
-    continue_as_meant : (placed : List (Placed A B)) (texts : List (Quoted A)) → all_of quoted (values placed) ≡ Some texts → (T → HasTexts view placed keys)
+    continue_as_meant : (placed : List (PositionalArgument A B)) (texts : List (Quoted A)) → all_of quoted (values placed) ≡ Some texts → (T → HasTexts view placed keys)
         → Agrees T (new_of_literals view at kinds.Continue texts keys) (of_literals view kinds.Continue texts keys)
         (kind_broken view at kinds.Continue placed keys)
     continue_as_meant placed texts e h = last_step (signals_as_meant placed texts e (λ t. (h t).values)) (λ given is_given. then_is _ is_given refl)
 
     -- by the rules of the kind
-    abbrev own_rules : AttributeKind → List (Placed A B) → List (Broken B)
+    abbrev own_rules : AttributeKind → List (PositionalArgument A B) → List (Broken B)
     own_rules kind placed = kind_broken view at kind placed keys ++ unknown_broken view at kind keys
 
-    of_literals_as_meant : (kind : AttributeKind) (placed : List (Placed A B))
+    of_literals_as_meant : (kind : AttributeKind) (placed : List (PositionalArgument A B))
         → ((texts : List (Quoted A)) → all_of quoted (values placed) ≡ Some texts
         → Agrees T (new_of_literals view at kind texts keys) (of_literals view kind texts keys) (kind_broken view at kind placed keys))
         → Agrees T (from_literals view at kind placed keys) (means.◌>>=◌ (all_of quoted (values placed)) (λ texts. of_literals view kind texts keys))
@@ -120,12 +120,12 @@ module _ {A B : Type 0} (view : LeafView A B) (at : B) (T : Type 0) where
 
     -- ---- attributes that take any expressions
 
-    of_expressions_as_meant : (kind : AttributeKind) (placed : List (Placed A B)) (meaning : Option (Attribute A B))
+    of_expressions_as_meant : (kind : AttributeKind) (placed : List (PositionalArgument A B)) (meaning : Option (Attribute A B))
         → meaning ≡ Some (new_of_expressions view at kind (values placed))
         → Agrees T (from_expressions view at kind placed keys) meaning (unknown_broken view at kind keys)
     of_expressions_as_meant kind placed meaning h = last_step (keys_as_meant kind) (λ known e. h)
 
-    env_as_meant : (placed : List (Placed A B)) → IsCounted (length placed) 2 (Some 2)
+    env_as_meant : (placed : List (PositionalArgument A B)) → IsCounted (length placed) 2 (Some 2)
         → Agrees T (from_expressions view at kinds.Env placed keys) (attribute_of view kinds.Env placed keys) (unknown_broken view at kinds.Env keys)
     env_as_meant [] counted = absurd (true≢false counted)
     env_as_meant (p ∷ []) counted = absurd (true≢false counted)
@@ -134,10 +134,10 @@ module _ {A B : Type 0} (view : LeafView A B) (at : B) (T : Type 0) where
 
     -- ---- any attribute
 
-    abbrev after_counting : AttributeKind → List (Placed A B) → Made B (Attribute A B)
+    abbrev after_counting : AttributeKind → List (PositionalArgument A B) → Made B (Attribute A B)
     after_counting kind placed = cond (takes_expressions kind) (from_expressions view at kind placed keys) (from_literals view at kind placed keys)
 
-    after_count : (kind : AttributeKind) (placed : List (Placed A B)) → IsCounted (length placed) (least_count kind) (most_count kind)
+    after_count : (kind : AttributeKind) (placed : List (PositionalArgument A B)) → IsCounted (length placed) (least_count kind) (most_count kind)
         → (T → HasTexts view placed keys)
         → Agrees T (after_counting kind placed) (attribute_of view kind placed keys) (expressions_broken view at kind placed ++ own_rules kind placed)
     after_count kinds.Arg placed counted h = of_literals_as_meant kinds.Arg placed (λ texts e. arg_as_meant placed texts counted e h)
@@ -151,7 +151,7 @@ module _ {A B : Type 0} (view : LeafView A B) (at : B) (T : Type 0) where
     after_count kind placed counted h = of_literals_as_meant kind placed (λ texts e. agreed (texts_of view kind texts) _ _ refl refl)
 
     -- what is broken, from the right
-    rules_are : (kind : AttributeKind) (placed : List (Placed A B))
+    rules_are : (kind : AttributeKind) (placed : List (PositionalArgument A B))
         → count_broken view at kind (length placed) ++ (expressions_broken view at kind placed ++ own_rules kind placed)
         ≡ arguments_broken view at kind placed keys
     rules_are kind placed =
@@ -160,7 +160,7 @@ module _ {A B : Type 0} (view : LeafView A B) (at : B) (T : Type 0) where
         sym (append_assoc count expressions (own_rules kind placed))
         ∙ sym (append_assoc (count ++ expressions) (kind_broken view at kind placed keys) (unknown_broken view at kind keys))
 
-    pub attribute_as_meant : (kind : AttributeKind) (placed : List (Placed A B)) → (T → HasTexts view placed keys)
+    pub attribute_as_meant : (kind : AttributeKind) (placed : List (PositionalArgument A B)) → (T → HasTexts view placed keys)
         → Agrees T (new_attribute view at kind placed keys) (attribute_of view kind placed keys) (arguments_broken view at kind placed keys)
     unfolding new_attribute
     attribute_as_meant kind placed h =
@@ -176,7 +176,7 @@ refused_fits {T = T} {o = o} {l = l} h e = subst (λ m. Fits T m o l) e h.fits
 
 -- ---- an attribute
 
-module _ {A B : Type 0} (view : LeafView A B) (at : B) (kind : AttributeKind) (placed : List (Placed A B)) (keys : List (KeyArgument A B)) where
+module _ {A B : Type 0} (view : LeafView A B) (at : B) (kind : AttributeKind) (placed : List (PositionalArgument A B)) (keys : List (KeyArgument A B)) where
   attribute_agrees : Agrees (HasTexts view placed keys) (new_attribute view at kind placed keys) (attribute_of view kind placed keys)
       (arguments_broken view at kind placed keys)
   attribute_agrees = attribute_as_meant view at (HasTexts view placed keys) keys kind placed (λ h. h)
@@ -235,7 +235,7 @@ module _ {A B : Type 0} (view : LeafView A B) where
       → Contains (duplicate_broken view before e) r
   repeated_refused before e r h = refused_fits (repeated_as_meant before e) h tt
 
-  module _ (before : List (Entry A B)) (name : B) (kind : AttributeKind) (placed : List (Placed A B)) (keys : List (KeyArgument A B)) where
+  module _ (before : List (Entry A B)) (name : B) (kind : AttributeKind) (placed : List (PositionalArgument A B)) (keys : List (KeyArgument A B)) where
     -- the entry is what is meant, at its name, and no rule is broken
     pub record IsMeant (e : Entry A B) : Type 0 where
       pub name_is : e.name ≡ name

@@ -17,7 +17,7 @@ use Rattle.justfile_vocabulary.specs.declared.attribute_kind.AttributeKind.TheVa
 use Rattle.justfile_model.specs.Meanings.AttributeKinds.{takes_expressions}
 use Rattle.justfile_model.specs.Meanings.AttributeRules.{is_known, least, lesser, repeats_broken}
 use Rattle.justfile_model.specs.Trees.ContentLeaf.{text_cmp}
-use Rattle.justfile_model.specs.Meanings.Meaning.{KeyArgument, Placed, at_key, first_of, is_key, text_of}
+use Rattle.justfile_model.specs.Meanings.Meaning.{KeyArgument, PositionalArgument, at_key, first_of, is_key, text_of}
 use Rattle.justfile_model.specs.Readers.NewAttribute as new
 use Rattle.justfile_model.specs.Readers.NewAttribute.{check_count, check_keys, from_expressions, from_literals, make_all, new_attribute, new_cache, new_of_expressions, new_of_literals, new_rules, placed_literal, refuse_key}
 use Rattle.justfile_model.specs.Meanings.Rules.{Broken, DuplicateAttributeKey, broken_if}
@@ -253,13 +253,13 @@ module _ {A B : Type 0} (view : LeafView A B) where
       check_same kind = ap (refuse_key view at) (least_key_same (λ k. not (is_known view at kind k)))
 
       -- the same attribute is made, or the same rule is reported
-      pub attribute_same : (kind : AttributeKind) (placed : List (Placed A B))
+      pub attribute_same : (kind : AttributeKind) (placed : List (PositionalArgument A B))
           → new_attribute view at kind placed keys ≡ new_attribute view at kind placed others
       unfolding new_attribute
       attribute_same kind placed = λ i. new.◌>>=◌ (check_count view at kind (length placed)) (λ counted. cond (takes_expressions kind) (any i) (literals i))
         where
           any : from_expressions view at kind placed keys ≡ from_expressions view at kind placed others
-          any = λ i. new.◌>>=◌ (check_same kind i) (λ known. Ok (new_of_expressions view at kind (map (λ (p : Placed A B). p.value) placed)))
+          any = λ i. new.◌>>=◌ (check_same kind i) (λ known. Ok (new_of_expressions view at kind (map (λ (p : PositionalArgument A B). p.value) placed)))
 
           literals : from_literals view at kind placed keys ≡ from_literals view at kind placed others
           literals =

@@ -11,7 +11,7 @@ use Rattle.justfile_vocabulary.specs.declared.signal.Signal.{Signal}
 use Rattle.justfile_model.specs.Meanings.AttributeKinds.{takes_expressions}
 use Rattle.justfile_model.specs.Trees.ContentLeaf.{literal_value}
 use Rattle.justfile_model.specs.LiteralTexts.Literals.{Literal, over_literal, string_of}
-use Rattle.justfile_model.specs.Meanings.Meaning.{◌>>=◌, all_of, of_given, first_of, quoted, Placed, KeyArgument, by_position, by_key, count_of, quoted_text, text_of, is_key, at_key, property_of, value_of, bare_of, option_at, bound_of, rules_of, single_of, texts_of, env_of, signal_of, of_expressions, of_literals, by_takes, attribute_of, entry_of}
+use Rattle.justfile_model.specs.Meanings.Meaning.{◌>>=◌, all_of, of_given, first_of, quoted, PositionalArgument, KeyArgument, by_position, by_key, count_of, quoted_text, text_of, is_key, at_key, property_of, value_of, bare_of, option_at, bound_of, rules_of, single_of, texts_of, env_of, signal_of, of_expressions, of_literals, by_takes, attribute_of, entry_of}
 use Rattle.justfile_model.specs.Trees.LeafView.{LeafView, or_empty}
 use Rattle.justfile_model.specs.Trees.Tree as tree
 use Rattle.justfile_model.specs.Trees.Tree.{Expr, Quoted, Argument, WrittenAttribute, OptionName, Property, Bound, ArgumentRules, Attribute, Entry, over_expr, over_argument, over_written_attribute, over_quoted, over_option, over_property, over_bound, over_rules, over_attribute, over_entry}
@@ -62,7 +62,7 @@ bind_over h k p q o o' e same = ap (λ z. z >>= q) e ∙ bound_over h k p q o sa
 -- ---- trees alone
 
 module _ {A B C D : Type 0} (f : A → C) (g : B → D) where
-  abbrev pub over_placed : Placed A B → Placed C D
+  abbrev pub over_placed : PositionalArgument A B → PositionalArgument C D
   over_placed p = record { first = g p.first; value = over_expr f g p.value }
 
   abbrev pub over_key : KeyArgument A B → KeyArgument C D
@@ -233,16 +233,16 @@ module _ {A B C D : Type 0} {f : A → C} {g : B → D} {view : LeafView A B} {o
   by_takes_over false kind es keys =
       bind_over _ _ _ _ _ _ (all_of_over (over_expr f g) (over_quoted f g) quoted quoted (quoted_over f g) es) (λ texts. of_literals_over kind texts keys)
 
-  values_over : (ps : List (Placed A B))
-      → map (λ (p : Placed C D). p.value) (map (over_placed f g) ps) ≡ map (over_expr f g) (map (λ (p : Placed A B). p.value) ps)
+  values_over : (ps : List (PositionalArgument A B))
+      → map (λ (p : PositionalArgument C D). p.value) (map (over_placed f g) ps) ≡ map (over_expr f g) (map (λ (p : PositionalArgument A B). p.value) ps)
   values_over [] = refl
   values_over (p ∷ ps) = ap (λ es. over_expr f g p.value ∷ es) (values_over ps)
 
-  pub attribute_of_over : (kind : AttributeKind) (placed : List (Placed A B)) (keys : List (KeyArgument A B))
+  pub attribute_of_over : (kind : AttributeKind) (placed : List (PositionalArgument A B)) (keys : List (KeyArgument A B))
       → attribute_of other kind (map (over_placed f g) placed) (map (over_key f g) keys) ≡ option_map (over_attribute f g) (attribute_of view kind placed keys)
   attribute_of_over kind placed keys =
       ap (λ es. by_takes other (takes_expressions kind) kind es (map (over_key f g) keys)) (values_over placed)
-      ∙ by_takes_over (takes_expressions kind) kind (map (λ (p : Placed A B). p.value) placed) keys
+      ∙ by_takes_over (takes_expressions kind) kind (map (λ (p : PositionalArgument A B). p.value) placed) keys
 
   -- what an attribute means
   pub entry_over : (w : WrittenAttribute A B) → entry_of other (over_written_attribute f g w) ≡ option_map (over_entry f g) (entry_of view w)

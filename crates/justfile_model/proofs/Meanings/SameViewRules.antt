@@ -15,7 +15,7 @@ use Rattle.justfile_model.specs.Meanings.AttributeRules.{has_more, is_literal, o
 use Rattle.justfile_model.specs.Trees.ContentKeys.{kind_of_attribute}
 use Rattle.justfile_model.specs.Trees.ContentLeaf.{literal_value, text_cmp}
 use Rattle.justfile_model.specs.LiteralTexts.Literals.{string_of}
-use Rattle.justfile_model.specs.Meanings.Meaning.{quoted, Placed, KeyArgument, by_position, by_key, quoted_text, at_key, is_count, count_of, entry_of}
+use Rattle.justfile_model.specs.Meanings.Meaning.{quoted, PositionalArgument, KeyArgument, by_position, by_key, quoted_text, at_key, is_count, count_of, entry_of}
 use Rattle.justfile_model.specs.Meanings.Rules.{Rule, UnknownAttribute, AttributeArgumentCountMismatch, AttributeArgumentExpression, AttributePositionalFollowsKeyword, DuplicateAttributeKey, UnknownAttributeKey, AttributeKeyMissingValue, AttributeKeyTakesNoValue, InvalidSignal, OptionNameContainsEqualSign, OptionNameStartsWithDash, OptionNameEmpty, ShortOptionWithMultipleCharacters, ArgAttributeRequiresOption, FlagAttributeTakesNoValue, FlagAndValueArgAttribute, FlagAndPatternArgAttribute, ArgumentCountValue, ArgumentCountParse, ArgAttributeMinExceedsMax, DuplicateArgAttribute, DuplicateGroupAttribute, InvalidAttribute, Broken, broken_if, over_rule, over_broken}
 use Rattle.justfile_model.specs.Trees.LeafView.{LeafView, or_empty}
 use Rattle.justfile_model.specs.Trees.Tree as tree
@@ -116,10 +116,10 @@ module _ {A B C D : Type 0} {f : A → C} {g : B → D} {view : LeafView A B} {o
         if_over g (nat_lt found (least_count kind) || has_more found (most_count kind)) _
         (AttributeArgumentCountMismatch at found (least_count kind) (most_count kind)) _ at _ refl refl refl
 
-    expression_over : (p : Placed A B) → expression_broken other (g at) (over_placed f g p) ≡ over (expression_broken view at p)
+    expression_over : (p : PositionalArgument A B) → expression_broken other (g at) (over_placed f g p) ≡ over (expression_broken view at p)
     expression_over p = if_over g (not (is_literal p.value)) _ (AttributeArgumentExpression at) _ p.first _ (ap not (literal_over f g p.value)) refl refl
 
-    expressions_over : (kind : AttributeKind) (placed : List (Placed A B))
+    expressions_over : (kind : AttributeKind) (placed : List (PositionalArgument A B))
         → expressions_broken other (g at) kind (map (over_placed f g) placed) ≡ over (expressions_broken view at kind placed)
     expressions_over kind placed = within (takes_expressions kind)
       where
@@ -182,7 +182,7 @@ module _ {A B C D : Type 0} {f : A → C} {g : B → D} {view : LeafView A B} {o
     signal_over : (q : Quoted A) (name : List ℕ) → signal_broken other (g at) (over_quoted f g q) name ≡ over (signal_broken view at q name)
     signal_over q name = if_over g (not (is_some (signal_named name))) _ (InvalidSignal name) _ (view.place q.token) _ refl refl (sees.place q.token)
 
-    signals_over : (p : Placed A B) → signals_broken other (g at) (over_placed f g p) ≡ over (signals_broken view at p)
+    signals_over : (p : PositionalArgument A B) → signals_broken other (g at) (over_placed f g p) ≡ over (signals_broken view at p)
     signals_over p =
         some_over (over_quoted f g) (over_broken g) (λ q. of_some (signal_broken view at q) (quoted_text view q))
         (λ q. of_some (signal_broken other (g at) q) (quoted_text other q)) (quoted p.value) _ (quoted_over f g p.value)
@@ -363,11 +363,11 @@ module _ {A B C D : Type 0} {f : A → C} {g : B → D} {view : LeafView A B} {o
         some_over (over_key f g) (over_broken g) (missing_broken view at) (missing_broken other (g at)) (at_key view word keys) _
         (at_key_over sees word keys) missing_over
 
-    kind_broken_over : (kind : AttributeKind) (placed : List (Placed A B)) (keys : List (KeyArgument A B))
+    kind_broken_over : (kind : AttributeKind) (placed : List (PositionalArgument A B)) (keys : List (KeyArgument A B))
         → kind_broken other (g at) kind (map (over_placed f g) placed) (map (over_key f g) keys) ≡ over (kind_broken view at kind placed keys)
     kind_broken_over kinds.Arg placed keys =
-        flat_mapped (λ (p : Placed A B). of_some (λ q. of_some (λ argument. arg_broken view at argument keys) (quoted_text view q)) (quoted p.value))
-        (λ (p : Placed C D). of_some (λ q. of_some (λ argument. arg_broken other (g at) argument (map (over_key f g) keys)) (quoted_text other q))
+        flat_mapped (λ (p : PositionalArgument A B). of_some (λ q. of_some (λ argument. arg_broken view at argument keys) (quoted_text view q)) (quoted p.value))
+        (λ (p : PositionalArgument C D). of_some (λ q. of_some (λ argument. arg_broken other (g at) argument (map (over_key f g) keys)) (quoted_text other q))
         (quoted p.value)) (over_placed f g) (over_broken g)
         (λ p. some_over (over_quoted f g) (over_broken g) (λ q. of_some (λ argument. arg_broken view at argument keys) (quoted_text view q))
         (λ q. of_some (λ argument. arg_broken other (g at) argument (map (over_key f g) keys)) (quoted_text other q)) (quoted p.value) _
@@ -384,7 +384,7 @@ module _ {A B C D : Type 0} {f : A → C} {g : B → D} {view : LeafView A B} {o
     kind_broken_over kind placed keys = refl
 
     -- what an attribute breaks by its arguments
-    pub arguments_over : (kind : AttributeKind) (placed : List (Placed A B)) (keys : List (KeyArgument A B))
+    pub arguments_over : (kind : AttributeKind) (placed : List (PositionalArgument A B)) (keys : List (KeyArgument A B))
         → arguments_broken other (g at) kind (map (over_placed f g) placed) (map (over_key f g) keys) ≡ over (arguments_broken view at kind placed keys)
     arguments_over kind placed keys =
         let count = count_broken view at kind (length placed) in

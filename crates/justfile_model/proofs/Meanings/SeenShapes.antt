@@ -17,7 +17,9 @@ use Rattle.justfile_model.specs.Meanings.ConstructRules.{construct_broken}
 use Rattle.justfile_model.specs.Trees.ContentKeys.{name_key, position_key, literal_key, expr_key, exprs_keys, parts_keys, quoted_key, option_name_key, word_key, own_name_key, property_key, bound_number_key, bound_word_key, rules_keys, texts_keys, is_optional, single_keys, attribute_keys, attribute_key, entry_cmp}
 use Rattle.justfile_model.specs.Trees.ContentLeaf.{ContentLeaf, token, literal, literal_value, operator, text, unseen, content_cmp}
 use Rattle.justfile_model.specs.Grammars.Expressions.{operator_kind}
+use Rattle.justfile_model.specs.Trees.ExpressionCases.{case_node}
 use Rattle.justfile_model.specs.Trees.Key.{Key, leaf, node, end, next, row, keys_of, absent_key, present_key, option_key, key_cmp}
+use Rattle.justfile_model.specs.declared.expression_case.ExpressionCase.TheVariants as cases
 use Rattle.justfile_model.specs.LiteralTexts.Literals as literals
 use Rattle.justfile_model.specs.LiteralTexts.Literals.{Literal, Expansions, over_literal, string_of}
 use Rattle.justfile_model.specs.Meanings.Meaning.{◌>>=◌, all_of, quoted, entry_of, entries_of}
@@ -99,24 +101,26 @@ module _ (expander : Expansions) where
 
   mutual
     pub expr_seen : (e : Expr Tok Tok) → KindedExpr e → expr_key tokens e ≡ expr_key lexemes (over_expr lexeme nothing e)
-    expr_seen (tree.Or l r) h = λ i. node 13 (next (expr_seen l h.0 i) (next (expr_seen r h.1 i) end))
-    expr_seen (tree.And l r) h = λ i. node 0 (next (expr_seen l h.0 i) (next (expr_seen r h.1 i) end))
+    expr_seen (tree.Or l r) h = λ i. case_node cases.Or (next (expr_seen l h.0 i) (next (expr_seen r h.1 i) end))
+    expr_seen (tree.And l r) h = λ i. case_node cases.And (next (expr_seen l h.0 i) (next (expr_seen r h.1 i) end))
     expr_seen (tree.Comparison l o t r) h =
-        λ i. node 4
+        λ i. case_node cases.Comparison
         (next (expr_seen l h.0 i) (next (leaf (operator o)) (next (expr_seen r h.2 i) (next (position_seen (operator_kind o) (operator_sign o) t h.1 i) end))))
     expr_seen (tree.Concatenation l t r) h =
-        λ i. node 5 (next (expr_seen l h.0 i) (next (position_seen kinds.Plus (codes "+") t h.1 i) (next (expr_seen r h.2 i) end)))
+        λ i. case_node cases.Concatenation (next (expr_seen l h.0 i) (next (position_seen kinds.Plus (codes "+") t h.1 i) (next (expr_seen r h.2 i) end)))
     expr_seen (tree.ListConcatenation l t r) h =
-        λ i. node 11 (next (expr_seen l h.0 i) (next (position_seen kinds.PlusPlus (codes "++") t h.1 i) (next (expr_seen r h.2 i) end)))
+        λ i. case_node cases.ListConcatenation (next (expr_seen l h.0 i) (next (position_seen kinds.PlusPlus (codes "++") t h.1 i) (next (expr_seen r h.2 i) end)))
     expr_seen (tree.Join l t r) h =
-        λ i. node 9 (next (present_key (expr_seen l h.0 i)) (next (position_seen kinds.Slash (codes "/") t h.1 i) (next (expr_seen r h.2 i) end)))
-    expr_seen (tree.Root t r) h = λ i. node 9 (next absent_key (next (position_seen kinds.Slash (codes "/") t h.0 i) (next (expr_seen r h.1 i) end)))
-    expr_seen (tree.If c b) h = λ i. node 6 (next (expr_seen c h.0 i) (next (expr_seen b h.1 i) (next absent_key end)))
-    expr_seen (tree.IfElse c b o) h = λ i. node 6 (next (expr_seen c h.0 i) (next (expr_seen b h.1 i) (next (present_key (expr_seen o h.2 i)) end)))
-    expr_seen (tree.Not e) h = λ i. node 12 (next (expr_seen e h i) end)
-    expr_seen (tree.StringLiteral expanded t) h = λ i. node 14 (next (string_seen expanded t h i) end)
+        λ i. case_node cases.Join (next (present_key (expr_seen l h.0 i)) (next (position_seen kinds.Slash (codes "/") t h.1 i) (next (expr_seen r h.2 i) end)))
+    expr_seen (tree.Root t r) h =
+        λ i. case_node cases.Join (next absent_key (next (position_seen kinds.Slash (codes "/") t h.0 i) (next (expr_seen r h.1 i) end)))
+    expr_seen (tree.If c b) h = λ i. case_node cases.Conditional (next (expr_seen c h.0 i) (next (expr_seen b h.1 i) (next absent_key end)))
+    expr_seen (tree.IfElse c b o) h =
+        λ i. case_node cases.Conditional (next (expr_seen c h.0 i) (next (expr_seen b h.1 i) (next (present_key (expr_seen o h.2 i)) end)))
+    expr_seen (tree.Not e) h = λ i. case_node cases.Not (next (expr_seen e h i) end)
+    expr_seen (tree.StringLiteral expanded t) h = λ i. case_node cases.StringLiteral (next (string_seen expanded t h i) end)
     expr_seen (tree.FormatLiteral t) h =
-        λ i. node 7
+        λ i. case_node cases.FormatString
         (next
         (leaf
         (literal
@@ -130,7 +134,7 @@ module _ (expander : Expansions) where
         })))
         (next (row end) end))
     expr_seen (tree.FormatString start e parts) h =
-        λ i. node 7
+        λ i. case_node cases.FormatString
         (next
         (leaf
         (literal
@@ -143,16 +147,16 @@ module _ (expander : Expansions) where
         })))
         (next (row (parts_seen start parts h.2 (expr_key tokens e) (expr_key lexemes (over_expr lexeme nothing e)) (expr_seen e h.1) i)) end))
     expr_seen (tree.Backtick t) h =
-        λ i. node 2 (next (leaf (text (or_empty (tokens.cooked (literals.Command t))))) (next (leaf (token (record { kind = h i; lexeme = t.lexeme }))) end))
+        λ i. case_node cases.Backtick (next (leaf (text (or_empty (tokens.cooked (literals.Command t))))) (next (leaf (token (record { kind = h i; lexeme = t.lexeme }))) end))
     expr_seen (tree.Assert name c) h =
-        λ i. node 1 (next (expr_seen c h.1 i) (next absent_key (next (position_seen kinds.Identifier (codes "assert") name h.0 i) end)))
+        λ i. case_node cases.Assert (next (expr_seen c h.1 i) (next absent_key (next (position_seen kinds.Identifier (codes "assert") name h.0 i) end)))
     expr_seen (tree.AssertMessage name c m) h =
-        λ i. node 1 (next (expr_seen c h.1 i) (next (present_key (expr_seen m h.2 i)) (next (position_seen kinds.Identifier (codes "assert") name h.0 i) end)))
-    expr_seen (tree.Variable name) h = λ i. node 15 (next (name_seen name h i) (next (leaf unseen) end))
-    expr_seen (tree.Call name arguments) h = λ i. node 3 (next (name_seen name h.0 i) (next (row (exprs_seen arguments h.1 i)) end))
-    expr_seen (tree.Group e) h = λ i. node 8 (next (expr_seen e h i) end)
+        λ i. case_node cases.Assert (next (expr_seen c h.1 i) (next (present_key (expr_seen m h.2 i)) (next (position_seen kinds.Identifier (codes "assert") name h.0 i) end)))
+    expr_seen (tree.Variable name) h = λ i. case_node cases.Variable (next (name_seen name h i) (next (leaf unseen) end))
+    expr_seen (tree.Call name arguments) h = λ i. case_node cases.Call (next (name_seen name h.0 i) (next (row (exprs_seen arguments h.1 i)) end))
+    expr_seen (tree.Group e) h = λ i. case_node cases.Group (next (expr_seen e h i) end)
     expr_seen (tree.ListOf opener elements) h =
-        λ i. node 10 (next (row (exprs_seen elements h.1 i)) (next (position_seen kinds.BracketL (codes "[") opener h.0 i) end))
+        λ i. case_node cases.List (next (row (exprs_seen elements h.1 i)) (next (position_seen kinds.BracketL (codes "[") opener h.0 i) end))
 
     exprs_seen : (es : Exprs Tok Tok) → KindedExprs es → exprs_keys tokens es ≡ exprs_keys lexemes (over_exprs lexeme nothing es)
     exprs_seen tree.none h = refl

@@ -10,7 +10,7 @@ use Rattle.justfile_model.specs.Meanings.AttributeKinds.{known_keys}
 use Rattle.justfile_model.specs.Meanings.AttributeRules.{of_some, least, order_broken, repeats_broken, is_known, unknown_broken}
 use Rattle.justfile_model.specs.Lists.Distinct.{Distinct}
 use Rattle.justfile_model.specs.LiteralTexts.Literals.{Expansions}
-use Rattle.justfile_model.specs.Meanings.Meaning.{Placed, KeyArgument, by_position, by_key, is_key, at_key}
+use Rattle.justfile_model.specs.Meanings.Meaning.{PositionalArgument, KeyArgument, by_position, by_key, is_key, at_key}
 use Rattle.justfile_model.specs.Printed.Printing.{fixed_text, quoted_argument, signal_argument, keyed_if, bare_if, option_argument, number_literal, rules_arguments, cache_arguments, attribute_arguments}
 use Rattle.justfile_vocabulary.specs.Signal.{signal_name}
 use Rattle.justfile_vocabulary.specs.declared.signal.Signal.{Signal}
@@ -27,7 +27,7 @@ Value = Expr (List ℕ) (Unit {0})
 abbrev pub KeyOf : Type 0
 KeyOf = KeyArgument (List ℕ) (Unit {0})
 
-abbrev pub at_place : Value → Placed (List ℕ) (Unit {0})
+abbrev pub at_place : Value → PositionalArgument (List ℕ) (Unit {0})
 at_place e = record { first = tt; value = e }
 
 abbrev pub positional : Value → Argument (List ℕ) (Unit {0})

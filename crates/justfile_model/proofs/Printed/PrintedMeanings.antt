@@ -18,7 +18,7 @@ use Rattle.justfile_model.specs.Meanings.AttributeKinds.{known_keys, least_count
 use Rattle.justfile_model.specs.Meanings.AttributeRules.{has_more, of_some, least, count_broken, expressions_broken, repeats_broken, unknown_broken, signals_broken, arg_broken, kind_broken, arguments_broken, order_broken, known_broken, named_broken, attribute_broken}
 use Rattle.justfile_model.specs.Trees.ContentKeys.{kind_of_attribute}
 use Rattle.justfile_model.specs.LiteralTexts.Literals.{Expansions}
-use Rattle.justfile_model.specs.Meanings.Meaning.{◌>>=◌, all_of, of_given, value_of, at_key, quoted, Placed, by_position, by_key, quoted_text, signal_set, single_of, texts_of, signal_of, rules_of, attribute_of, entry_of}
+use Rattle.justfile_model.specs.Meanings.Meaning.{◌>>=◌, all_of, of_given, value_of, at_key, quoted, PositionalArgument, by_position, by_key, quoted_text, signal_set, single_of, texts_of, signal_of, rules_of, attribute_of, entry_of}
 use Rattle.justfile_model.specs.Printed.Printing.{fixed_text, attribute_arguments}
 use Rattle.justfile_model.specs.Printed.PrintedAttributes.{rewritten_entry}
 use Rattle.justfile_model.specs.Meanings.Rules.{Broken, InvalidSignal, UnknownAttributeKey, AttributeArgumentCountMismatch, broken_if}
@@ -112,7 +112,7 @@ module _ (expander : Expansions) where
         numbers = n;
       }
 
-  values_at : (es : List Value) → map (λ (p : Placed (List ℕ) (Unit {0})). p.value) (map at_place es) ≡ es
+  values_at : (es : List Value) → map (λ (p : PositionalArgument (List ℕ) (Unit {0})). p.value) (map at_place es) ≡ es
   values_at [] = refl
   values_at (e ∷ es) = ap (λ l. e ∷ l) (values_at es)
 
@@ -120,7 +120,7 @@ module _ (expander : Expansions) where
 
   single_case : (kind : AttributeKind) (es : List Value) (keys : List KeyOf) (a : Shaped) → attribute_of view kind (map at_place es) keys ≡ Some a
       → arguments_broken view tt kind (map at_place es) keys ≡ []
-      → attribute_of view kind (map at_place es) keys ≡ Some (single_of view kind (map (λ (p : Placed (List ℕ) (Unit {0})). p.value) (map at_place es)))
+      → attribute_of view kind (map at_place es) keys ≡ Some (single_of view kind (map (λ (p : PositionalArgument (List ℕ) (Unit {0})). p.value) (map at_place es)))
       → known_keys kind ≡ [] → most_count kind ≡ Some 1 → Rewrites kind a
   single_case kind es keys a m u is known most =
       let is' : attribute_of view kind (map at_place es) keys ≡ Some (single_of view kind es) = is ∙ ap (λ l. Some (single_of view kind l)) (values_at es) in
@@ -137,10 +137,10 @@ module _ (expander : Expansions) where
   text_case : (kind : AttributeKind) (es : List Value) (keys : List KeyOf) (a : Shaped) → attribute_of view kind (map at_place es) keys ≡ Some a
       → arguments_broken view tt kind (map at_place es) keys ≡ []
       → attribute_of view kind (map at_place es) keys
-      ≡ (all_of quoted (map (λ (p : Placed (List ℕ) (Unit {0})). p.value) (map at_place es)) >>= (λ texts. Some (texts_of view kind texts)))
+      ≡ (all_of quoted (map (λ (p : PositionalArgument (List ℕ) (Unit {0})). p.value) (map at_place es)) >>= (λ texts. Some (texts_of view kind texts)))
       → known_keys kind ≡ [] → Rewrites kind a
   text_case kind es keys a m u is known =
-      let t = bind_back (all_of quoted (map (λ (p : Placed (List ℕ) (Unit {0})). p.value) (map at_place es))) (λ texts. Some (texts_of view kind texts)) a
+      let t = bind_back (all_of quoted (map (λ (p : PositionalArgument (List ℕ) (Unit {0})). p.value) (map at_place es))) (λ texts. Some (texts_of view kind texts)) a
       (sym is ∙ m) in
       let same : texts_of view kind t.first ≡ a = some_back (texts_of view kind t.first) a t.gives in
       subst (Rewrites kind) same (go t.first (sym (values_at es) ∙ all_literals _ t.first t.is) (m ∙ ap Some (sym same)))
@@ -169,7 +169,7 @@ module _ (expander : Expansions) where
   signal_quoted s = record { expanded = false; token = fixed_text (codes "\"") ++ fixed_text (signal_name s) ++ fixed_text (codes "\"") }
 
   quoted_signals : (ss : List Signal)
-      → all_of quoted (map (λ (p : Placed (List ℕ) (Unit {0})). p.value) (map at_place (map signal_literal ss))) ≡ Some (map signal_quoted ss)
+      → all_of quoted (map (λ (p : PositionalArgument (List ℕ) (Unit {0})). p.value) (map at_place (map signal_literal ss))) ≡ Some (map signal_quoted ss)
   quoted_signals [] = refl
   quoted_signals (s ∷ ss) = ap (λ o. o >>= (λ qs. Some (signal_quoted s ∷ qs))) (quoted_signals ss)
 
@@ -223,7 +223,7 @@ module _ (expander : Expansions) where
   continue_case : (es : List Value) (keys : List KeyOf) (a : Shaped) → attribute_of view kinds.Continue (map at_place es) keys ≡ Some a
       → Rewrites kinds.Continue a
   continue_case es keys a m =
-      let t = bind_back (all_of quoted (map (λ (p : Placed (List ℕ) (Unit {0})). p.value) (map at_place es))) _ a m in
+      let t = bind_back (all_of quoted (map (λ (p : PositionalArgument (List ℕ) (Unit {0})). p.value) (map at_place es))) _ a m in
       let g = bind_back (all_of (signal_of view) t.first) _ a t.gives in
       subst (Rewrites kinds.Continue) (some_back _ a g.gives) (signals_case (signal_set g.first) (set_twice g.first))
 
@@ -252,7 +252,7 @@ module _ (expander : Expansions) where
 
   cache_case : (es : List Value) (keys : List KeyOf) (a : Shaped) → attribute_of view kinds.Cache (map at_place es) keys ≡ Some a → Rewrites kinds.Cache a
   cache_case es keys a m =
-      let t = bind_back (all_of quoted (map (λ (p : Placed (List ℕ) (Unit {0})). p.value) (map at_place es))) _ a m in
+      let t = bind_back (all_of quoted (map (λ (p : PositionalArgument (List ℕ) (Unit {0})). p.value) (map at_place es))) _ a m in
       let x = bind_back (of_given (value_of view) (at_key view (codes "extra") keys)) _ a t.gives in
       let y = bind_back (of_given (value_of view) (at_key view (codes "inputs") keys)) _ a x.gives in
       let z = bind_back (of_given (value_of view) (at_key view (codes "outputs") keys)) _ a y.gives in
@@ -352,7 +352,7 @@ module _ (expander : Expansions) where
         numbers = h.numbers;
       }
 
-  all_places : (ps : List (Placed (List ℕ) (Unit {0}))) → ps ≡ map at_place (map (λ (p : Placed (List ℕ) (Unit {0})). p.value) ps)
+  all_places : (ps : List (PositionalArgument (List ℕ) (Unit {0}))) → ps ≡ map at_place (map (λ (p : PositionalArgument (List ℕ) (Unit {0})). p.value) ps)
   all_places [] = refl
   all_places (p ∷ ps) = ap (λ l. p ∷ l) (all_places ps)
 
@@ -362,7 +362,7 @@ module _ (expander : Expansions) where
   entry_means_itself w e m u =
       let k = bind_back (kind_named w.name) _ e m in
       let a = bind_back (attribute_of view k.first (by_position w.arguments) (by_key w.arguments)) _ e k.gives in
-      let es = map (λ (p : Placed (List ℕ) (Unit {0})). p.value) (by_position w.arguments) in
+      let es = map (λ (p : PositionalArgument (List ℕ) (Unit {0})). p.value) (by_position w.arguments) in
       let places = all_places (by_position w.arguments) in
       let broken : known_broken view w k.first ≡ [] = ap (named_broken view w) (sym k.is) ∙ u in
       let h = kept k.first es (by_key w.arguments) a.first (ap (λ ps. attribute_of view k.first ps (by_key w.arguments)) (sym places) ∙ a.is)

@@ -12,10 +12,12 @@ use Rattle.justfile_model.specs.Trees.ConditionalOperator.{operator_sign}
 use Rattle.justfile_model.specs.Trees.ContentKeys.{attribute_key, attribute_keys, bound_number_key, bound_word_key, entry_cmp, expr_key, exprs_keys, is_optional, kind_of_attribute, literal_key, option_name_key, own_name_key, parts_keys, property_key, quoted_key, rules_keys, single_keys, texts_keys, word_key}
 use Rattle.justfile_model.specs.Trees.ContentLeaf.{ContentLeaf, content_cmp, count, literal, operator, text, token, unseen}
 use Rattle.justfile_model.specs.Grammars.Expressions.{operator_kind}
+use Rattle.justfile_model.specs.Trees.ExpressionCases.{case_node}
 use Rattle.justfile_model.specs.Trees.Key.{Key, absent_key, end, key_cmp, keys_of, leaf, next, node, option_key, present_key, row}
+use Rattle.justfile_model.specs.declared.expression_case.ExpressionCase.TheVariants as cases
 use Rattle.justfile_model.specs.LiteralTexts.Literals as literals
 use Rattle.justfile_model.specs.LiteralTexts.Literals.{Literal, string_of}
-use Rattle.justfile_model.specs.Meanings.Meaning.{KeyArgument, Placed, by_key, by_position, quoted}
+use Rattle.justfile_model.specs.Meanings.Meaning.{KeyArgument, PositionalArgument, by_key, by_position, quoted}
 use Rattle.justfile_model.specs.Lists.Order.{in_order}
 use Rattle.justfile_model.specs.Trees.LeafView.{LeafView, or_empty}
 use Rattle.justfile_model.specs.Trees.Tree as tree
@@ -54,7 +56,7 @@ module _ {R T A B S D R' T' A' B' S' D' : Type 0} (rel : Relations R T A B S D R
 
   -- an argument by position, and one with a key
 
-  pub record AlikePlaced (p : Placed A B) (p' : Placed A' B') : Type 0 where
+  pub record AlikePositional (p : PositionalArgument A B) (p' : PositionalArgument A' B') : Type 0 where
     pub first : rel.position p.first p'.first
     pub value : Alike rel p.value p'.value
 
@@ -137,7 +139,7 @@ module _ {R T A B S D R' T' A' B' S' D' : Type 0} (rel : Relations R T A B S D R
   quoted_alike (a.list b es) = absent
 
   pub positions_alike : {xs : List (Argument A B)} {xs' : List (Argument A' B')} → Each AlikeArgument xs xs'
-      → Each AlikePlaced (by_position xs) (by_position xs')
+      → Each AlikePositional (by_position xs) (by_position xs')
   positions_alike a.nil = a.nil
   positions_alike (a.cons (positional b e) hs) = a.cons (record { first = b; value = e }) (positions_alike hs)
   positions_alike (a.cons (bare k) hs) = positions_alike hs
@@ -164,38 +166,45 @@ module _ {R T A B S D R' T' A' B' S' D' : Type 0} (rel : Relations R T A B S D R
     position_is kind spelled {b} {b'} h i = leaf (token (sees.position_content kind spelled b b' h i))
 
     command_is : (lexeme : List ℕ) {t : A} {t' : A'} → rel.literal (literals.Command lexeme) t t'
-        → ◌≡◌ {A = Key ContentLeaf} (node 2 (next (leaf (text (or_empty (view.cooked (literals.Command t)))))
+        → ◌≡◌ {A = Key ContentLeaf} (case_node cases.Backtick (next (leaf (text (or_empty (view.cooked (literals.Command t)))))
         (next (leaf (token (view.leaf_content kinds.Backtick t))) end)))
-        (node 2 (next (leaf (text (or_empty (view'.cooked (literals.Command t'))))) (next (leaf (token (view'.leaf_content kinds.Backtick t'))) end)))
+        (case_node cases.Backtick (next (leaf (text (or_empty (view'.cooked (literals.Command t'))))) (next (leaf (token (view'.leaf_content kinds.Backtick t'))) end)))
     command_is lexeme {t} {t'} h i =
-        node 2 (next (leaf (text (or_empty (sees.cooked (literals.Command t) (literals.Command t') (command_literal h) i))))
+        case_node cases.Backtick (next (leaf (text (or_empty (sees.cooked (literals.Command t) (literals.Command t') (command_literal h) i))))
         (next (leaf (token (sees.command_content lexeme t t' h i))) end))
 
     mutual
       pub same_key : {e : Expr A B} {e' : Expr A' B'} → Alike rel e e' → expr_key view e ≡ expr_key view' e'
-      same_key (a.or l r) = λ i. node 13 (next (same_key l i) (next (same_key r i) end))
-      same_key (a.and l r) = λ i. node 0 (next (same_key l i) (next (same_key r i) end))
+      same_key (a.or l r) = λ i. case_node cases.Or (next (same_key l i) (next (same_key r i) end))
+      same_key (a.and l r) = λ i. case_node cases.And (next (same_key l i) (next (same_key r i) end))
       same_key (a.comparison {by =
-          by} l b r) = λ i. node 4 (next (same_key l i) (next (leaf (operator by))
+          by} l b r) = λ i. case_node cases.Comparison (next (same_key l i) (next (leaf (operator by))
           (next (same_key r i) (next (position_is (operator_kind by) (operator_sign by) b i) end))))
-      same_key (a.concatenation l b r) = λ i. node 5 (next (same_key l i) (next (position_is kinds.Plus (codes "+") b i) (next (same_key r i) end)))
-      same_key (a.list_concatenation l b r) = λ i. node 11 (next (same_key l i) (next (position_is kinds.PlusPlus (codes "++") b i) (next (same_key r i) end)))
-      same_key (a.join l b r) = λ i. node 9 (next (present_key (same_key l i)) (next (position_is kinds.Slash (codes "/") b i) (next (same_key r i) end)))
-      same_key (a.root b r) = λ i. node 9 (next absent_key (next (position_is kinds.Slash (codes "/") b i) (next (same_key r i) end)))
-      same_key (a.if_only c e) = λ i. node 6 (next (same_key c i) (next (same_key e i) (next absent_key end)))
-      same_key (a.if_else c e o) = λ i. node 6 (next (same_key c i) (next (same_key e i) (next (present_key (same_key o i)) end)))
-      same_key (a.not e) = λ i. node 12 (next (same_key e i) end)
-      same_key (a.string {expanded = expanded} lexeme l) = λ i. node 14 (next (literal_is (string_alike expanded lexeme l) i) end)
-      same_key (a.format_literal lexeme l) = λ i. node 7 (next (literal_is (single_literal l) i) (next (row end) end))
-      same_key (a.format_string lexeme l e ps) = λ i. node 7 (next (literal_is (start_literal l) i) (next (row (same_parts l (same_key e) ps i)) end))
+      same_key (a.concatenation l b r) =
+          λ i. case_node cases.Concatenation (next (same_key l i) (next (position_is kinds.Plus (codes "+") b i) (next (same_key r i) end)))
+      same_key (a.list_concatenation l b r) =
+          λ i. case_node cases.ListConcatenation (next (same_key l i) (next (position_is kinds.PlusPlus (codes "++") b i) (next (same_key r i) end)))
+      same_key (a.join l b r) =
+          λ i. case_node cases.Join (next (present_key (same_key l i)) (next (position_is kinds.Slash (codes "/") b i) (next (same_key r i) end)))
+      same_key (a.root b r) = λ i. case_node cases.Join (next absent_key (next (position_is kinds.Slash (codes "/") b i) (next (same_key r i) end)))
+      same_key (a.if_only c e) = λ i. case_node cases.Conditional (next (same_key c i) (next (same_key e i) (next absent_key end)))
+      same_key (a.if_else c e o) =
+          λ i. case_node cases.Conditional (next (same_key c i) (next (same_key e i) (next (present_key (same_key o i)) end)))
+      same_key (a.not e) = λ i. case_node cases.Not (next (same_key e i) end)
+      same_key (a.string {expanded =
+          expanded} lexeme l) = λ i. case_node cases.StringLiteral (next (literal_is (string_alike expanded lexeme l) i) end)
+      same_key (a.format_literal lexeme l) = λ i. case_node cases.FormatString (next (literal_is (single_literal l) i) (next (row end) end))
+      same_key (a.format_string lexeme l e ps) =
+          λ i. case_node cases.FormatString (next (literal_is (start_literal l) i) (next (row (same_parts l (same_key e) ps i)) end))
       same_key (a.backtick lexeme l) = command_is lexeme l
-      same_key (a.assert b c) = λ i. node 1 (next (same_key c i) (next absent_key (next (position_is kinds.Identifier (codes "assert") b i) end)))
+      same_key (a.assert b c) =
+          λ i. case_node cases.Assert (next (same_key c i) (next absent_key (next (position_is kinds.Identifier (codes "assert") b i) end)))
       same_key (a.assert_message b c m) =
-          λ i. node 1 (next (same_key c i) (next (present_key (same_key m i)) (next (position_is kinds.Identifier (codes "assert") b i) end)))
-      same_key (a.variable n) = λ i. node 15 (next (name_is n i) (next (leaf unseen) end))
-      same_key (a.call n es) = λ i. node 3 (next (name_is n i) (next (row (same_keys es i)) end))
-      same_key (a.group e) = λ i. node 8 (next (same_key e i) end)
-      same_key (a.list b es) = λ i. node 10 (next (row (same_keys es i)) (next (position_is kinds.BracketL (codes "[") b i) end))
+          λ i. case_node cases.Assert (next (same_key c i) (next (present_key (same_key m i)) (next (position_is kinds.Identifier (codes "assert") b i) end)))
+      same_key (a.variable n) = λ i. case_node cases.Variable (next (name_is n i) (next (leaf unseen) end))
+      same_key (a.call n es) = λ i. case_node cases.Call (next (name_is n i) (next (row (same_keys es i)) end))
+      same_key (a.group e) = λ i. case_node cases.Group (next (same_key e i) end)
+      same_key (a.list b es) = λ i. case_node cases.List (next (row (same_keys es i)) (next (position_is kinds.BracketL (codes "[") b i) end))
 
       pub same_keys : {es : Exprs A B} {es' : Exprs A' B'} → AlikeAll rel es es' → exprs_keys view es ≡ exprs_keys view' es'
       same_keys a.none = refl

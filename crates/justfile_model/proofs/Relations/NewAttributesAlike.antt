@@ -13,14 +13,14 @@ use Rattle.justfile_model.specs.Meanings.AttributeRules.{allowed_broken, arg_rul
 use Rattle.justfile_model.specs.Trees.ContentKeys.{kind_of_attribute}
 use Rattle.justfile_model.specs.Trees.ContentLeaf.{literal_value}
 use Rattle.justfile_model.specs.LiteralTexts.Literals.{string_of}
-use Rattle.justfile_model.specs.Meanings.Meaning.{KeyArgument, Placed, at_key, count_of, is_count, quoted_text, signal_set, single_of, text_of, texts_of}
+use Rattle.justfile_model.specs.Meanings.Meaning.{KeyArgument, PositionalArgument, at_key, count_of, is_count, quoted_text, signal_set, single_of, text_of, texts_of}
 use Rattle.justfile_model.specs.Readers.NewAttribute as new
 use Rattle.justfile_model.specs.Readers.NewAttribute.{Made}
 use Rattle.justfile_model.specs.Trees.LeafView.{LeafView, or_empty}
 use Rattle.justfile_model.specs.Trees.Tree as tree
 use Rattle.justfile_model.specs.Trees.Tree.{ArgumentRules, Attribute, Bound, Entry, Expr, OptionName, Property, Quoted}
 use Rattle.justfile_model.proofs.Relations.AlikeAttributes as alike
-use Rattle.justfile_model.proofs.Relations.AlikeAttributes.{AlikeArgumentRules, AlikeAttribute, AlikeBound, AlikeEntry, AlikeKey, AlikeOptionName, AlikePlaced, AlikeProperty, AlikeQuoted, SeesAlike, quoted_alike, quoted_literal, same_kind}
+use Rattle.justfile_model.proofs.Relations.AlikeAttributes.{AlikeArgumentRules, AlikeAttribute, AlikeBound, AlikeEntry, AlikeKey, AlikeOptionName, AlikePositional, AlikeProperty, AlikeQuoted, SeesAlike, quoted_alike, quoted_literal, same_kind}
 use Rattle.justfile_model.proofs.Relations.AlikeRules as broken
 use Rattle.justfile_model.proofs.Relations.AlikeRules.{AlikeBroken, AlikeRule}
 use Rattle.justfile_model.proofs.Lists.EachLaws.{AlikeOption, absent, each_given, each_mapped, first_alike, found_alike, kept_alike, least_alike, listed_alike, present, same_some}
@@ -83,7 +83,7 @@ module _ {R T A B S D R' T' A' B' S' D' : Type 0} (rel : Relations R T A B S D R
         → Makes rel.position (AlikeQuoted rel) (new.literal view at k e) (new.literal view' at' k' e')
     literal_alike {k} {k'} h e = there rel.position (quoted_alike rel e) (broken.argument_expression place) (sees.name_place k k' h)
 
-    placed_literal_alike : (p : Placed A B) (p' : Placed A' B') → AlikePlaced rel p p'
+    placed_literal_alike : (p : PositionalArgument A B) (p' : PositionalArgument A' B') → AlikePositional rel p p'
         → Makes rel.position (AlikeQuoted rel) (new.placed_literal view at p) (new.placed_literal view' at' p')
     placed_literal_alike p p' h = there rel.position (quoted_alike rel h.value) (broken.argument_expression place) h.first
 
@@ -245,20 +245,20 @@ module _ {R T A B S D R' T' A' B' S' D' : Type 0} (rel : Relations R T A B S D R
     of_expressions_alike attributes.Env (a.cons e (a.cons f fs)) = alike.env e f
     of_expressions_alike kind h = single_alike kind h
 
-    from_literals_alike : (kind : AttributeKind) {ps : List (Placed A B)} {ps' : List (Placed A' B')} {ks : List (KeyArgument A B)}
-        {ks' : List (KeyArgument A' B')} → Each (AlikePlaced rel) ps ps' → Each (AlikeKey rel) ks ks'
+    from_literals_alike : (kind : AttributeKind) {ps : List (PositionalArgument A B)} {ps' : List (PositionalArgument A' B')} {ks : List (KeyArgument A B)}
+        {ks' : List (KeyArgument A' B')} → Each (AlikePositional rel) ps ps' → Each (AlikeKey rel) ks ks'
         → Makes rel.position (AlikeAttribute rel) (new.from_literals view at kind ps ks) (new.from_literals view' at' kind ps' ks')
     from_literals_alike kind h k =
         step rel.position _ _ (all_made rel.position _ _ placed_literal_alike h) (λ qs qs' q. step rel.position _ _ (of_literals_alike kind q k) (λ x x' j.
         step rel.position _ _ (keys_known kind k) (λ _ _ _. made j)))
 
-    from_expressions_alike : (kind : AttributeKind) {ps : List (Placed A B)} {ps' : List (Placed A' B')} {ks : List (KeyArgument A B)}
-        {ks' : List (KeyArgument A' B')} → Each (AlikePlaced rel) ps ps' → Each (AlikeKey rel) ks ks'
+    from_expressions_alike : (kind : AttributeKind) {ps : List (PositionalArgument A B)} {ps' : List (PositionalArgument A' B')} {ks : List (KeyArgument A B)}
+        {ks' : List (KeyArgument A' B')} → Each (AlikePositional rel) ps ps' → Each (AlikeKey rel) ks ks'
         → Makes rel.position (AlikeAttribute rel) (new.from_expressions view at kind ps ks) (new.from_expressions view' at' kind ps' ks')
     from_expressions_alike kind h k = step rel.position _ _ (keys_known kind k) (λ _ _ _. made (of_expressions_alike kind (each_mapped _ _ (λ p p' j. j.value) h)))
 
-    pub new_attribute_alike : (kind : AttributeKind) {ps : List (Placed A B)} {ps' : List (Placed A' B')} {ks : List (KeyArgument A B)}
-        {ks' : List (KeyArgument A' B')} → Each (AlikePlaced rel) ps ps' → Each (AlikeKey rel) ks ks'
+    pub new_attribute_alike : (kind : AttributeKind) {ps : List (PositionalArgument A B)} {ps' : List (PositionalArgument A' B')} {ks : List (KeyArgument A B)}
+        {ks' : List (KeyArgument A' B')} → Each (AlikePositional rel) ps ps' → Each (AlikeKey rel) ks ks'
         → Makes rel.position (AlikeAttribute rel) (new.new_attribute view at kind ps ks) (new.new_attribute view' at' kind ps' ks')
     unfolding new.new_attribute
     new_attribute_alike kind h k =
@@ -307,9 +307,9 @@ module _ {R T A B S D R' T' A' B' S' D' : Type 0} (rel : Relations R T A B S D R
   repeated_alike (a.cons h hs) k =
       by_tests rel.position _ _ (excludes_alike h.attribute k.attribute) (refused rel.position (duplicate_alike k.name k.attribute h.name) k.name) (repeated_alike hs k)
 
-  pub new_entry_alike : {ds : List (Entry A B)} {ds' : List (Entry A' B')} {n : B} {n' : B'} (kind : AttributeKind) {ps : List (Placed A B)}
-      {ps' : List (Placed A' B')} {ks : List (KeyArgument A B)} {ks' : List (KeyArgument A' B')}
-      → Each (AlikeEntry rel) ds ds' → rel.position n n' → Each (AlikePlaced rel) ps ps' → Each (AlikeKey rel) ks ks'
+  pub new_entry_alike : {ds : List (Entry A B)} {ds' : List (Entry A' B')} {n : B} {n' : B'} (kind : AttributeKind) {ps : List (PositionalArgument A B)}
+      {ps' : List (PositionalArgument A' B')} {ks : List (KeyArgument A B)} {ks' : List (KeyArgument A' B')}
+      → Each (AlikeEntry rel) ds ds' → rel.position n n' → Each (AlikePositional rel) ps ps' → Each (AlikeKey rel) ks ks'
       → Makes rel.position (AlikeEntry rel) (new.new_entry view ds n kind ps ks) (new.new_entry view' ds' n' kind ps' ks')
   new_entry_alike {n} {n'} kind d place h k =
       step rel.position _ _ (new_attribute_alike n n' place kind h k)

@@ -45,14 +45,14 @@ is_empty [] = true
 is_empty (x ∷ xs) = false
 
 -- the last byte is a line feed
-abbrev pub ends_in_newline : List ℕ → Bool
-ends_in_newline bs = slice_index bs (length bs - 1) == byte.line_feed
+abbrev pub ends_in_line_feed : List ℕ → Bool
+ends_in_line_feed bs = slice_index bs (length bs - 1) == byte.line_feed
 
 -- a delimiter that is opened on this line
 abbrev pub opener : Delimiter → ℕ → OpenDelimiter
 opener d n = record { delimiter = d; line = n }
 
--- the mode after a token
+-- the mode after a token; tokens of kinds that aren't named open and close nothing, and don't end a line
 abbrev pub mode_after : TokenKind → Tok → Mode → Mode
 mode_after BraceL t m = record m { openers = opener Brace t.line ∷ m.openers; line_start = false; after_f = false }
 mode_after BracketL t m = record m { openers = opener Bracket t.line ∷ m.openers; line_start = false; after_f = false }
@@ -68,7 +68,7 @@ mode_after Dedent t m = record m { levels = tail_of m.levels; colon = false; in_
 mode_after InterpolationStart t m = record m { interpolation = Some t; line_start = false; after_f = false }
 mode_after InterpolationEnd t m = record m { interpolation = None; line_start = false; after_f = false }
 mode_after Eol t m = record m { line_start = true; after_f = false }
-mode_after Whitespace t m = record m { line_start = ends_in_newline t.lexeme; after_f = false }
+mode_after Whitespace t m = record m { line_start = ends_in_line_feed t.lexeme; after_f = false }
 mode_after Identifier t m = record m { line_start = false; after_f = bytes_eq t.lexeme (byte.letter_f ∷ []) }
 mode_after _ t m = record m { line_start = false; after_f = false }
 

@@ -32,7 +32,7 @@ abbrev pub identifiers : List SignificantToken → ℕ
 identifiers [] = 0
 identifiers (t ∷ ts) = cond (is_identifier t.tok.kind) 1 0 + identifiers ts
 
--- For the kinds that trees keep: if a kind has a single lexeme, the token has that lexeme.
+-- A token of one of the kinds that trees keep and that have a single lexeme has that lexeme. Of the other kinds nothing is said.
 abbrev pub Spelling : TokenKind → List ℕ → Type 0
 Spelling EqualsEquals lexeme = lexeme ≡ codes "=="
 Spelling BangEquals lexeme = lexeme ≡ codes "!="

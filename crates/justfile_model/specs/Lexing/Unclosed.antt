@@ -27,7 +27,7 @@ module _ {X : Type 0} (opened : Tok → Option X) (closer : X → TokenKind) whe
     OneMore : (ts : List Tok) (xs : List X) (x : X) (start : Tok) (after : List Tok) → Unclosed ts xs
         → opened start ≡ Some x → Balanced after → Unclosed (ts ++ (start ∷ after)) (x ∷ xs)
 
--- the delimiter that a token of this kind opens, and the line on which the token ends
+-- the delimiter that a token of this kind opens, and the line on which the token ends; the other kinds open none
 abbrev pub delimiter_by : TokenKind → Tok → Option OpenDelimiter
 delimiter_by kinds.BraceL t = Some (record { delimiter = Brace; line = t.line })
 delimiter_by kinds.BracketL t = Some (record { delimiter = Bracket; line = t.line })
@@ -51,7 +51,7 @@ delimiter_closer (FormatString k) = kinds.FormatStringEnd
 abbrev pub UnclosedDelimiters : List Tok → List OpenDelimiter → Type 0
 UnclosedDelimiters = Unclosed delimiter_of (λ o. delimiter_closer o.delimiter)
 
--- the level that an indent opens: its blanks
+-- the level that an indent opens: its blanks; no other token opens one
 abbrev pub level_by : TokenKind → Tok → Option (List ℕ)
 level_by kinds.Indent t = Some t.lexeme
 level_by _ t = None
@@ -60,7 +60,7 @@ level_by _ t = None
 abbrev pub UnclosedLevels : List Tok → List (List ℕ) → Type 0
 UnclosedLevels = Unclosed (λ t. level_by t.kind t) (λ blanks. kinds.Dedent)
 
--- the interpolation that a token opens, as its token
+-- the interpolation that a token opens, as its token; no token of another kind opens one
 abbrev pub interpolation_opened : TokenKind → Tok → Option Tok
 interpolation_opened kinds.InterpolationStart t = Some t
 interpolation_opened _ t = None

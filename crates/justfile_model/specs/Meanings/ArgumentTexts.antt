@@ -2,7 +2,7 @@
 use Rattle.std.specs.Prelude.{◌≡◌, true, List, Option, Some}
 use Rattle.std.specs.List.{All}
 use Rattle.std.specs.Option.{is_some}
-use Rattle.justfile_model.specs.Meanings.Meaning.{KeyArgument, Placed, quoted, quoted_text}
+use Rattle.justfile_model.specs.Meanings.Meaning.{KeyArgument, PositionalArgument, quoted, quoted_text}
 use Rattle.justfile_model.specs.Trees.LeafView.{LeafView}
 use Rattle.justfile_model.specs.Trees.Tree.{Expr, Quoted}
 
@@ -18,6 +18,6 @@ module _ {A B : Type 0} (view : LeafView A B) where
   KeysHaveTexts keys = All (λ (k : KeyArgument A B). ValueHasText k.value) keys
 
   -- Every literal among the arguments of an attribute has a text.
-  pub record HasTexts (placed : List (Placed A B)) (keys : List (KeyArgument A B)) : Type 0 where
-    pub values : All (λ (p : Placed A B). HasText p.value) placed
+  pub record HasTexts (placed : List (PositionalArgument A B)) (keys : List (KeyArgument A B)) : Type 0 where
+    pub values : All (λ (p : PositionalArgument A B). HasText p.value) placed
     pub given : KeysHaveTexts keys

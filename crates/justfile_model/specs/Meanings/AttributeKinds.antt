@@ -20,7 +20,7 @@ named_takes_keys (Some kind) = takes_keys kind
 abbrev pub name_takes_keys : List ℕ → Bool
 name_takes_keys name = named_takes_keys (kind_named name)
 
--- the keys that attributes of this kind can have
+-- the keys that attributes of this kind can have; kinds other than these two take none
 abbrev pub known_keys : AttributeKind → List (List ℕ)
 known_keys Arg =
     codes "long" ∷ codes "short" ∷ codes "pattern" ∷ codes "value" ∷ codes "flag" ∷ codes "multiple" ∷ codes "max" ∷ codes "min" ∷ codes "help" ∷ []
@@ -96,12 +96,12 @@ is_repeatable Group = true
 is_repeatable Metadata = true
 is_repeatable _ = false
 
--- the kind of the attribute `private`; no other kind is
+-- whether the kind is that of the attribute `private`
 abbrev pub is_private_kind : AttributeKind → Bool
 is_private_kind Private = true
 is_private_kind _ = false
 
--- the kinds that a module can have besides those that enable it on a system; no other kind is
+-- the kinds that a module can have besides those that enable it on a system; it can have no others
 abbrev pub is_module_kind : AttributeKind → Bool
 is_module_kind Doc = true
 is_module_kind Group = true

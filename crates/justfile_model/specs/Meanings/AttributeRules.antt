@@ -13,7 +13,7 @@ use Rattle.justfile_model.specs.Meanings.AttributeKinds.{same_attribute, known_k
 use Rattle.justfile_model.specs.Trees.ContentKeys.{kind_of_attribute}
 use Rattle.justfile_model.specs.Trees.ContentLeaf.{LiteralValue, literal_value, text_cmp}
 use Rattle.justfile_model.specs.LiteralTexts.Literals.{string_of}
-use Rattle.justfile_model.specs.Meanings.Meaning.{quoted, Placed, KeyArgument, by_position, by_key, first_of, quoted_text, text_of, at_key, is_count, count_of, entry_of, entries_of}
+use Rattle.justfile_model.specs.Meanings.Meaning.{quoted, PositionalArgument, KeyArgument, by_position, by_key, first_of, quoted_text, text_of, at_key, is_count, count_of, entry_of, entries_of}
 use Rattle.justfile_model.specs.Meanings.Rules.{Rule, UnknownAttribute, AttributeArgumentCountMismatch, AttributeArgumentExpression, AttributePositionalFollowsKeyword, DuplicateAttributeKey, UnknownAttributeKey, AttributeKeyMissingValue, AttributeKeyTakesNoValue, InvalidSignal, OptionNameContainsEqualSign, OptionNameStartsWithDash, OptionNameEmpty, ShortOptionWithMultipleCharacters, ArgAttributeRequiresOption, FlagAttributeTakesNoValue, FlagAndValueArgAttribute, FlagAndPatternArgAttribute, ArgumentCountValue, ArgumentCountParse, ArgAttributeMinExceedsMax, DuplicateAttribute, DuplicateArgAttribute, DuplicateGroupAttribute, InvalidAttribute, Broken, broken_if}
 use Rattle.justfile_model.specs.Trees.LeafView.{LeafView}
 use Rattle.justfile_model.specs.Trees.Tree as tree
@@ -51,10 +51,10 @@ module _ {A B : Type 0} (view : LeafView A B) where
         broken_if (nat_lt found (least_count kind) || has_more found (most_count kind)) (AttributeArgumentCountMismatch at found (least_count kind) (most_count kind)) at
 
     -- A positional argument isn't a literal.
-    abbrev pub expression_broken : Placed A B → List (Broken B)
+    abbrev pub expression_broken : PositionalArgument A B → List (Broken B)
     expression_broken p = broken_if (not (is_literal p.value)) (AttributeArgumentExpression at) p.first
 
-    abbrev pub expressions_broken : AttributeKind → List (Placed A B) → List (Broken B)
+    abbrev pub expressions_broken : AttributeKind → List (PositionalArgument A B) → List (Broken B)
     expressions_broken kind placed = if takes_expressions kind then [] else flat_map expression_broken placed
 
     -- A positional argument follows one by key.
@@ -91,7 +91,7 @@ module _ {A B : Type 0} (view : LeafView A B) where
     abbrev pub signal_broken : Quoted A → List ℕ → List (Broken B)
     signal_broken q name = broken_if (not (is_some (signal_named name))) (InvalidSignal name) (view.place q.token)
 
-    abbrev pub signals_broken : Placed A B → List (Broken B)
+    abbrev pub signals_broken : PositionalArgument A B → List (Broken B)
     signals_broken p = of_some (λ q. of_some (signal_broken q) (quoted_text view q)) (quoted p.value)
 
     -- the rules of `arg` for the parameter with this name
@@ -160,9 +160,9 @@ module _ {A B : Type 0} (view : LeafView A B) where
           ++ key_broken (codes "min") (λ min. key_broken (codes "max") (exceeds_broken min))
           ++ key_broken (codes "help") missing_broken
 
-    -- the rules of one kind only
-    abbrev pub kind_broken : AttributeKind → List (Placed A B) → List (KeyArgument A B) → List (Broken B)
-    kind_broken kinds.Arg placed keys = flat_map (λ (p : Placed A B). of_some (λ q. of_some (λ argument. arg_broken argument keys) (quoted_text view q)) (quoted p.value)) placed
+    -- the rules of this kind alone; kinds other than these three have none
+    abbrev pub kind_broken : AttributeKind → List (PositionalArgument A B) → List (KeyArgument A B) → List (Broken B)
+    kind_broken kinds.Arg placed keys = flat_map (λ (p : PositionalArgument A B). of_some (λ q. of_some (λ argument. arg_broken argument keys) (quoted_text view q)) (quoted p.value)) placed
     kind_broken kinds.Cache placed keys =
         of_some missing_broken (at_key view (codes "extra") keys)
         ++ of_some missing_broken (at_key view (codes "inputs") keys)
@@ -171,7 +171,7 @@ module _ {A B : Type 0} (view : LeafView A B) where
     kind_broken kind placed keys = []
 
     -- the broken rules of the arguments of an attribute of this kind, regardless of the order of the arguments
-    abbrev pub arguments_broken : AttributeKind → List (Placed A B) → List (KeyArgument A B) → List (Broken B)
+    abbrev pub arguments_broken : AttributeKind → List (PositionalArgument A B) → List (KeyArgument A B) → List (Broken B)
     arguments_broken kind placed keys =
         count_broken kind (length placed)
         ++ expressions_broken kind placed

@@ -50,7 +50,7 @@ quoted (tree.StringLiteral expanded token) = Some (record { expanded = expanded;
 quoted _ = None
 
 -- a positional argument and the position of its first token
-pub record Placed (A B : Type 0) : Type 0 where
+pub record PositionalArgument (A B : Type 0) : Type 0 where
   pub first : B
   pub value : Expr A B
 
@@ -60,7 +60,7 @@ pub record KeyArgument (A B : Type 0) : Type 0 where
   pub value : Option (Expr A B)
 
 -- the positional arguments
-abbrev pub by_position : {A B : Type 0} → List (Argument A B) → List (Placed A B)
+abbrev pub by_position : {A B : Type 0} → List (Argument A B) → List (PositionalArgument A B)
 by_position [] = []
 by_position (tree.Positional first value ∷ arguments) = record { first = first; value = value } ∷ by_position arguments
 by_position (_ ∷ arguments) = by_position arguments
@@ -151,12 +151,12 @@ module _ {A B : Type 0} (view : LeafView A B) where
     value ← of_given value_of (at_key (codes "value") keys)
     Some (record { flag = flag; help = help; long = long; max = max; min = min; multiple = multiple; name = name; pattern = pattern; short = short; value = value })
 
-  -- an attribute with an optional expression
+  -- an attribute that takes at most one expression; without one it is plain
   abbrev pub single_of : AttributeKind → List (Expr A B) → Attribute A B
   single_of kind [] = tree.Plain kind
   single_of kind (e ∷ es) = tree.Single kind e
 
-  -- an attribute with a list of literals
+  -- an attribute of literals; without any it is plain
   abbrev pub texts_of : AttributeKind → List (Quoted A) → Attribute A B
   texts_of kind [] = tree.Plain kind
   texts_of kind texts = tree.Texts kind texts
@@ -168,12 +168,12 @@ module _ {A B : Type 0} (view : LeafView A B) where
   abbrev pub signal_of : Quoted A → Option Signal
   signal_of q = signal_named (text_of q)
 
-  -- the attribute, for a kind that takes expressions
+  -- the attribute, for a kind that takes expressions; kinds other than `env` take at most one
   abbrev pub of_expressions : AttributeKind → List (Expr A B) → Option (Attribute A B)
   of_expressions kinds.Env values = env_of values
   of_expressions kind values = Some (single_of kind values)
 
-  -- the attribute, for a kind that takes literals
+  -- the attribute, for a kind that takes literals; of kinds other than these three it is their texts
   abbrev pub of_literals : AttributeKind → List (Quoted A) → List (KeyArgument A B) → Option (Attribute A B)
   of_literals kinds.Arg texts keys = do
     rules ← rules_of texts keys
@@ -195,8 +195,8 @@ module _ {A B : Type 0} (view : LeafView A B) where
     of_literals kind texts keys
 
   -- the meaning of an attribute of this kind with these arguments
-  abbrev pub attribute_of : AttributeKind → List (Placed A B) → List (KeyArgument A B) → Option (Attribute A B)
-  attribute_of kind placed keys = by_takes (takes_expressions kind) kind (map (λ (p : Placed A B). p.value) placed) keys
+  abbrev pub attribute_of : AttributeKind → List (PositionalArgument A B) → List (KeyArgument A B) → Option (Attribute A B)
+  attribute_of kind placed keys = by_takes (takes_expressions kind) kind (map (λ (p : PositionalArgument A B). p.value) placed) keys
 
   abbrev pub entry_of : WrittenAttribute A B → Option (Entry A B)
   entry_of w = do

@@ -1,5 +1,5 @@
--- The rules that a recipe breaks, other than those of its attributes, each at a token. All broken rules are listed; their order has no
--- meaning.
+-- The rules that a recipe breaks by its header and by the meaning of its attributes, each at a token. The rules that attributes break on
+-- any item are in `AttributeRules`. All broken rules are listed; their order has no meaning.
 use Rattle.std.specs.Prelude.{ℕ, Bool, true, false, ◌&&◌, not, List, [], ◌∷◌, ◌++◌, map, Option, Some, None, nat_eq, if◌then◌else◌}
 use Rattle.std.specs.List.{filter, find, filter_map, flat_map, list_any}
 use Rattle.std.specs.Option.{is_some, option_map}

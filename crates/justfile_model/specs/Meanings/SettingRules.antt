@@ -21,7 +21,7 @@ module _ {B : Type 0} (current : VersionNumbers) where
   version_broken place text None = broken_if true (InvalidMinimumVersion text) place
   version_broken place text (Some minimum) = broken_if (is_above minimum current) (MinimumVersion minimum current) place
 
-  -- the rules of the text of a plain literal, by the setting
+  -- the rules of the text of a plain literal; only `indentation` and `minimum-version` take one
   abbrev pub text_broken : Keyword → (place : B) → List ℕ → List (Broken B)
   text_broken words.Indentation place text = of_some (λ message. broken_if true (InvalidIndentation message) place) (indentation_refusal text)
   text_broken words.MinimumVersion place text = version_broken place text (version_of text)
@@ -38,6 +38,7 @@ module _ {A B : Type 0} (current : VersionNumbers) (view : LeafView A B) where
   literal_broken keyword name None = broken_if true (SettingExpression keyword) name
   literal_broken keyword name (Some literal) = of_some (text_broken current keyword (view.place literal.token)) (quoted_text view literal)
 
+  -- the rules of a value, by the form of the setting; values of the other forms have none
   abbrev pub value_broken : Option SettingForm → Keyword → (name : B) → SettingValue A B → List (Broken B)
   value_broken (Some PlainForm) keyword name (tree.Value value) = literal_broken keyword name (plain_literal value)
   value_broken form keyword name value = []

@@ -23,7 +23,7 @@ abbrev pub is_lists_setting : {A B C S : Type 0} → Content A B C S → Bool
 is_lists_setting (Setting parts) = is_lists parts.keyword
 is_lists_setting content = false
 
--- the item uses the feature; only recipes can have the attribute `cache`
+-- the item uses the feature; only recipes can have the attribute `cache`, and comments and line ends use no feature
 abbrev pub uses : {A B C : Type 0} → UnstableFeature → OrderedItem A B C → Bool
 uses CachedRecipes (Construct entries content) = has_attribute Cache entries
 uses ListsSetting (Construct entries content) = is_lists_setting content

@@ -31,6 +31,7 @@ operator_text Inequality = fixed_text (codes " != ")
 operator_text RegexMatch = fixed_text (codes " =~ ")
 operator_text RegexMismatch = fixed_text (codes " !~ ")
 
+-- the expression is a conditional, with or without `else`; no other case is one
 abbrev pub is_conditional : {A B : Type 0} → Expr A B → Bool
 is_conditional (If c b) = true
 is_conditional (IfElse c b o) = true

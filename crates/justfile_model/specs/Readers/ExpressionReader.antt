@@ -245,23 +245,27 @@ module _ {R T A B S : Type 0} (leaves : Leaves R T A B S) where
       start ← cooked (λ l. l) literals.Start x
       format_rest_rule start.0 (leaves.see x.0).tok.lexeme start.1
 
+    -- a list; any other entry is refused
     unfoldable pub list_rule : State R T B → ReadExpr
     list_rule s = choose (accept leaves kinds.BracketL s) (Err (refused Unexpected s)) (λ o. do
       es ← read (Sequence kinds.BracketR (note leaves features.ListLiteral o.0 o.1))
       Ok (t.ListOf (leaves.position o.0) es.0, es.1))
 
+    -- a group, or what `list_rule` reads
     unfoldable pub group_rule : State R T B → ReadExpr
     group_rule s = choose (accept leaves kinds.ParenL s) (list_rule s) (λ o. do
       e ← read (At Expression false o.1)
       c ← expect leaves kinds.ParenR e.1
       Ok (t.Group e.0, c.1))
 
+    -- a variable or a call, or what `group_rule` reads
     unfoldable pub name_rule : State R T B → ReadExpr
     name_rule s = choose (accept leaves kinds.Identifier s) (group_rule s) (λ n.
         choose (accept leaves kinds.ParenL n.1) (Ok (t.Variable (leaves.name n.0), n.1)) (λ o. do
           es ← read (Sequence kinds.ParenR o.1)
           Ok (t.Call (leaves.name n.0) es.0, with (called (leaves.see n.0).tok.lexeme (leaves.position n.0)) es.1)))
 
+    -- an assertion, or what `name_rule` reads
     unfoldable pub assert_rule : State R T B → ReadExpr
     assert_rule s = choose (accept_keyword leaves (codes "assert") s) (name_rule s) (λ w. do
       o ← expect leaves kinds.ParenL w.1

@@ -10,7 +10,7 @@ use Rattle.justfile_vocabulary.specs.declared.attribute_kind.AttributeKind.TheVa
 use Rattle.justfile_vocabulary.specs.declared.signal.Signal.{Signal}
 use Rattle.justfile_model.specs.Meanings.AttributeKinds.{takes_expressions, least_count, most_count}
 use Rattle.justfile_model.specs.Meanings.AttributeRules.{has_more, is_known, least, excludes, duplicate_rule}
-use Rattle.justfile_model.specs.Meanings.Meaning.{quoted, Placed, KeyArgument, text_of, at_key, is_count, count_of, signal_set, single_of, texts_of}
+use Rattle.justfile_model.specs.Meanings.Meaning.{quoted, PositionalArgument, KeyArgument, text_of, at_key, is_count, count_of, signal_set, single_of, texts_of}
 use Rattle.justfile_model.specs.Meanings.Rules.{Rule, AttributeArgumentCountMismatch, AttributeArgumentExpression, UnknownAttributeKey, AttributeKeyMissingValue, AttributeKeyTakesNoValue, InvalidSignal, OptionNameContainsEqualSign, OptionNameStartsWithDash, OptionNameEmpty, ShortOptionWithMultipleCharacters, ArgAttributeRequiresOption, FlagAttributeTakesNoValue, FlagAndValueArgAttribute, FlagAndPatternArgAttribute, ArgumentCountValue, ArgumentCountParse, ArgAttributeMinExceedsMax, Broken}
 use Rattle.justfile_model.specs.Trees.LeafView.{LeafView}
 use Rattle.justfile_model.specs.Trees.Tree as tree
@@ -71,7 +71,7 @@ module _ {A B : Type 0} (view : LeafView A B) (at : B) where
   literal key value = or_refuse (quoted value) (AttributeArgumentExpression at) (view.place key)
 
   -- a positional argument that has to be a literal
-  abbrev pub placed_literal : Placed A B → Made B (Quoted A)
+  abbrev pub placed_literal : PositionalArgument A B → Made B (Quoted A)
   placed_literal p = or_refuse (quoted p.value) (AttributeArgumentExpression at) p.first
 
   abbrev pub check_count : AttributeKind → (found : ℕ) → Made B (Unit {0})
@@ -170,6 +170,7 @@ module _ {A B : Type 0} (view : LeafView A B) (at : B) where
       help ← if_given property (at_key view (codes "help") keys)
       Ok (record { flag = flag; help = help; long = long; max = max; min = min; multiple = multiple; name = name; pattern = pattern; short = short; value = value })
 
+  -- The count was checked before, so there is a literal here.
   abbrev pub new_arg : List (Quoted A) → List (KeyArgument A B) → Made B (Attribute A B)
   new_arg [] keys = Ok (tree.Plain kinds.Arg)
   new_arg (name ∷ texts) keys = do
@@ -188,20 +189,20 @@ module _ {A B : Type 0} (view : LeafView A B) (at : B) where
     given ← make_all signal texts
     Ok (tree.Signals (signal_set given))
 
-  -- the attribute, after the checks of its kind
+  -- the attribute, after the checks of its kind; kinds other than these three have none
   abbrev pub new_of_literals : AttributeKind → List (Quoted A) → List (KeyArgument A B) → Made B (Attribute A B)
   new_of_literals kinds.Arg texts keys = new_arg texts keys
   new_of_literals kinds.Cache texts keys = new_cache keys
   new_of_literals kinds.Continue texts keys = new_continue texts
   new_of_literals kind texts keys = Ok (texts_of view kind texts)
 
-  -- The count was checked before, so `env` has two arguments here.
+  -- The count was checked before: `env` has two arguments here, and the other kinds have at most one.
   abbrev pub new_of_expressions : AttributeKind → List (Expr A B) → Attribute A B
   new_of_expressions kinds.Env (key ∷ value ∷ es) = tree.Env key value
   new_of_expressions kind values = single_of view kind values
 
   -- an attribute that takes literals: checks that the arguments are literals, then the rules of the kind, then the keys
-  abbrev pub from_literals : AttributeKind → List (Placed A B) → List (KeyArgument A B) → Made B (Attribute A B)
+  abbrev pub from_literals : AttributeKind → List (PositionalArgument A B) → List (KeyArgument A B) → Made B (Attribute A B)
   from_literals kind placed keys = do
     texts ← make_all placed_literal placed
     attribute ← new_of_literals kind texts keys
@@ -209,12 +210,12 @@ module _ {A B : Type 0} (view : LeafView A B) (at : B) where
     Ok attribute
 
   -- an attribute that takes expressions
-  abbrev pub from_expressions : AttributeKind → List (Placed A B) → List (KeyArgument A B) → Made B (Attribute A B)
+  abbrev pub from_expressions : AttributeKind → List (PositionalArgument A B) → List (KeyArgument A B) → Made B (Attribute A B)
   from_expressions kind placed keys = do
     known ← check_keys kind keys
-    Ok (new_of_expressions kind (map (λ (p : Placed A B). p.value) placed))
+    Ok (new_of_expressions kind (map (λ (p : PositionalArgument A B). p.value) placed))
 
-  unfoldable pub new_attribute : AttributeKind → List (Placed A B) → List (KeyArgument A B) → Made B (Attribute A B)
+  unfoldable pub new_attribute : AttributeKind → List (PositionalArgument A B) → List (KeyArgument A B) → Made B (Attribute A B)
   new_attribute kind placed keys = do
     counted ← check_count kind (length placed)
     if takes_expressions kind then from_expressions kind placed keys else from_literals kind placed keys
@@ -226,7 +227,7 @@ module _ {A B : Type 0} (view : LeafView A B) where
   check_repeated (d ∷ before) e = if excludes view d.attribute e.attribute then refuse (duplicate_rule view e.name e.attribute d.name) e.name else check_repeated before e
 
   -- an attribute of an item, after the earlier ones
-  abbrev pub new_entry : (before : List (Entry A B)) → (name : B) → AttributeKind → List (Placed A B) → List (KeyArgument A B) → Made B (Entry A B)
+  abbrev pub new_entry : (before : List (Entry A B)) → (name : B) → AttributeKind → List (PositionalArgument A B) → List (KeyArgument A B) → Made B (Entry A B)
   new_entry before name kind placed keys = do
     attribute ← new_attribute view name kind placed keys
     distinct ← check_repeated before (bare_entry name attribute)

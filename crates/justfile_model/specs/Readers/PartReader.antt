@@ -172,7 +172,7 @@ module _ {R T A B S : Type 0} (leaves : Leaves R T A B S) where
       checked ← obeying (value_broken (leaves.conditions value.1.run).current (view value.1.run) (Some PlainForm) keyword (leaves.position name) value.0) value.1
       Ok (value.0, checked.1)
 
-    -- the value after `:=`, for a form other than a boolean
+    -- the value after `:=`, by the form; settings that are true or false don't come here, and without a form the setting is unknown
     abbrev pub assigned_value : Option SettingForm → State R T B → Read R T B (SettingValue A B)
     assigned_value (Some ExpressionForm) s = expression_value s
     assigned_value (Some InterpreterForm) s = interpreter s

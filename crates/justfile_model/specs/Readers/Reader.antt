@@ -169,7 +169,7 @@ module _ {R T A B S D W : Type 0} (leaves : Leaves R T A B S) (kept : AttributeL
   abbrev pub constructed : List W → Content A B ℕ S → Counters → State R T B → ReadItem
   constructed ws content n s = Ok ((Construct (kept.attributes s.run ws) content, n), s)
 
-  -- The attributes of an item of this kind with this name are allowed there.
+  -- refuses attributes that an item of this kind can't have, at its name
   abbrev pub check_allowed : ItemKind → List W → T → State R T B → Read R T B (Unit {0})
   check_allowed item ws name s = obeying (allowed_broken (kept.view s.run) item (leaves.position name) (entries_read s.run ws)) s
 

@@ -13,7 +13,9 @@ use Rattle.justfile_model.specs.Meanings.AttributeKinds.{same_attribute}
 use Rattle.justfile_model.specs.Trees.ConditionalOperator.{operator_sign}
 use Rattle.justfile_model.specs.Trees.ContentLeaf.{ContentLeaf, token, literal, operator, text, count, signal, unseen, content_cmp}
 use Rattle.justfile_model.specs.Grammars.Expressions.{operator_kind}
+use Rattle.justfile_model.specs.Trees.ExpressionCases.{case_node}
 use Rattle.justfile_model.specs.Trees.Key.{Key, Keys, leaf, node, end, next, row, keys_of, absent_key, present_key, option_key, key_cmp}
+use Rattle.justfile_model.specs.declared.expression_case.ExpressionCase.TheVariants as cases
 use Rattle.justfile_model.specs.LiteralTexts.Literals as literals
 use Rattle.justfile_model.specs.LiteralTexts.Literals.{Literal, string_of}
 use Rattle.justfile_model.specs.Trees.LeafView.{LeafView, or_empty}
@@ -44,33 +46,41 @@ module _ {A B : Type 0} (view : LeafView A B) where
   abbrev pub literal_key : Literal A → Key ContentLeaf
   literal_key l = leaf (literal (view.literal_content l))
 
-  -- The label of a case is its index among the cases of the code's expressions in declared order, as `case_index` in `order.rt` of
-  -- `justfile_expression` lists them: there an assertion with a message and one without are one case, for example.
+  -- the cases are those of the code's expressions: there an assertion with a message and one without are one case, for example
   abbrev mutual
     pub expr_key : Expr A B → Key ContentLeaf
-    expr_key (tree.And l r) = node 0 (next (expr_key l) (next (expr_key r) end))
-    expr_key (tree.Assert name c) = node 1 (next (expr_key c) (next absent_key (next (position_key kinds.Identifier (codes "assert") name) end)))
+    expr_key (tree.And l r) = case_node cases.And (next (expr_key l) (next (expr_key r) end))
+    expr_key (tree.Assert name c) =
+        case_node cases.Assert (next (expr_key c) (next absent_key (next (position_key kinds.Identifier (codes "assert") name) end)))
     expr_key (tree.AssertMessage name c m) =
-        node 1 (next (expr_key c) (next (present_key (expr_key m)) (next (position_key kinds.Identifier (codes "assert") name) end)))
+        case_node cases.Assert (next (expr_key c) (next (present_key (expr_key m)) (next (position_key kinds.Identifier (codes "assert") name) end)))
     expr_key (tree.Backtick command) =
-        node 2 (next (leaf (text (or_empty (view.cooked (literals.Command command))))) (next (leaf (token (view.leaf_content kinds.Backtick command))) end))
-    expr_key (tree.Call name arguments) = node 3 (next (name_key name) (next (row (exprs_keys arguments)) end))
+        case_node cases.Backtick (next (leaf (text (or_empty (view.cooked (literals.Command command)))))
+        (next (leaf (token (view.leaf_content kinds.Backtick command))) end))
+    expr_key (tree.Call name arguments) = case_node cases.Call (next (name_key name) (next (row (exprs_keys arguments)) end))
     expr_key (tree.Comparison l o position r) =
-        node 4 (next (expr_key l) (next (leaf (operator o)) (next (expr_key r) (next (position_key (operator_kind o) (operator_sign o) position) end))))
-    expr_key (tree.Concatenation l position r) = node 5 (next (expr_key l) (next (position_key kinds.Plus (codes "+") position) (next (expr_key r) end)))
-    expr_key (tree.If c b) = node 6 (next (expr_key c) (next (expr_key b) (next absent_key end)))
-    expr_key (tree.IfElse c b o) = node 6 (next (expr_key c) (next (expr_key b) (next (present_key (expr_key o)) end)))
-    expr_key (tree.FormatLiteral l) = node 7 (next (literal_key (literals.Single l)) (next (row end) end))
-    expr_key (tree.FormatString start e parts) = node 7 (next (literal_key (literals.Start start)) (next (row (parts_keys start (expr_key e) parts)) end))
-    expr_key (tree.Group e) = node 8 (next (expr_key e) end)
-    expr_key (tree.Root position r) = node 9 (next absent_key (next (position_key kinds.Slash (codes "/") position) (next (expr_key r) end)))
-    expr_key (tree.Join l position r) = node 9 (next (present_key (expr_key l)) (next (position_key kinds.Slash (codes "/") position) (next (expr_key r) end)))
-    expr_key (tree.ListOf opener elements) = node 10 (next (row (exprs_keys elements)) (next (position_key kinds.BracketL (codes "[") opener) end))
-    expr_key (tree.ListConcatenation l position r) = node 11 (next (expr_key l) (next (position_key kinds.PlusPlus (codes "++") position) (next (expr_key r) end)))
-    expr_key (tree.Not e) = node 12 (next (expr_key e) end)
-    expr_key (tree.Or l r) = node 13 (next (expr_key l) (next (expr_key r) end))
-    expr_key (tree.StringLiteral expanded l) = node 14 (next (literal_key (string_of expanded l)) end)
-    expr_key (tree.Variable name) = node 15 (next (name_key name) (next (leaf unseen) end))
+        case_node cases.Comparison (next (expr_key l) (next (leaf (operator o)) (next (expr_key r)
+        (next (position_key (operator_kind o) (operator_sign o) position) end))))
+    expr_key (tree.Concatenation l position r) =
+        case_node cases.Concatenation (next (expr_key l) (next (position_key kinds.Plus (codes "+") position) (next (expr_key r) end)))
+    expr_key (tree.If c b) = case_node cases.Conditional (next (expr_key c) (next (expr_key b) (next absent_key end)))
+    expr_key (tree.IfElse c b o) = case_node cases.Conditional (next (expr_key c) (next (expr_key b) (next (present_key (expr_key o)) end)))
+    expr_key (tree.FormatLiteral l) = case_node cases.FormatString (next (literal_key (literals.Single l)) (next (row end) end))
+    expr_key (tree.FormatString start e parts) =
+        case_node cases.FormatString (next (literal_key (literals.Start start)) (next (row (parts_keys start (expr_key e) parts)) end))
+    expr_key (tree.Group e) = case_node cases.Group (next (expr_key e) end)
+    expr_key (tree.Root position r) =
+        case_node cases.Join (next absent_key (next (position_key kinds.Slash (codes "/") position) (next (expr_key r) end)))
+    expr_key (tree.Join l position r) =
+        case_node cases.Join (next (present_key (expr_key l)) (next (position_key kinds.Slash (codes "/") position) (next (expr_key r) end)))
+    expr_key (tree.ListOf opener elements) =
+        case_node cases.List (next (row (exprs_keys elements)) (next (position_key kinds.BracketL (codes "[") opener) end))
+    expr_key (tree.ListConcatenation l position r) =
+        case_node cases.ListConcatenation (next (expr_key l) (next (position_key kinds.PlusPlus (codes "++") position) (next (expr_key r) end)))
+    expr_key (tree.Not e) = case_node cases.Not (next (expr_key e) end)
+    expr_key (tree.Or l r) = case_node cases.Or (next (expr_key l) (next (expr_key r) end))
+    expr_key (tree.StringLiteral expanded l) = case_node cases.StringLiteral (next (literal_key (string_of expanded l)) end)
+    expr_key (tree.Variable name) = case_node cases.Variable (next (name_key name) (next (leaf unseen) end))
 
     pub exprs_keys : Exprs A B → Keys ContentLeaf
     exprs_keys tree.none = end
@@ -95,7 +105,7 @@ module _ {A B : Type 0} (view : LeafView A B) where
   abbrev pub word_key : List ℕ → B → Key ContentLeaf
   word_key word key = position_key kinds.Identifier word key
 
-  -- the key of an attribute's key without a value
+  -- the key of an attribute's key without a value; absent if the attribute doesn't have the key, or has it with a value
   abbrev pub own_name_key : (word : List ℕ) → OptionName A B → Key ContentLeaf
   own_name_key word (tree.OwnName key) = present_key (word_key word key)
   own_name_key word _ = absent_key

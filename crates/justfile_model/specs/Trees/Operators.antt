@@ -53,6 +53,7 @@ operator_of kinds.PlusPlus = Some ListConcatenation
 operator_of kinds.Plus = Some Concatenation
 operator_of _ = None
 
+-- the operators of each level; an operator is at one level alone, and values have none
 abbrev pub is_at : Level → Operator → Bool
 is_at Expression Or = true
 is_at Disjunct And = true

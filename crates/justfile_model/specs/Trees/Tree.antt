@@ -109,8 +109,8 @@ pub record Bound (Position : Type 0) : Type 0 where
   pub key : Position
   pub number : ℕ
 
--- What an `arg` attribute sets for a parameter, with the positions of its keys. In the code it is `ArgumentRules`, too; a parameter keeps a
--- part of it, without positions, as `ArgAttribute`.
+-- What an `arg` attribute sets for a parameter, with the positions of its keys. In the code it is `ArgumentRules`, too. The parser copies
+-- a part of it, without positions, as `ArgAttribute`, whose fields become fields of the parameter.
 pub record ArgumentRules (Leaf Position : Type 0) : Type 0 where
   pub flag : Option Position
   pub help : Option (Property Leaf Position)

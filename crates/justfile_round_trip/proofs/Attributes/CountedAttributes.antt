@@ -12,7 +12,7 @@ use Rattle.justfile_model.specs.Meanings.AttributeKinds.{known_keys, takes_expre
 use Rattle.justfile_model.specs.Meanings.AttributeRules.{has_more, count_broken, repeats_broken, unknown_broken, arguments_broken, known_broken, named_broken, attribute_broken, duplicates_broken, attributes_broken}
 use Rattle.justfile_model.specs.Trees.ContentKeys.{entry_cmp}
 use Rattle.justfile_model.specs.LiteralTexts.Literals.{Expansions}
-use Rattle.justfile_model.specs.Meanings.Meaning.{all_of, of_given, quoted, Placed, by_position, by_key, at_key, property_of, value_of, bare_of, option_named, option_at, bound_of, rules_of, single_of, texts_of, env_of, signal_of, signal_set, of_expressions, of_literals, by_takes, attribute_of, entry_of, entries_of}
+use Rattle.justfile_model.specs.Meanings.Meaning.{all_of, of_given, quoted, PositionalArgument, by_position, by_key, at_key, property_of, value_of, bare_of, option_named, option_at, bound_of, rules_of, single_of, texts_of, env_of, signal_of, signal_set, of_expressions, of_literals, by_takes, attribute_of, entry_of, entries_of}
 use Rattle.justfile_model.specs.Lists.Order.{placed, in_order}
 use Rattle.justfile_model.specs.Trees.LeafView.{LeafView, views_lexemes}
 use Rattle.justfile_model.specs.Trees.Tree as tree
@@ -25,7 +25,7 @@ use Rattle.justfile_round_trip.proofs.Attributes.CountedKeys as counted
 use Rattle.justfile_round_trip.proofs.Attributes.CountedKeys.{KeyOf, unless}
 
 abbrev PlacedValue : Type 0
-PlacedValue = Placed (List ℕ) (Unit {0})
+PlacedValue = PositionalArgument (List ℕ) (Unit {0})
 
 abbrev Meant : Type 0
 Meant = Attribute (List ℕ) (Unit {0})

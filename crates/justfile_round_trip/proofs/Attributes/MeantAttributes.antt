@@ -22,7 +22,7 @@ use Rattle.justfile_model.specs.Meanings.AttributeKinds.{named_takes_keys, name_
 use Rattle.justfile_model.specs.Lexing.Bytes.{in_word}
 use Rattle.justfile_model.specs.Trees.ContentKeys.{kind_of_attribute, entry_cmp}
 use Rattle.justfile_model.specs.Meanings.Meaning as meaning
-use Rattle.justfile_model.specs.Meanings.Meaning.{◌>>=◌, all_of, of_given, first_of, quoted, Placed, KeyArgument, by_position, by_key, count_of, signal_set, text_of, at_key, property_of, value_of, bare_of, option_named, option_at, bound_of, rules_of, single_of, texts_of, env_of, signal_of, of_expressions, of_literals, by_takes, attribute_of, entry_of, entries_of}
+use Rattle.justfile_model.specs.Meanings.Meaning.{◌>>=◌, all_of, of_given, first_of, quoted, PositionalArgument, KeyArgument, by_position, by_key, count_of, signal_set, text_of, at_key, property_of, value_of, bare_of, option_named, option_at, bound_of, rules_of, single_of, texts_of, env_of, signal_of, of_expressions, of_literals, by_takes, attribute_of, entry_of, entries_of}
 use Rattle.justfile_model.specs.Lists.Order.{placed, in_order}
 use Rattle.justfile_model.specs.Printed.Printing.{fixed_text, quoted_argument, signal_argument, keyed_if, bare_if, option_argument, number_literal, rules_arguments, attribute_arguments}
 use Rattle.justfile_model.specs.Trees.LeafView.{LeafView}
@@ -171,7 +171,7 @@ module _ (limit : ℕ) where
   AllQuoted [] = Unit {0}
   AllQuoted (q ∷ qs) = GoodQuoted q × AllQuoted qs
 
-  source_values : (arguments : List Argument) → AllGoodSource arguments → AllValues (map (λ (p : Placed (List ℕ) (Unit {0})). p.value) (by_position arguments))
+  source_values : (arguments : List Argument) → AllGoodSource arguments → AllValues (map (λ (p : PositionalArgument (List ℕ) (Unit {0})). p.value) (by_position arguments))
   source_values [] h = tt
   source_values (tree.Positional first value ∷ arguments) h = (h.0, source_values arguments h.1)
   source_values (tree.Bare key ∷ arguments) h = source_values arguments h.1

@@ -1,5 +1,5 @@
 use Rattle.std.proofs.Common.{◌∙◌, subst, sym}
-use Rattle.justfile_parse_header.specs.Arguments.{IsKeyedOption}
+use Rattle.justfile_parse_header.specs.Arguments.{OptionHasBoundKeys}
 use Rattle.justfile_parse_header.specs.Tree.{rules_of}
 use Rattle.justfile_parse_header.proofs.Firsts.{first_is_keyed, named_before, named_first}
 use Rattle.justfile_parse_header.proofs.arguments.find_arg.Goals as goal
@@ -18,4 +18,4 @@ returns-clause-rules c =
 
 pub returns-clause-keyed : goal.returns-clause-keyed
 returns-clause-keyed c =
-    subst IsKeyedOption (sym c.find_first.ensures) (first_is_keyed (rules_of c.args.arg_attributes.now.attributes.now) c.args.arg_attributes.now.firsts c.requires c.lexeme-2.result.now)
+    subst OptionHasBoundKeys (sym c.find_first.ensures) (first_is_keyed (rules_of c.args.arg_attributes.now.attributes.now) c.args.arg_attributes.now.firsts c.requires c.lexeme-2.result.now)

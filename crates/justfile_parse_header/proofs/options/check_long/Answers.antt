@@ -8,7 +8,7 @@ use Rattle.justfile_parse_header.proofs.options.check_long.Goals as goal
 pub returns-then-is_among-clause-reads : goal.returns-then-is_among-clause-reads
 returns-then-is_among-clause-reads c s =
     long_same c.args.recipe (texts_in c.args.before.now) (leaf_attribute_of c.args.attribute.now) s c.in-Some.option.now c.in-Some.token c.in-Some.ensures
-    (sym c.is_among.ensures ∙ c.if-is_among.true) c.same_long_error.result c.rule_error.result c.rule_error.ensures c.same_long_error.ensures
+    (sym c.is_among.ensures ∙ c.if-is_among.true) c.same_long_fault.result c.rule_error.result c.rule_error.ensures c.same_long_fault.ensures
 
 pub returns : goal.returns
 returns c =

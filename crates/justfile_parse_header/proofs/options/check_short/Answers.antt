@@ -11,8 +11,8 @@ returns-then-contains c s =
     let before = c.args.before.now.items in
     let among : list_any (nat_eq option) before ≡ true =
     sym (character_among option before) ∙ ap (λ (l : List ℕ). list_any (λ (d : ℕ). nat_eq d option) l) (sym c.as_slice.ensures.value) ∙ sym c.contains.ensures.value ∙ c.if-contains.true in
-    short_same c.args.recipe before (leaf_attribute_of c.args.attribute.now) s option c.in-Some.token c.in-Some.ensures among c.same_short_error.result c.rule_error.result c.rule_error.ensures
-    c.same_short_error.ensures
+    short_same c.args.recipe before (leaf_attribute_of c.args.attribute.now) s option c.in-Some.token c.in-Some.ensures among c.same_short_fault.result c.rule_error.result c.rule_error.ensures
+    c.same_short_fault.ensures
 
 pub returns : goal.returns
 returns c s =

@@ -41,8 +41,8 @@ returns-clause-reads g c =
     let here = state_of A c.args.parser.now in
     let last = c.parse_expression.new.self in
     let there = state_of A last in
-    reads _ c.args.items.now.items c.push_construct.new.items.items c.push_construct.result c.next_binding_number.new.numerator there
-    (reader.assignment c.args.eager c.args.export ws n here) c.push_construct.ensures
+    reads _ c.args.items.now.items c.push_parsed_item.new.items.items c.push_parsed_item.result c.next_binding_number.new.numerator there
+    (reader.assignment c.args.eager c.args.export ws n here) c.push_parsed_item.ensures
     (assignment_read ws n here c.in_ok-name.name.now (state_of A c.expect.new.self) c.in_ok-name.ensures.reads c.args.eager c.args.export c.in_ok-expect.field-0.now
     (state_of A c.expect-2.new.self) _ there c.in_ok-expect.ensures.reads c.in_ok-value.ensures.reads (c.in_ok-attributes.ensures.reads there) c.in_ok-number.number.0 m
     (c.in_ok-number.ensures.reads there)
@@ -50,4 +50,4 @@ returns-clause-reads g c =
 
 pub returns-clause-appended : goal.returns-clause-appended
 returns-clause-appended g c =
-    appends _ c.args.items.now.items c.push_construct.new.items.items c.push_construct.result c.push_construct.ensures (record { attributes = c.in_ok-attributes.ensures.set.fields; private = c.is_private_item-private.ensures ∙ ap (λ (name : Token). is_private_item name c.in_ok-attributes.attributes) (sym c.from_identifier.ensures) })
+    appends _ c.args.items.now.items c.push_parsed_item.new.items.items c.push_parsed_item.result c.push_parsed_item.ensures (record { attributes = c.in_ok-attributes.ensures.set.fields; private = c.is_private_item-private.ensures ∙ ap (λ (name : Token). is_private_item name c.in_ok-attributes.attributes) (sym c.from_identifier.ensures) })

@@ -68,12 +68,12 @@ returns-clause-reads g c =
     let here = state_of A c.args.parser.now in
     let named = state_of A c.expect.new.self in
     let last = state_of A c.parse_expression.new.self in
-    reads _ c.args.items.now.items c.push_construct.new.items.items c.push_construct.result c.parse_parameter_names.new.numerator last
-    (reader.function ws n here) c.push_construct.ensures
+    reads _ c.args.items.now.items c.push_parsed_item.new.items.items c.push_parsed_item.result c.parse_parameter_names.new.numerator last
+    (reader.function ws n here) c.push_parsed_item.ensures
     (function_read ws n here c.in_ok-name.name.now named c.in_ok-name.ensures.reads c.in_ok-expect.field-0.now (state_of A c.expect-2.new.self) (c.in_ok-attributes.ensures.reads named)
     c.in_ok-expect.ensures.reads _ (state_of A c.parse_parameter_names.new.parser) c.in_ok-parameters.ensures.reads _ _ c.in_ok-expect-2.ensures.reads _ last c.in_ok-body.ensures.reads
     ∙ rw (c.in_ok-attributes.ensures.set.entries, c.from_identifier.ensures, c.into_inner.ensures) refl)
 
 pub returns-clause-appended : goal.returns-clause-appended
 returns-clause-appended g c =
-    appends _ c.args.items.now.items c.push_construct.new.items.items c.push_construct.result c.push_construct.ensures (c.in_ok-attributes.ensures.set.fields)
+    appends _ c.args.items.now.items c.push_parsed_item.new.items.items c.push_parsed_item.result c.push_parsed_item.ensures (c.in_ok-attributes.ensures.set.fields)

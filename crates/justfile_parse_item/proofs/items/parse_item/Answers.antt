@@ -34,6 +34,6 @@ unfolding files.any_item leaves
 returns-in-Some-clause-reads g c =
     let A = g.X.Expander.answer in
     let n = counters_of c.args.numerator.now in
-    reads c.make_comment.result c.args.items.now.items c.push_construct.new.items.items c.push_construct.result c.args.numerator.now (state_of A c.accept.new.self)
-    (any_item n (state_of A c.args.parser.now)) c.push_construct.ensures
+    reads c.make_comment.result c.args.items.now.items c.push_parsed_item.new.items.items c.push_parsed_item.result c.args.numerator.now (state_of A c.accept.new.self)
+    (any_item n (state_of A c.args.parser.now)) c.push_parsed_item.ensures
     (rw (c.in-Some.ensures.takes) (ap (λ (i : OrderedItem Leaf Token ℕ). Ok ((i, n), state_of A c.accept.new.self)) (sym c.make_comment.ensures.tree)))

@@ -6,7 +6,7 @@ use Rattle.justfile_parse_expression.specs.TableReader.{accept}
 use Rattle.justfile_parse_expression.specs.View.{tokens_left, state_of}
 use Rattle.justfile_parse_expression.proofs.Rest.{left_is}
 use Rattle.justfile_parse_expression.specs.declared.token_cursor.TokenCursor.{TokenCursor}
-use Rattle.justfile_parse_item.proofs.Loop.{IsReadTo, begins, ends, goes_on, goes_past, errs, line_shrinks}
+use Rattle.justfile_parse_item.proofs.Loop.{IsReadTo, begins, ends, goes_on, goes_past, errs, item_line_shrinks}
 use Rattle.justfile_parse_item.proofs.items.parse_items.Goals as goal
 use Rattle.justfile_parse_base.specs.Counting.{counters_of}
 
@@ -43,7 +43,7 @@ lines-smaller g c =
     let rest = c.parse_line.new.parser in
     omega (
       arith,
-      line_shrinks (state_of A q) c.lines.numerator c.parse_line.new.numerator c.lines.items.items c.parse_line.new.items.items (state_of A rest) c.in_ok-parse_line.ensures.reads,
+      item_line_shrinks (state_of A q) c.lines.numerator c.parse_line.new.numerator c.lines.items.items c.parse_line.new.items.items (state_of A rest) c.in_ok-parse_line.ensures.reads,
       left_is A q,
       left_is A rest,
       ap (λ (p : TokenCursor _). tokens_left p) c.in_default.ensures.moves,

@@ -74,7 +74,7 @@ returns-clause-reads g c =
     let q = c.parse_body_after_header.new.parser in
     let u = state_of A q in
     let copied : c.in_ok-import_offsets.import_offsets.items ≡ q.import_offsets.now = search (rules, c.in_ok-import_offsets.ensures.items_if_clones_equal) in
-    reads _ c.args.items.now.items c.push_construct.new.items.items c.push_construct.result c.next_recipe_number.new.numerator u (recipe c.args.quiet (map entry_of_pair c.args.attributes.items) (counters_of c.args.numerator.now) (state_of A c.args.parser.now)) c.push_construct.ensures
+    reads _ c.args.items.now.items c.push_parsed_item.new.items.items c.push_parsed_item.result c.next_recipe_number.new.numerator u (recipe c.args.quiet (map entry_of_pair c.args.attributes.items) (counters_of c.args.numerator.now) (state_of A c.args.parser.now)) c.push_parsed_item.ensures
     (recipe_read c.args.quiet (map entry_of_pair c.args.attributes.items) (counters_of c.args.numerator.now) (state_of A c.args.parser.now) (leaf_entries_of c.in_ok-attributes.attributes) (c.in_ok-attributes.ensures.entries (pair_fields c.args.attributes.items c.requires))
     (header_tree c.in_ok-header.header) (counters_of c.parse_header.new.numerator) (state_of A c.parse_header.new.parser) c.in_ok-header.ensures.reads
     (c.in_ok-body.body.0, map line_tree c.in_ok-body.body.1.items) u c.in_ok-body.ensures (c.in_ok-check_exclusions.ensures u)
@@ -88,7 +88,7 @@ returns-clause-reads g c =
 pub returns-clause-appended : goal.returns-clause-appended
 returns-clause-appended g c =
     let set = c.in_ok-attributes.attributes in
-    appends _ c.args.items.now.items c.push_construct.new.items.items c.push_construct.result c.push_construct.ensures (record {
+    appends _ c.args.items.now.items c.push_parsed_item.new.items.items c.push_parsed_item.result c.push_parsed_item.ensures (record {
       attributes = set_fields c.args.attributes.items (written_of set) c.in_ok-attributes.ensures.pairs c.requires;
       parameters = c.in_ok-header.ensures.fields.parameters;
       priors = c.in_ok-header.ensures.fields.priors;

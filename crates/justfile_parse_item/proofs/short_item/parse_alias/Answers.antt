@@ -27,10 +27,10 @@ unfolding files.alias leaves
 returns-clause-reads g c =
     let A = g.X.Expander.answer in
     let there = state_of A c.parse_namepath.new.parser in
-    reads_uncounted A _ c.args.items.now.items c.push_construct.new.items.items c.push_construct.result c.args.parser.now c.parse_namepath.new.parser
-    (reader.alias (map entry_of_pair c.args.attributes.items)) c.push_construct.ensures
+    reads_uncounted A _ c.args.items.now.items c.push_parsed_item.new.items.items c.push_parsed_item.result c.args.parser.now c.parse_namepath.new.parser
+    (reader.alias (map entry_of_pair c.args.attributes.items)) c.push_parsed_item.ensures
     (λ n. rw (c.in_ok-name.ensures.reads, c.in_ok-expect.ensures.reads, c.in_ok-target.ensures, c.in_ok-attributes.ensures.reads there, c.in_ok-attributes.ensures.set.entries, c.from_identifier.ensures) refl)
 
 pub returns-clause-appended : goal.returns-clause-appended
 returns-clause-appended g c =
-    appends _ c.args.items.now.items c.push_construct.new.items.items c.push_construct.result c.push_construct.ensures (c.in_ok-attributes.ensures.set.fields)
+    appends _ c.args.items.now.items c.push_parsed_item.new.items.items c.push_parsed_item.result c.push_parsed_item.ensures (c.in_ok-attributes.ensures.set.fields)

@@ -39,12 +39,12 @@ returns-clause-reads g c =
     let ws = map entry_of_pair c.args.attributes.items in
     let named = state_of A c.expect.new.self in
     let last = state_of A c.parse_setting_value.new.parser in
-    reads_uncounted A _ c.args.items.now.items c.push_construct.new.items.items c.push_construct.result c.args.parser.now c.parse_setting_value.new.parser
-    (reader.setting ws) c.push_construct.ensures
+    reads_uncounted A _ c.args.items.now.items c.push_parsed_item.new.items.items c.push_parsed_item.result c.args.parser.now c.parse_setting_value.new.parser
+    (reader.setting ws) c.push_parsed_item.ensures
     (λ n. setting_read ws n (state_of A c.args.parser.now) c.in_ok-name.name.now named c.in_ok-name.ensures.reads c.in_ok-keyword.keyword (c.in_ok-keyword.ensures named)
     (c.in_ok-attributes.ensures.reads named) (leaf_value_of c.in_ok-value.value) last c.in_ok-value.ensures.reads
     ∙ rw (c.in_ok-attributes.ensures.set.entries, c.from_identifier.ensures, c.in_ok-value.ensures.keyword) refl)
 
 pub returns-clause-appended : goal.returns-clause-appended
 returns-clause-appended g c =
-    appends _ c.args.items.now.items c.push_construct.new.items.items c.push_construct.result c.push_construct.ensures (record { attributes = c.in_ok-attributes.ensures.set.fields; value = c.in_ok-value.ensures.fields })
+    appends _ c.args.items.now.items c.push_parsed_item.new.items.items c.push_parsed_item.result c.push_parsed_item.ensures (record { attributes = c.in_ok-attributes.ensures.set.fields; value = c.in_ok-value.ensures.fields })

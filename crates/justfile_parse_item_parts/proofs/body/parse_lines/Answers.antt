@@ -7,7 +7,7 @@ use Rattle.justfile_parse_item_parts.specs.BodyTable.{lines}
 use Rattle.justfile_parse_item_parts.specs.BodyTrees.{line_tree}
 use Rattle.justfile_parse_expression.specs.View.{tokens_left, state_of}
 use Rattle.justfile_parse_expression.specs.declared.token_cursor.TokenCursor.{TokenCursor}
-use Rattle.justfile_parse_item_parts.proofs.Bodies.{begins, line_shrinks, lines_stop}
+use Rattle.justfile_parse_item_parts.proofs.Bodies.{begins, body_line_shrinks, lines_stop}
 use Rattle.justfile_parse_expression.proofs.Rest.{left_is}
 use Rattle.justfile_parse_item_parts.proofs.body.parse_lines.Goals as goal
 
@@ -24,7 +24,7 @@ lines-smaller g c =
     let Q : TokenCursor _ → Type 0 = λ p. accept kinds.Dedent (state_of A p) ≡ None in
     omega (
       arith,
-      line_shrinks (state_of A q) c.in_ok-line.line (state_of A b) (subst Q (sym c.in_default.ensures.moves) c.in_default.ensures.takes) c.in_ok-line.ensures,
+      body_line_shrinks (state_of A q) c.in_ok-line.line (state_of A b) (subst Q (sym c.in_default.ensures.moves) c.in_default.ensures.takes) c.in_ok-line.ensures,
       left_is A q,
       left_is A b,
       ap (λ (p : TokenCursor _). tokens_left p) c.in_default.ensures.moves,

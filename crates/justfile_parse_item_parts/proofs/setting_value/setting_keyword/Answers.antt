@@ -17,4 +17,4 @@ pub returns-in-None : goal.returns-in-None
 returns-in-None c =
     let is = ap keyword_named (sym c.lexeme.ensures) ∙ sym (found c.lexeme.result.now c.from_lexeme.result c.from_lexeme.ensures) ∙ c.in-None.is in
     λ s. subst (λ (o : Read Keyword). IsParseError c.rule_error.result s ⊥ o) (sym (keyword_refused c.args.name.now s is))
-    (errs (Keyword × State) (UnknownSetting c.args.name.now.0) c.unknown_setting_error.result c.rule_error.result s c.rule_error.ensures c.unknown_setting_error.ensures)
+    (errs (Keyword × State) (UnknownSetting c.args.name.now.0) c.unknown_setting_fault.result c.rule_error.result s c.rule_error.ensures c.unknown_setting_fault.ensures)
