@@ -1,7 +1,7 @@
 -- What the program prints for a text.
 use Rattle.std.specs.Prelude.{◌≡◌, ℕ, List, length}
 use Rattle.bench_lex.specs.declared.answer.Answer.{Answer}
-use Rattle.bench_lex.specs.declared.answer.Answer.TheVariants.{Tokens, Refused}
+use Rattle.bench_lex.specs.declared.answer.Answer.TheVariants.{Tokens, Rejected}
 use Rattle.justfile_model.specs.Lexing.LexicalFault.{LexicalFault}
 use Rattle.justfile_model.specs.Lexing.Lexed.{Lexed, IsFault}
 use Rattle.justfile_model.specs.Lexing.Tok.{Tok}
@@ -21,4 +21,4 @@ pub record HasFaultAt (text : List ℕ) (offset : ℕ) : Type 0 where
 
 abbrev pub IsAnswer : List ℕ → Answer → Type 0
 IsAnswer text (Tokens count) = IsCount text count
-IsAnswer text (Refused offset) = HasFaultAt text offset
+IsAnswer text (Rejected offset) = HasFaultAt text offset

@@ -13,14 +13,14 @@ pub enum Answer {
     /// The number of the text's tokens.
     Tokens(usize),
     /// The byte offset of the token at which the text is rejected.
-    Refused(usize),
+    Rejected(usize),
 }
 
 impl fmt::Display for Answer {
     fn fmt<W: fmt::Write>(&self, f: &mut fmt::Formatter<W>) -> fmt::Result {
         match self {
             Answer::Tokens(count) => write!(f, "tokens: {count}"),
-            Answer::Refused(offset) => write!(f, "refused at offset {offset}"),
+            Answer::Rejected(offset) => write!(f, "rejected at offset {offset}"),
         }
     }
 }
@@ -31,7 +31,7 @@ pub fn answer_to(alloc: Global, text: &str) -> Result<Answer, AllocError>
 {
     match Lexer::lex(alloc, "justfile", text) {
         Ok(tokens) => Ok(Answer::Tokens(tokens.len())),
-        Err(Fault::Compile(error)) => Ok(Answer::Refused(error.token.offset)),
+        Err(Fault::Compile(error)) => Ok(Answer::Rejected(error.token.offset)),
         Err(Fault::Memory | Fault::Numbers) => Err(AllocError),
     }
 }

@@ -107,22 +107,39 @@ arg_slots name long_key long short_key short pattern value flag multiple min max
     ∷ property_slot (codes "pattern=") pattern ∷ value_slot (codes "value=") value ∷ flag_slot (codes "flag") flag ∷ flag_slot (codes "multiple") multiple
     ∷ number_slot (codes "min=") min ∷ number_slot (codes "max=") max ∷ property_slot (codes "help=") help ∷ []
 
--- the slots of an attribute; the kinds that aren't named have no arguments
+-- the slots of an attribute
 abbrev pub slots : Attribute → Slots
+slots attributes.Android = []
 slots (attributes.Arg flag help property long long_key max max_key min min_key multiple name pattern short short_key value) =
     arg_slots name long_key long short_key short pattern value flag multiple min max property
 slots (attributes.Cache extra inputs outputs) = cache_slots extra inputs outputs
 slots (attributes.Confirm value) = single_slots value
 slots (attributes.Continue signals) = map signal_slot signals.keys
+slots attributes.Default = []
 slots (attributes.Doc value) = single_slots value
+slots attributes.Dragonfly = []
 slots (attributes.Env key value) = positional key.value ∷ positional value.value ∷ []
+slots attributes.ExitMessage = []
 slots (attributes.Extension literal) = literal_slot literal ∷ []
+slots attributes.Freebsd = []
 slots (attributes.Group literal) = literal_slot literal ∷ []
+slots attributes.Linux = []
+slots attributes.Macos = []
 slots (attributes.Metadata literals) = map literal_slot literals.items
+slots attributes.Netbsd = []
+slots attributes.NoCd = []
+slots attributes.NoExitMessage = []
+slots attributes.NoQuiet = []
+slots attributes.Openbsd = []
+slots attributes.Parallel = []
+slots attributes.PositionalArguments = []
+slots attributes.Private = []
 slots (attributes.Script interpreter) = script_slots interpreter
+slots attributes.Shell = []
 slots (attributes.Timestamp value) = single_slots value
+slots attributes.Unix = []
+slots attributes.Windows = []
 slots (attributes.WorkingDirectory value) = positional value.value ∷ []
-slots _ = []
 
 -- ---- the printed text
 

@@ -67,7 +67,7 @@ pub fn take_required<'src>(
     match take(keys, word) {
         None => Ok(None),
         Some((key, Some(value))) => Ok(Some((key, value))),
-        Some((key, None)) => Err(missing_value(key)),
+        Some((key, None)) => Err(missing_value_fault(key)),
     }
 }
 
@@ -89,7 +89,7 @@ pub fn take_value<'src>(
     match take(keys, word) {
         None => Ok(None),
         Some((_key, Some(value))) => Ok(Some(value)),
-        Some((key, None)) => Err(missing_value(key)),
+        Some((key, None)) => Err(missing_value_fault(key)),
     }
 }
 
@@ -107,7 +107,7 @@ pub fn take<'src>(
 }
 
 /// Returns the error for a key without the value that it needs.
-pub(crate) fn missing_value(key: Name<'_>) -> Fault<'_>
+pub(crate) fn missing_value_fault(key: Name<'_>) -> Fault<'_>
     ensures { IsFaultOfRule (AttributeKeyMissingValue key.entry.token) key.entry.token result }
 {
     Fault::Compile(key.error(CompileErrorKind::AttributeKeyMissingValue { key }))

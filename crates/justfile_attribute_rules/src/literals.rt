@@ -29,7 +29,7 @@ pub(crate) fn key_literal<'src>(
 {
     match literal_of(value) {
         Some(literal) => Ok(literal),
-        None => Err(not_literal(name, *key)),
+        None => Err(not_literal_fault(name, *key)),
     }
 }
 
@@ -71,7 +71,7 @@ fn placed_literal<'src>(
 {
     match literal_of(value) {
         Some(literal) => Ok(literal),
-        None => Err(not_literal(name, first)),
+        None => Err(not_literal_fault(name, first)),
     }
 }
 
@@ -84,7 +84,7 @@ fn literal_of(value: Box<Expression<'_>>) -> Option<StringLiteral<'_>>
 }
 
 /// Returns the error, at `token`, for an expression that isn't a literal.
-fn not_literal<'src>(name: Name<'src>, token: Token<'src>) -> Fault<'src>
+fn not_literal_fault<'src>(name: Name<'src>, token: Token<'src>) -> Fault<'src>
     ensures { IsFaultOfRule (AttributeArgumentExpression name.entry.token) token.entry result }
 {
     Fault::Compile(token.error(CompileErrorKind::AttributeArgumentExpression { attribute: name }))

@@ -11,7 +11,7 @@ ghost use Rattle.justfile_expression.specs.LeafTree.{leaf_tree_of};
 ghost use Rattle.justfile_attribute_rules.specs.Keys.{AreKeyed, IsTaken, key_arguments};
 ghost use Rattle.justfile_attribute_rules.specs.Made.{Makes, bound_at, bound_made, count_made, quoted_leaf, bounds_checked};
 
-use crate::keys::{KeyMap, missing_value, take};
+use crate::keys::{KeyMap, missing_value_fault, take};
 use crate::literals::key_literal;
 use justfile_expression::Expression;
 use justfile_token::{CompileErrorKind, CompileResult, Fault, Name, StringLiteral};
@@ -42,7 +42,7 @@ pub(crate) fn take_bound<'src>(
 {
     match take(keys, word) {
         None => Ok(None),
-        Some((key, None)) => Err(missing_value(key)),
+        Some((key, None)) => Err(missing_value_fault(key)),
         Some((key, Some(value))) => bound(alloc, name, key, value),
     }
 }

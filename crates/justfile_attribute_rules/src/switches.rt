@@ -12,7 +12,7 @@ ghost use Rattle.justfile_attribute_rules.specs.Made.{Makes};
 ghost use Rattle.justfile_attribute_rules.specs.Steps.{flag_made, multiple_made, value_made, lacks_option};
 
 use crate::argument_rules::ArgumentRules;
-use crate::keys::{KeyMap, missing_value, take};
+use crate::keys::{KeyMap, missing_value_fault, take};
 use crate::options::argument_text;
 use justfile_expression::Expression;
 use justfile_token::{CompileErrorKind, CompileResult, Fault, Name, Token};
@@ -35,7 +35,7 @@ pub(crate) fn take_value<'src>(
 {
     match take(keys, "value") {
         None => Ok(None),
-        Some((key, None)) => Err(missing_value(key)),
+        Some((key, None)) => Err(missing_value_fault(key)),
         Some((key, Some(value))) => match check_has_option(key, rules) {
             Ok(()) => Ok(Some(value)),
             Err(fault) => Err(fault),

@@ -16,7 +16,8 @@ use Rattle.justfile_model.specs.declared.expression_case.ExpressionCase.TheVaria
 use Rattle.justfile_model.specs.Trees.KeyLaws.{then_end}
 use Rattle.justfile_model.specs.declared.conditional_operator.ConditionalOperator.{ConditionalOperator}
 use Rattle.justfile_expression.specs.Content.{leaf_order}
-use Rattle.justfile_expression.specs.Leaf.{KeyLeaf, operator, text, token, operator_cmp, text_cmp, token_key, literal_key}
+use Rattle.justfile_expression.specs.Leaf.{KeyLeaf, operator, text, token, operator_cmp, token_key, literal_key}
+use Rattle.justfile_model.specs.Trees.ContentLeaf.{text_cmp}
 use Rattle.justfile_expression.specs.Order.{key, option_key, part_key, row_keys, row_parts}
 use Rattle.justfile_expression.specs.OrderSteps.{left_key, option_presence}
 use Rattle.justfile_expression.specs.declared.leaf_order.LeafOrder.{LeafOrder}

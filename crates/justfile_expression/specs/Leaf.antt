@@ -2,7 +2,6 @@
 use Rattle.std.specs.Prelude.{ℕ, List, Option, string_bytes}
 use Rattle.std.specs.Option.{option_cmp}
 use Rattle.std.specs.Ordering.{ordering_then, bool_cmp, nat_cmp}
-use Rattle.std.specs.Cmp.Lexicographic.{slice_cmp}
 use Rattle.std.specs.declared.cmp.Ordering.{Ordering}
 use Rattle.justfile_vocabulary.specs.declared.number.Number.{Number}
 use Rattle.justfile_token.specs.declared.token.Token.{Token}
@@ -11,12 +10,9 @@ use Rattle.justfile_vocabulary.specs.contracts.format_string_part.FormatStringPa
 use Rattle.justfile_token.specs.contracts.string_kind.StringDelimiterOrd.TheImpl as delimiters
 use Rattle.justfile_vocabulary.specs.contracts.token_kind.TokenKindOrd.TheImpl as kinds
 use Rattle.justfile_model.specs.declared.conditional_operator.ConditionalOperator.{ConditionalOperator}
+use Rattle.justfile_model.specs.Trees.ContentLeaf.{text_cmp}
 use Rattle.justfile_model.specs.Trees.Key.{Key, leaf}
 use Rattle.justfile_model.specs.contracts.conditional_operator.ConditionalOperatorOrd.TheImpl as operators
-
--- the order of texts, by their bytes
-abbrev pub text_cmp : List ℕ → List ℕ → Ordering
-text_cmp xs ys = slice_cmp nat_cmp xs ys
 
 -- the order of tokens, by all fields in declared order; kinds compare in declared order
 abbrev pub token_cmp : Token → Token → Ordering
@@ -54,12 +50,12 @@ pub data KeyLeaf : Type 0 where
   text : List ℕ → KeyLeaf
 
 -- the index of a leaf's case in declared order
-abbrev pub rank : KeyLeaf → ℕ
-rank (token t) = 0
-rank (literal l) = 1
-rank (operator o) = 2
-rank (number n) = 3
-rank (text bytes) = 4
+abbrev pub leaf_place : KeyLeaf → ℕ
+leaf_place (token t) = 0
+leaf_place (literal l) = 1
+leaf_place (operator o) = 2
+leaf_place (number n) = 3
+leaf_place (text bytes) = 4
 
 -- leaves of one case compare by what they hold, and others by their cases
 abbrev pub leaf_cmp : KeyLeaf → KeyLeaf → Ordering
@@ -68,7 +64,7 @@ leaf_cmp (literal k) (literal l) = literal_cmp k l
 leaf_cmp (operator o) (operator p) = operator_cmp o p
 leaf_cmp (number m) (number n) = number_cmp m n
 leaf_cmp (text xs) (text ys) = text_cmp xs ys
-leaf_cmp a b = nat_cmp (rank a) (rank b)
+leaf_cmp a b = nat_cmp (leaf_place a) (leaf_place b)
 
 abbrev pub token_key : Token → Key KeyLeaf
 token_key t = leaf (token t)

@@ -14,7 +14,8 @@ use Rattle.justfile_token.specs.contracts.string_literal.StringLiteralOrd.TheImp
 use Rattle.justfile_model.specs.declared.conditional_operator.ConditionalOperator.{ConditionalOperator}
 use Rattle.justfile_model.specs.contracts.conditional_operator.ConditionalOperatorOrd.TheImpl.Laws.{total-law as operator_total}
 use Rattle.justfile_model.specs.Trees.KeyLaws.{then_end}
-use Rattle.justfile_expression.specs.Leaf.{KeyLeaf, token, literal, operator, number, text, rank, leaf_cmp, token_cmp, literal_cmp, operator_cmp, number_cmp, text_cmp}
+use Rattle.justfile_expression.specs.Leaf.{KeyLeaf, token, literal, operator, number, text, leaf_place, leaf_cmp, token_cmp, literal_cmp, operator_cmp, number_cmp}
+use Rattle.justfile_model.specs.Trees.ContentLeaf.{text_cmp}
 
 abbrev token_in : KeyLeaf → Option Token
 token_in (token x) = Some x
@@ -37,7 +38,7 @@ text_in (text x) = Some x
 text_in _ = None
 
 abbrev by_kind : KeyLeaf → KeyLeaf → Ordering
-by_kind x y = ordering_then (nat_cmp (rank x) (rank y)) (ordering_then (option_cmp token_cmp (token_in x) (token_in y)) (ordering_then (option_cmp literal_cmp (literal_in x) (literal_in y)) (ordering_then (option_cmp operator_cmp (operator_in x) (operator_in y)) (ordering_then (option_cmp number_cmp (number_in x) (number_in y)) (option_cmp text_cmp (text_in x) (text_in y))))))
+by_kind x y = ordering_then (nat_cmp (leaf_place x) (leaf_place y)) (ordering_then (option_cmp token_cmp (token_in x) (token_in y)) (ordering_then (option_cmp literal_cmp (literal_in x) (literal_in y)) (ordering_then (option_cmp operator_cmp (operator_in x) (operator_in y)) (ordering_then (option_cmp number_cmp (number_in x) (number_in y)) (option_cmp text_cmp (text_in x) (text_in y))))))
 
 same : (x y : KeyLeaf) → by_kind x y ≡ leaf_cmp x y
 same (token a) (token b) = then_end _
@@ -67,4 +68,4 @@ same (text a) (number b) = refl
 same (text a) (text b) = refl
 
 pub leaf_total : IsTotalOrder leaf_cmp
-leaf_total = subst IsTotalOrder (λ i x y. same x y i) (then_total (on_total rank nat_cmp_total) (then_total (on_total token_in (options_total token_total)) (then_total (on_total literal_in (options_total literal_total)) (then_total (on_total operator_in (options_total operator_total)) (then_total (on_total number_in (options_total (options_total number_total))) (on_total text_in (options_total nat_list_cmp_total)))))))
+leaf_total = subst IsTotalOrder (λ i x y. same x y i) (then_total (on_total leaf_place nat_cmp_total) (then_total (on_total token_in (options_total token_total)) (then_total (on_total literal_in (options_total literal_total)) (then_total (on_total operator_in (options_total operator_total)) (then_total (on_total number_in (options_total (options_total number_total))) (on_total text_in (options_total nat_list_cmp_total)))))))

@@ -9,7 +9,8 @@ use Rattle.justfile_token.specs.Namepath.{names_in}
 use Rattle.justfile_token.specs.declared.modulepath.Modulepath.{Modulepath}
 use Rattle.justfile_token.specs.declared.name.Name.{Name}
 use Rattle.justfile_token.specs.declared.namepath.Namepath.{Namepath}
-use Rattle.justfile_expression.specs.Leaf.{text_cmp, token_cmp}
+use Rattle.justfile_model.specs.Trees.ContentLeaf.{text_cmp}
+use Rattle.justfile_expression.specs.Leaf.{token_cmp}
 
 -- `cmp` is this order, which is total, and `eq` holds exactly if it returns `Equal`
 pub record IsOrder {K : Type 0} (eq : K → K → Bool) (cmp order : K → K → Ordering) : Type 0 where

@@ -56,8 +56,8 @@ fn handle_files<F: Formatter, D: Folder, O: Write, E: Write>(
     errors: &mut E,
 ) -> u8
     ensures files { ChangesFiles F.formats task (D.contents folder.old) (D.contents folder.new) }
-    ensures outcomes { HasOutcomes F.formats F.rejects task (texts names.now) (D.contents folder.new)
-        (O.contents output.old) (O.contents output.new) result }
+    ensures outcomes { HasOutcomes F.formats F.rejects task (texts names.now)
+        (D.contents folder.new) (O.contents output.old) (O.contents output.new) result }
     ensures silent { result ≤ 1 → errors.new ≡ errors.old }
 {
     let mut status: u8 = 0;

@@ -71,7 +71,7 @@ impl<'src> Lexer<'src> {
         let mut tokens = Vec::new(alloc);
         'tokens: loop {
             if let Some(start) = lexer.unclosed_interpolation() {
-                return Err(lexer.unterminated(start));
+                return Err(lexer.interpolation_fault(start));
             }
             let scanned = layout::scan_token(&lexer.mode, &mut run, lexer.rest());
             let Some((kind, length)) = scanned.found() else {
@@ -105,7 +105,7 @@ impl<'src> Lexer<'src> {
         let mut glued = false;
         'tokens: loop {
             if let Some(start) = lexer.unclosed_interpolation() {
-                return Err(lexer.unterminated(start));
+                return Err(lexer.interpolation_fault(start));
             }
             let scanned = layout::scan_token(&lexer.mode, &mut run, lexer.rest());
             let Some((kind, length)) = scanned.found() else {
@@ -120,7 +120,8 @@ impl<'src> Lexer<'src> {
 
     /// Whether an identifier can contain the character after its first one.
     pub fn is_identifier_continue(c: char) -> bool
-        ensures { result ≡ (is_ascii_alphabetic c || c == byte.underscore || is_ascii_digit c || c == byte.minus) }
+        ensures { result ≡ (is_ascii_alphabetic c || c == byte.underscore || is_ascii_digit c
+            || c == byte.minus) }
     {
         Self::is_identifier_start(c) || c.is_ascii_digit() || c == '-'
     }
@@ -174,7 +175,7 @@ impl<'src> Lexer<'src> {
     }
 
     /// Returns the fault of a text that ends inside the interpolation that begins with this token.
-    fn unterminated(&self, start: Token<'src>) -> Fault<'src>
+    fn interpolation_fault(&self, start: Token<'src>) -> Fault<'src>
         requires reading { IsReading self.now }
         requires at_end { length (drop self.now.offset self.now.src.now) ≡ 0 }
         requires open { self.now.mode.interpolation ≡ Some start }

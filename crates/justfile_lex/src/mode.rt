@@ -2,6 +2,7 @@
 ghost use Rattle.std.specs.Prelude.{◌≡◌, ◌||◌, ◌+◌, ◌≤◌, map, not, length, ◌==◌, [], ◌∷◌, OnOk, None, true, false};
 ghost use Rattle.std.specs.List.{list_any, count_by};
 ghost use Rattle.std.specs.Str.{bytes_eq};
+ghost use Rattle.justfile_vocabulary.specs.ByteNames as byte;
 ghost use Rattle.justfile_model.specs.Lexing.Places.{is_line_feed};
 ghost use Rattle.justfile_model.specs.Lexing.Modes.{ends_in_line_feed};
 
@@ -199,7 +200,7 @@ fn contains(texts: &[&str], text: &str) -> bool
 
 /// Whether the text is the letter `f`.
 fn is_letter_f(text: &[u8]) -> bool
-    ensures { result ≡ bytes_eq text.now (102 ∷ []) }
+    ensures { result ≡ bytes_eq text.now (byte.letter_f ∷ []) }
 {
     text.len() == 1 && text[0] == b'f'
 }

@@ -53,14 +53,14 @@ pub fn cook_string<'src>(
                 push_piece(&mut cooked, value)?;
                 rest = next;
             }
-            Err(fault) => return Err(refuse(alloc, token, fault)),
+            Err(fault) => return Err(escape_fault(alloc, token, fault)),
         }
     }
     Ok(cooked)
 }
 
 /// Returns the error at the token for the fault of the first invalid escape.
-fn refuse<'src>(alloc: Global, token: Token<'src>, fault: EscapeFault<'_>) -> Fault<'src>
+fn escape_fault<'src>(alloc: Global, token: Token<'src>, fault: EscapeFault<'_>) -> Fault<'src>
     ensures { (text : List ℕ) → Refused text (piece_fault fault.entry)
         → IsCookFault text token.entry result }
 {

@@ -75,8 +75,8 @@ pub fn reads()
         → IsDue C (λ at. IsTrue (Hit at)) written r }
     // By the grammar alone: an error is the first literal without a text, a broken rule, or the
     // depth at some token.
-    ensures error_without_limit { (C : Conditions) (ts : List SignificantToken) (written : WrittenTree)
-        (fs : List (ConstructFeatures Tok))
+    ensures error_without_limit { (C : Conditions) (ts : List SignificantToken)
+        (written : WrittenTree) (fs : List (ConstructFeatures Tok))
         → FileTree ts written fs
         → (r : ReadError) → tree_of_tokens C ts ≡ Err r → IsDue C (λ at. Unit {0}) written r }
     ensures one { (C : Conditions) (ts : List SignificantToken) (tree other : Tree)

@@ -9,9 +9,6 @@ pub mod grammar_laws;
 pub mod laws;
 mod level;
 pub mod lexing_laws;
-
-pub use justfile_vocabulary::list_feature;
-
 mod open_delimiter;
 mod operator;
 mod parameter_kind;

@@ -12,7 +12,7 @@ use Rattle.justfile_model.specs.Readers.ReaderState.{◌>>=◌, choose, with}
 use Rattle.justfile_model.specs.Trees.Tree as tree
 use Rattle.justfile_model.specs.Trees.Tree.{Expr}
 use Rattle.justfile_model.specs.declared.level.Level.{Level}
-use Rattle.justfile_model.specs.declared.level.Level.TheVariants.{Compared, Conjunct, Value}
+use Rattle.justfile_model.specs.declared.level.Level.TheVariants.{Expression, Disjunct, Compared, Conjunct, Value}
 use Rattle.justfile_model.specs.declared.operator.Operator.{Operator}
 use Rattle.justfile_parse_expression.specs.TableReader as r
 use Rattle.justfile_parse_expression.specs.TableReader.{At, Read, ReadExpr, State, accept, accept_operator, accept_keyword, braced, condition, enter, leaves, literal, read, value}
@@ -71,10 +71,11 @@ operand_step s =
 
 -- what comes next in a row, after an operator of the level; comparisons form no rows
 unfoldable pub step : Level → State → Read StepTree
+step Expression s = enter Expression s >>= λ o. read (At (operand Expression) false o.1) >>= link Expression
+step Disjunct s = enter Disjunct s >>= λ o. read (At (operand Disjunct) false o.1) >>= link Disjunct
+step Compared s = read (At Conjunct false s) >>= λ e. Ok (Last e.0, e.1)
 step Conjunct s = operand_step s
 step Value s = value s >>= λ e. Ok (Last e.0, e.1)
-step Compared s = read (At Conjunct false s) >>= λ e. Ok (Last e.0, e.1)
-step k s = enter k s >>= λ o. read (At (operand k) false o.1) >>= link k
 
 -- the right side of an operator of the level, joined with its link
 unfoldable pub row : Level → (make : Tree → Tree) → State → ReadExpr

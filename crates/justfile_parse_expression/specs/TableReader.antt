@@ -22,7 +22,7 @@ use Rattle.justfile_model.specs.Readers.ReaderState.{◌>>=◌, Leaves, refused,
 use Rattle.justfile_parse_expression.specs.Significant.{significant_of}
 use Rattle.justfile_expression.specs.LeafTree.{Leaf, Named, Literal, Command, Text, Assigned, Headed}
 use Rattle.justfile_model.specs.declared.level.Level.{Level}
-use Rattle.justfile_model.specs.declared.level.Level.TheVariants.{Expression, Disjunct, Compared}
+use Rattle.justfile_model.specs.declared.level.Level.TheVariants.{Expression, Disjunct, Compared, Conjunct, Value}
 use Rattle.justfile_model.specs.Trees.Operators.{operator_of}
 use Rattle.justfile_model.specs.declared.operator.Operator.{Operator}
 use Rattle.justfile_parse_expression.specs.Significant.{TableEntry}
@@ -160,7 +160,8 @@ unfoldable pub operations : Level → (condition : Bool) → Expr Leaf Token × 
 operations Expression condition lhs = operation Compared condition lhs >>= operation Disjunct condition >>= operation Expression condition
 operations Disjunct condition lhs = operation Compared condition lhs >>= operation Disjunct condition
 operations Compared condition lhs = operation Compared condition lhs
-operations _ condition lhs = Ok lhs
+operations Conjunct condition lhs = Ok lhs
+operations Value condition lhs = Ok lhs
 
 -- the operator that comes next, if one does
 abbrev pub front_operator : List TableEntry → Option Operator

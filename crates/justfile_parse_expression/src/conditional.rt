@@ -144,7 +144,7 @@ impl<'run, 'src, X: Expander> TokenCursor<'run, 'src, X> {
         ensures progress { OnOk result (tokens_left self.new < tokens_left self.old) }
     {
         let otherwise = self.parse_braced()?;
-        self.expect_closed(&otherwise)?;
+        self.expect_no_else(&otherwise)?;
         Ok(otherwise)
     }
 
@@ -177,7 +177,7 @@ impl<'run, 'src, X: Expander> TokenCursor<'run, 'src, X> {
 
     /// Refuses an `else` after a branch that ends in a conditional without `else`.
     #[tactic(auto, unfolding(justfile_model::specs::Readers::ReaderState::accept_keyword, justfile_model::specs::Readers::ReaderState::refused, crate::specs::TableReader::leaves))]
-    fn expect_closed(&self, branch: &Expression<'src>) -> Result<(), ExpressionError<'src>>
+    fn expect_no_else(&self, branch: &Expression<'src>) -> Result<(), ExpressionError<'src>>
         ensures reads { Parses X.answer (λ _. leaf_tree_of branch.now) result self.now self.now
             (reader.ended_by (ends_open (leaf_tree_of branch.now)) (leaf_tree_of branch.now)) }
     {

@@ -371,8 +371,9 @@ impl<'run, 'src, X: Expander> TokenCursor<'run, 'src, X> {
     #[tactic(auto, unfolding(justfile_model::specs::Readers::ExpressionReader::accept_operator, crate::specs::TableReader::leaves, crate::specs::View::state_of, crate::specs::View::tokens_left))]
     #[inline(always)]
     fn accept_operator(&mut self, level: Level) -> Option<(Operator, &'run SignificantToken<'src>)>
-        ensures some { IfSome result (λ found. reader.accept_operator level
-            (state_of X.answer self.old) ≡ Some (found.0, found.1.now, state_of X.answer self.new)) }
+        ensures some { IfSome result (λ found.
+            reader.accept_operator level (state_of X.answer self.old)
+            ≡ Some (found.0, found.1.now, state_of X.answer self.new)) }
         ensures none { IfNone result
             (reader.accept_operator level (state_of X.answer self.old) ≡ None) }
         ensures moves { Moves result self.old self.new }

@@ -36,8 +36,8 @@ pub fn reads_back()
         (printed (shape_of tree) indentation) }
     ensures alike { (shape other : Shape) (indentation : List ℕ) → normal shape ≡ normal other
         → printed shape indentation ≡ printed other indentation }
-    ensures injective { (conditions : Conditions) (limit : ℕ) (source other : List ℕ) (tree twin : Tree)
-        (features others : List (Noted Tok))
+    ensures injective { (conditions : Conditions) (limit : ℕ) (source other : List ℕ)
+        (tree twin : Tree) (features others : List (Noted Tok))
         (indentation : List ℕ) → IsIndentation indentation
         → TextDerives conditions source tree features
         → TextDerives (with_limit limit conditions) other twin others

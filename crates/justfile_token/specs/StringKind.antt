@@ -17,8 +17,9 @@ quote_of QuoteSingle = byte.single_quote
 
 -- A backslash begins an escape in the literal.
 abbrev pub escapes : StringDelimiter → Bool
+escapes Backtick = false
 escapes QuoteDouble = true
-escapes _ = false
+escapes QuoteSingle = false
 
 -- the number of bytes of a delimiter
 abbrev pub delimiter_len : StringKind → ℕ

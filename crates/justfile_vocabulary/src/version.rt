@@ -1,5 +1,6 @@
 //! Versions of `just`.
 ghost use Rattle.std.specs.Prelude.{◌≡◌, ℕ, ◌∷◌, ◌++◌, IfSome, IfNone};
+ghost use Rattle.justfile_vocabulary.specs.ByteNames as byte;
 ghost use Rattle.justfile_vocabulary.specs.NumberText.{HasNoDot, IsNumberText};
 
 use std::fmt;
@@ -31,7 +32,7 @@ fn parse_number(text: &str) -> Option<u64>
 /// Returns the texts before and after the first dot, or `None` if there is no dot.
 #[tactic(auto, using(crate::proofs::VersionLemmas::no_dot_all))]
 fn split_at_dot(text: &str) -> Option<(&str, &str)>
-    ensures some { IfSome result (λ parts. text.now ≡ parts.0.now ++ 46 ∷ parts.1.now) }
+    ensures some { IfSome result (λ parts. text.now ≡ parts.0.now ++ byte.dot ∷ parts.1.now) }
     ensures first { IfSome result (λ parts. HasNoDot parts.0.now) }
     ensures none { IfNone result (HasNoDot text.now) }
 {

@@ -72,8 +72,11 @@ fn push_hunk(
 ) -> Result<(), AllocError>
     requires old { old_before < 2 ^ 63 }
     requires new { new_before < 2 ^ 63 }
-    ensures { OnOk result (string_bytes text.new ≡ string_bytes text.old
-        ++ hunk_text (record { old_before = old_before; new_before = new_before; edits = edits.now })) }
+    ensures { OnOk result (string_bytes text.new ≡ string_bytes text.old ++ hunk_text (record {
+      old_before = old_before;
+      new_before = new_before;
+      edits = edits.now;
+    })) }
 {
     let (old, new) = line_counts(edits);
     text.push_str("@@ -")?;
@@ -95,7 +98,8 @@ fn push_range(
     count: usize,
 ) -> Result<(), AllocError>
     requires { before < 2 ^ 63 }
-    ensures { OnOk result (string_bytes text.new ≡ string_bytes text.old ++ range_text before count) }
+    ensures { OnOk result (string_bytes text.new
+        ≡ string_bytes text.old ++ range_text before count) }
 {
     let first = if count == 0 { before } else { before + 1 };
     let range = format!(in alloc; "{first},{count}")?;

@@ -61,7 +61,8 @@ module _ {A B : Type 0} (view : LeafView A B) where
     abbrev pub order_broken : (after_key : Bool) → List (Argument A B) → List (Broken B)
     order_broken after_key [] = []
     order_broken after_key (tree.Positional first value ∷ arguments) = broken_if after_key AttributePositionalFollowsKeyword first ++ order_broken after_key arguments
-    order_broken after_key (_ ∷ arguments) = order_broken true arguments
+    order_broken after_key (tree.Bare key ∷ arguments) = order_broken true arguments
+    order_broken after_key (tree.Keyed key value ∷ arguments) = order_broken true arguments
 
     -- An earlier argument has the same key.
     abbrev pub repeats_broken : (before keys : List (KeyArgument A B)) → List (Broken B)

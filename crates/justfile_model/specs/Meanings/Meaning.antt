@@ -63,7 +63,8 @@ pub record KeyArgument (A B : Type 0) : Type 0 where
 abbrev pub by_position : {A B : Type 0} → List (Argument A B) → List (PositionalArgument A B)
 by_position [] = []
 by_position (tree.Positional first value ∷ arguments) = record { first = first; value = value } ∷ by_position arguments
-by_position (_ ∷ arguments) = by_position arguments
+by_position (tree.Bare key ∷ arguments) = by_position arguments
+by_position (tree.Keyed key value ∷ arguments) = by_position arguments
 
 -- the arguments by key
 abbrev pub by_key : {A B : Type 0} → List (Argument A B) → List (KeyArgument A B)

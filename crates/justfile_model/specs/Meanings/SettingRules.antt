@@ -8,7 +8,7 @@ use Rattle.justfile_model.specs.Meanings.AttributeRules.{of_some}
 use Rattle.justfile_model.specs.Grammars.Conditions.{VersionNumbers}
 use Rattle.justfile_model.specs.Meanings.Meaning.{quoted_text}
 use Rattle.justfile_model.specs.Meanings.Rules.{Broken, InvalidIndentation, InvalidMinimumVersion, MinimumVersion, SettingExpression, broken_if}
-use Rattle.justfile_model.specs.Grammars.Settings.{PlainForm, SettingForm, setting_form}
+use Rattle.justfile_model.specs.Grammars.Settings.{ExpressionForm, InterpreterForm, PlainForm, SettingForm, TruthForm, setting_form}
 use Rattle.justfile_model.specs.Trees.LeafView.{LeafView}
 use Rattle.justfile_model.specs.Trees.Tree as tree
 use Rattle.justfile_model.specs.Trees.Tree.{Expr, Quoted, SettingParts, SettingValue}
@@ -41,7 +41,12 @@ module _ {A B : Type 0} (current : VersionNumbers) (view : LeafView A B) where
   -- the rules of a value, by the form of the setting; values of the other forms have none
   abbrev pub value_broken : Option SettingForm → Keyword → (name : B) → SettingValue A B → List (Broken B)
   value_broken (Some PlainForm) keyword name (tree.Value value) = literal_broken keyword name (plain_literal value)
-  value_broken form keyword name value = []
+  value_broken (Some PlainForm) keyword name (tree.Truth value) = []
+  value_broken (Some PlainForm) keyword name (tree.Interpreter command arguments) = []
+  value_broken (Some TruthForm) keyword name value = []
+  value_broken (Some ExpressionForm) keyword name value = []
+  value_broken (Some InterpreterForm) keyword name value = []
+  value_broken None keyword name value = []
 
   abbrev pub setting_broken : SettingParts A B → List (Broken B)
   setting_broken parts = value_broken (setting_form parts.keyword) parts.keyword (view.place parts.name) parts.value

@@ -3,7 +3,7 @@ use Rattle.std.specs.Prelude.{ℕ, ◌+◌, ◌*◌, Bool, true, false, List, []
 use Rattle.justfile_vocabulary.specs.declared.token_kind.TokenKind.{TokenKind}
 use Rattle.justfile_vocabulary.specs.declared.token_kind.TokenKind.TheVariants as kinds
 use Rattle.justfile_model.specs.declared.level.Level.{Level}
-use Rattle.justfile_model.specs.declared.level.Level.TheVariants.{Expression, Conjunct, Value}
+use Rattle.justfile_model.specs.declared.level.Level.TheVariants.{Expression, Disjunct, Compared, Conjunct, Value}
 use Rattle.justfile_vocabulary.specs.declared.list_feature.ListFeature.TheVariants as features
 use Rattle.justfile_model.specs.declared.operator.Operator.{Operator}
 use Rattle.justfile_model.specs.Trees.Tree as t
@@ -41,15 +41,24 @@ Met R T B = Option (Operator × T × State R T B)
 module _ {R T B : Type 0} where
   abbrev pub is_within : (limit : ℕ) → Level → State R T B → Bool
   is_within limit Expression s = nat_lt s.depth limit
-  is_within limit _ s = true
+  is_within limit Disjunct s = true
+  is_within limit Compared s = true
+  is_within limit Conjunct s = true
+  is_within limit Value s = true
 
   abbrev pub opened : Level → State R T B → State R T B
   opened Expression s = deeper s
-  opened _ s = s
+  opened Disjunct s = s
+  opened Compared s = s
+  opened Conjunct s = s
+  opened Value s = s
 
   abbrev pub closed : Level → State R T B → State R T B
   closed Expression s = shallower s
-  closed _ s = s
+  closed Disjunct s = s
+  closed Compared s = s
+  closed Conjunct s = s
+  closed Value s = s
 
 module _ {R T A B S : Type 0} (leaves : Leaves R T A B S) where
   abbrev pub ReadExpr : Type 0
@@ -58,7 +67,8 @@ module _ {R T A B S : Type 0} (leaves : Leaves R T A B S) where
   abbrev pub Out : Place R T B → Type 0
   Out (Sequence c s) = Read R T B (Exprs A B)
   Out (FormatParts l s) = Read R T B (Parts A B)
-  Out _ = ReadExpr
+  Out (At level c s) = ReadExpr
+  Out (Conditional w s) = ReadExpr
 
   -- ---- literals
 

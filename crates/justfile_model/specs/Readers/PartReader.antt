@@ -172,12 +172,13 @@ module _ {R T A B S : Type 0} (leaves : Leaves R T A B S) where
       checked ← obeying (value_broken (leaves.conditions value.1.run).current (view value.1.run) (Some PlainForm) keyword (leaves.position name) value.0) value.1
       Ok (value.0, checked.1)
 
-    -- the value after `:=`, by the form; settings that are true or false don't come here, and without a form the setting is unknown
+    -- the value after `:=`, by the form; settings that are true or false are parsed before, and without a form the setting is unknown
     abbrev pub assigned_value : Option SettingForm → State R T B → Read R T B (SettingValue A B)
     assigned_value (Some ExpressionForm) s = expression_value s
     assigned_value (Some InterpreterForm) s = interpreter s
     assigned_value (Some PlainForm) s = plain_value s
-    assigned_value form s = Err (UnknownSetting (leaves.position name))
+    assigned_value (Some TruthForm) s = Err (UnknownSetting (leaves.position name))
+    assigned_value None s = Err (UnknownSetting (leaves.position name))
 
     -- the value of a setting by its form; a keyword that isn't a setting is an error after `:=`
     abbrev pub setting_value : Option SettingForm → State R T B → Read R T B (SettingValue A B)

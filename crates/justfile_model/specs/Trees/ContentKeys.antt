@@ -107,8 +107,9 @@ module _ {A B : Type 0} (view : LeafView A B) where
 
   -- the key of an attribute's key without a value; absent if the attribute doesn't have the key, or has it with a value
   abbrev pub own_name_key : (word : List ℕ) → OptionName A B → Key ContentLeaf
+  own_name_key word tree.NoOption = absent_key
   own_name_key word (tree.OwnName key) = present_key (word_key word key)
-  own_name_key word _ = absent_key
+  own_name_key word (tree.Named name) = absent_key
 
   abbrev pub property_key : (word : List ℕ) → Property A B → Key ContentLeaf
   property_key word p = row (next (word_key word p.key) (next (expr_key p.value) end))

@@ -76,7 +76,7 @@ leaf_place (count n) = 4
 leaf_place (signal s) = 5
 leaf_place unseen = 6
 
--- leaves of one case compare by what they hold, and others by their cases
+-- leaves of one case compare by what they hold, and others by their cases; a law states that only equal leaves tie
 abbrev pub content_cmp : ContentLeaf → ContentLeaf → Ordering
 content_cmp (token s) (token t) = token_content_cmp s t
 content_cmp (literal k) (literal l) = literal_content_cmp k l

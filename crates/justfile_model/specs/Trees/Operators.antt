@@ -1,5 +1,5 @@
 -- The operators between two expressions, and their precedence.
-use Rattle.std.specs.Prelude.{ℕ, Bool, true, false, Option, Some, None}
+use Rattle.std.specs.Prelude.{ℕ, Bool, true, false, Option, Some, None, nat_eq}
 use Rattle.justfile_vocabulary.specs.declared.token_kind.TokenKind.{TokenKind}
 use Rattle.justfile_vocabulary.specs.declared.token_kind.TokenKind.TheVariants as kinds
 use Rattle.justfile_model.specs.declared.conditional_operator.ConditionalOperator.TheVariants.{Equality, Inequality, RegexMatch, RegexMismatch}
@@ -37,8 +37,11 @@ operand Value = Value
 
 -- the level of the right operand: the same level, or conjuncts after a comparison
 abbrev pub right : Level → Level
+right Expression = Expression
+right Disjunct = Disjunct
 right Compared = Conjunct
-right level = level
+right Conjunct = Conjunct
+right Value = Value
 
 -- the binary operator of a token kind
 abbrev pub operator_of : TokenKind → Option Operator
@@ -53,15 +56,18 @@ operator_of kinds.PlusPlus = Some ListConcatenation
 operator_of kinds.Plus = Some Concatenation
 operator_of _ = None
 
--- the operators of each level; an operator is at one level alone, and values have none
+-- the level of an operator
+abbrev pub level_of : Operator → Level
+level_of Or = Expression
+level_of And = Disjunct
+level_of (Compare by) = Compared
+level_of Join = Conjunct
+level_of ListConcatenation = Conjunct
+level_of Concatenation = Conjunct
+
+-- the operator is at this level
 abbrev pub is_at : Level → Operator → Bool
-is_at Expression Or = true
-is_at Disjunct And = true
-is_at Compared (Compare by) = true
-is_at Conjunct Join = true
-is_at Conjunct ListConcatenation = true
-is_at Conjunct Concatenation = true
-is_at _ _ = false
+is_at level operator = nat_eq (rank level) (rank (level_of operator))
 
 -- the feature of an operator; the first comparison in a condition has none
 abbrev pub feature_of : Operator → (condition : Bool) → Option ListFeature

@@ -11,7 +11,7 @@ use std::process::Abort;
 fn last_token<'src>(rt: &impl Abort, alloc: Global, text: &'src str) -> Token<'src> {
     match Lexer::lex(alloc, "justfile", text) {
         Ok(tokens) => *tokens.last().expect(rt, text),
-        Err(Fault::Compile(error)) => error.token,
+        Err(Fault::Compile(error)) => error.context(),
         Err(_) => panic!(rt; "no memory"),
     }
 }

@@ -78,6 +78,8 @@ fn compare_modules(rt: &impl Abort, alloc: Global, text: &str, (written, longer)
         .push("z".to_string(alloc).expect(rt, text))
         .expect(rt, text);
     compare_written(rt, alloc, &modules, longer);
+    let last = modules.names().last().expect(rt, text);
+    same_text(rt, text, last.as_str(), "z");
     compare_written(rt, alloc, &copy, written);
 }
 

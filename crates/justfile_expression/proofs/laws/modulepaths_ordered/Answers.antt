@@ -7,7 +7,7 @@ use Rattle.justfile_token.specs.Modulepath.{names_of}
 use Rattle.justfile_token.specs.contracts.modulepath.ModulepathOrd.TheImpl as modulepath_order
 use Rattle.justfile_token.specs.contracts.modulepath.ModulepathOrd.TheImpl.Laws.{matches_eq-law}
 use Rattle.justfile_token.specs.declared.modulepath.Modulepath.{Modulepath}
-use Rattle.justfile_expression.specs.Leaf.{text_cmp}
+use Rattle.justfile_model.specs.Trees.ContentLeaf.{text_cmp}
 use Rattle.justfile_expression.specs.Orders.{modulepath_cmp}
 use Rattle.justfile_expression.proofs.laws.modulepaths_ordered.Goals as goal
 

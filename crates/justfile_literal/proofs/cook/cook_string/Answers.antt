@@ -23,7 +23,7 @@ loop-character-preserved c =
 pub returns-in-Err-clause-err : goal.returns-in-Err-clause-err
 returns-in-Err-clause-err c =
     let i = c.loop-character.invariant in
-    c.refuse.ensures c.args.text.now (leads_refused c.args.text.now (string_bytes c.loop-character.cooked) c.loop-character.rest.now i.leads i.utf8 (chars c.in-Some.after_first.now) c.in-Some.character _ c.in-Some.ensures.value (sym c.in-Err.ensures.found))
+    c.escape_fault.ensures c.args.text.now (leads_refused c.args.text.now (string_bytes c.loop-character.cooked) c.loop-character.rest.now i.leads i.utf8 (chars c.in-Some.after_first.now) c.in-Some.character _ c.in-Some.ensures.value (sym c.in-Err.ensures.found))
 
 pub returns-clause-ok : goal.returns-clause-ok
 returns-clause-ok c =

@@ -12,8 +12,8 @@ use Rattle.justfile_lex.proofs.lexer.Lexer.lex_significant.Goals as goal
 pub returns-in-Some-clause-fault : goal.returns-in-Some-clause-fault
 returns-in-Some-clause-fault c =
     let runs = c.tokens.invariant.reads.runs in
-    subst (λ p. IsLexerFault p c.args.src.now c.unterminated.result) runs.path_is
-    (subst (λ s. IsLexerFault c.tokens.lexer.path.now s c.unterminated.result) runs.src_is c.unterminated.ensures)
+    subst (λ p. IsLexerFault p c.args.src.now c.interpolation_fault.result) runs.path_is
+    (subst (λ s. IsLexerFault c.tokens.lexer.path.now s c.interpolation_fault.result) runs.src_is c.interpolation_fault.ensures)
 
 pub returns-in_default-found-clause-fault : goal.returns-in_default-found-clause-fault
 returns-in_default-found-clause-fault c =

@@ -4,7 +4,7 @@ use Rattle.justfile_model.specs.Lexing.LexResult.{IsFrom}
 use Rattle.justfile_model.specs.Lexing.LexicalFault.{UnterminatedInterpolation, lexical_fault_of}
 use Rattle.justfile_model.specs.Lexing.Lexed.{IsFault}
 use Rattle.justfile_lex.proofs.LexerLemmas.{unclosed_fault, from_open}
-use Rattle.justfile_lex.proofs.lexer.Lexer.unterminated.Goals as goal
+use Rattle.justfile_lex.proofs.lexer.Lexer.interpolation_fault.Goals as goal
 
 pub returns : goal.returns
 returns c =
