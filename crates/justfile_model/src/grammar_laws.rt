@@ -9,7 +9,7 @@ ghost use Rattle.justfile_model.specs.Grammars.Features.{ConstructFeatures, Note
 ghost use Rattle.justfile_model.specs.Grammars.Files.{FileTree, FileDerives, NumbersFrom, Obeys, ShapeDerives, all_features, to_tokens, literals, ordered, bindings, recipes};
 ghost use Rattle.justfile_model.specs.Grammars.Grammar.{File};
 ghost use Rattle.justfile_model.specs.Lexing.Lexed.{Lexed};
-ghost use Rattle.justfile_model.specs.LiteralTexts.Literals.{Literal, Expansions, Within, AreCookedTexts, string_text};
+ghost use Rattle.justfile_model.specs.LiteralTexts.Literals.{Literal, Expansions, Within, AreCookedTexts, restricted_to, string_text};
 ghost use Rattle.justfile_model.specs.Grammars.Need.{DerivesUnder, IsNeed};
 ghost use Rattle.justfile_model.specs.Printed.NormalShape.{normal};
 ghost use Rattle.justfile_model.specs.Printed.Printing.{printable, text};
@@ -185,7 +185,8 @@ pub fn indentations()
         (λ literal. (text : List ℕ) × (string_text literal ≡ Ok text) × IsIndentation text) }
 {}
 
-/// Tokens that derive with an expander derive the same with an expander that has more results.
+/// Tokens that derive with an expander derive the same with an expander that has more results, and
+/// with one that has its results for finitely many texts alone.
 pub fn expanders()
     ensures tree { (C : Conditions) (F : Expansions) → Within C.expander F
         → (ts : List SignificantToken) (tree : Tree) (features : List (Noted Tok))
@@ -195,6 +196,16 @@ pub fn expanders()
         → (ts : List SignificantToken) (shape : Shape) (features : List (Noted (Unit {0})))
         → ShapeDerives C ts shape features
         → ShapeDerives (with_expander F C) ts shape features }
+    ensures tree_asks { (C : Conditions) (ts : List SignificantToken) (tree : Tree)
+        (features : List (Noted Tok))
+        → FileDerives C ts tree features
+        → (texts : List (List ℕ))
+        × FileDerives (with_expander (restricted_to texts C.expander) C) ts tree features }
+    ensures shape_asks { (C : Conditions) (ts : List SignificantToken) (shape : Shape)
+        (features : List (Noted (Unit {0})))
+        → ShapeDerives C ts shape features
+        → (texts : List (List ℕ))
+        × ShapeDerives (with_expander (restricted_to texts C.expander) C) ts shape features }
 {}
 
 /// The printed text depends on the normal shape and the indentation only.

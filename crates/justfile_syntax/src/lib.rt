@@ -165,6 +165,7 @@ pub mod laws {
     pub use justfile_round_trip::{least_need, reads_back};
 
     // The other laws, by crate.
+    pub use justfile_ast::laws::write_faults_equal;
     pub use justfile_attribute::laws::{attributes_equal, interpreters_ordered, new_attributes};
     pub use justfile_expression::laws::{
         cases_equal, cases_ordered, errors_equal, expression_contents_ordered, modulepaths_ordered,

@@ -40,6 +40,7 @@ fn put_assignment(assignment: &Assignment<'_>, shown: &mut Text) {
     put_attributes(&assignment.attributes, shown);
     put_if(shown, "eager ", assignment.eager);
     put_if(shown, "export ", assignment.export);
+    put_if(shown, "prelude ", assignment.prelude);
     put_name(shown, assignment.name);
     shown.put(" ");
     shown.put_number(assignment.number.0 as usize);

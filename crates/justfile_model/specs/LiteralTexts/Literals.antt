@@ -1,6 +1,7 @@
 -- The texts of literals.
 use Rattle.std.specs.Prelude.{◌≡◌, ℕ, zero, suc, ◌-◌, ◌+◌, ◌⊎◌, Bool, true, false, List, [], ◌∷◌, ◌++◌, length, take, drop, if◌then◌else◌, Option, Some, None, Result, Ok, Err, codes}
-use Rattle.std.specs.List.{starts_with}
+use Rattle.std.specs.List.{list_any, starts_with}
+use Rattle.std.specs.Str.{bytes_eq}
 use Rattle.std.specs.Prelude.{nat_eq}
 use Rattle.justfile_vocabulary.specs.declared.format_string_part.FormatStringPart.{FormatStringPart}
 use Rattle.justfile_vocabulary.specs.declared.format_string_part.FormatStringPart.TheVariants as parts
@@ -68,6 +69,10 @@ Expansions = List ℕ → Option (Result (List ℕ) (List ℕ))
 -- Wherever the first expander has a result, the second has the same one.
 abbrev pub Within : Expansions → Expansions → Type 0
 Within some all = (text : List ℕ) → (some text ≡ None) ⊎ (some text ≡ all text)
+
+-- the expander, with its results for these texts alone
+abbrev pub restricted_to : (texts : List (List ℕ)) → Expansions → Expansions
+restricted_to texts expander text = if list_any (bytes_eq text) texts then expander text else None
 
 -- the bytes of a text without the first `front` and the last `end` ones
 abbrev pub between : (front end : ℕ) → List ℕ → List ℕ

@@ -36,21 +36,16 @@ fn says<'src>(
 #[test]
 fn counts(rt: HostRuntime) {
     static ROWS: &[(usize, &str, &str, &str)] = &[
-        (0, "0 arguments", "0 feet", "arguments"),
-        (1, "1 argument", "1 foot", "argument"),
-        (2, "2 arguments", "2 feet", "arguments"),
+        (0, "0 dogs", "0 feet", "dogs"),
+        (1, "1 dog", "1 foot", "dog"),
+        (2, "2 dogs", "2 feet", "dogs"),
     ];
     for (count, numbered, irregular, unnumbered) in ROWS {
         let alloc = rt.alloc();
-        compare(&rt, alloc, &Count::numbered("argument", *count), numbered);
+        compare(&rt, alloc, &Count::numbered("dog", *count), numbered);
         let feet = Count::numbered_irregular("foot", "feet", *count);
         compare(&rt, alloc, &feet, irregular);
-        compare(
-            &rt,
-            alloc,
-            &Count::unnumbered("argument", *count),
-            unnumbered,
-        );
+        compare(&rt, alloc, &Count::unnumbered("dog", *count), unnumbered);
     }
 }
 

@@ -184,4 +184,6 @@ fn out_of_memory_is_a_fault(rt: HostRuntime) {
     let fault = FormatFault::from(AllocFailed { value: 1u8 });
     holds(&rt, "a list", matches!(fault, FormatFault::Memory));
     same_text(&rt, "its line", fault.lines(), "error: out of memory\n");
+    let fault = FormatFault::Numbers;
+    same_text(&rt, "its line", fault.lines(), "error: out of numbers\n");
 }

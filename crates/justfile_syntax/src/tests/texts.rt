@@ -30,11 +30,21 @@ fn kinds_are_not_padded(rt: HostRuntime) {
 
 #[test]
 fn kinds_of_items(rt: HostRuntime) {
-    let alloc = rt.alloc();
-    compare_kind(&rt, alloc, ItemKind::Assignment, ("an", "assignment"));
-    compare_kind(&rt, alloc, ItemKind::Comment, ("a", "comment"));
-    compare_kind(&rt, alloc, ItemKind::Newline, ("a", "newline"));
-    compare_kind(&rt, alloc, ItemKind::Recipe, ("a", "recipe"));
+    const ROWS: &[(ItemKind, (&str, &str))] = &[
+        (ItemKind::Alias, ("an", "alias")),
+        (ItemKind::Assignment, ("an", "assignment")),
+        (ItemKind::Comment, ("a", "comment")),
+        (ItemKind::Function, ("a", "function")),
+        (ItemKind::Import, ("an", "import")),
+        (ItemKind::Module, ("a", "module")),
+        (ItemKind::Newline, ("a", "newline")),
+        (ItemKind::Recipe, ("a", "recipe")),
+        (ItemKind::Setting, ("a", "setting")),
+        (ItemKind::Unexport, ("an", "unexport")),
+    ];
+    for (kind, texts) in ROWS {
+        compare_kind(&rt, rt.alloc(), *kind, *texts);
+    }
 }
 
 /// Displays two names with a bar between them, with this padding.
