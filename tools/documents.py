@@ -30,9 +30,10 @@ LONGEST = 300
 
 # Names in backticks that the repository's code doesn't have, each group with its reason.
 EXCEPTIONS = {
-    "Rust, and tools": "FromIterator callgrind len_utf16 tool valgrind write_all",
+    "Rust, and tools": "FromIterator callgrind len_utf16 read_to_end tool valgrind write_all",
     "what the Rust crate has and this repository doesn't": """
-        ArgumentPatternRegex ConstEval absolute recipe_path references variable_references
+        ArgumentPatternRegex ConstEval ExpressionContext RecipeAlias absolute check_pattern_match
+        check_value_count expressions_mut recipe_path references variable_references
     """,
     "Rattle's kit, its commands, flags and messages, and the names that its checker makes": """
         Lts Proof base dac8208d650f15bf holes incremental jobs kit logic oantt plant prop_f
