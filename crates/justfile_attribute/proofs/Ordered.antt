@@ -23,7 +23,8 @@ use Rattle.justfile_model.specs.Trees.ContentLeaf as contents
 use Rattle.justfile_model.specs.Trees.ContentLeaf.{ContentLeaf, content_cmp}
 use Rattle.justfile_model.specs.Trees.Key.{Key, keys_cmp, leaf, node, end, next, row, keys_of, option_key, present_key}
 use Rattle.justfile_model.specs.Trees.Tree.{Expr, Quoted}
-use Rattle.justfile_expression.specs.Content.{expression_content_cmp, token_content}
+use Rattle.justfile_expression.specs.Content.{expression_content_cmp}
+use Rattle.justfile_leaves.specs.LeafContent.{token_content}
 use Rattle.justfile_expression.specs.ContentLaws.{content_key_cmp}
 use Rattle.justfile_expression.specs.LeafViews.{views_leaves}
 use Rattle.justfile_expression.specs.LeafTree.{Leaf, leaf_tree_of}

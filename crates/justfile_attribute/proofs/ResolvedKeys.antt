@@ -5,7 +5,7 @@ use denote.Enum.Declared.{tag_of}
 use Rattle.justfile_token.specs.declared.name.Name.{Name}
 use Rattle.justfile_vocabulary.specs.contracts.attribute_kind.AttributeKind.{the_type}
 use Rattle.justfile_vocabulary.specs.declared.attribute_kind.AttributeKind.TheVariants as kinds
-use Rattle.justfile_vocabulary.specs.declared.number.Number.{Number}
+use Rattle.justfile_numbers.specs.declared.number.Number.{Number}
 use Rattle.justfile_model.specs.Trees.Key.{node, end, next, row, option_key, present_key}
 use Rattle.justfile_expression.specs.Resolved.{IsResolved, IsResolvedOption}
 use Rattle.justfile_expression.specs.declared.expression.Expression.{Expression}

@@ -2,7 +2,7 @@
 use Rattle.std.specs.Prelude.{List, [], ◌∷◌, ◌++◌, Option, None, Some}
 use Rattle.std.specs.Global.{Box}
 use Rattle.justfile_token.specs.declared.name.Name.{Name}
-use Rattle.justfile_expression.specs.Pushed.{optional_expressions}
+use Rattle.justfile_inner_expressions.specs.Pushed.{optional_expressions}
 use Rattle.justfile_expression.specs.declared.expression.Expression.{Expression}
 use Rattle.justfile_attribute.specs.declared.attribute.Attribute.{Attribute}
 use Rattle.justfile_attribute.specs.declared.attribute.Attribute.TheVariants as attributes

@@ -14,7 +14,7 @@ use Rattle.justfile_model.specs.Trees.ContentKeys.{expr_key}
 use Rattle.justfile_model.specs.Trees.ContentLeaf as contents
 use Rattle.justfile_model.specs.Trees.ContentLeaf.{ContentLeaf, content_cmp}
 use Rattle.justfile_model.specs.Trees.Key.{Key, Keys, leaf, node, end, next, row, keys_of, option_key, key_cmp}
-use Rattle.justfile_expression.specs.Content.{literal_content, token_content}
+use Rattle.justfile_leaves.specs.LeafContent.{literal_content, token_content}
 use Rattle.justfile_expression.specs.LeafViews.{views_leaves}
 use Rattle.justfile_expression.specs.LeafTree.{leaf_tree_of}
 use Rattle.justfile_expression.specs.declared.expression.Expression.{Expression}

@@ -1,10 +1,11 @@
 //! The expressions of attributes.
 ghost use Rattle.std.specs.Prelude.{◌≡◌, ◌++◌, ◌∷◌, [], IfOk, OnOk};
 ghost use Rattle.justfile_attribute.specs.Expressions.{attribute_expressions, property_expressions};
-ghost use Rattle.justfile_expression.specs.Pushed.{ArePushed, optional_expressions, referents};
+ghost use Rattle.justfile_inner_expressions.specs.Pushed.{ArePushed, optional_expressions, referents};
 
 use crate::attribute::Attribute;
-use justfile_expression::{Expression, push_expression, push_optional};
+use justfile_expression::Expression;
+use justfile_inner_expressions::{push_expression, push_optional};
 use justfile_token::Name;
 use std::alloc::{AllocError, Global};
 

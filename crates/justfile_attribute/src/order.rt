@@ -15,7 +15,8 @@ use crate::parts_order::{
     compare_bounds, compare_expressions, compare_interpreters, compare_named, compare_optional,
     compare_properties, compare_rows, compare_texts, compare_tokens,
 };
-use justfile_expression::{Expression, literal_content_cmp};
+use justfile_expression::Expression;
+use justfile_leaves::literal_content_cmp;
 use justfile_token::StringLiteral;
 use justfile_vocabulary::Signal;
 use std::cmp::Ordering;

@@ -6,7 +6,8 @@ ghost use Rattle.justfile_model.specs.Trees.Key.{option_key};
 ghost use Rattle.justfile_attribute.specs.Order.{boxed_key, by_content, count_key, expression_key, interpreter_key, literal_key, name_key, property_key, text_key, token_key};
 
 use crate::interpreter::Interpreter;
-use justfile_expression::{Expression, literal_content_cmp, token_content_cmp};
+use justfile_expression::Expression;
+use justfile_leaves::{literal_content_cmp, token_content_cmp};
 use justfile_token::{Name, StringLiteral, Token};
 use std::cmp::Ordering;
 

@@ -10,7 +10,8 @@ ghost use Rattle.justfile_attribute.specs.Print.{closing, opening, part_text, qu
 
 use crate::attribute::Attribute;
 use crate::part::{Part, Value, slot};
-use justfile_expression::{put_piece, write_expression};
+use justfile_inner_expressions::write_expression;
+use justfile_leaves::put_piece;
 use justfile_token::{Sink, StringLiteral};
 use std::fmt;
 

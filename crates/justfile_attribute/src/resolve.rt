@@ -6,9 +6,10 @@ ghost use Rattle.justfile_expression.specs.Resolved.{number_of};
 ghost use Rattle.justfile_vocabulary.specs.declared.attribute_kind.AttributeKind.TheVariants as kinds;
 
 use crate::attribute::Attribute;
-use justfile_expression::{Expression, resolve_optional};
+use justfile_expression::Expression;
+use justfile_inner_expressions::resolve_optional;
+use justfile_numbers::Number;
 use justfile_token::Name;
-use justfile_vocabulary::Number;
 use std::collections::HashMap;
 
 impl<'src> Attribute<'src> {

@@ -10,7 +10,7 @@ use Rattle.justfile_model.specs.Trees.ContentLeaf.{literal_value}
 use Rattle.justfile_model.specs.Meanings.Rules as rules
 use Rattle.justfile_model.specs.Meanings.Rules.{Broken, Rule}
 use Rattle.justfile_model.specs.Meanings.Versions.{version_numbers}
-use Rattle.justfile_expression.specs.Content.{literal_content}
+use Rattle.justfile_leaves.specs.LeafContent.{literal_content}
 
 -- the greatest number of arguments as the code has it, where 2^64 - 1 means no limit
 abbrev pub IsMost : Option ℕ → ℕ → Type 0

@@ -2,7 +2,7 @@
 use Rattle.std.proofs.Common.{◌≡◌, ℕ, List, Option, sym, subst}
 use Rattle.std.specs.List.{AllZip}
 use Rattle.std.specs.List.Sorted.{IsSorted}
-use Rattle.justfile_vocabulary.specs.declared.number.Number.{Number}
+use Rattle.justfile_numbers.specs.declared.number.Number.{Number}
 use Rattle.justfile_model.specs.Trees.ContentLeaf.{ContentLeaf}
 use Rattle.justfile_model.specs.Trees.Key.{Key}
 use Rattle.justfile_model.proofs.Lists.OrderMaps.{keys_sorted, sorted_from_keys}

@@ -4,7 +4,7 @@ use Rattle.std.specs.List.{AllZip}
 use Rattle.justfile_attribute.specs.Resolved.{IsResolvedAttribute}
 use Rattle.justfile_attribute_set.specs.AttributeSet.{AttributeSet, written_of}
 use Rattle.justfile_attribute_set.specs.Pairs.{Pair}
-use Rattle.justfile_vocabulary.specs.declared.number.Number.{Number}
+use Rattle.justfile_numbers.specs.declared.number.Number.{Number}
 
 module _ (numbers : (name : List ℕ) → Option Number) where
   -- a resolved attribute, with the same name and the same comment

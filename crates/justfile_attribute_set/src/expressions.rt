@@ -4,7 +4,7 @@ ghost use Rattle.std.specs.List.{flat_map};
 ghost use Rattle.justfile_attribute.specs.Expressions.{attribute_expressions};
 ghost use Rattle.justfile_attribute_set.specs.Expressions.{set_expressions};
 ghost use Rattle.justfile_attribute_set.specs.Keys.{firsts};
-ghost use Rattle.justfile_expression.specs.Pushed.{ArePushed, referents};
+ghost use Rattle.justfile_inner_expressions.specs.Pushed.{ArePushed, referents};
 
 use crate::attribute_set::AttributeSet;
 use crate::pair_set::PairSet;

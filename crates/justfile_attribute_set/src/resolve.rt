@@ -5,7 +5,7 @@ ghost use Rattle.justfile_expression.specs.Resolved.{number_of};
 
 use crate::pair_set::PairSet;
 use justfile_attribute::Attribute;
-use justfile_vocabulary::Number;
+use justfile_numbers::Number;
 use justfile_written::Written;
 use std::collections::HashMap;
 

@@ -5,7 +5,7 @@ use Rattle.std.specs.Option.{option_map}
 use Rattle.std.proofs.lemmas.List.Elements.{All-head, All-tail}
 use Rattle.std.proofs.lemmas.Option.{none-some, same_Some}
 use Rattle.justfile_vocabulary.specs.Indentation.{indentation_text}
-use Rattle.justfile_vocabulary.specs.declared.numerator.Numerator.{Numerator}
+use Rattle.justfile_numbers.specs.declared.numerator.Numerator.{Numerator}
 use Rattle.justfile_token.specs.StringLiteral.{begins_format_string}
 use Rattle.justfile_token.specs.Token.{lexeme_of}
 use Rattle.justfile_vocabulary.specs.declared.indentation.Indentation.{Indentation}

@@ -1,8 +1,8 @@
 -- What parsing a root file returns.
 use Rattle.std.proofs.Common.{◌≡◌, ℕ, List, [], Result, Ok, Err}
 use Rattle.std.specs.Prelude.{IfErr, IfOk, string_bytes}
-use Rattle.justfile_vocabulary.specs.Numerator.{bindings_of, recipes_of}
-use Rattle.justfile_vocabulary.specs.declared.numerator.Numerator.{Numerator}
+use Rattle.justfile_numbers.specs.Numerator.{bindings_of, recipes_of}
+use Rattle.justfile_numbers.specs.declared.numerator.Numerator.{Numerator}
 use Rattle.justfile_token.specs.Modulepath.{names_of}
 use Rattle.justfile_token.specs.declared.fault.Fault.{Fault}
 use Rattle.justfile_ast.specs.declared.ast.Ast.{Ast}

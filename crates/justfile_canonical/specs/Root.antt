@@ -1,7 +1,7 @@
 -- Root files, and the conditions under which they are parsed.
 use Rattle.std.specs.Prelude.{◌≡◌, ℕ, List, [], Some, Ok, string_bytes}
-use Rattle.justfile_vocabulary.specs.Numerator.{bindings_of, recipes_of}
-use Rattle.justfile_vocabulary.specs.declared.numerator.Numerator.{Numerator}
+use Rattle.justfile_numbers.specs.Numerator.{bindings_of, recipes_of}
+use Rattle.justfile_numbers.specs.declared.numerator.Numerator.{Numerator}
 use Rattle.justfile_token.specs.Modulepath.{names_of}
 use Rattle.justfile_token.specs.declared.fault.Fault.{Fault}
 use Rattle.justfile_model.specs.Grammars.Conditions.{Conditions}

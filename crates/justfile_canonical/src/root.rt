@@ -1,6 +1,6 @@
 //! Root files: a text without imports, parsed under the usual conditions.
 ghost use Rattle.std.specs.Prelude.{◌≡◌, List, IfOk, IfErr};
-ghost use Rattle.justfile_vocabulary.specs.Numerator.{constants_of};
+ghost use Rattle.justfile_numbers.specs.Numerator.{constants_of};
 ghost use Rattle.justfile_model.specs.Lexing.Lexed.{Lexed};
 ghost use Rattle.justfile_model.specs.Lexing.SignificantTokens.{identifiers, significant_tokens};
 ghost use Rattle.justfile_model.specs.Lexing.Tok.{Tok};
@@ -10,9 +10,9 @@ ghost use Rattle.justfile_canonical.specs.Formatting.{HasCookedIndentation};
 ghost use Rattle.justfile_canonical.specs.Root.{HasNoRoot, IsRoot, IsRootFrom, conditions};
 
 use justfile_ast::Ast;
+use justfile_numbers::{Numerator, Version};
 use justfile_parse::{Parser, RECURSION_LIMIT};
 use justfile_token::{CompileResult, Source, Unchanged};
-use justfile_vocabulary::{Numerator, Version};
 use std::alloc::Global;
 
 /// Parses a text as the root file at this path: at depth 0, in no module, with numbers from 0 on,

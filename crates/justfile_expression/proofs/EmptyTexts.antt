@@ -4,9 +4,10 @@ use Rattle.std.specs.List.{slice_get}
 use Rattle.justfile_model.specs.Printed.Printing.{fixed_text, is_conditional, operator_text}
 use Rattle.justfile_model.specs.declared.conditional_operator.ConditionalOperator.{ConditionalOperator}
 use Rattle.justfile_model.specs.declared.conditional_operator.ConditionalOperator.TheVariants.{Equality, Inequality, RegexMatch, RegexMismatch}
-use Rattle.justfile_expression.specs.Children.{Child, children, row_children, before_other, then_text, then_part}
+use Rattle.justfile_expression.specs.Children.{Child, children, row_children, then_text, then_part}
+use Rattle.justfile_leaves.specs.OtherBranch.{before_other}
 use Rattle.justfile_expression.specs.Expression.{expr_shape}
-use Rattle.justfile_expression.specs.Texts.{texts_joined}
+use Rattle.justfile_leaves.specs.Texts.{texts_joined}
 use Rattle.justfile_expression.specs.declared.expression.Expression.{Expression, And', Assert', Backtick, Call', Comparison', Concatenation', Conditional', FormatString', Group', Join', List', ListConcatenation', Not', Or', StringLiteral, Variable, None', Some', items-the_row-Expression, items-the_row-Expression-FormatString-1-2}
 
 -- the text after each child but the last isn't empty
@@ -64,11 +65,3 @@ last_at (d ∷ f ∷ cs) (suc i) c h e silent = last_at (f ∷ cs) i c h.1 e sil
 -- a child with an empty text after it is the last one
 pub silent_last : (e : Expression) (i : ℕ) (c : Child) → slice_get (children e) i ≡ Some c → texts_joined c.1 ≡ [] → None ≡ slice_get (children e) (suc i)
 silent_last e i c h silent = last_at (children e) i c (children_parted e) h silent
-
--- if joined texts are empty, each of them is
-pub all_empty : (before marks lexeme after : List ℕ) → before ++ (marks ++ (lexeme ++ after)) ≡ [] → (length before ≡ 0) × (length marks ≡ 0) × (length lexeme ≡ 0) × (length after ≡ 0)
-all_empty [] [] [] [] e = (refl, refl, refl, refl)
-all_empty [] [] [] (x ∷ after) e = absurd cc
-all_empty [] [] (x ∷ lexeme) after e = absurd cc
-all_empty [] (x ∷ marks) lexeme after e = absurd cc
-all_empty (x ∷ before) marks lexeme after e = absurd cc

@@ -5,10 +5,11 @@ use Rattle.justfile_token.specs.declared.string_literal.StringLiteral as literal
 use Rattle.justfile_token.specs.StringLiteral.{format_mark, literal_marks}
 use Rattle.justfile_token.specs.Token.{lexeme_of}
 use Rattle.justfile_model.specs.Printed.Printing.{fixed_text, is_conditional, mark_text, other_text}
-use Rattle.justfile_expression.specs.Children.{Child, row_children, then_text, format_children, start_texts, children, opening_text, before_other, after_other}
+use Rattle.justfile_expression.specs.Children.{Child, row_children, then_text, format_children, start_texts, children, opening_text}
+use Rattle.justfile_leaves.specs.OtherBranch.{after_other, before_other}
 use Rattle.justfile_expression.specs.Expression.{expr_shape}
 use Rattle.justfile_expression.specs.Text.{text_of, separated, format_part_text}
-use Rattle.justfile_expression.specs.Texts.{texts_joined}
+use Rattle.justfile_leaves.specs.Texts.{texts_joined}
 use Rattle.justfile_expression.proofs.Rows.{separated_row, format_row}
 use Rattle.justfile_expression.specs.declared.expression.Expression.{Expression, And', Assert', Backtick, Call', Comparison', Concatenation', Conditional', FormatString', Group', Join', List', ListConcatenation', Not', Or', StringLiteral, Variable, None', Some', items-the_row-Expression, items-the_row-Expression-FormatString-1-2}
 

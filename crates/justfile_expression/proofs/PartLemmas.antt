@@ -9,7 +9,7 @@ use Rattle.justfile_expression.specs.Parts.{IsWithin, parts_of}
 use Rattle.justfile_expression.specs.declared.expression.Expression.{Expression, size-Expression}
 use Rattle.justfile_expression.specs.declared.parts.Start.{Start}
 use Rattle.justfile_expression.specs.declared.parts.Start.TheVariants as starts
-use Rattle.justfile_expression.specs.declared.words.Words.{Words}
+use Rattle.justfile_leaves.specs.declared.words.Words.{Words}
 
 -- there is no child at the index
 pub no_part : (e : Expression) (index : ℕ) (found : Option (Bor Expression × Words)) → found ≡ None → child_of found ≡ slice_get (children e) index → None ≡ slice_get (parts_of e) index

@@ -1,7 +1,7 @@
 -- Resolution keeps the content of an expression, which ignores the numbers of variables.
 use mathlib.Core.Former.{Count}
 use Rattle.std.proofs.Common.{◌≡◌, ◌∙◌, ℕ, List, Option, refl, sym}
-use Rattle.justfile_vocabulary.specs.declared.number.Number.{Number}
+use Rattle.justfile_numbers.specs.declared.number.Number.{Number}
 use Rattle.justfile_model.specs.Trees.ContentKeys.{expr_key}
 use Rattle.justfile_model.specs.Trees.ContentLeaf.{unseen}
 use Rattle.justfile_model.specs.Trees.ExpressionCases.{case_node}

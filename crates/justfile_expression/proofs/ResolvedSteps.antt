@@ -1,7 +1,7 @@
 -- Resolution along right sides: what the loops keep.
 use mathlib.Core.Bool.{true≢false}
 use Rattle.std.proofs.Common.{◌≡◌, ◌∙◌, ℕ, ◌<◌, List, Option, None, Some, IfSome, is_some, true, false, refl, sym, ap, subst}
-use Rattle.justfile_vocabulary.specs.declared.number.Number.{Number}
+use Rattle.justfile_numbers.specs.declared.number.Number.{Number}
 use Rattle.justfile_expression.specs.Children.{optional_expression}
 use Rattle.justfile_expression.specs.Resolved.{IsResolved, IsResolvedOptional}
 use Rattle.justfile_expression.specs.ResolvedSteps.{IsExchanged, IsResolvedLeft, rejoined, with_right}

@@ -5,7 +5,7 @@ use Rattle.std.specs.List.{flat_map, slice_get}
 use Rattle.justfile_expression.specs.Children.{Child, children, start_texts}
 use Rattle.justfile_expression.specs.Ends.{IsCompleted}
 use Rattle.justfile_expression.specs.Text.{text_of}
-use Rattle.justfile_expression.specs.Texts.{Texts, texts_joined}
+use Rattle.justfile_leaves.specs.Texts.{Texts, texts_joined}
 use Rattle.justfile_expression.specs.declared.expression.Expression.{Expression}
 use Rattle.justfile_expression.proofs.Joined.{child_text, joined}
 use Rattle.justfile_expression.proofs.Loops.{all_taken, failed_next, flat_split, text_last}

@@ -6,8 +6,9 @@ use Rattle.justfile_token.specs.Token.{lexeme_of}
 use Rattle.justfile_token.specs.declared.string_literal.StringLiteral as literals
 use Rattle.justfile_model.specs.Printed.Printing.{is_conditional, operator_text}
 use Rattle.justfile_expression.specs.Expression.{expr_shape}
-use Rattle.justfile_expression.specs.Texts.{Texts, text_alone, lexeme_alone, literal_texts, part_texts, texts_of}
-use Rattle.justfile_expression.specs.declared.words.Words.{Words}
+use Rattle.justfile_leaves.specs.OtherBranch.{after_other, before_other}
+use Rattle.justfile_leaves.specs.Texts.{Texts, text_alone, lexeme_alone, literal_texts, part_texts, texts_of}
+use Rattle.justfile_leaves.specs.declared.words.Words.{Words}
 use Rattle.justfile_expression.specs.declared.expression.Expression.{Expression, And', Assert', Backtick, Call', Comparison', Concatenation', Conditional', FormatString', Group', Join', List', ListConcatenation', Not', Or', StringLiteral, Variable, Held-Expression-Assert-1 as OptionalExpression, None', Some', items-the_row-Expression, items-the_row-Expression-FormatString-1-2}
 
 -- `none` for an empty list, and otherwise `some`
@@ -82,14 +83,6 @@ format_children parts = row_children (then_part (codes " ")) (then_part []) part
 
 abbrev pub two_children : (lhs : Expression) (between : List ℕ) (rhs : Expression) (closing : List ℕ) → List Child
 two_children lhs between rhs closing = then_text between lhs ∷ then_text closing rhs ∷ []
-
-abbrev pub before_other : (conditional : Bool) → List ℕ
-before_other true = codes " } else "
-before_other false = codes " } else { "
-
-abbrev pub after_other : (conditional : Bool) → List ℕ
-after_other true = []
-after_other false = codes " }"
 
 abbrev pub assert_children : (condition : Expression) (message : Option Expression) → List Child
 assert_children condition None = then_text (codes ")") condition ∷ []

@@ -1,23 +1,14 @@
 -- The contents of leaves, which ignore positions, and the order of expressions by content.
-use Rattle.std.specs.Prelude.{string_bytes}
 use Rattle.std.specs.declared.cmp.Ordering.{Ordering}
-use Rattle.justfile_token.specs.declared.string_literal.StringLiteral.{StringLiteral}
-use Rattle.justfile_token.specs.declared.token.Token.{Token}
-use Rattle.justfile_token.specs.Token.{lexeme_of}
 use Rattle.justfile_model.specs.Trees.ContentLeaf as contents
-use Rattle.justfile_model.specs.Trees.ContentLeaf.{ContentLeaf, LiteralContent, TokenContent, content_cmp}
+use Rattle.justfile_model.specs.Trees.ContentLeaf.{ContentLeaf, content_cmp}
 use Rattle.justfile_model.specs.Trees.Key.{Key, key_cmp, map_key}
+use Rattle.justfile_leaves.specs.LeafContent.{literal_content, token_content}
 use Rattle.justfile_expression.specs.Leaf.{KeyLeaf, token, literal, operator, number, text, leaf_cmp}
 use Rattle.justfile_expression.specs.Order.{key}
 use Rattle.justfile_expression.specs.declared.expression.Expression.{Expression}
 use Rattle.justfile_expression.specs.declared.leaf_order.LeafOrder.{LeafOrder}
 use Rattle.justfile_expression.specs.declared.leaf_order.LeafOrder.TheVariants.{Whole, Content}
-
-abbrev pub token_content : Token → TokenContent
-token_content t = record { kind = t.kind; lexeme = lexeme_of t }
-
-abbrev pub literal_content : StringLiteral → LiteralContent
-literal_content l = record { cooked = string_bytes l.cooked; expand = l.expand; kind = l.kind; part = l.part; token = token_content l.token }
 
 -- the content of a leaf; the numbers of variables are ignored
 abbrev pub content_of : KeyLeaf → ContentLeaf

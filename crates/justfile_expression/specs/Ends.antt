@@ -4,7 +4,7 @@ use Rattle.std.specs.Borrow.{Bor}
 use Rattle.std.specs.List.{slice_get}
 use Rattle.justfile_expression.specs.Children.{children}
 use Rattle.justfile_expression.specs.Text.{text_of}
-use Rattle.justfile_expression.specs.Texts.{Texts, texts_joined}
+use Rattle.justfile_leaves.specs.Texts.{Texts, texts_joined}
 use Rattle.justfile_expression.specs.declared.expression.Expression.{Expression}
 
 -- a child with no text after it

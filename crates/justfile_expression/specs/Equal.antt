@@ -14,7 +14,7 @@ use Rattle.justfile_vocabulary.specs.contracts.keyword.KeywordPartialEq.TheImpl 
 use Rattle.justfile_vocabulary.specs.contracts.list_feature.ListFeaturePartialEq.TheImpl as list_features
 use Rattle.justfile_vocabulary.specs.contracts.switch.SwitchPartialEq.TheImpl as switches
 use Rattle.justfile_vocabulary.specs.contracts.token_kind.TokenKindPartialEq.TheImpl as token_kinds
-use Rattle.justfile_vocabulary.specs.contracts.version.VersionPartialEq.TheImpl as versions
+use Rattle.justfile_numbers.specs.contracts.version.VersionPartialEq.TheImpl as versions
 use Rattle.justfile_vocabulary.specs.declared.attribute_kind.AttributeKind.{AttributeKind}
 use Rattle.justfile_vocabulary.specs.declared.indentation.Indentation.{Indentation}
 use Rattle.justfile_vocabulary.specs.declared.item_kind.ItemKind.{ItemKind}
@@ -23,7 +23,7 @@ use Rattle.justfile_vocabulary.specs.declared.list_feature.ListFeature.{ListFeat
 use Rattle.justfile_vocabulary.specs.declared.switch.Switch.{Switch}
 use Rattle.justfile_vocabulary.specs.declared.switch.Switch.TheVariants.{Long, Short}
 use Rattle.justfile_vocabulary.specs.declared.token_kind.TokenKind.{TokenKind}
-use Rattle.justfile_vocabulary.specs.declared.version.Version.{Version}
+use Rattle.justfile_numbers.specs.declared.version.Version.{Version}
 use Rattle.justfile_token.specs.contracts.compile_error_kind.CompileErrorKind as error_kinds
 use Rattle.justfile_token.specs.contracts.delimiter.DelimiterPartialEq.TheImpl as delimiters
 use Rattle.justfile_token.specs.contracts.name.NamePartialEq.TheImpl as names

@@ -5,10 +5,10 @@ use Rattle.std.specs.Cmp.Lexicographic.{options_total, nat_list_cmp_total}
 use Rattle.std.specs.Option.{option_cmp}
 use Rattle.std.specs.Ordering.{ordering_then, nat_cmp}
 use Rattle.std.specs.declared.cmp.Ordering.{Ordering}
-use Rattle.justfile_vocabulary.specs.declared.number.Number.{Number}
+use Rattle.justfile_numbers.specs.declared.number.Number.{Number}
 use Rattle.justfile_token.specs.declared.token.Token.{Token}
 use Rattle.justfile_token.specs.declared.string_literal.StringLiteral.{StringLiteral}
-use Rattle.justfile_vocabulary.specs.contracts.number.NumberOrd.TheImpl.Laws.{total-law as number_total}
+use Rattle.justfile_numbers.specs.contracts.number.NumberOrd.TheImpl.Laws.{total-law as number_total}
 use Rattle.justfile_token.specs.contracts.token.TokenOrd.TheImpl.Laws.{total-law as token_total}
 use Rattle.justfile_token.specs.contracts.string_literal.StringLiteralOrd.TheImpl.Laws.{total-law as literal_total}
 use Rattle.justfile_model.specs.declared.conditional_operator.ConditionalOperator.{ConditionalOperator}

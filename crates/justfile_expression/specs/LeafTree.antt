@@ -1,7 +1,7 @@
 -- The tree of an expression with all that the parser stores in its leaves. Only the addresses of boxes are left out.
 use Rattle.std.specs.Prelude.{ℕ, Bool, List, [], ◌∷◌, Option, None, string_bytes}
 use Rattle.justfile_vocabulary.specs.declared.format_string_part.FormatStringPart.{FormatStringPart}
-use Rattle.justfile_vocabulary.specs.declared.number.Number.{Number}
+use Rattle.justfile_numbers.specs.declared.number.Number.{Number}
 use Rattle.justfile_token.specs.declared.string_kind.StringKind.{StringKind}
 use Rattle.justfile_token.specs.declared.string_literal.StringLiteral as literals
 use Rattle.justfile_token.specs.declared.token.Token.{Token}

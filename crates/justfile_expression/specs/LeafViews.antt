@@ -6,7 +6,7 @@ use Rattle.justfile_token.specs.declared.token.Token.{Token}
 use Rattle.justfile_model.specs.Trees.ContentLeaf.{LiteralContent}
 use Rattle.justfile_model.specs.LiteralTexts.Literals.{token_of}
 use Rattle.justfile_model.specs.Trees.LeafView.{LeafView}
-use Rattle.justfile_expression.specs.Content.{token_content}
+use Rattle.justfile_leaves.specs.LeafContent.{token_content}
 use Rattle.justfile_expression.specs.LeafTree as leaves
 use Rattle.justfile_expression.specs.LeafTree.{Leaf, LiteralText}
 

@@ -16,10 +16,8 @@ pub mod Order
 pub mod OrderSteps
 pub mod Orders
 pub mod Parts
-pub mod Pushed
 pub mod Resolved
 pub mod ResolvedSteps
 pub mod RightSides
 pub mod SeenKeys
 pub mod Text
-pub mod Texts

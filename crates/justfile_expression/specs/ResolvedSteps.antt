@@ -1,6 +1,6 @@
 -- How variables are resolved along right sides: an expression up to its right side, and the way back to the whole.
 use Rattle.std.specs.Prelude.{◌≡◌, ℕ, List, Option, None, Some}
-use Rattle.justfile_vocabulary.specs.declared.number.Number.{Number}
+use Rattle.justfile_numbers.specs.declared.number.Number.{Number}
 use Rattle.justfile_expression.specs.Resolved.{IsResolved, IsResolvedOptional}
 use Rattle.justfile_expression.specs.declared.expression.Expression.{Expression, And', Comparison', Concatenation', Conditional', Join', ListConcatenation', Not', Or', Some'}
 

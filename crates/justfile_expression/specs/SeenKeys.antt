@@ -9,7 +9,8 @@ use Rattle.justfile_model.specs.Trees.ExpressionCases.{case_node}
 use Rattle.justfile_model.specs.Trees.Key.{Key, leaf, end, next, row, absent_key, present_key, map_key, map_keys}
 use Rattle.justfile_model.specs.declared.expression_case.ExpressionCase.TheVariants as cases
 use Rattle.justfile_model.specs.LiteralTexts.Literals.{string_of}
-use Rattle.justfile_expression.specs.Content.{content_of, literal_content, token_content}
+use Rattle.justfile_expression.specs.Content.{content_of}
+use Rattle.justfile_leaves.specs.LeafContent.{literal_content, token_content}
 use Rattle.justfile_expression.specs.LeafViews.{views_leaves}
 use Rattle.justfile_expression.specs.LeafTree.{Leaf, Literal, literal_of, leaf_tree_of, assert_tree, conditional_tree, join_tree, trees_of_row, format_row_tree, parts_row_tree}
 use Rattle.justfile_expression.specs.Order.{key, optional_key, row_keys, row_parts}

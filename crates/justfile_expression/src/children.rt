@@ -4,11 +4,11 @@ ghost use Rattle.std.specs.List.{slice_get};
 ghost use Rattle.justfile_token.specs.Token.{lexeme_of};
 ghost use Rattle.justfile_model.specs.Printed.Printing.{is_conditional, operator_text};
 ghost use Rattle.justfile_expression.specs.Expression.{expr_shape};
-ghost use Rattle.justfile_expression.specs.Texts.{text_alone, texts_of};
+ghost use Rattle.justfile_leaves.specs.Texts.{text_alone, texts_of};
 ghost use Rattle.justfile_expression.specs.Children.{assert_children, call_start, child_of, children, conditional_children, elements_to, format_children, format_start, join_children, join_start, list_start, of_option, start_texts, then_text, two_children};
 
 use crate::expression::Expression;
-use crate::words::Words;
+use justfile_leaves::{Words, after_other, before_other};
 use justfile_model::ConditionalOperator;
 use justfile_token::{Name, StringLiteral};
 
@@ -165,11 +165,14 @@ fn conditional_child<'a, 'src>(
             if index == 0 {
                 return Some((condition, Words::piece(" { ")));
             }
-            if is_conditional(other) {
-                either_child(branch, " } else ", other, "", index - 1)
-            } else {
-                either_child(branch, " } else { ", other, " }", index - 1)
-            }
+            let nested = is_conditional(other);
+            either_child(
+                branch,
+                before_other(nested),
+                other,
+                after_other(nested),
+                index - 1,
+            )
         }
     }
 }

@@ -10,8 +10,8 @@ ghost use Rattle.justfile_expression.specs.Copies.{IsSameExpression, IsSameBoxed
 ghost use Rattle.justfile_expression.specs.RightSides.{IsCopied, IsLessDeep, IsRow, right_side};
 
 use justfile_model::ConditionalOperator;
+use justfile_numbers::Number;
 use justfile_token::{Name, StringLiteral, Token};
-use justfile_vocabulary::Number;
 use std::alloc::{AllocError, Global};
 
 /// An expression, as in `docs/LANGUAGE.md`.

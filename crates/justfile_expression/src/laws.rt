@@ -46,8 +46,8 @@ ghost use Rattle.justfile_vocabulary.specs.contracts.indentation.IndentationPart
 ghost use Rattle.justfile_vocabulary.specs.contracts.item_kind.ItemKindPartialEq.TheImpl as item_equality;
 ghost use Rattle.justfile_vocabulary.specs.contracts.keyword.KeywordPartialEq.TheImpl as keyword_equality;
 ghost use Rattle.justfile_vocabulary.specs.contracts.list_feature.ListFeaturePartialEq.TheImpl as list_feature_equality;
-ghost use Rattle.justfile_vocabulary.specs.contracts.number.NumberOrd.TheImpl as number_order;
-ghost use Rattle.justfile_vocabulary.specs.contracts.number.NumberPartialEq.TheImpl as number_equality;
+ghost use Rattle.justfile_numbers.specs.contracts.number.NumberOrd.TheImpl as number_order;
+ghost use Rattle.justfile_numbers.specs.contracts.number.NumberPartialEq.TheImpl as number_equality;
 ghost use Rattle.justfile_vocabulary.specs.contracts.signal.SignalOrd.TheImpl as signal_order;
 ghost use Rattle.justfile_vocabulary.specs.contracts.signal.SignalPartialEq.TheImpl as signal_equality;
 ghost use Rattle.justfile_vocabulary.specs.contracts.switch.SwitchPartialEq.TheImpl as switch_equality;

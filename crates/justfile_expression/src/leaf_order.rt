@@ -3,10 +3,10 @@ ghost use Rattle.std.specs.Prelude.{◌≡◌};
 ghost use Rattle.justfile_expression.specs.Content.{leaf_order};
 ghost use Rattle.justfile_expression.specs.Leaf as leaves;
 
-use crate::content::{literal_content_cmp, token_content_cmp};
+use justfile_leaves::{literal_content_cmp, token_content_cmp};
 use justfile_model::ConditionalOperator;
+use justfile_numbers::Number;
 use justfile_token::{StringLiteral, Token};
-use justfile_vocabulary::Number;
 use std::cmp::Ordering;
 
 /// The order in which leaves are compared.

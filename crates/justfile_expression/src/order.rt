@@ -18,8 +18,8 @@ ghost use Rattle.justfile_expression.specs.OrderSteps.{both_cmp, left_key, optio
 use crate::expression::{Expression, right_side};
 use crate::leaf_order::LeafOrder;
 use justfile_model::{ConditionalOperator, ExpressionCase};
+use justfile_numbers::Number;
 use justfile_token::{Name, StringLiteral, Token};
-use justfile_vocabulary::Number;
 use std::cmp::Ordering;
 
 impl Expression<'_> {

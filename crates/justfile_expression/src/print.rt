@@ -7,7 +7,7 @@ ghost use Rattle.justfile_expression.specs.Text.{text_of};
 
 use crate::children::{child, start};
 use crate::expression::Expression;
-use crate::words::write_words;
+use justfile_leaves::write_words;
 use justfile_token::Sink;
 use std::fmt;
 

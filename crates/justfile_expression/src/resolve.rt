@@ -9,8 +9,9 @@ ghost use Rattle.justfile_expression.specs.declared.expression.Expression.{size-
 
 use crate::expression;
 use crate::expression::Expression;
+use justfile_numbers::Number;
 use justfile_token::{Name, StringLiteral, Token};
-use justfile_vocabulary::{Number, TokenKind};
+use justfile_vocabulary::TokenKind;
 use std::collections::HashMap;
 use std::mem;
 
@@ -50,19 +51,6 @@ impl<'src> Expression<'src> {
     {
         resolve(self, &Numbers { context, bindings });
     }
-}
-
-/// Sets the numbers of the variables of each expression, as `Expression::resolve_variables` does.
-#[tactic(auto, unfolding(crate::specs::Resolved::numbers_of))]
-pub fn resolve_expressions<'src>(
-    expressions: &mut Vec<Expression<'src>>,
-    context: Option<&HashMap<&'src str, Number>>,
-    bindings: &HashMap<&'src str, Number>,
-)
-    ensures { AllZip (IsResolved (number_of context.entry bindings.now)) expressions.new.items
-        expressions.old.items }
-{
-    resolve_all(expressions, &Numbers { context, bindings });
 }
 
 /// Sets the number of each variable of an expression. Expressions nest to the right without a

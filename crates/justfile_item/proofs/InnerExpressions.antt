@@ -8,7 +8,7 @@ use Rattle.std.specs.List.{flat_map, slice_get}
 use Rattle.justfile_token.specs.declared.string_literal.StringLiteral as literals
 use Rattle.justfile_expression.specs.Children.{Child, children, row_children, then_part, then_text}
 use Rattle.justfile_expression.specs.Parts.{parts_of}
-use Rattle.justfile_expression.specs.Pushed.{referents}
+use Rattle.justfile_inner_expressions.specs.Pushed.{referents}
 use Rattle.justfile_expression.specs.declared.expression.Expression.{Expression, And', Assert', Backtick, Call', Comparison', Concatenation', Conditional', FormatString', Group', Join', List', ListConcatenation', Not', Or', StringLiteral, Variable, None', Some', Row_of-Expression as ExpressionRow, end_of-Expression as row_end, more_of-Expression as row_more, Row_of-Expression-FormatString-1-2 as FormatRow, end_of-Expression-FormatString-1-2 as format_row_end, more_of-Expression-FormatString-1-2 as format_row_more, items-the_row-Expression, items-the_row-Expression-FormatString-1-2}
 use Rattle.justfile_item.specs.AllExpressions.{inner, part_inner, row_inner, with_inner}
 

@@ -8,7 +8,7 @@ use Rattle.justfile_token.specs.StringLiteral.{format_mark}
 use Rattle.justfile_token.specs.Token.{lexeme_of}
 use Rattle.justfile_token.specs.declared.name.Name.{Name}
 use Rattle.justfile_token.specs.declared.namepath.Namepath.{Namepath}
-use Rattle.justfile_vocabulary.specs.declared.number.Number.{Number}
+use Rattle.justfile_numbers.specs.declared.number.Number.{Number}
 use Rattle.justfile_token.specs.declared.string_literal.StringLiteral.{StringLiteral}
 use Rattle.justfile_model.specs.Printed.Printing.{fixed_text, if_some, if_true, file_path_text, mark_text, setting_value_text}
 use Rattle.justfile_model.specs.Lexing.Tok.{Tok}

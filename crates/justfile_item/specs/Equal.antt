@@ -2,7 +2,7 @@
 use Rattle.std.specs.Prelude.{Bool, ◌&&◌, ◌==◌}
 use Rattle.std.specs.Bool.{beq}
 use Rattle.std.specs.Cmp.Lexicographic.{pointwise}
-use Rattle.justfile_vocabulary.specs.contracts.number.NumberPartialEq.TheImpl as numbers
+use Rattle.justfile_numbers.specs.contracts.number.NumberPartialEq.TheImpl as numbers
 use Rattle.justfile_expression.specs.Equal.{expression_eq, name_eq}
 use Rattle.justfile_attribute_set.specs.contracts.attribute_set.PairSetAttributeWrittenPartialEq.TheImpl as sets
 use Rattle.justfile_item.specs.FunctionParameter.{same_parameter}

@@ -3,10 +3,10 @@ use Rattle.std.specs.Prelude.{Bool, ◌&&◌}
 use Rattle.std.specs.Cmp.{IsPartialEquivalence, and_per, on_per}
 use Rattle.justfile_token.specs.contracts.name.NamePartialEq.TheImpl as names
 use Rattle.justfile_token.specs.contracts.name.NamePartialEq.TheImpl.Laws.{laws-law as name_per}
-use Rattle.justfile_vocabulary.specs.contracts.number.NumberPartialEq.TheImpl as numbers
-use Rattle.justfile_vocabulary.specs.contracts.number.NumberPartialEq.TheImpl.Laws.{laws-law as number_per}
+use Rattle.justfile_numbers.specs.contracts.number.NumberPartialEq.TheImpl as numbers
+use Rattle.justfile_numbers.specs.contracts.number.NumberPartialEq.TheImpl.Laws.{laws-law as number_per}
 use Rattle.justfile_token.specs.declared.name.Name.{Name}
-use Rattle.justfile_vocabulary.specs.declared.number.Number.{Number}
+use Rattle.justfile_numbers.specs.declared.number.Number.{Number}
 
 -- equal names and equal numbers
 abbrev pub same_parameter : Name × Number → Name × Number → Bool

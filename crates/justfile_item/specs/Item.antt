@@ -6,7 +6,7 @@ use Rattle.std.specs.Option.{option_copied, option_map}
 use Rattle.justfile_token.specs.Namepath.{names_in}
 use Rattle.justfile_token.specs.declared.name.Name.{Name}
 use Rattle.justfile_token.specs.declared.namepath.Namepath.{Namepath}
-use Rattle.justfile_vocabulary.specs.declared.number.Number.{Number}
+use Rattle.justfile_numbers.specs.declared.number.Number.{Number}
 use Rattle.justfile_token.specs.declared.string_literal.StringLiteral.{StringLiteral}
 use Rattle.justfile_model.specs.Lexing.Tok.{Tok, tok_of}
 use Rattle.justfile_model.specs.Trees.Tree as tree

@@ -4,7 +4,7 @@ use Rattle.std.specs.List.{flat_map}
 use Rattle.justfile_token.specs.Token.{lexeme_of}
 use Rattle.justfile_token.specs.declared.name.Name.{Name}
 use Rattle.justfile_token.specs.declared.namepath.Namepath.{Namepath}
-use Rattle.justfile_vocabulary.specs.declared.number.Number.{Number}
+use Rattle.justfile_numbers.specs.declared.number.Number.{Number}
 use Rattle.justfile_token.specs.declared.string_literal.StringLiteral.{StringLiteral}
 use Rattle.justfile_model.specs.Printed.Printing as printing
 use Rattle.justfile_model.specs.Printed.Printing.{fixed_text}

@@ -13,7 +13,7 @@ ghost use Rattle.justfile_item.specs.Private.{is_private_item};
 use crate::attributes::are_equal;
 use crate::private::is_private_item;
 use justfile_attribute_set::AttributeSet;
-use justfile_expression::put_piece;
+use justfile_leaves::put_piece;
 use justfile_recipe_header::write_namepath;
 use justfile_token::{Keyed, Name, Namepath, Sink};
 use std::alloc::{AllocError, Global};

@@ -1,6 +1,6 @@
 //! The expressions of items, at every depth.
 ghost use Rattle.std.specs.Prelude.{◌≡◌, ◌++◌, IfOk, OnOk};
-ghost use Rattle.justfile_expression.specs.Pushed.{ArePushed, referents};
+ghost use Rattle.justfile_inner_expressions.specs.Pushed.{ArePushed, referents};
 ghost use Rattle.justfile_item.specs.AllExpressions.{all_expressions, with_inner};
 
 use crate::item::Item;

@@ -5,7 +5,9 @@ ghost use Rattle.justfile_item.specs.Assignment.{binding_text};
 ghost use Rattle.justfile_item.specs.Copies.{IsSameAssignment};
 
 use crate::binding::Binding;
-use justfile_expression::{Expression, put_piece, put_piece_if, write_expression};
+use justfile_expression::Expression;
+use justfile_inner_expressions::write_expression;
+use justfile_leaves::{put_piece, put_piece_if};
 use justfile_token::Sink;
 use std::alloc::{AllocError, Global};
 use std::fmt;

@@ -7,7 +7,7 @@ ghost use Rattle.justfile_item.specs.Attributes.{attribute_line, attributes_text
 use crate::comment::write_comment;
 use justfile_attribute::{Attribute, write_attribute};
 use justfile_attribute_set::{AttributeSet, Written};
-use justfile_expression::put_piece;
+use justfile_leaves::put_piece;
 use justfile_token::Sink;
 
 /// Whether two sets have equal attributes.

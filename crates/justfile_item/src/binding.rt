@@ -6,13 +6,13 @@ ghost use Rattle.justfile_attribute_set.specs.contracts.attribute_set.PairSetAtt
 ghost use Rattle.justfile_attribute_set.specs.contracts.attribute_set.PairSetAttributeWrittenPartialEq.TheImpl.Laws.{laws-law as set_per};
 ghost use Rattle.justfile_token.specs.contracts.name.NamePartialEq.TheImpl as names;
 ghost use Rattle.justfile_token.specs.contracts.name.NamePartialEq.TheImpl.Laws.{laws-law as name_per};
-ghost use Rattle.justfile_vocabulary.specs.contracts.number.NumberPartialEq.TheImpl as numbers;
-ghost use Rattle.justfile_vocabulary.specs.contracts.number.NumberPartialEq.TheImpl.Laws.{laws-law as number_per};
+ghost use Rattle.justfile_numbers.specs.contracts.number.NumberPartialEq.TheImpl as numbers;
+ghost use Rattle.justfile_numbers.specs.contracts.number.NumberPartialEq.TheImpl.Laws.{laws-law as number_per};
 
 use crate::attributes::are_equal;
 use justfile_attribute_set::AttributeSet;
+use justfile_numbers::Number;
 use justfile_token::{Keyed, Name};
-use justfile_vocabulary::Number;
 use std::fmt;
 
 /// A name that is bound to a value.

@@ -3,7 +3,7 @@ ghost use Rattle.std.specs.Option.{option_copied};
 ghost use Rattle.justfile_model.specs.Printed.Printing.{comment_text};
 ghost use Rattle.justfile_token.specs.Sink.{Puts};
 
-use justfile_expression::put_piece;
+use justfile_leaves::put_piece;
 use justfile_token::Sink;
 
 /// Writes a space and a comment, or nothing if there is none.

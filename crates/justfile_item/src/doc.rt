@@ -6,7 +6,7 @@ ghost use Rattle.justfile_model.specs.Printed.Printing.{doc_comment, doc_line};
 ghost use Rattle.justfile_token.specs.Sink.{Puts};
 
 use justfile_attribute_set::AttributeSet;
-use justfile_expression::put_piece;
+use justfile_leaves::put_piece;
 use justfile_token::Sink;
 use justfile_vocabulary::AttributeKind;
 

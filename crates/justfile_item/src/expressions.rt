@@ -1,14 +1,15 @@
 //! The expressions of items.
 ghost use Rattle.std.specs.Prelude.{◌≡◌, ◌++◌, ◌∷◌, [], IfOk, OnOk};
 ghost use Rattle.justfile_attribute_set.specs.Expressions.{set_expressions};
-ghost use Rattle.justfile_expression.specs.Pushed.{ArePushed, referents};
+ghost use Rattle.justfile_inner_expressions.specs.Pushed.{ArePushed, referents};
 ghost use Rattle.justfile_item.specs.Expressions.{item_expressions, recipe_expressions};
 ghost use Rattle.justfile_setting.specs.Expressions.{setting_expressions};
 
 use crate::item::Item;
 use crate::recipe::UnresolvedRecipe;
 use justfile_attribute_set::{AttributeSet, push_attributes};
-use justfile_expression::{Expression, push_each, push_expression};
+use justfile_expression::Expression;
+use justfile_inner_expressions::{push_each, push_expression};
 use justfile_setting::{Setting, push_setting};
 use std::alloc::{AllocError, Global};
 

@@ -17,9 +17,11 @@ ghost use Rattle.justfile_item.specs.ItemText.{function_text_of, later_names_tex
 
 use crate::attributes::are_equal;
 use justfile_attribute_set::AttributeSet;
-use justfile_expression::{Expression, copy_boxed, put_piece, write_expression};
+use justfile_expression::{Expression, copy_boxed};
+use justfile_inner_expressions::write_expression;
+use justfile_leaves::put_piece;
+use justfile_numbers::Number;
 use justfile_token::{Keyed, Name, Sink};
-use justfile_vocabulary::Number;
 use std::alloc::{AllocError, Global};
 use std::fmt;
 

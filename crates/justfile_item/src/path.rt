@@ -6,7 +6,7 @@ ghost use Rattle.justfile_token.specs.Sink.{Puts};
 ghost use Rattle.justfile_token.specs.Copies.{IsSameIfPresent};
 ghost use Rattle.justfile_item.specs.ItemText.{import_text_of, later_path_text, module_text_of, path_text_of, unexport_text_of};
 
-use justfile_expression::{put_piece, put_piece_if};
+use justfile_leaves::{put_piece, put_piece_if};
 use justfile_token::{Name, Sink, StringLiteral};
 use std::alloc::{AllocError, Global};
 

@@ -11,13 +11,14 @@ ghost use Rattle.justfile_item.specs.Recipe.{unresolved_recipe_text};
 
 use crate::comment::write_comment;
 use justfile_attribute_set::AttributeSet;
-use justfile_expression::{put_piece, put_piece_if};
+use justfile_leaves::{put_piece, put_piece_if};
 use justfile_line::{Line, is_printable, write_line};
+use justfile_numbers::Number;
 use justfile_recipe_header::{
     Parameter, UnresolvedDependency, write_dependencies, write_parameters, write_subsequents,
 };
 use justfile_token::{Keyed, Name, Sink, clone_all, copy_optional_text};
-use justfile_vocabulary::{Indentation, Number};
+use justfile_vocabulary::Indentation;
 use std::alloc::{AllocError, Global};
 use std::fmt;
 

@@ -8,9 +8,9 @@ use crate::function_definition::FunctionDefinition;
 use crate::item::Item;
 use crate::recipe::UnresolvedRecipe;
 use crate::set::Set;
-use justfile_expression::resolve_each;
+use justfile_inner_expressions::resolve_each;
+use justfile_numbers::Number;
 use justfile_token::Namepath;
-use justfile_vocabulary::Number;
 use std::collections::HashMap;
 
 impl<'src> Item<'src> {

@@ -9,7 +9,7 @@ ghost use Rattle.justfile_item.specs.ItemText.{later_value_text, setting_text_of
 
 use crate::copy::boxed_made;
 use justfile_attribute_set::AttributeSet;
-use justfile_expression::put_piece;
+use justfile_leaves::put_piece;
 use justfile_setting::{Setting, write_setting};
 use justfile_token::{Keyed, Name, Sink};
 use justfile_vocabulary::Indentation;

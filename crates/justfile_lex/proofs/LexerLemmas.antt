@@ -14,7 +14,7 @@ use Rattle.justfile_model.specs.Lexing.Places.{line_of_offset, column_at}
 use Rattle.justfile_model.specs.Lexing.Tok.{Tok, tok_of}
 use Rattle.justfile_model.specs.Lexing.Modes.{Mode, mode_after, tail_of}
 use Rattle.justfile_model.specs.Lexing.LexResult.{IsFrom}
-use Rattle.justfile_lex.specs.Modes.{mode_of, interpolation_start_by}
+use Rattle.justfile_scan.specs.Modes.{mode_of, interpolation_start_by}
 use Rattle.justfile_model.specs.Lexing.LexicalFault.{Unclosed, UnterminatedInterpolation}
 use Rattle.justfile_model.specs.Lexing.Next.{next, at_end_by}
 use Rattle.justfile_model.specs.Lexing.Lexed.{next_of, Begins, IsFault, IsNext, Lexed, StandsAt}

@@ -1,10 +1,6 @@
 pub mod FeedLemmas
-pub mod LaneLemmas
 pub mod LexerLemmas
-pub mod Pieces
 pub mod PlaceLemmas
 pub mod Refusals
 pub mod Runs
-pub mod StackLemmas
 pub mod TableLemmas
-pub mod WhiteRunLemmas

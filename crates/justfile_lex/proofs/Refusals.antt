@@ -19,7 +19,7 @@ use Rattle.justfile_model.specs.Lexing.Modes.{Mode, head_of, is_empty, innermost
 use Rattle.justfile_model.specs.Lexing.Tok.{Tok}
 use Rattle.justfile_model.specs.Lexing.Next.{NextToken, unknown, doubled_token, fixed_token, opening, literal_part, literal_token, unterminated, brace_by, closing, line_end_token, multibyte_token, other_token, token_by_class, text_or, body_token, at_end_by, Region, InText, InInterpolation, OutsideText, region_by, token_in_region, token_within_line, blanks_or, is_level, begins_blank_line, layout, next_by, next}
 use Rattle.justfile_lex.specs.Explained.{undoubled}
-use Rattle.justfile_lex.specs.Layouts.{indent}
+use Rattle.justfile_scan.specs.Layouts.{indent}
 
 -- if the first has no token, it is the second
 pub record IfRefused (t u : NextToken) : Type 0 where

@@ -11,12 +11,12 @@ use Rattle.justfile_model.specs.Lexing.SignificantTokens.{is_whitespace}
 use Rattle.justfile_model.specs.Lexing.Tok.{tok_of}
 use Rattle.justfile_lex.specs.Lexing.{IsLexing, Takes}
 use Rattle.justfile_lex.specs.SignificantTable.{IsTableOf}
-use Rattle.justfile_lex.specs.WhiteRun.{IsRunOf}
+use Rattle.justfile_scan.specs.WhiteRun.{IsRunOf}
 use Rattle.justfile_lex.specs.declared.lexer.Lexer.{Lexer}
-use Rattle.justfile_lex.specs.declared.white_run.WhiteRun.{WhiteRun}
+use Rattle.justfile_scan.specs.declared.white_run.WhiteRun.{WhiteRun}
 use Rattle.justfile_lex.proofs.LexerLemmas.{all_lexed, earlier_push, falls, left, lexes_on, taken_next}
 use Rattle.justfile_lex.proofs.TableLemmas.{Entry, IsTableTo, adds, all_significant, nothing}
-use Rattle.justfile_lex.proofs.WhiteRunLemmas.{run_on}
+use Rattle.justfile_scan.proofs.WhiteRunLemmas.{run_on}
 
 -- The lexer is at the end of some tokens of the text.
 pub record Runs (path src : List ℕ) (tokens : List Token) (l : Lexer) : Type 0 where

@@ -11,7 +11,7 @@ use Rattle.justfile_model.specs.Lexing.Places.{IsPlace}
 use Rattle.justfile_model.specs.Lexing.Tok.{Tok, tok_of}
 use Rattle.justfile_model.specs.Lexing.Modes.{mode, mode_after}
 use Rattle.justfile_model.specs.Lexing.LexResult.{IsFrom}
-use Rattle.justfile_lex.specs.Modes.{mode_of}
+use Rattle.justfile_scan.specs.Modes.{mode_of}
 use Rattle.justfile_model.specs.Lexing.Lexed.{end_of, Begins, StandsAt}
 use Rattle.justfile_model.specs.Lexing.Next.{next}
 use Rattle.justfile_model.specs.Lexing.SignificantTokens.{is_whitespace}

@@ -6,19 +6,19 @@ ghost use Rattle.justfile_vocabulary.specs.ByteClass.{class_of};
 ghost use Rattle.justfile_model.specs.Lexing.Bytes.{blank_len};
 ghost use Rattle.justfile_model.specs.Lexing.Next.{brace_by, closing, escaped_line_end, fixed_token, format_kind, literal_token, next, other_token, token_by_class, unknown};
 ghost use Rattle.justfile_lex.specs.Explained.{undoubled, unmatched};
-ghost use Rattle.justfile_lex.specs.Layouts.{indent};
-ghost use Rattle.justfile_lex.specs.Modes.{mode_of};
-ghost use Rattle.justfile_lex.specs.Scanned.{lexical_error_of};
+ghost use Rattle.justfile_scan.specs.Layouts.{indent};
+ghost use Rattle.justfile_scan.specs.Modes.{mode_of};
+ghost use Rattle.justfile_scan.specs.Scanned.{lexical_error_of};
 
-use crate::bytes::{
+use justfile_model::OpenDelimiter;
+use justfile_scan::bytes::{
     blank_len, first_char, is_blank, is_interpolation_end, is_mixed, skip_first, take_blanks,
 };
-use crate::layout::take_tested_blanks;
-use crate::lexical_fault::LexicalFault;
-use crate::literal::{format_kind, unterminated_fault};
-use crate::mode::Mode;
-use crate::scan_error::{ScanError, scan_error};
-use justfile_model::OpenDelimiter;
+use justfile_scan::layout::take_tested_blanks;
+use justfile_scan::lexical_fault::LexicalFault;
+use justfile_scan::literal::{format_kind, unterminated_fault};
+use justfile_scan::mode::Mode;
+use justfile_scan::scan_error::{ScanError, scan_error};
 use justfile_token::{Delimiter, StringKind};
 use justfile_vocabulary::ByteClass;
 use justfile_vocabulary::byte_class::byte_class;

@@ -2,10 +2,11 @@
 
 use crate::fragment::Fragment;
 use crate::line::Line;
-use justfile_expression::{
-    Expression, HasExpressions, HasVariables, push_each, push_expression, resolve_each,
+use justfile_expression::Expression;
+use justfile_inner_expressions::{
+    HasExpressions, HasVariables, push_each, push_expression, resolve_each,
 };
-use justfile_vocabulary::Number;
+use justfile_numbers::Number;
 use std::alloc::AllocError;
 use std::collections::HashMap;
 

@@ -4,7 +4,9 @@ ghost use Rattle.justfile_model.specs.Printed.Printing.{fixed_text, fragment_tex
 ghost use Rattle.justfile_token.specs.Sink.{Puts};
 ghost use Rattle.justfile_line.specs.Body.{fragment_shape};
 
-use justfile_expression::{Expression, put_piece, write_expression};
+use justfile_expression::Expression;
+use justfile_inner_expressions::write_expression;
+use justfile_leaves::put_piece;
 use justfile_token::{Sink, Token, TryClone};
 use std::alloc::{AllocError, Global};
 use std::fmt;

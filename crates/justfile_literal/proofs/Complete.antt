@@ -8,7 +8,7 @@ use Rattle.std.proofs.lemmas.Bool.{cases_eq, cond-false, cond-true, false_from_n
 use Rattle.justfile_model.specs.LiteralTexts.Cook.{AreHex, BadPiece, CarriageReturnLineFeed, Empty, EndsAtBackslash, EndsAtU, EndsInBraces, IsBad, IsPiece, LineFeed, Named, NoDigit, OutOfRange, Piece, Plain, TooLong, Unicode, Unknown, Unopened, bad_text, fault_of, named, raw_of, value_of}
 use Rattle.justfile_model.specs.LiteralTexts.EscapeFault.{InvalidEscapeSequence, UnicodeEscapeLength, UnicodeEscapeRange, UnicodeEscapeUnterminated}
 use Rattle.justfile_model.specs.LiteralTexts.FirstPiece.{PieceRead, closing_brace, digits, escape_piece, known, line_feed_piece, number, first_escaped_piece}
-use Rattle.justfile_literal.proofs.Digits.{hex_is, is_hex_head}
+use Rattle.justfile_literal_parts.proofs.Digits.{hex_is, is_hex_head}
 
 -- the piece at the front, where there is one
 abbrev pub front : List ℕ → PieceRead

@@ -1,15 +1,10 @@
 pub mod Braces
 pub mod Complete
-pub mod Digits
-pub mod DigitTexts
-pub mod JoinedLines
 pub mod Leads
 pub mod LiteralTexts
 pub mod Longest
 pub mod LongestRun
-pub mod SharedFronts
 pub mod PieceSound
-pub mod TextLines
 pub mod Texts
 pub mod PieceLists
 pub mod Verbatim

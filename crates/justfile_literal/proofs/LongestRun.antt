@@ -6,9 +6,9 @@ use Rattle.std.proofs.lemmas.Bool.{and_from, and_parts, cases_Bool, or_parts}
 use Rattle.std.proofs.lemmas.List.Elements.{recursion_from_All}
 use Rattle.justfile_vocabulary.specs.Indentation.{is_space_or_tab}
 use Rattle.justfile_model.specs.LiteralTexts.Unindent.{IsFront, IsIndented, IsLongestRun, is_first, common_front, indentation, is_blank_line, joined, leading_blanks, lines_of_text, shared_front, unindented}
-use Rattle.justfile_literal.proofs.JoinedLines.{joined_same}
-use Rattle.justfile_literal.proofs.SharedFronts.{each_indented, kept_blanks, leading_blank, shared_blank}
-use Rattle.justfile_literal.proofs.TextLines.{lines_whole}
+use Rattle.justfile_literal_parts.proofs.JoinedLines.{joined_same}
+use Rattle.justfile_literal_parts.proofs.SharedFronts.{each_indented, kept_blanks, leading_blank, shared_blank}
+use Rattle.justfile_literal_parts.proofs.TextLines.{lines_whole}
 
 -- ---- the longest front
 begins_split : (b c : ℕ) (front text : List ℕ) → IsFront (b ∷ front) (c ∷ text) → (c ≡ b) × IsFront front text

@@ -8,7 +8,7 @@ use Rattle.std.proofs.lemmas.List.{take-append-drop}
 use Rattle.justfile_model.specs.LiteralTexts.Cook.{AreHex, BadPiece, CarriageReturnLineFeed, Empty, EndsAtBackslash, EndsAtU, EndsInBraces, IsBad, IsPiece, LineFeed, Named, NoDigit, OutOfRange, Piece, Plain, TooLong, Unicode, Unknown, Unopened, bad_text, fault_of, named, raw_of, value_of}
 use Rattle.justfile_model.specs.LiteralTexts.EscapeFault.{EscapeFault, UnicodeEscapeRange}
 use Rattle.justfile_model.specs.LiteralTexts.FirstPiece.{PieceRead, closing_brace, digits, escape_piece, hex_len, known, line_feed_piece, number, first_escaped_piece, unicode}
-use Rattle.justfile_literal.proofs.Digits.{hex_front, is_hex_head}
+use Rattle.justfile_literal_parts.proofs.Digits.{hex_front, is_hex_head}
 
 -- a piece with this value is at the front
 pub record Begins (cs : List ℕ) (value : Option ℕ) (rest : List ℕ) : Type 0 where

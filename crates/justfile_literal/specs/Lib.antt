@@ -1,2 +1,1 @@
 pub mod Literal
-pub mod Pieces

@@ -3,10 +3,10 @@ ghost use Rattle.std.specs.Prelude.{◌≡◌, ◌++◌, ℕ, List, IfErr, IfOk,
 ghost use Rattle.justfile_model.specs.LiteralTexts.Cook.{Cooks, IsCookFault, Refused};
 ghost use Rattle.justfile_model.specs.LiteralTexts.Literals.{escaped};
 ghost use Rattle.justfile_literal.specs.Literal.{IsTextFault};
-ghost use Rattle.justfile_literal.specs.Pieces.{piece_fault};
+ghost use Rattle.justfile_literal_parts.specs.Pieces.{piece_fault};
 
-use crate::escape::{read_piece, split_first};
-use crate::escape_fault::EscapeFault;
+use justfile_literal_parts::escape::{read_piece, split_first};
+use justfile_literal_parts::escape_fault::EscapeFault;
 use justfile_token::{CompileResult, Fault, StringKind, Token};
 use std::alloc::{AllocError, Global};
 

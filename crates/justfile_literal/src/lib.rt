@@ -2,13 +2,10 @@
 #![tactic(auto)]
 
 pub mod cook;
-mod escape;
-mod escape_fault;
 pub mod examples;
 pub mod format;
 pub mod laws;
 pub mod literal;
-pub mod unindent;
 
 pub use crate::cook::cook_string;
 pub use crate::format::format_part;

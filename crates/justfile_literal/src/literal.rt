@@ -7,7 +7,7 @@ ghost use Rattle.justfile_model.specs.LiteralTexts.Literals.{Expansions, Command
 ghost use Rattle.justfile_literal.specs.Literal.{IsStringOf, IsTextFault, answers_by, is_quoted};
 
 use crate::cook::replace_escapes;
-use crate::unindent::unindent;
+use justfile_literal_parts::unindent::unindent;
 use justfile_token::{
     CompileErrorKind, CompileResult, ExpandFault, Expander, Fault, StringKind, StringLiteral, Token,
 };

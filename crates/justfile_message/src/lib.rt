@@ -1,8 +1,6 @@
-//! The parts of messages that don't depend on tokens: counts, cycles, lists, and lines with
-//! columns.
+//! Phrases of messages that don't depend on tokens: counts, cycles and the longer ones.
 #![tactic(auto)]
 
-pub mod columns;
 pub mod counts;
 pub mod cycles;
 pub mod parts;

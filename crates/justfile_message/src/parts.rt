@@ -5,13 +5,15 @@ ghost use Rattle.justfile_vocabulary.specs.AttributeKind.{attribute_name};
 ghost use Rattle.justfile_vocabulary.specs.ItemKind.{item_kind_text};
 ghost use Rattle.justfile_vocabulary.specs.Keyword.{keyword_text};
 ghost use Rattle.justfile_message.specs.Parts.{duplicate_text, expected_characters, expected_tokens, indefinite_text, redefinition_text};
-ghost use Rattle.justfile_vocabulary.specs.Shown.{blanks_text, line_text};
+ghost use Rattle.justfile_shown.specs.Shown.{blanks_text, line_text};
 ghost use Rattle.justfile_vocabulary.specs.Text.{◌&◌};
 ghost use Rattle.justfile_vocabulary.specs.TokenKind.{kind_text};
-ghost use Rattle.justfile_vocabulary.specs.Version.{version_text};
+ghost use Rattle.justfile_numbers.specs.Version.{version_text};
 
-use justfile_vocabulary::shown::{Blanks, LineNumber};
-use justfile_vocabulary::{AttributeKind, ItemKind, Keyword, List, TokenKind, Version};
+use justfile_numbers::Version;
+use justfile_shown::List;
+use justfile_shown::shown::{Blanks, LineNumber};
+use justfile_vocabulary::{AttributeKind, ItemKind, Keyword, TokenKind};
 use std::fmt;
 
 /// An item kind with its indefinite article.

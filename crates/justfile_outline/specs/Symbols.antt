@@ -1,7 +1,7 @@
 -- The symbols of a file.
 use Rattle.std.specs.Prelude.{ℕ, List, [], ◌∷◌, ◌++◌, Option, None, Some, codes, map, string_bytes}
 use Rattle.std.specs.List.{flat_map}
-use Rattle.justfile_vocabulary.specs.declared.number.Number.{Number}
+use Rattle.justfile_numbers.specs.declared.number.Number.{Number}
 use Rattle.justfile_token.specs.Name.{name_text}
 use Rattle.justfile_token.specs.Namepath.{names_in}
 use Rattle.justfile_token.specs.declared.name.Name.{Name}

@@ -11,9 +11,9 @@ ghost use Rattle.justfile_outline.specs.Symbols.{groups_of, item_parameters, ite
 
 use justfile_attribute_set::AttributeSet;
 use justfile_item::Item;
+use justfile_numbers::Number;
 use justfile_recipe_header::{Parameter, write_parameters};
 use justfile_token::{Name, Namepath};
-use justfile_vocabulary::Number;
 use std::alloc::{AllocError, Global};
 
 /// Returns the parameters of a recipe as they are printed, or the names of those of a function,

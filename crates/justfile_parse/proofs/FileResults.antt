@@ -4,12 +4,12 @@ use Rattle.std.specs.Prelude.{◌-◌, ◌^◌}
 use Rattle.std.proofs.lemmas.Bool.Decides.{nat_tests}
 use Rattle.std.proofs.lemmas.List.{length-map}
 use Rattle.std.proofs.lemmas.List.Elements.{All-head, All-nil, All-tail}
-use Rattle.justfile_vocabulary.specs.Numerator.{bindings_of, recipes_of}
+use Rattle.justfile_numbers.specs.Numerator.{bindings_of, recipes_of}
 use Rattle.justfile_token.specs.CompileErrorKind.{tokens_in}
 use Rattle.justfile_token.specs.declared.compile_error.CompileError.{CompileError}
 use Rattle.justfile_token.specs.declared.fault.Fault.{Fault}
 use Rattle.justfile_token.specs.declared.fault.Fault.TheVariants as faults
-use Rattle.justfile_vocabulary.specs.declared.numerator.Numerator.{Numerator}
+use Rattle.justfile_numbers.specs.declared.numerator.Numerator.{Numerator}
 use Rattle.justfile_token.specs.declared.token.Token.{Token}
 use Rattle.justfile_item.specs.Item.{function_parameter_of, item_of}
 use Rattle.justfile_item.specs.declared.item.Item.{Item}

@@ -7,7 +7,7 @@ use Rattle.std.proofs.lemmas.List.{append-nil}
 use Rattle.std.proofs.lemmas.List.Elements.{All-head, All-tail, All-weaker}
 use Rattle.justfile_attribute.specs.declared.interpreter.Interpreter.{Interpreter}
 use Rattle.justfile_token.specs.declared.name.Name.{Name}
-use Rattle.justfile_vocabulary.specs.declared.number.Number.{Number}
+use Rattle.justfile_numbers.specs.declared.number.Number.{Number}
 use Rattle.justfile_token.specs.declared.string_literal.StringLiteral.{StringLiteral}
 use Rattle.justfile_token.specs.declared.token.Token.{Token}
 use Rattle.justfile_item.specs.Attributes.{literal_cooked, optional}

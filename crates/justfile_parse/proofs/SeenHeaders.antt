@@ -4,9 +4,9 @@ use Rattle.std.specs.Option.{option_map}
 use Rattle.std.proofs.lemmas.List.{take-append-drop}
 use Rattle.std.proofs.lemmas.List.Elements.{All-append, All-cons, All-nil}
 use Rattle.justfile_token.specs.Namepath.{names_in}
-use Rattle.justfile_vocabulary.specs.Numerator.{number_of}
+use Rattle.justfile_numbers.specs.Numerator.{number_of}
 use Rattle.justfile_token.specs.declared.name.Name.{Name}
-use Rattle.justfile_vocabulary.specs.declared.number.Number.{Number}
+use Rattle.justfile_numbers.specs.declared.number.Number.{Number}
 use Rattle.justfile_token.specs.declared.token.Token.{Token}
 use Rattle.justfile_item.specs.Item.{parameter_number}
 use Rattle.justfile_recipe_header.specs.Header.{dependency_argument_of, dependency_of, is_starred, name_of, parameter_of, star_of}

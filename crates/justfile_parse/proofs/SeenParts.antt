@@ -5,9 +5,9 @@ use Rattle.std.specs.Global.{Box}
 use Rattle.std.specs.Option.{option_map}
 use Rattle.std.proofs.lemmas.List.Elements.{All-cons, All-nil}
 use Rattle.justfile_attribute.specs.declared.interpreter.Interpreter.{Interpreter}
-use Rattle.justfile_vocabulary.specs.Numerator.{number_of}
+use Rattle.justfile_numbers.specs.Numerator.{number_of}
 use Rattle.justfile_token.specs.declared.name.Name.{Name}
-use Rattle.justfile_vocabulary.specs.declared.number.Number.{Number}
+use Rattle.justfile_numbers.specs.declared.number.Number.{Number}
 use Rattle.justfile_token.specs.declared.string_literal.StringLiteral as strings
 use Rattle.justfile_token.specs.declared.token.Token.{Token}
 use Rattle.justfile_item.specs.Item.{function_parameter_number, function_parameter_of, quoted_of}

@@ -3,10 +3,10 @@ use Rattle.std.specs.Prelude.{◌≡◌, ℕ, ◌⊎◌, ◌+◌, List, map, All
 use Rattle.std.specs.Str.{IsUtf8}
 use Rattle.justfile_token.specs.CompileErrorKind.{internal_message, tokens_in}
 use Rattle.justfile_token.specs.declared.compile_error.CompileError.{CompileError}
-use Rattle.justfile_vocabulary.specs.Numerator.{bindings_of, recipes_of}
+use Rattle.justfile_numbers.specs.Numerator.{bindings_of, recipes_of}
 use Rattle.justfile_token.specs.declared.fault.Fault.{Fault}
 use Rattle.justfile_token.specs.declared.fault.Fault.TheVariants as faults
-use Rattle.justfile_vocabulary.specs.declared.numerator.Numerator.{Numerator}
+use Rattle.justfile_numbers.specs.declared.numerator.Numerator.{Numerator}
 use Rattle.justfile_token.specs.declared.token.Token.{Token}
 use Rattle.justfile_round_trip.specs.RoundTrip.{TextDerives}
 use Rattle.justfile_ast.specs.Ast.{tree_of, features_of, cooked_texts, binding_numbers, recipe_numbers}

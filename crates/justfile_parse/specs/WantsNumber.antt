@@ -1,6 +1,6 @@
 -- Where a number is needed and there is none: what was read before, and which counter has reached its maximum.
 use Rattle.std.specs.Prelude.{◌≡◌, ℕ, ◌+◌, ◌-◌, ◌^◌, Bool, true, false, List, [], Some, Ok, IsOk, codes}
-use Rattle.justfile_vocabulary.specs.declared.numerator.Numerator.{Numerator}
+use Rattle.justfile_numbers.specs.declared.numerator.Numerator.{Numerator}
 use Rattle.justfile_vocabulary.specs.declared.item_kind.ItemKind.TheVariants as item_kinds
 use Rattle.justfile_vocabulary.specs.declared.token_kind.TokenKind.{TokenKind}
 use Rattle.justfile_vocabulary.specs.declared.token_kind.TokenKind.TheVariants as kinds

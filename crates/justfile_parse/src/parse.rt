@@ -1,7 +1,7 @@
 //! Files from tokens and from texts: the public calls, and how a file begins.
 ghost use Rattle.std.specs.Prelude.{◌≡◌, ◌<◌, List, length, map, Contains, IfOk, IfErr, OnErr, string_bytes};
 ghost use Rattle.justfile_token.specs.Modulepath.{module_names, names_of};
-ghost use Rattle.justfile_vocabulary.specs.Numerator.{constants_of};
+ghost use Rattle.justfile_numbers.specs.Numerator.{constants_of};
 ghost use Rattle.justfile_model.specs.Lexing.Lexed.{Lexed};
 ghost use Rattle.justfile_model.specs.Lexing.SignificantTokens.{identifiers, significant_tokens};
 ghost use Rattle.justfile_model.specs.Lexing.Tok.{Tok, tok_of};
@@ -27,6 +27,7 @@ use justfile_ast::Ast;
 use justfile_expression::ListFeature;
 use justfile_item::Item;
 use justfile_lex::Lexer;
+use justfile_numbers::{Numerator, Version};
 use justfile_parse_base::ParseError;
 use justfile_parse_expression::significant::{SignificantToken, significant};
 use justfile_parse_expression::{ExpectedTokens, ExpressionError, SyntaxError, TokenCursor};
@@ -35,7 +36,7 @@ use justfile_token::{
     CompileError, CompileErrorKind, CompileResult, Expander, Fault, Modulepath, Namepath, Source,
     Token,
 };
-use justfile_vocabulary::{Numerator, TokenKind, Version};
+use justfile_vocabulary::TokenKind;
 use std::alloc::{AllocError, Global};
 
 /// Parses files.

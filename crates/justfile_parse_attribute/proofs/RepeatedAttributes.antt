@@ -30,7 +30,7 @@ use Rattle.justfile_written.specs.declared.written.Written.{Written}
 use Rattle.justfile_parse_attribute.specs.AddedAttributes.{ChecksLast, IsAdded}
 use Rattle.justfile_parse_attribute.specs.Attributes.{entry_of_pair}
 use Rattle.justfile_parse_attribute.specs.Labels.{LeafAttribute}
-use Rattle.justfile_expression.specs.Content.{literal_content}
+use Rattle.justfile_leaves.specs.LeafContent.{literal_content}
 use Rattle.justfile_expression.specs.LeafViews.{views_leaves, leaf_cooked, leaf_literal}
 use Rattle.justfile_expression.specs.LeafTree.{Leaf, Literal, leaf_tree_of, literal_of}
 use Rattle.justfile_expression.specs.declared.expression.Expression.{Expression}

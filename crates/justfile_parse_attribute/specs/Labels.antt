@@ -18,7 +18,7 @@ use Rattle.justfile_model.specs.Trees.Tree as tree
 use Rattle.justfile_model.specs.Trees.Tree.{Entry, Quoted}
 use Rattle.justfile_parse_attribute.specs.Attributes.{entry_of_pair}
 use Rattle.justfile_parse_attribute.specs.declared.labels.Labels.{Labels}
-use Rattle.justfile_expression.specs.Content.{literal_content}
+use Rattle.justfile_leaves.specs.LeafContent.{literal_content}
 use Rattle.justfile_expression.specs.LeafViews.{views_leaves}
 use Rattle.justfile_expression.specs.LeafTree.{Leaf}
 use Rattle.justfile_vocabulary.specs.declared.attribute_kind.AttributeKind.TheVariants as kinds

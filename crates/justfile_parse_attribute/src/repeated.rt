@@ -12,7 +12,7 @@ ghost use Rattle.justfile_model.specs.Meanings.Rules.{DuplicateArgAttribute, Dup
 ghost use Rattle.justfile_parse_attribute.specs.AddedAttributes.{ChecksLast};
 ghost use Rattle.justfile_parse_attribute.specs.Attributes.{entries_of, entry_of_pair};
 ghost use Rattle.justfile_parse_attribute.specs.Labels.{AreKnown, AreKnownBefore, AreSame, ChecksLabel, IsLabelNoted, label_rule};
-ghost use Rattle.justfile_expression.specs.Content.{literal_content};
+ghost use Rattle.justfile_leaves.specs.LeafContent.{literal_content};
 ghost use Rattle.justfile_expression.specs.LeafViews.{views_leaves};
 ghost use Rattle.justfile_vocabulary.specs.declared.attribute_kind.AttributeKind.TheVariants.{Arg};
 

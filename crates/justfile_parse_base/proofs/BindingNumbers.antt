@@ -1,6 +1,6 @@
 -- How many numbers are taken, one step after another.
 use Rattle.std.proofs.Common.{◌≡◌, ℕ, ◌+◌, ◌≤◌, Bool, true, false, cond, Some, Ok, Err, refl, sym, ap, subst, ◌∙◌, arith}
-use Rattle.justfile_vocabulary.specs.declared.numerator.Numerator.{Numerator}
+use Rattle.justfile_numbers.specs.declared.numerator.Numerator.{Numerator}
 use Rattle.justfile_vocabulary.specs.declared.token_kind.TokenKind.{TokenKind}
 use Rattle.justfile_model.specs.Readers.HeaderReader as headers
 use Rattle.justfile_model.specs.Readers.HeaderReader.{with_bindings}

@@ -1,7 +1,7 @@
 -- The results of functions that take numbers from the numerator.
 use Rattle.std.specs.Prelude.{◌≡◌, ℕ, ◌≤◌, ◌+◌, List, Result, Ok, Err, map}
-use Rattle.justfile_vocabulary.specs.Numerator.{bindings_of, constants_of, recipes_of}
-use Rattle.justfile_vocabulary.specs.declared.numerator.Numerator.{Numerator}
+use Rattle.justfile_numbers.specs.Numerator.{bindings_of, constants_of, recipes_of}
+use Rattle.justfile_numbers.specs.declared.numerator.Numerator.{Numerator}
 use Rattle.justfile_model.specs.Readers.ReaderState as reading
 use Rattle.justfile_model.specs.Readers.ReaderState.{Counters}
 use Rattle.justfile_model.specs.Lexing.SignificantTokens.{identifiers}

@@ -4,8 +4,8 @@ ghost use Rattle.justfile_parse_expression.specs.TableReader.{State};
 ghost use Rattle.justfile_parse_base.specs.Counting.{ReadsCountedExpression, counters_of};
 ghost use Rattle.justfile_parse_base.specs.SharedTable as reader;
 
+use justfile_numbers::{Number, Numerator};
 use justfile_parse_expression::ExpressionError;
-use justfile_vocabulary::{Number, Numerator};
 
 /// Returns the number of the next binding.
 ///

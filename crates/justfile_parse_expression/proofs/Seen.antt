@@ -1,7 +1,7 @@
 -- What the reader of tables reads corresponds to what the definitions read of the table's tokens. Each leaf holds a token of the table.
 use Rattle.std.proofs.Common.{◌≡◌, ◌⊎◌, ℕ, ◌<◌, ◌≤◌, List, [], Some, None, Ok, refl, sym, ap, subst, ◌∙◌, inl, inr, arith}
 use Rattle.std.proofs.Math.Nat.{eq-or-lt_of_le}
-use Rattle.justfile_vocabulary.specs.Numerator.{number_of}
+use Rattle.justfile_numbers.specs.Numerator.{number_of}
 use Rattle.justfile_token.specs.Token.{lexeme_of}
 use Rattle.justfile_token.specs.declared.token.Token.{Token}
 use Rattle.justfile_model.specs.Grammars.Conditions.{Conditions, with_limit}

@@ -1,6 +1,6 @@
 -- The conditions that a file is read under.
 use Rattle.std.specs.Prelude.{ℕ, List, Result}
-use Rattle.justfile_vocabulary.specs.declared.version.Version.{Version}
+use Rattle.justfile_numbers.specs.declared.version.Version.{Version}
 use Rattle.justfile_literal.specs.Literal.{answers_by}
 use Rattle.justfile_model.specs.Grammars.Conditions.{Conditions}
 use Rattle.justfile_model.specs.Meanings.Versions.{version_numbers}

@@ -1,7 +1,7 @@
 -- The reader of tables, whose trees hold all that the parser's trees hold. A law says that it reads the same trees as the definitions over
 -- tokens.
 use Rattle.std.specs.Prelude.{ℕ, ◌-◌, ◌^◌, Bool, true, false, List, [], ◌∷◌, Option, Some, None, Ok, Err, not, ◌==◌, if◌then◌else◌}
-use Rattle.justfile_vocabulary.specs.Numerator.{number_of}
+use Rattle.justfile_numbers.specs.Numerator.{number_of}
 use Rattle.justfile_token.specs.StringKind.{kind_of}
 use Rattle.justfile_token.specs.Token.{lexeme_of}
 use Rattle.justfile_vocabulary.specs.declared.format_string_part.FormatStringPart.{FormatStringPart}

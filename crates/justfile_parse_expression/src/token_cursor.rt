@@ -18,8 +18,9 @@ use crate::expected_tokens::ExpectedTokens;
 use crate::expression_error::{ExpressionError, SyntaxError};
 use crate::significant::SignificantToken;
 use justfile_expression::ListFeature;
+use justfile_numbers::Version;
 use justfile_token::{Expander, Token};
-use justfile_vocabulary::{Keyword, TokenKind, Version};
+use justfile_vocabulary::{Keyword, TokenKind};
 use std::alloc::Global;
 
 /// Reads a table of significant tokens from left to right.

@@ -1,7 +1,7 @@
 -- What parsing parameters returns and writes, one step after another.
 use Rattle.std.proofs.Common.{◌≡◌, List, [], map, Result, Some, None, Ok, Err, refl, sym, subst, arith}
 use Rattle.std.specs.Global.{Vec}
-use Rattle.justfile_vocabulary.specs.declared.numerator.Numerator.{Numerator}
+use Rattle.justfile_numbers.specs.declared.numerator.Numerator.{Numerator}
 use Rattle.justfile_vocabulary.specs.declared.token_kind.TokenKind.{TokenKind}
 use Rattle.justfile_vocabulary.specs.declared.token_kind.TokenKind.TheVariants as kinds
 use Rattle.justfile_recipe_header.specs.declared.parameter.Parameter.{Parameter}

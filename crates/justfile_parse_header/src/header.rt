@@ -13,12 +13,13 @@ use crate::dependency::{parse_dependencies, parse_subsequents};
 use crate::options::{check_options, note_arg_attributes};
 use crate::parameter::parse_parameters;
 use justfile_attribute_set::AttributeSet;
+use justfile_numbers::Numerator;
 use justfile_parse_base::ParseError;
 use justfile_parse_expression::TokenCursor;
 use justfile_parse_expression::significant::SignificantToken;
 use justfile_recipe_header::{Parameter, UnresolvedDependency};
 use justfile_token::Expander;
-use justfile_vocabulary::{Numerator, TokenKind};
+use justfile_vocabulary::TokenKind;
 
 /// The header of a recipe, without its `@`.
 #[derive(Drop)]

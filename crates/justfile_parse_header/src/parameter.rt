@@ -21,11 +21,12 @@ use crate::read_parameters::ReadParameters;
 use justfile_attribute::Attribute;
 use justfile_attribute_set::AttributeSet;
 use justfile_expression::Expression;
+use justfile_numbers::Numerator;
 use justfile_parse_base::{ParseError, next_binding_number, rule_error};
 use justfile_parse_expression::{ExpressionError, TokenCursor};
 use justfile_recipe_header::{Parameter, ParameterKind};
 use justfile_token::{CompileErrorKind, Expander, Fault, Name, Token};
-use justfile_vocabulary::{Numerator, TokenKind};
+use justfile_vocabulary::TokenKind;
 use std::alloc::Global;
 
 /// Parses the parameters of a recipe, and the colon after them.

@@ -5,7 +5,7 @@ use Rattle.std.proofs.lemmas.List.{length-append, map-append}
 use Rattle.std.proofs.lemmas.Option.{slice_get-get_or, slice_get_past}
 use Rattle.std.specs.List.{slice_get}
 use Rattle.justfile_token.specs.declared.token.Token.{Token}
-use Rattle.justfile_vocabulary.specs.declared.numerator.Numerator.{Numerator}
+use Rattle.justfile_numbers.specs.declared.numerator.Numerator.{Numerator}
 use Rattle.justfile_item.specs.declared.item.Item.{Item}
 use Rattle.justfile_model.specs.Readers.Reader.{has_body}
 use Rattle.justfile_model.specs.Readers.ReaderState as reading

@@ -43,7 +43,7 @@ use Rattle.justfile_model.proofs.Meanings.NewAttributeLaws.{entry_made}
 use Rattle.justfile_model.proofs.Relations.Related as a
 use Rattle.justfile_model.proofs.Relations.Related.{Alike, Each}
 use Rattle.justfile_expression.specs.Expression.{expr_of, literal_tok}
-use Rattle.justfile_expression.specs.Content.{token_content}
+use Rattle.justfile_leaves.specs.LeafContent.{token_content}
 use Rattle.justfile_expression.specs.LeafViews.{leaf_cooked, leaf_literal, leaf_token, views_leaves}
 use Rattle.justfile_expression.specs.LeafTree.{Leaf, leaf_tree_of}
 use Rattle.justfile_expression.specs.declared.expression.Expression.{Expression}

@@ -16,12 +16,12 @@ use Rattle.std.specs.Global.{Box}
 use Rattle.std.specs.List.{flat_map, slice_get}
 use Rattle.justfile_vocabulary.specs.Indentation.{indentation_text}
 use Rattle.justfile_token.specs.Namepath.{names_in}
-use Rattle.justfile_vocabulary.specs.Numerator.{bindings_of, recipes_of}
+use Rattle.justfile_numbers.specs.Numerator.{bindings_of, recipes_of}
 use Rattle.justfile_token.specs.StringKind.{kind_of}
 use Rattle.justfile_token.specs.Token.{lexeme_of}
 use Rattle.justfile_token.specs.declared.namepath.Namepath.{Namepath}
-use Rattle.justfile_vocabulary.specs.declared.number.Number.{Number}
-use Rattle.justfile_vocabulary.specs.declared.numerator.Numerator.{Numerator}
+use Rattle.justfile_numbers.specs.declared.number.Number.{Number}
+use Rattle.justfile_numbers.specs.declared.numerator.Numerator.{Numerator}
 use Rattle.justfile_token.specs.declared.string_literal.StringLiteral as literals
 use Rattle.justfile_token.specs.declared.token.Token.{Token}
 use Rattle.justfile_literal.specs.Literal.{IsPartOf}

@@ -1,7 +1,7 @@
 -- The methods of the parser of items return what the definitions read.
 use Rattle.std.specs.Prelude.{◌≡◌, ℕ, ◌≤◌, ◌+◌, List, None, Result}
-use Rattle.justfile_vocabulary.specs.Numerator.{bindings_of, constants_of, recipes_of}
-use Rattle.justfile_vocabulary.specs.declared.numerator.Numerator.{Numerator}
+use Rattle.justfile_numbers.specs.Numerator.{bindings_of, constants_of, recipes_of}
+use Rattle.justfile_numbers.specs.declared.numerator.Numerator.{Numerator}
 use Rattle.justfile_vocabulary.specs.declared.token_kind.TokenKind.TheVariants as kinds
 use Rattle.justfile_token.specs.declared.token.Token.{Token}
 use Rattle.justfile_model.specs.Trees.Tree.{OrderedItem}

@@ -14,10 +14,11 @@ use crate::attribute_checks::check_allowed;
 use crate::items::push_parsed_item;
 use justfile_attribute::Attribute;
 use justfile_item::{Binding, Item, is_private_item};
+use justfile_numbers::Numerator;
 use justfile_parse_base::{ParseError, next_binding_number};
 use justfile_parse_expression::TokenCursor;
 use justfile_token::{Expander, Name};
-use justfile_vocabulary::{ItemKind, Numerator, TokenKind};
+use justfile_vocabulary::{ItemKind, TokenKind};
 use justfile_written::Written;
 
 /// Parses an assignment after its attributes and after `eager` or `export`, if it has one: a name,

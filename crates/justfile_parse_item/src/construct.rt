@@ -21,12 +21,13 @@ use crate::short_item::{parse_alias, parse_set, parse_unexport};
 use crate::source::{parse_import, parse_module};
 use justfile_attribute::Attribute;
 use justfile_item::Item;
+use justfile_numbers::Numerator;
 use justfile_parse_attribute::parse_attributes;
 use justfile_parse_base::{ParseError, rule_error};
 use justfile_parse_expression::TokenCursor;
 use justfile_parse_item_parts::{Lookahead, accept_keyword_before, peek_assignment};
 use justfile_token::Expander;
-use justfile_vocabulary::{Keyword, Numerator, TokenKind};
+use justfile_vocabulary::{Keyword, TokenKind};
 use justfile_written::Written;
 
 /// A keyword that a construct begins with.

@@ -14,11 +14,12 @@ use crate::attribute_checks::check_allowed;
 use crate::items::push_parsed_item;
 use justfile_attribute::Attribute;
 use justfile_item::{FunctionDefinition, Item};
+use justfile_numbers::Numerator;
 use justfile_parse_base::ParseError;
 use justfile_parse_expression::TokenCursor;
 use justfile_parse_item_parts::parse_parameter_names;
 use justfile_token::{Expander, Name};
-use justfile_vocabulary::{ItemKind, Numerator, TokenKind};
+use justfile_vocabulary::{ItemKind, TokenKind};
 use justfile_written::Written;
 
 /// Parses a function after its attributes: a name, the names of the parameters in parentheses,

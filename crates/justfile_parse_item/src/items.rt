@@ -21,10 +21,11 @@ ghost use Rattle.justfile_parse_expression.specs.View.{state_of};
 
 use crate::construct::parse_construct;
 use justfile_item::Item;
+use justfile_numbers::Numerator;
 use justfile_parse_base::ParseError;
 use justfile_parse_expression::{ExpressionError, SyntaxError, TokenCursor};
 use justfile_token::{Expander, Token};
-use justfile_vocabulary::{Numerator, TokenKind};
+use justfile_vocabulary::TokenKind;
 use std::alloc::AllocError;
 
 /// In most files an item has this many tokens or more, line ends among the items counted. The list

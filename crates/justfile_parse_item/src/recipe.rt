@@ -22,12 +22,13 @@ use justfile_attribute::Attribute;
 use justfile_attribute_set::AttributeSet;
 use justfile_item::{Item, UnresolvedRecipe, is_private_item};
 use justfile_line::Line;
+use justfile_numbers::{Number, Numerator};
 use justfile_parse_base::{ParseError, comment_text};
 use justfile_parse_expression::{ExpressionError, TokenCursor};
 use justfile_parse_header::parse_header;
 use justfile_parse_item_parts::parse_body_after_header;
 use justfile_token::{Expander, Name};
-use justfile_vocabulary::{AttributeKind, Number, Numerator, TokenKind};
+use justfile_vocabulary::{AttributeKind, TokenKind};
 use justfile_written::Written;
 
 /// Parses a recipe after its attributes, with or without `@` before its name, and appends it.

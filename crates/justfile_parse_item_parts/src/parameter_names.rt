@@ -5,10 +5,11 @@ ghost use Rattle.justfile_parse_base.specs.Counting.{TookBindingNumbers, counter
 ghost use Rattle.justfile_parse_item_parts.specs.PartTable as reader;
 ghost use Rattle.justfile_parse_item_parts.specs.Parts.{numbered_leaves};
 
+use justfile_numbers::{Number, Numerator};
 use justfile_parse_base::{ParseError, next_binding_number, parse_separator};
 use justfile_parse_expression::TokenCursor;
 use justfile_token::{Expander, Name};
-use justfile_vocabulary::{Number, Numerator, TokenKind};
+use justfile_vocabulary::TokenKind;
 
 /// Parses the names of parameters and the closing parenthesis. Returns each name with its number.
 ///

@@ -18,10 +18,11 @@ ghost use Rattle.justfile_setting.specs.Setting.{HasDerivedSettingFields, keywor
 ghost use Rattle.justfile_expression.specs.LeafTree.{Literal, leaf_tree_of, literal_of};
 
 use justfile_expression::Expression;
+use justfile_numbers::Version;
 use justfile_parse_base::{ParseError, rule_error};
 use justfile_setting::Setting;
 use justfile_token::{CompileErrorKind, Fault, StringKind, StringLiteral, Token};
-use justfile_vocabulary::{Indentation, Keyword, Version};
+use justfile_vocabulary::{Indentation, Keyword};
 use std::alloc::Global;
 
 /// Makes the setting with this keyword from its value, which has to be a plain literal. `name` is

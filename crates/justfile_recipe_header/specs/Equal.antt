@@ -4,7 +4,7 @@ use Rattle.std.specs.Bool.{beq, nat_eq}
 use Rattle.std.specs.Cmp.Lexicographic.{pointwise}
 use Rattle.std.specs.Option.{option_eq}
 use Rattle.std.specs.String.{string_eq}
-use Rattle.justfile_vocabulary.specs.contracts.number.NumberPartialEq.TheImpl as numbers
+use Rattle.justfile_numbers.specs.contracts.number.NumberPartialEq.TheImpl as numbers
 use Rattle.justfile_model.specs.contracts.parameter_kind.ParameterKindPartialEq.TheImpl as parameter_kinds
 use Rattle.justfile_expression.specs.Equal.{boxed_eq, expression_eq, name_eq, namepath_eq}
 use Rattle.justfile_recipe_header.specs.declared.parameter.Parameter.{Parameter}

@@ -1,7 +1,7 @@
 -- The expressions of parameters and dependencies.
 use Rattle.std.specs.Prelude.{List, [], ◌∷◌}
 use Rattle.std.specs.List.{flat_map}
-use Rattle.justfile_expression.specs.Pushed.{optional_expressions}
+use Rattle.justfile_inner_expressions.specs.Pushed.{optional_expressions}
 use Rattle.justfile_expression.specs.declared.expression.Expression.{Expression}
 use Rattle.justfile_recipe_header.specs.declared.parameter.Parameter.{Parameter}
 use Rattle.justfile_recipe_header.specs.declared.unresolved_dependency.DependencyArgument.{DependencyArgument}

@@ -2,11 +2,12 @@
 
 use crate::parameter::Parameter;
 use crate::unresolved_dependency::{DependencyArgument, UnresolvedDependency};
-use justfile_expression::{
-    Expression, HasExpressions, HasVariables, push_each, push_expression, push_optional,
-    resolve_each, resolve_optional,
+use justfile_expression::Expression;
+use justfile_inner_expressions::{
+    HasExpressions, HasVariables, push_each, push_expression, push_optional, resolve_each,
+    resolve_optional,
 };
-use justfile_vocabulary::Number;
+use justfile_numbers::Number;
 use std::alloc::AllocError;
 use std::collections::HashMap;
 

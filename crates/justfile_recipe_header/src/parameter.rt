@@ -6,10 +6,12 @@ ghost use Rattle.justfile_recipe_header.specs.Parameter.{is_positive};
 
 use crate::parameter_kind::prefix;
 use crate::write_to::{WriteTo, write_each};
-use justfile_expression::{Expression, copy_optional, put_piece, put_piece_if, write_expression};
+use justfile_expression::{Expression, copy_optional};
+use justfile_inner_expressions::write_expression;
+use justfile_leaves::{put_piece, put_piece_if};
 use justfile_model::ParameterKind;
+use justfile_numbers::Number;
 use justfile_token::{Name, Sink, TryClone, copy_optional_text};
-use justfile_vocabulary::Number;
 use std::alloc::{AllocError, Global};
 use std::fmt;
 

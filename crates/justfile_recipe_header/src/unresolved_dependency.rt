@@ -7,7 +7,9 @@ ghost use Rattle.justfile_recipe_header.specs.Header.{argument_text, call_text, 
 
 use crate::path::write_namepath;
 use crate::write_to::{WriteTo, write_each};
-use justfile_expression::{Expression, put_piece, write_expression};
+use justfile_expression::Expression;
+use justfile_inner_expressions::write_expression;
+use justfile_leaves::put_piece;
 use justfile_token::{Namepath, Sink, TryClone, clone_all};
 use std::alloc::{AllocError, Global};
 use std::fmt;

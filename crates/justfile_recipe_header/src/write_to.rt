@@ -4,7 +4,7 @@ ghost use Rattle.std.specs.List.{flat_map};
 ghost use Rattle.justfile_model.specs.Printed.Printing.{fixed_text, if_true};
 ghost use Rattle.justfile_token.specs.Sink.{Puts};
 
-use justfile_expression::put_piece;
+use justfile_leaves::put_piece;
 use justfile_token::Sink;
 
 /// Values of a header that are written to a sink.

@@ -8,10 +8,10 @@ use Rattle.std.specs.Char.{digit_value}
 use Rattle.std.specs.List.{list_all}
 use Rattle.std.specs.Ordering.{is_lt, is_some_and, partial_lt, partial_ordering_then}
 use Rattle.std.specs.Str.Parse.{AllDigits, digits_value}
-use Rattle.justfile_vocabulary.specs.NumberText.{HasNoDot, IsNumberText}
-use Rattle.justfile_vocabulary.specs.Version.{IsVersionText}
-use Rattle.justfile_vocabulary.specs.contracts.version.VersionPartialOrd.TheImpl as orders
-use Rattle.justfile_vocabulary.specs.declared.version.Version.{Version}
+use Rattle.justfile_numbers.specs.NumberText.{HasNoDot, IsNumberText}
+use Rattle.justfile_numbers.specs.Version.{IsVersionText}
+use Rattle.justfile_numbers.specs.contracts.version.VersionPartialOrd.TheImpl as orders
+use Rattle.justfile_numbers.specs.declared.version.Version.{Version}
 use Rattle.justfile_model.specs.Grammars.Conditions.{VersionNumbers}
 use Rattle.justfile_model.specs.Meanings.Versions.{between_dots, byte_before, is_above, is_number, version_in, version_numbers, version_of}
 

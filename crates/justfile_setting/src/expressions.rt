@@ -1,11 +1,12 @@
 //! The expressions of settings.
 ghost use Rattle.std.specs.Prelude.{◌≡◌, IfOk, OnOk};
-ghost use Rattle.justfile_expression.specs.Pushed.{ArePushed, referents};
+ghost use Rattle.justfile_inner_expressions.specs.Pushed.{ArePushed, referents};
 ghost use Rattle.justfile_setting.specs.Expressions.{interpreter_expressions, setting_expressions};
 
 use crate::setting::Setting;
 use justfile_attribute::Interpreter;
-use justfile_expression::{Expression, push_all, push_expression};
+use justfile_expression::Expression;
+use justfile_inner_expressions::{push_all, push_expression};
 use std::alloc::{AllocError, Global};
 
 impl<'src> Setting<'src> {

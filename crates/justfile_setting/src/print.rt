@@ -9,7 +9,9 @@ ghost use Rattle.justfile_expression.specs.Text.{text_of};
 use crate::setting::Setting;
 use crate::value::Value;
 use justfile_attribute::{Interpreter, write_literal};
-use justfile_expression::{Expression, put_piece, write_expression};
+use justfile_expression::Expression;
+use justfile_inner_expressions::write_expression;
+use justfile_leaves::put_piece;
 use justfile_token::Sink;
 use std::fmt;
 

@@ -4,8 +4,9 @@ ghost use Rattle.justfile_expression.specs.Resolved.{number_of};
 
 use crate::setting::Setting;
 use justfile_attribute::Interpreter;
-use justfile_expression::{Expression, resolve_expressions};
-use justfile_vocabulary::Number;
+use justfile_expression::Expression;
+use justfile_inner_expressions::resolve_expressions;
+use justfile_numbers::Number;
 use std::collections::HashMap;
 
 impl<'src> Setting<'src> {
@@ -62,5 +63,5 @@ fn resolve_interpreter<'src>(
         interpreter.old }
 {
     interpreter.command.resolve_variables(context, bindings);
-    resolve_expressions(&mut interpreter.arguments, context, bindings);
+    resolve_each(&mut interpreter.arguments, context, bindings);
 }

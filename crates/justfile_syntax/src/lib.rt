@@ -208,7 +208,7 @@ pub mod line {
 pub mod list {
     //! Lists of alternatives, as messages show them, and what can be an alternative.
 
-    pub use justfile_vocabulary::List;
+    pub use justfile_shown::List;
     pub use justfile_vocabulary::alternative::Alternative;
 }
 
@@ -245,7 +245,7 @@ pub mod namepath {
 pub mod numerator {
     //! The numbers of bindings and recipes, and what hands them out.
 
-    pub use justfile_vocabulary::{Number, Numerator};
+    pub use justfile_numbers::{Number, Numerator};
 }
 
 pub mod outline {
@@ -348,7 +348,7 @@ pub mod token_kind {
 pub mod unindent {
     //! Texts without their indentation.
 
-    pub use justfile_literal::unindent::unindent;
+    pub use justfile_literal_parts::unindent::unindent;
 }
 
 pub mod unresolved_dependency {
@@ -366,7 +366,7 @@ pub mod unstable_feature {
 pub mod version {
     //! Versions of `just`.
 
-    pub use justfile_vocabulary::Version;
+    pub use justfile_numbers::Version;
 }
 
 #[cfg(test)]

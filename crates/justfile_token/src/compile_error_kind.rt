@@ -4,9 +4,8 @@ use crate::name::Name;
 use crate::namepath::Namepath;
 use crate::string_literal::StringLiteral;
 use crate::token::Token;
-use justfile_vocabulary::{
-    AttributeKind, ItemKind, Keyword, ListFeature, Switch, TokenKind, Version,
-};
+use justfile_numbers::Version;
+use justfile_vocabulary::{AttributeKind, ItemKind, Keyword, ListFeature, Switch, TokenKind};
 use std::ops::RangeInclusive;
 
 /// Why a text isn't a valid justfile.

@@ -5,14 +5,8 @@ pub mod Count
 pub mod Indentation
 pub mod ItemKind
 pub mod Keyword
-pub mod List
 pub mod ListFeature
-pub mod NumberText
-pub mod Numerator
-pub mod Shown
 pub mod Signal
 pub mod Switch
 pub mod Text
 pub mod TokenKind
-pub mod Version
-pub mod VersionOrder

@@ -1,7 +1,7 @@
 //! The numbers that variables get when the values of a file's first item are resolved.
 
 use justfile_item::Item;
-use justfile_vocabulary::Number;
+use justfile_numbers::Number;
 use row_notation::{Answer, field_at};
 use row_parts::resolution::{push_variables, resolve_setting, resolve_value};
 use std::alloc::{AllocError, Global};

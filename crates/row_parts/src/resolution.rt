@@ -2,9 +2,9 @@
 
 use crate::orders::{copy_of, push_order};
 use justfile_expression::Expression;
+use justfile_numbers::Number;
 use justfile_setting::Setting;
 use justfile_token::Name;
-use justfile_vocabulary::Number;
 use row_notation::{Answer, Text};
 use std::alloc::AllocError;
 use std::collections::HashMap;

@@ -2,10 +2,11 @@
 
 use justfile_lex::Lexer;
 use justfile_literal::cook_string;
-use justfile_literal::unindent::unindent;
+use justfile_literal_parts::unindent::unindent;
+use justfile_numbers::Version;
 use justfile_token::{StringKind, Token};
 use justfile_vocabulary::byte_class::byte_class;
-use justfile_vocabulary::{Indentation, Keyword, TokenKind, Version};
+use justfile_vocabulary::{Indentation, Keyword, TokenKind};
 use row_notation::{Answer, Text, number_at, push_fault, push_string_kind};
 
 /// The token at which texts with bad escapes are rejected.

@@ -2,7 +2,7 @@ use Rattle.std.proofs.Common.{take}
 use Rattle.std.specs.List.{flat_map}
 use Rattle.justfile_attribute.specs.Expressions.{attribute_expressions}
 use Rattle.justfile_attribute_set.specs.Keys.{firsts}
-use Rattle.justfile_expression.specs.Pushed.{ArePushed}
+use Rattle.justfile_inner_expressions.specs.Pushed.{ArePushed}
 use Rattle.justfile_attribute_set.proofs.expressions.push_pairs.Given as goal
 
 abbrev pub invariant-loop-pair : goal.invariant-loop-pair

@@ -3,7 +3,7 @@ use Rattle.std.specs.List.{flat_map}
 use Rattle.std.proofs.lemmas.Option.{slice_get_within}
 use Rattle.justfile_expression.specs.Children.{children, start_texts}
 use Rattle.justfile_expression.specs.Text.{text_of}
-use Rattle.justfile_expression.specs.Texts.{Texts, texts_joined}
+use Rattle.justfile_leaves.specs.Texts.{Texts, texts_joined}
 use Rattle.justfile_expression.proofs.Joined.{child_text}
 use Rattle.justfile_token.proofs.PutLemmas.{failed_at}
 use Rattle.justfile_expression.proofs.Loops.{at_err, took_next}

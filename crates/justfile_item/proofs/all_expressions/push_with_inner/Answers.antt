@@ -1,5 +1,5 @@
 use Rattle.std.proofs.Common.{◌∙◌, [], ◌∷◌, ◌++◌, ap, sym}
-use Rattle.justfile_expression.specs.Pushed.{referents}
+use Rattle.justfile_inner_expressions.specs.Pushed.{referents}
 use Rattle.justfile_item.proofs.InnerExpressions.{back, begun, deeper, deeper_falls, found_more}
 use Rattle.justfile_item.proofs.all_expressions.push_with_inner.Goals as goal
 

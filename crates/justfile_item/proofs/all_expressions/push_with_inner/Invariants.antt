@@ -1,5 +1,5 @@
 use Rattle.std.proofs.Common.{◌≡◌, ◌++◌}
-use Rattle.justfile_expression.specs.Pushed.{referents}
+use Rattle.justfile_inner_expressions.specs.Pushed.{referents}
 use Rattle.justfile_item.specs.AllExpressions.{with_inner}
 use Rattle.justfile_item.proofs.InnerExpressions.{left_along, steps_left}
 use Rattle.justfile_item.proofs.all_expressions.push_with_inner.Given as goal

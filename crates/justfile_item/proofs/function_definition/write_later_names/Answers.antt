@@ -1,7 +1,7 @@
 use Rattle.std.proofs.Common.{◌++◌, codes, refl, arith}
 use Rattle.justfile_token.specs.Token.{lexeme_of}
 use Rattle.justfile_token.specs.declared.name.Name.{Name}
-use Rattle.justfile_vocabulary.specs.declared.number.Number.{Number}
+use Rattle.justfile_numbers.specs.declared.number.Number.{Number}
 use Rattle.justfile_model.specs.Printed.Printing.{fixed_text}
 use Rattle.justfile_token.proofs.PutLemmas.{failed_at}
 use Rattle.justfile_expression.proofs.ListLoops.{took_next, failed_next}

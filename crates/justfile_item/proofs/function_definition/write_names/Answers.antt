@@ -1,7 +1,7 @@
 use Rattle.std.proofs.Common.{◌≡◌, ℕ, List, ◌∷◌, ◌++◌, ap, ◌∙◌, subst}
 use Rattle.justfile_token.specs.Token.{lexeme_of}
 use Rattle.justfile_token.specs.declared.name.Name.{Name}
-use Rattle.justfile_vocabulary.specs.declared.number.Number.{Number}
+use Rattle.justfile_numbers.specs.declared.number.Number.{Number}
 use Rattle.justfile_token.proofs.PutLemmas.{failed_at}
 use Rattle.justfile_item.specs.ItemText.{later_names_text, parameter_names_text}
 use Rattle.justfile_item.proofs.ItemTexts.{names_some}

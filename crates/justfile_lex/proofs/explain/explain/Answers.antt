@@ -3,10 +3,10 @@ use Rattle.std.specs.Result.{result_ok}
 use Rattle.justfile_vocabulary.specs.ByteClass.{class_of}
 use Rattle.justfile_model.specs.Lexing.Bytes.{blank, is_blank, blank_len}
 use Rattle.justfile_model.specs.Lexing.Next.{token_by_class}
-use Rattle.justfile_lex.specs.Layouts.{indent}
-use Rattle.justfile_lex.specs.Modes.{mode_of}
+use Rattle.justfile_scan.specs.Layouts.{indent}
+use Rattle.justfile_scan.specs.Modes.{mode_of}
 use Rattle.justfile_lex.proofs.Refusals.{next_blanks, next_other, refused_some}
-use Rattle.justfile_lex.proofs.StackLemmas.{run_take}
+use Rattle.justfile_scan.proofs.StackLemmas.{run_take}
 use Rattle.justfile_lex.proofs.explain.explain.Goals as goal
 
 pub explain_indent-requires-clause-blanks : goal.explain_indent-requires-clause-blanks

@@ -1,7 +1,7 @@
 use Rattle.std.proofs.Common.{Err, get_or, arith, sym, ap, ◌∙◌}
 use Rattle.justfile_model.proofs.Lexing.CutLemmas.{after_byte, class_fact}
 use Rattle.justfile_model.specs.Lexing.Next.{closing, fixed_token, literal_token}
-use Rattle.justfile_lex.specs.Modes.{mode_of}
+use Rattle.justfile_scan.specs.Modes.{mode_of}
 use Rattle.justfile_lex.proofs.Refusals.{blank_any, feed_any, word_any, return_is, digit_is, quote_is, opener_is, closer_is, fixed_is, lead_is, other_is, at_class, never_class, refused_too}
 use Rattle.justfile_lex.proofs.explain.explain_by_class.Goals as goal
 

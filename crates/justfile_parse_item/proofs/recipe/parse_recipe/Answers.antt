@@ -5,7 +5,7 @@ use Rattle.justfile_attribute_set.specs.AttributeSet.{attributes_of, leaf_entrie
 use Rattle.justfile_attribute_set.specs.Attributes.{has_kind}
 use Rattle.justfile_line.specs.declared.line.Line.{Line}
 use Rattle.justfile_vocabulary.specs.declared.attribute_kind.AttributeKind.TheVariants as kinds
-use Rattle.justfile_vocabulary.specs.declared.numerator.Numerator.{Numerator}
+use Rattle.justfile_numbers.specs.declared.numerator.Numerator.{Numerator}
 use Rattle.justfile_model.specs.Readers.ReaderState as reading
 use Rattle.justfile_parse_item.specs.ItemTable.{has_shebang, recipe}
 use Rattle.justfile_parse_item.specs.MethodResults.{CountersMoved}

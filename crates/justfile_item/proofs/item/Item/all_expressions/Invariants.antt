@@ -1,6 +1,6 @@
 use Rattle.std.proofs.Common.{◌≡◌, take}
 use Rattle.std.specs.List.{flat_map}
-use Rattle.justfile_expression.specs.Pushed.{referents}
+use Rattle.justfile_inner_expressions.specs.Pushed.{referents}
 use Rattle.justfile_item.specs.AllExpressions.{with_inner}
 use Rattle.justfile_item.proofs.item.Item.all_expressions.Given as goal
 

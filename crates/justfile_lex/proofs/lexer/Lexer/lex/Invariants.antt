@@ -1,5 +1,5 @@
 use Rattle.std.proofs.Common.{drop}
-use Rattle.justfile_lex.specs.WhiteRun.{IsRunOf}
+use Rattle.justfile_scan.specs.WhiteRun.{IsRunOf}
 use Rattle.justfile_lex.proofs.LexerLemmas.{left}
 use Rattle.justfile_lex.proofs.Runs.{Runs}
 use Rattle.justfile_lex.proofs.lexer.Lexer.lex.Given as goal

@@ -4,7 +4,7 @@ use Rattle.justfile_vocabulary.specs.declared.token_kind.TokenKind.TheVariants.{
 use Rattle.justfile_model.specs.Lexing.LexResult.{IsLexerFault}
 use Rattle.justfile_model.specs.Lexing.Next.{next}
 use Rattle.justfile_model.proofs.Lexing.NextLaws.{token_cut}
-use Rattle.justfile_lex.specs.Modes.{mode_of}
+use Rattle.justfile_scan.specs.Modes.{mode_of}
 use Rattle.justfile_lex.proofs.Refusals.{found_is}
 use Rattle.justfile_lex.proofs.Runs.{ends, reads_on, shorter, white_after}
 use Rattle.justfile_lex.proofs.lexer.Lexer.lex_significant.Goals as goal

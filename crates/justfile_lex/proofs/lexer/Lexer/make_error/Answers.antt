@@ -8,8 +8,8 @@ use Rattle.justfile_model.specs.Lexing.Next.{next}
 use Rattle.justfile_model.specs.Lexing.Lexed.{IsFault, StandsAt}
 use Rattle.justfile_model.proofs.Lexing.NextLaws.{fault_cut}
 use Rattle.justfile_model.specs.Lexing.LexResult.{IsFrom}
-use Rattle.justfile_lex.specs.Modes.{mode_of}
-use Rattle.justfile_lex.specs.Scanned.{scan_fault, lexical_error_of}
+use Rattle.justfile_scan.specs.Modes.{mode_of}
+use Rattle.justfile_scan.specs.Scanned.{scan_fault, lexical_error_of}
 use Rattle.justfile_lex.proofs.LexerLemmas.{next_is}
 use Rattle.justfile_lex.proofs.lexer.Lexer.make_error.Goals as goal
 

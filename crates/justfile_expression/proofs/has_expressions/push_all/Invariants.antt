@@ -1,6 +1,0 @@
-use Rattle.std.proofs.Common.{take}
-use Rattle.justfile_expression.specs.Pushed.{ArePushed}
-use Rattle.justfile_expression.proofs.has_expressions.push_all.Given as goal
-
-abbrev pub invariant-loop-expression : goal.invariant-loop-expression
-invariant-loop-expression l = ArePushed l.found l.initial.found (take l.expression-index l.expressions)

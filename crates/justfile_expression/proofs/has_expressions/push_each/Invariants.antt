@@ -1,7 +1,0 @@
-use Rattle.std.proofs.Common.{take}
-use Rattle.std.specs.List.{flat_map}
-use Rattle.justfile_expression.specs.Pushed.{ArePushed}
-use Rattle.justfile_expression.proofs.has_expressions.push_each.Given as goal
-
-abbrev pub invariant-loop-value : goal.invariant-loop-value
-invariant-loop-value g l = ArePushed l.found l.initial.found (flat_map g.T.HasExpressions.expressions (take l.value-index l.values))

@@ -1,0 +1,3 @@
+pub mod LeafContent
+pub mod OtherBranch
+pub mod Texts

@@ -1,0 +1,4 @@
+pub mod NumberText
+pub mod Numerator
+pub mod Version
+pub mod VersionOrder

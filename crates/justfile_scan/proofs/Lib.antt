@@ -1,0 +1,4 @@
+pub mod LaneLemmas
+pub mod Pieces
+pub mod StackLemmas
+pub mod WhiteRunLemmas

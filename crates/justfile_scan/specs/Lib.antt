@@ -1,0 +1,5 @@
+pub mod Layouts
+pub mod Modes
+pub mod RawTexts
+pub mod Scanned
+pub mod WhiteRun

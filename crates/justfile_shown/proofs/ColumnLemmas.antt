@@ -1,0 +1,95 @@
+-- Invariants of the loops over the characters of a line.
+use Rattle.std.proofs.Common.{◌≡◌, ℕ, zero, suc, ◌+◌, ◌<◌, ◌≤◌, ◌^◌, ◌/◌, ◌%◌, max, if◌then◌else◌, Bool, true, false, ◌||◌, cond, List, [], ◌∷◌, ◌++◌, IsUtf8, length, take, drop, get_or, sym, ap, subst, ◌∙◌, arith, append_assoc, append-nil, length-append, zero-add, suc-add}
+use Rattle.std.specs.Prelude.{chars, codes, encode_utf8, filter, sum_by}
+use Rattle.std.proofs.Common.{refl}
+use lib.Utf8.{encodes}
+use Rattle.std.specs.List.{flat_map, list_any, repeat}
+use Rattle.std.specs.Fmt.{IsDefaultSpec, IsPlainFormatter, HasWritten, HasWrittenStyled, decimal}
+use Rattle.std.specs.Str.Iter.{char_indices_rest, char_indices_offset, char_indices_steps}
+use Rattle.std.specs.declared.fmt.Formatter.{Formatter}
+use Rattle.std.proofs.lemmas.Fmt.{decimal_step_wide}
+use Rattle.std.proofs.lemmas.Iterator.{YieldsList}
+use Rattle.std.proofs.lemmas.Iterator.Splits.{YieldsList-from_shown_while}
+use Rattle.std.proofs.lemmas.List.{nil_from_length, take-append-drop, take_more}
+use Rattle.std.proofs.lemmas.List.Elements.{filter-append}
+use Rattle.std.proofs.lemmas.List.Sums.{sum_by-append}
+use Rattle.std.proofs.lemmas.Str.{IsUtf8-past_char, chars_past_char, chars-nil, encodes-chars}
+use Rattle.justfile_shown.specs.Columns.{is_among, is_tab, placed_from, shown_character, width_among, width_of}
+
+-- the characters of a line come with their places
+pub YieldsList-from_char_indices : {s : _} (line : List ℕ) → IsUtf8 line → char_indices_rest s ≡ line → char_indices_offset s ≡ 0
+    → YieldsList char_indices_steps (λ p. p) s (placed_from 0 (chars line))
+YieldsList-from_char_indices {s} line utf8 rest offset =
+    subst (YieldsList char_indices_steps (λ p. p) s) (λ i. placed_from (offset i) (chars (rest i)))
+    (YieldsList-from_shown_while char_indices_steps (λ p. p) (λ t. placed_from (char_indices_offset t) (chars (char_indices_rest t))) (λ t. IsUtf8 (char_indices_rest t))
+    (λ t u h step. ap (λ bs. length (placed_from (char_indices_offset t) (chars bs))) (nil_from_length _ step.0) ∙ ap (λ cs. length (placed_from (char_indices_offset t) cs)) chars-nil)
+    (λ t p u h step. (
+      IsUtf8-past_char _ _ _ h step.1,
+      ap (placed_from (char_indices_offset t)) (chars_past_char _ _ _ h step.1)
+          ∙ (λ i. (sym step.0 i, p.1) ∷ placed_from (sym step.2 i) (chars (char_indices_rest u))),
+    ))
+    s (subst IsUtf8 (sym rest) utf8))
+
+pub repeat-add : {A : Type 0} (m n : ℕ) (xs : List A) → repeat (m + n) xs ≡ repeat m xs ++ repeat n xs
+repeat-add zero n xs = ap (λ k. repeat k xs) (zero-add n)
+repeat-add (suc m) n xs = ap (λ k. repeat k xs) (suc-add m n) ∙ ap (λ ys. xs ++ ys) (repeat-add m n xs) ∙ sym (append_assoc xs (repeat m xs) (repeat n xs))
+
+pub width_among-append : (start count : ℕ) (xs ys : List (ℕ × ℕ)) → width_among start count (xs ++ ys) ≡ width_among start count xs + width_among start count ys
+width_among-append start count xs ys =
+    ap (sum_by (λ p. width_of p.1)) (filter-append (λ p. is_among start count p.0) xs ys)
+    ∙ sum_by-append (λ p. width_of p.1) (filter (λ p. is_among start count p.0) xs) (filter (λ p. is_among start count p.0) ys)
+
+-- a character counts if its place is in the range
+pub width_among-in : (start count : ℕ) (p : ℕ × ℕ) → is_among start count p.0 ≡ true → width_among start count (p ∷ []) ≡ width_of p.1
+width_among-in start count p inside = ap (λ (b : Bool). sum_by (λ (q : ℕ × ℕ). width_of q.1) (if b then p ∷ [] else [])) inside ∙ zero-add (width_of p.1)
+
+-- a character in the range adds its width
+pub width_among-push_in : (start count : ℕ) (xs : List (ℕ × ℕ)) (p : ℕ × ℕ) → is_among start count p.0 ≡ true
+    → width_among start count (xs ++ p ∷ []) ≡ width_among start count xs + width_of p.1
+width_among-push_in start count xs p inside =
+    width_among-append start count xs (p ∷ []) ∙ ap (λ n. width_among start count xs + n) (width_among-in start count p inside)
+
+-- the first characters take no more columns than all
+pub width_among-front : (start count : ℕ) (all xs : List (ℕ × ℕ)) (p : ℕ × ℕ) → xs ≡ take (length xs) all → (length xs < length all) × (p ≡ get_or all (length xs) p)
+    → width_among start count (xs ++ p ∷ []) ≤ width_among start count all
+width_among-front start count all xs p front turn =
+    let n = length xs in
+    let pushed : take (n + 1) all ≡ xs ++ p ∷ [] =
+    take_more all n p turn.0 ∙ (λ i. sym front i ++ sym turn.1 i ∷ []) in
+    let whole : width_among start count all ≡ width_among start count (take (n + 1) all) + width_among start count (drop (n + 1) all) =
+    ap (width_among start count) (sym (take-append-drop (n + 1) all)) ∙ width_among-append start count (take (n + 1) all) (drop (n + 1) all) in
+    let same = ap (width_among start count) pushed in
+    omega (arith, whole, same)
+
+-- at least one repetition: the same number if it isn't 0, and one otherwise
+pub repeat-max : {A : Type 0} (n : ℕ) (xs : List A) → 0 < n → repeat (max 1 n) xs ≡ repeat n xs
+repeat-max n xs some = let same : max 1 n ≡ n = omega arith in ap (λ k. repeat k xs) same
+
+pub repeat-max_none : {A : Type 0} (n : ℕ) (xs : List A) → ¬ (0 < n) → repeat (max 1 n) xs ≡ xs
+repeat-max_none n xs none = let one : max 1 n ≡ 1 = omega arith in ap (λ k. repeat k xs) one ∙ append-nil xs
+
+-- a number of two digits or more has one digit more than its tenth
+pub length-decimal_step : (n : ℕ) → 10 ≤ n → n < 10 ^ 64 → length (decimal n) ≡ length (decimal (n / 10)) + 1
+length-decimal_step n more fits = ap length (decimal_step_wide n more fits) ∙ length-append (decimal (n / 10)) ((48 + n % 10) ∷ [])
+
+-- a text that is written with any options of the formatter is written by a plain formatter
+module _ {W : Type 0} (took : W → List ℕ → W → Type 0) where
+  pub has_written_from_styled : (f g : Formatter W) (text : List ℕ) → IsPlainFormatter f → HasWrittenStyled took f text g → HasWritten took f text g
+  has_written_from_styled f g text plain written = record {
+    wrote = written.wrote;
+    plain = record { bare = subst IsDefaultSpec (sym written.spec) plain.bare; flush = written.flush };
+  }
+
+-- a line without a tab shows as it is
+plain_characters : (cs : List ℕ) → list_any is_tab cs ≡ false → flat_map shown_character cs ≡ encodes cs
+plain_characters [] h = refl
+plain_characters (c ∷ cs) h = go (is_tab c) refl (plain_characters cs)
+  where
+    go : (b : Bool) → is_tab c ≡ b → (list_any is_tab cs ≡ false → flat_map shown_character cs ≡ encodes cs) → flat_map shown_character (c ∷ cs) ≡ encodes (c ∷ cs)
+    go true e rest = let k : (true || list_any is_tab cs) ≡ false = ap (λ t. t || list_any is_tab cs) (sym e) ∙ h in absurd cc
+    go false e rest =
+        let k : (false || list_any is_tab cs) ≡ false = ap (λ t. t || list_any is_tab cs) (sym e) ∙ h in
+        ap (λ t. cond t (codes "    ") (encode_utf8 c) ++ flat_map shown_character cs) e ∙ ap (λ l. encode_utf8 c ++ l) (rest k)
+
+pub shown_plain : (line : List ℕ) → IsUtf8 line → list_any is_tab (chars line) ≡ false → flat_map shown_character (chars line) ≡ line
+shown_plain line utf8 h = plain_characters (chars line) h ∙ encodes-chars line utf8
