@@ -26,7 +26,7 @@ use Rattle.justfile_item.specs.declared.item.Item.TheVariants as items
 use Rattle.justfile_ast.specs.declared.ast.Ast.{Ast}
 use Rattle.justfile_parse_item.specs.Filled.{IsFilledItem, IsFilledLiteral, IsFilledSetting}
 use Rattle.justfile_canonical.specs.Formatting.{IsFileOf, HasCookedIndentation, IsIndentedBy, MatchesLiteral}
-use Rattle.justfile_parse.specs.Parsing.{IsParsedText}
+use Rattle.justfile_parse_file.specs.Parsing.{IsParsedText}
 use Rattle.justfile_canonical.specs.Root.{IsRoot, conditions, unchanged}
 
 -- ---- what the literal stands for

@@ -100,10 +100,9 @@ impl<'src> Words<'src> {
 pub fn before_other(is_conditional: bool) -> &'static str
     ensures { result.now ≡ before_other is_conditional }
 {
-    if is_conditional {
-        " } else "
-    } else {
-        " } else { "
+    match is_conditional {
+        true => " } else ",
+        false => " } else { ",
     }
 }
 
@@ -112,7 +111,10 @@ pub fn before_other(is_conditional: bool) -> &'static str
 pub fn after_other(is_conditional: bool) -> &'static str
     ensures { result.now ≡ after_other is_conditional }
 {
-    if is_conditional { "" } else { " }" }
+    match is_conditional {
+        true => "",
+        false => " }",
+    }
 }
 
 /// Writes the texts of `words` one after another.

@@ -1,9 +1,7 @@
-//! From tokens to files of items.
+//! The public calls that parse files.
 #![tactic(auto)]
 
-mod docs;
-mod parse;
-mod unstable;
+mod parser;
 
-pub use crate::parse::Parser;
+pub use crate::parser::Parser;
 pub use justfile_parse_expression::{RECURSION_LIMIT, significant};

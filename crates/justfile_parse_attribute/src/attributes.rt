@@ -17,6 +17,7 @@ use crate::arguments::Arguments;
 use crate::read_attributes::ReadAttributes;
 use justfile_attribute::Attribute;
 use justfile_expression::Expression;
+use justfile_expression_parser::parse_expression;
 use justfile_parse_base::{ParseError, comment_text, parse_separator, rule_error};
 use justfile_parse_expression::significant::SignificantToken;
 use justfile_parse_expression::{ExpressionError, SyntaxError, TokenCursor};
@@ -376,7 +377,7 @@ fn parse_key_value<'src, X: Expander>(
     let Some(_equals) = parser.accept(TokenKind::Equals) else {
         return Ok(None);
     };
-    Ok(Some(parser.parse_expression()?))
+    Ok(Some(parse_expression(parser)?))
 }
 
 /// Parses a positional argument, and appends it to `arguments`. It can't follow a keyword argument.
@@ -407,7 +408,7 @@ fn parse_placed<'src, X: Expander>(
     ensures progress { OnOk result (tokens_left parser.new < tokens_left parser.old) }
 {
     let first = parser.peek_front();
-    let value = parser.parse_expression()?;
+    let value = parse_expression(parser)?;
     match first {
         Some(entry) => Ok((entry.0, value)),
         None => Err(ExpressionError::Refused(SyntaxError::Unexpected)),

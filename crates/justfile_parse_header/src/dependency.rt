@@ -12,6 +12,7 @@ ghost use Rattle.justfile_parse_header.specs.HeaderTable as reader;
 ghost use Rattle.justfile_parse_header.specs.Tree.{argument_tree, dependency_tree, read_argument};
 
 use justfile_expression::Expression;
+use justfile_expression_parser::parse_expression;
 use justfile_parse_base::{ParseError, parse_namepath, rule_error};
 use justfile_parse_expression::significant::SignificantToken;
 use justfile_parse_expression::{ExpressionError, SyntaxError, TokenCursor};
@@ -169,7 +170,7 @@ fn parse_plain<'src, X: Expander>(
     ensures { Parses X.answer read_argument result parser.old parser.new
         reader.plain_argument }
 {
-    let value = parser.parse_expression()?;
+    let value = parse_expression(parser)?;
     Ok(ReadArgument { star: None, value })
 }
 

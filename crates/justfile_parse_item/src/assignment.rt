@@ -13,6 +13,7 @@ ghost use Rattle.justfile_parse_base.specs.Counting.{counters_of, ParsesCounted}
 use crate::attribute_checks::check_allowed;
 use crate::items::push_parsed_item;
 use justfile_attribute::Attribute;
+use justfile_expression_parser::parse_expression;
 use justfile_item::{Binding, Item, is_private_item};
 use justfile_numbers::Numerator;
 use justfile_parse_base::{ParseError, next_binding_number};
@@ -42,7 +43,7 @@ pub(crate) fn parse_assignment<'src, X: Expander>(
 {
     let name = parser.expect(TokenKind::Identifier)?;
     parser.expect(TokenKind::ColonEquals)?;
-    let value = parser.parse_expression()?;
+    let value = parse_expression(parser)?;
     let attributes = check_allowed(parser.alloc, ItemKind::Assignment, attributes, name)?;
     let number = next_binding_number(numerator)?;
     let private = is_private_item(name.0, &attributes);

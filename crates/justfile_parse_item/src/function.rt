@@ -13,6 +13,7 @@ ghost use Rattle.justfile_parse_base.specs.Counting.{counters_of, ParsesCounted}
 use crate::attribute_checks::check_allowed;
 use crate::items::push_parsed_item;
 use justfile_attribute::Attribute;
+use justfile_expression_parser::parse_expression;
 use justfile_item::{FunctionDefinition, Item};
 use justfile_numbers::Numerator;
 use justfile_parse_base::ParseError;
@@ -44,7 +45,7 @@ pub(crate) fn parse_function<'src, X: Expander>(
     parser.expect(TokenKind::ParenL)?;
     let parameters = parse_parameter_names(parser, numerator)?;
     parser.expect(TokenKind::ColonEquals)?;
-    let body = parser.parse_expression()?;
+    let body = parse_expression(parser)?;
     push_parsed_item(
         items,
         Item::Function(FunctionDefinition {

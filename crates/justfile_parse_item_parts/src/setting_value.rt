@@ -16,6 +16,7 @@ use crate::errors::{expected_keyword_fault, unknown_setting_fault};
 use crate::plain::make_plain;
 use justfile_attribute::Interpreter;
 use justfile_expression::Expression;
+use justfile_expression_parser::parse_expression;
 use justfile_parse_base::{ParseError, rule_error};
 use justfile_parse_expression::significant::SignificantToken;
 use justfile_parse_expression::{ExpressionError, SyntaxError, TokenCursor, is_word};
@@ -126,7 +127,7 @@ fn parse_expression_setting<'src, X: Expander>(
     ensures fields { IfOk result HasDerivedSettingFields }
 {
     parser.expect(TokenKind::ColonEquals)?;
-    let value = parser.parse_expression()?;
+    let value = parse_expression(parser)?;
     Ok(Setting::from_expression(keyword, value))
 }
 
@@ -205,7 +206,7 @@ fn parse_plain_setting<'src, X: Expander>(
     ensures fields { IfOk result HasDerivedSettingFields }
 {
     parser.expect(TokenKind::ColonEquals)?;
-    let value = parser.parse_expression()?;
+    let value = parse_expression(parser)?;
     make_plain(parser.alloc, parser.current(), name.0, keyword, value)
 }
 

@@ -17,14 +17,14 @@ use Rattle.justfile_parse_item.proofs.assignment.parse_assignment.Goals as goal
 pub returns-clause-moved : goal.returns-clause-moved
 returns-clause-moved g c =
     let A = g.X.Expander.answer in
-    let there = state_of A c.parse_expression.new.self in
+    let there = state_of A c.parse_expression.new.parser in
     binding_moved c.args.numerator.now c.next_binding_number.new.numerator c.in_ok-number.number.0 (state_of A c.args.parser.now) (state_of A c.expect.new.self) there c.in_ok-name.name.now c.in_ok-name.ensures.reads
     (c.in_ok-number.ensures.reads there)
 
 pub returns-in_err-attributes-clause-reads : goal.returns-in_err-attributes-clause-reads
 returns-in_err-attributes-clause-reads g c =
     let A = g.X.Expander.answer in
-    let there = state_of A c.parse_expression.new.self in
+    let there = state_of A c.parse_expression.new.parser in
     let p = err_from_is_err_and c.from_residual-in_err-attributes.result c.from_residual-in_err-attributes.ensures.1 in
     rw (p.1, p.2)
     (assignment_errs (map entry_of_pair c.args.attributes.items) (counters_of c.args.numerator.now) (state_of A c.args.parser.now) c.in_ok-name.name.now (state_of A c.expect.new.self) c.in_ok-name.ensures.reads
@@ -39,7 +39,7 @@ returns-clause-reads g c =
     let n = counters_of c.args.numerator.now in
     let m = counters_of c.next_binding_number.new.numerator in
     let here = state_of A c.args.parser.now in
-    let last = c.parse_expression.new.self in
+    let last = c.parse_expression.new.parser in
     let there = state_of A last in
     reads _ c.args.items.now.items c.push_parsed_item.new.items.items c.push_parsed_item.result c.next_binding_number.new.numerator there
     (reader.assignment c.args.eager c.args.export ws n here) c.push_parsed_item.ensures

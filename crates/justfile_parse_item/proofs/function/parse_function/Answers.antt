@@ -67,7 +67,7 @@ returns-clause-reads g c =
     let n = counters_of c.args.numerator.now in
     let here = state_of A c.args.parser.now in
     let named = state_of A c.expect.new.self in
-    let last = state_of A c.parse_expression.new.self in
+    let last = state_of A c.parse_expression.new.parser in
     reads _ c.args.items.now.items c.push_parsed_item.new.items.items c.push_parsed_item.result c.parse_parameter_names.new.numerator last
     (reader.function ws n here) c.push_parsed_item.ensures
     (function_read ws n here c.in_ok-name.name.now named c.in_ok-name.ensures.reads c.in_ok-expect.field-0.now (state_of A c.expect-2.new.self) (c.in_ok-attributes.ensures.reads named)

@@ -13,7 +13,7 @@ pub returns-clause-reads : goal.returns-clause-reads
 returns-clause-reads g c =
     let A = g.X.Expander.answer in
     let from = state_of A c.expect.new.self in
-    let rest = state_of A c.parse_expression.new.self in
+    let rest = state_of A c.parse_expression.new.parser in
     let e = leaf_tree_of c.in_ok-value.value.value in
     let is = plain_read c.args.name.now c.args.keyword (state_of A c.args.parser.now) c.in_ok-expect.field-0.now from c.in_ok-expect.ensures.reads e rest c.in_ok-value.ensures.reads
     (version_numbers c.current.result) c.current.ensures in

@@ -1,0 +1,3 @@
+pub mod DocSteps
+pub mod KeptItems
+pub mod TakenDocs

@@ -1,0 +1,13 @@
+use Rattle.std.proofs.Common.{◌≡◌, ◌≤◌, [], length, map}
+use Rattle.justfile_parse_docs.specs.Docs.{taken_docs, with_items}
+use Rattle.justfile_parse_item.specs.Tree.{item_tree}
+use Rattle.justfile_parse_item.specs.DerivedFields.{HaveDerivedFields}
+use Rattle.justfile_parse_docs.proofs.docs.set_docs.Given as goal
+
+abbrev pub invariant-loop-index : goal.invariant-loop-index
+invariant-loop-index l = record {
+  trees : taken_docs l.kept l.index l.items.items ≡ with_items [] (map item_tree l.initial.items.items);
+  order : l.kept ≤ l.index;
+  len : length l.items.items ≡ length l.initial.items.items;
+  fields : HaveDerivedFields l.items.items;
+}

@@ -1,0 +1,16 @@
+pub mod Comments
+pub mod FormatStrings
+pub mod FilledAttributes
+pub mod FilledParts
+pub mod ErrorTokens
+pub mod NotInternal
+pub mod Parsed
+pub mod SeenDocs
+pub mod SeenHeaders
+pub mod SeenItems
+pub mod SeenParts
+pub mod SeenRules
+pub mod Tables
+pub mod UsedFeatures
+pub mod Wanting
+pub mod FileResults

@@ -1,0 +1,7 @@
+//! From tokens and texts to files of items.
+#![tactic(auto)]
+
+mod file;
+mod unstable;
+
+pub use crate::file::{parse, parse_source};
