@@ -4,10 +4,9 @@ ghost use Rattle.justfile_token.specs.Sink.{Puts};
 ghost use Rattle.justfile_attribute_set.specs.contracts.attribute_set.PairSetAttributeWrittenPartialEq.TheImpl as sets;
 ghost use Rattle.justfile_item.specs.Attributes.{attribute_line, attributes_text, lines_text};
 
-use crate::comment::write_comment;
 use justfile_attribute::{Attribute, write_attribute};
 use justfile_attribute_set::{AttributeSet, Written};
-use justfile_leaves::put_piece;
+use justfile_leaves::{put_piece, write_comment};
 use justfile_token::Sink;
 
 /// Whether two sets have equal attributes.

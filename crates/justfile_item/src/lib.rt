@@ -6,7 +6,6 @@ mod all_expressions;
 pub mod assignment;
 mod attributes;
 pub mod binding;
-mod comment;
 mod copy;
 mod doc;
 mod expressions;

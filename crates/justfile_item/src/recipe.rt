@@ -9,9 +9,8 @@ ghost use Rattle.justfile_item.specs.Copies.{IsSameRecipe};
 ghost use Rattle.justfile_item.specs.Item.{header_shape, priors_of, subsequents_of};
 ghost use Rattle.justfile_item.specs.Recipe.{unresolved_recipe_text};
 
-use crate::comment::write_comment;
 use justfile_attribute_set::AttributeSet;
-use justfile_leaves::{put_piece, put_piece_if};
+use justfile_leaves::{put_piece, put_piece_if, write_comment};
 use justfile_line::{Line, is_printable, write_line};
 use justfile_numbers::Number;
 use justfile_recipe_header::{

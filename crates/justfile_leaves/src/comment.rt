@@ -3,11 +3,11 @@ ghost use Rattle.std.specs.Option.{option_copied};
 ghost use Rattle.justfile_model.specs.Printed.Printing.{comment_text};
 ghost use Rattle.justfile_token.specs.Sink.{Puts};
 
-use justfile_leaves::put_piece;
+use crate::put::put_piece;
 use justfile_token::Sink;
 
 /// Writes a space and a comment, or nothing if there is none.
-pub(crate) fn write_comment<S: Sink>(comment: Option<&str>, sink: &mut S) -> Result<(), S::Fault>
+pub fn write_comment<S: Sink>(comment: Option<&str>, sink: &mut S) -> Result<(), S::Fault>
     ensures { Puts S.took S.failed sink.old result
         (comment_text (option_copied comment.entry)) sink.new }
 {
