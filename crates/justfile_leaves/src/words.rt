@@ -78,7 +78,7 @@ impl<'src> Words<'src> {
     }
 
     /// Whether the joined text is empty.
-    #[tactic(auto, using(justfile_expression::proofs::EmptyTexts::all_empty))]
+    #[tactic(auto, using(crate::proofs::EmptyTexts::all_empty))]
     pub fn is_empty(&self) -> bool
         ensures { IsTrue result ↔ (texts_joined (texts_of self.now) ≡ []) }
     {

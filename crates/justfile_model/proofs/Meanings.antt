@@ -6,11 +6,8 @@ pub mod NewAttributeLaws
 pub mod NewAttributeSteps
 pub mod Ordered
 pub mod SameKeys
-pub mod SameRecipes
 pub mod SameTexts
-pub mod SameView
 pub mod SameViewRecipes
 pub mod SameViewRules
 pub mod SeenShapes
-pub mod SettingLaws
 pub mod ShapesMean

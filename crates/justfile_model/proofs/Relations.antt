@@ -1,7 +1,11 @@
 -- The readers are natural: related tokens give related results.
+pub mod AlikeAttributeRules
 pub mod AlikeAttributes
+pub mod AlikeConstructRules
+pub mod AlikeMeanings
 pub mod AlikeRecipes
 pub mod AlikeRules
+pub mod Graph
 pub mod MakesAlike
 pub mod Natural
 pub mod NaturalAttributes
@@ -9,4 +13,5 @@ pub mod NaturalExpressions
 pub mod NaturalHeaders
 pub mod NaturalParts
 pub mod NewAttributesAlike
+pub mod OverRules
 pub mod Related

@@ -71,7 +71,7 @@ use Rattle.justfile_parse_item.proofs.Seen.{respects, seen}
 use Rattle.justfile_parse_item.proofs.SeenAttributes.{IsKept, attributed}
 use Rattle.justfile_parse_file.proofs.SeenDocs.{items_seen}
 use Rattle.justfile_parse_file.proofs.SeenItems.{noted_seen}
-use Rattle.justfile_parse_file.proofs.SeenRules.{same_broken}
+use Rattle.justfile_model.proofs.Relations.OverRules.{same_broken}
 use Rattle.justfile_parse_file.proofs.Wanting.{header_lacks, naming, recipe_lacks}
 use Rattle.justfile_parse_base.specs.Counting.{counters_of}
 use Rattle.justfile_parse_header.specs.Tree.{parameter_tree}

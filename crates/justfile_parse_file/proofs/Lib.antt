@@ -9,7 +9,6 @@ pub mod SeenDocs
 pub mod SeenHeaders
 pub mod SeenItems
 pub mod SeenParts
-pub mod SeenRules
 pub mod Tables
 pub mod UsedFeatures
 pub mod Wanting

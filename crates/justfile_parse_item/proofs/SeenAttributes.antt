@@ -21,7 +21,7 @@ use Rattle.justfile_model.specs.Grammars.Conditions.{Conditions}
 use Rattle.justfile_model.specs.LiteralTexts.Literals as literals
 use Rattle.justfile_model.specs.LiteralTexts.Literals.{Expansions, Literal, cooked_text, token_of}
 use Rattle.justfile_model.specs.Trees.ContentKeys.{entry_cmp}
-use Rattle.justfile_model.specs.Trees.ContentLeaf.{LiteralContent, TokenContent}
+use Rattle.justfile_model.specs.Trees.ContentLeaf.{LiteralContent, TokenContent, literal_value}
 use Rattle.justfile_vocabulary.specs.declared.format_string_part.FormatStringPart.{FormatStringPart}
 use Rattle.justfile_vocabulary.specs.declared.format_string_part.FormatStringPart.TheVariants as parts
 use Rattle.justfile_model.specs.Meanings.Meaning as meaning
@@ -34,7 +34,7 @@ use Rattle.justfile_model.specs.Trees.Tree as tree
 use Rattle.justfile_model.specs.Trees.Tree.{Bound, Entry, Expr, OptionName, Property, Quoted, WrittenAttribute, lexeme}
 use Rattle.justfile_model.specs.Readers.TreeReader.{token_attributes, token_leaves}
 use Rattle.justfile_model.proofs.Relations.AlikeAttributes as alike
-use Rattle.justfile_model.proofs.Relations.AlikeAttributes.{AlikeAttribute, AlikeBound, AlikeEntry, AlikeLiteral, AlikeOptionName, AlikeProperty, AlikeQuoted, SeesAlike, arg, cache, env, no_option, option_named, ordered_alike, own_name, plain, signals, single, texts}
+use Rattle.justfile_model.proofs.Relations.AlikeAttributes.{AlikeAttribute, AlikeBound, AlikeEntry, AlikeLiteral, AlikeOptionName, AlikeProperty, AlikeQuoted, SeesAlike, SeesContent, arg, cache, env, no_option, option_named, ordered_alike, own_name, plain, signals, single, texts}
 use Rattle.justfile_model.proofs.Printed.Commented.{means_commented}
 use Rattle.justfile_model.proofs.Lists.EachLaws.{AlikeOption, absent, present}
 use Rattle.justfile_model.proofs.Relations.Natural.{RespectsAttributes}
@@ -346,6 +346,12 @@ module _ (conditions : Conditions) (bound : ℕ) (IsToken : Token → Type 0) (f
     assignment_place = λ number n n' h. leaf_place (λ t. refl) h;
     parameter_bytes = λ number n rules n' rules' h. leaf_bytes (λ t. refl) h;
     cooked = cooked_alike;
+    value = λ l l' h. ap literal_value (content_alike l l' h);
+  }
+
+  abbrev contents_alike : SeesContent seen views_leaves (views_tokens E)
+  contents_alike = record {
+    cooked = cooked_alike;
     name_content = λ n n' h. leaf_content (λ t. refl) h;
     command_content = λ x t t' h. literal_bytes h;
     position_content = λ kind spelled b b' h. ap tok_content h.is;
@@ -363,6 +369,7 @@ module _ (conditions : Conditions) (bound : ℕ) (IsToken : Token → Type 0) (f
   pub keeping : Keeping seen leaves token_leaves attribute_leaves.view token_view attribute_leaves.keep attribute_leaves.entry keep_both entry_read IsKept
   keeping = record {
     sees = λ run C r. subst (λ (D : Conditions). SeesAlike seen views_leaves (views_tokens D.expander)) (sym r.same) sees_alike;
+    contents = λ run C r. subst (λ (D : Conditions). SeesContent seen views_leaves (views_tokens D.expander)) (sym r.same) contents_alike;
     kept = λ run C r w w' e e' ws es made made'. record {
       alike = es;
       means = subst (λ (D : Conditions). meaning.entry_of (views_tokens D.expander) w' ≡ Some e') r.same (named_means C w' e' made');
@@ -383,7 +390,7 @@ module _ (conditions : Conditions) (bound : ℕ) (IsToken : Token → Type 0) (f
       → AreMeant conditions bound IsToken file_depth import_offsets (in_order (entry_cmp views_leaves) xs) (map (λ (x : ReadAttribute). x.written) ys)
   meant {xs} {ys} h set e =
       let sorted : Each (AlikeEntry seen) (in_order (entry_cmp views_leaves) xs) (in_order (entry_cmp (views_tokens E)) (map entry_read ys)) =
-      ordered_alike seen views_leaves (views_tokens E) sees_alike (each_entry h) in
+      ordered_alike seen views_leaves (views_tokens E) contents_alike (each_entry h) in
       let x = set_seen set (subst (λ (es : List (Entry Leaf Token)). Each (AlikeEntry seen) es (in_order (entry_cmp (views_tokens E)) (map entry_read ys))) (sym e) sorted) in
       (rw (all_mean h) (ap Some x.0), x.1)
 

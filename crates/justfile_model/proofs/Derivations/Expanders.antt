@@ -1,6 +1,6 @@
 -- A file keeps its tree with an expander that has the same texts of its literals: with one that has more results, and with one that has
 -- results only for the texts that the file asks for.
-use Rattle.std.proofs.Common.{◌≡◌, ℕ, Bool, true, false, List, [], ◌∷◌, map, Option, Some, None, Result, Ok, Err, is_some, ◌||◌, cond, refl, sym, subst, ap, ◌∙◌, ⊎_elim}
+use Rattle.std.proofs.Common.{◌≡◌, ℕ, Bool, true, false, List, [], ◌∷◌, map, Option, Some, None, Result, Ok, Err, ◌||◌, cond, refl, sym, subst, ap, ◌∙◌, ⊎_elim}
 use Rattle.std.proofs.lemmas.Slice.Eq.{bytes_eq-Decides}
 use Rattle.std.specs.List.{AllByRecursion, list_any}
 use Rattle.std.specs.Str.{bytes_eq}
@@ -122,12 +122,6 @@ module _ (some all : Expansions) {A : Type 0} (bytes : A → List ℕ) (leaf_con
   agreed (l ∷ ls) [] c d = absurd c
   agreed (l ∷ ls) (t ∷ texts) c d = (ap text_or_none c.0 ∙ sym (ap text_or_none d.0), agreed ls texts c.1 d.1)
 
-  texted : (ls : List (Literal A)) (texts : List (List ℕ)) → AreCookedTexts some (map (over_literal bytes) ls) texts
-      → AllByRecursion (λ l. is_some (texts_by some l) ≡ true) ls
-  texted [] texts c = tt
-  texted (l ∷ ls) [] c = absurd c
-  texted (l ∷ ls) (t ∷ texts) c = (ap (λ r. is_some (text_or_none r)) c.0, texted ls texts c.1)
-
 -- ---- a file with another expander, with which its literals have the same texts
 
 module _ (conditions : Conditions) (all : Expansions) (tokens : List SignificantToken) where
@@ -170,8 +164,7 @@ module _ (conditions : Conditions) (all : Expansions) (tokens : List Significant
   tree_with tree features h cooks =
       let ls = all_literals h.written in
       let kept = items_kept (views_tokens some) (views_tokens all).cooked (views_tokens all).literal_content tokens_seen conditions.current h.written tree
-      (agreed some all lexeme (λ kind t. tok_content t) ls h.obeys.cooked h.obeys.cooks cooks)
-      (texted some all lexeme (λ kind t. tok_content t) ls h.obeys.cooked h.obeys.cooks) h.ordered_is h.obeys.unbroken in
+      (agreed some all lexeme (λ kind t. tok_content t) ls h.obeys.cooked h.obeys.cooks cooks) h.ordered_is h.obeys.unbroken in
       let obeys : Obeys (with_expander all conditions) h.written = record { cooked = h.obeys.cooked; cooks = cooks; unbroken = kept.unbroken } in
       record {
         written = h.written;
@@ -201,8 +194,7 @@ module _ (conditions : Conditions) (all : Expansions) (tokens : List Significant
       let ls = all_literals h.written in
       let before = over_lexemes some ls h.cooked h.cooks in
       let kept = items_kept (views_lexemes some) (views_lexemes all).cooked (views_lexemes all).literal_content lexemes_seen conditions.current h.written shape
-      (agreed some all (λ l. l) (λ kind l. record { kind = kind; lexeme = l }) ls h.cooked before (over_lexemes all ls h.cooked cooks))
-      (texted some all (λ l. l) (λ kind l. record { kind = kind; lexeme = l }) ls h.cooked before) h.ordered_is h.unbroken in
+      (agreed some all (λ l. l) (λ kind l. record { kind = kind; lexeme = l }) ls h.cooked before (over_lexemes all ls h.cooked cooks)) h.ordered_is h.unbroken in
       record {
         written = h.written;
         by_construct = h.by_construct;

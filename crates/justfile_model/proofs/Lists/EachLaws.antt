@@ -1,5 +1,5 @@
 -- Related lists and optional values: the elements that are found, filtered or least are related.
-use Rattle.std.proofs.Common.{◌≡◌, ℕ, Bool, true, false, cond, List, ◌∷◌, map, Option, Some, is_some, refl, subst}
+use Rattle.std.proofs.Common.{◌≡◌, ℕ, Bool, true, false, cond, List, [], ◌∷◌, map, Option, Some, is_some, refl, subst}
 use Rattle.std.specs.List.{cons_option, filter, filter_map, find}
 use Rattle.std.specs.Ordering.{is_gt}
 use Rattle.justfile_model.specs.Meanings.AttributeRules.{least, lesser, of_some}
@@ -18,6 +18,10 @@ module _ {X Y : Type 0} {Rel : X → Y → Type 0} where
   pub same_some : {o : Option X} {o' : Option Y} → AlikeOption Rel o o' → is_some o ≡ is_some o'
   same_some absent = refl
   same_some (present h) = refl
+
+  pub none_alike : {xs : List X} {ys : List Y} → Each Rel xs ys → xs ≡ [] → ys ≡ []
+  none_alike nil e = refl
+  none_alike (cons h hs) e = cc
 
   pub first_alike : {xs : List X} {ys : List Y} → Each Rel xs ys → AlikeOption Rel (first_of xs) (first_of ys)
   first_alike nil = absent

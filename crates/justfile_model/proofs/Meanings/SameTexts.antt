@@ -1,45 +1,44 @@
--- Two views that differ only in the texts of literals: if the literals of attributes have texts, and the same ones in both, the attributes
+-- Two views that differ only in the texts of literals: if the literals of attributes have the same texts in both, the attributes
 -- have the same meaning in the same order, and break no rule that they don't break in the first.
-use Rattle.std.proofs.Common.{◌≡◌, ◌∙◌, ℕ, Bool, true, false, List, [], ◌∷◌, ◌++◌, Option, Some, Ok, is_some, refl, sym, ap, subst}
-use Rattle.std.proofs.lemmas.List.Elements.{All-from_recursion}
+use Rattle.std.proofs.Common.{◌≡◌, ◌∙◌, ℕ, Bool, true, false, List, [], ◌∷◌, ◌++◌, Option, Some, None, refl, sym, ap}
 use Rattle.std.specs.List.{AllByRecursion, flat_map}
 use Rattle.std.specs.Option.{option_map}
-use Rattle.justfile_vocabulary.specs.AttributeKind.{kind_named}
-use Rattle.justfile_vocabulary.specs.declared.attribute_kind.AttributeKind.{AttributeKind}
-use Rattle.justfile_model.specs.Meanings.AttributeRules.{arguments_broken, attribute_broken, duplicate_broken, duplicates_broken, known_broken, named_broken, of_some, order_broken, repeats_broken}
 use Rattle.justfile_model.specs.Grammars.Conditions.{VersionNumbers}
-use Rattle.justfile_model.specs.Meanings.ConstructRules.{construct_broken, form_broken, meaning_broken}
-use Rattle.justfile_model.specs.Trees.ContentKeys.{entry_cmp}
-use Rattle.justfile_model.specs.Trees.ContentLeaf.{LiteralContent}
+use Rattle.justfile_model.specs.Meanings.RecipeRules.{stars}
+use Rattle.justfile_model.specs.Meanings.ConstructRules.{construct_broken}
+use Rattle.justfile_model.specs.Trees.ContentLeaf.{LiteralContent, literal_value}
 use Rattle.justfile_model.specs.Grammars.Docs.{Nothing, documented}
-use Rattle.justfile_model.specs.Grammars.Files.{all_literals, argument_literals, content_literals, expr_literals, exprs_literals, ordered, parts_literals, sets_doc, undocumented, written_literals}
+use Rattle.justfile_model.specs.Grammars.Files.{all_literals, argument_literals, content_literals, expr_literals, exprs_literals, ordered, parts_literals, setting_literals, sets_doc, undocumented, written_literals}
 use Rattle.justfile_model.specs.Grammars.Files.{broken as broken_of}
 use Rattle.justfile_model.specs.LiteralTexts.Literals as literals
 use Rattle.justfile_model.specs.LiteralTexts.Literals.{Literal, string_of}
-use Rattle.justfile_model.specs.Meanings.Meaning.{KeyArgument, all_of, at_key, attribute_of, by_key, by_position, entries_of, entry_of, quoted_text}
-use Rattle.justfile_model.specs.Readers.NewAttribute as new
-use Rattle.justfile_model.specs.Readers.NewAttribute.{Made}
-use Rattle.justfile_model.specs.Lists.Order.{in_order}
-use Rattle.justfile_model.specs.Meanings.Rules.{AttributePositionalFollowsKeyword, Broken, DuplicateAttributeKey, broken_if}
+use Rattle.justfile_model.specs.Meanings.Meaning.{entries_of}
 use Rattle.justfile_model.specs.Trees.LeafView.{LeafView}
 use Rattle.justfile_model.specs.Trees.Tree as tree
-use Rattle.justfile_model.specs.Trees.Tree.{Argument, Attribute, Content, Entry, Expr, Exprs, OptionName, OrderedItem, Parts, Quoted, WrittenAttribute, WrittenItem}
+use Rattle.justfile_model.specs.Trees.Tree.{Argument, Attribute, Content, Dependency, Entry, Parameter, SettingValue, Expr, Exprs, OptionName, OrderedItem, Parts, Quoted, WrittenAttribute, WrittenItem}
+use Rattle.justfile_model.proofs.Relations.AlikeConstructRules as form
+use Rattle.justfile_model.proofs.Relations.AlikeConstructRules.{AlikeForm, SameStars, construct_broken_alike}
+use Rattle.justfile_model.proofs.Relations.AlikeRecipes.{SameParameter}
+use Rattle.justfile_model.proofs.Relations.AlikeMeanings.{entries_alike}
 use Rattle.justfile_model.proofs.Relations.AlikeAttributes as alike
-use Rattle.justfile_model.proofs.Relations.AlikeAttributes.{AlikeArgument, AlikeAttribute, AlikeBound, AlikeEntry, AlikeLiteral, AlikeOptionName, AlikeProperty, AlikeQuoted, SeesAlike, keys_alike, ordered_alike, positions_alike}
-use Rattle.justfile_model.proofs.Lists.Binds.{bind_back, nothing_in, some_back}
-use Rattle.justfile_model.proofs.Lists.EachLaws.{AlikeOption, absent, present}
-use Rattle.justfile_model.proofs.Relations.MakesAlike.{Makes, broken, made}
-use Rattle.justfile_model.specs.Meanings.ArgumentTexts.{ValueHasText, HasText, HasTexts}
-use Rattle.justfile_model.proofs.Meanings.NewAttributeLaws.{attribute_made, attribute_unbroken, distinct_passes}
-use Rattle.justfile_model.proofs.Relations.NewAttributesAlike.{new_attribute_alike, repeated_alike}
-use Rattle.justfile_model.proofs.Meanings.NewAttributeSteps.{first_of_all}
+use Rattle.justfile_model.proofs.Relations.AlikeAttributes.{AlikeArgument, AlikeAttribute, AlikeBound, AlikeEntry, AlikeLiteral, AlikeOptionName, AlikeProperty, AlikeQuoted, AlikeWritten, SeesAlike, SeesContent}
+use Rattle.justfile_model.proofs.Lists.Binds.{nothing_in, some_back}
+use Rattle.justfile_model.proofs.Lists.EachLaws.{AlikeOption, absent, none_alike, present}
 use Rattle.justfile_model.proofs.Meanings.Ordered.{construct_meant, meanings_of, undocumented_of}
 use Rattle.justfile_model.proofs.Relations.Related as a
-use Rattle.justfile_model.proofs.Relations.Related.{Alike, AlikeAll, AlikeParts, Each, Relations, each_both}
-use Rattle.justfile_model.proofs.Printed.PrintedEntries.{unbroken_parts}
-use Rattle.justfile_model.proofs.Printed.PrintedLiterals.{literals_meant, parts}
-use Rattle.justfile_model.proofs.Meanings.SettingLaws.{setting_broken_same}
-use Rattle.justfile_model.proofs.Meanings.SameRecipes.{meaning_broken_same, with_texts}
+use Rattle.justfile_model.proofs.Relations.Related.{Alike, AlikeAll, AlikeParts, AlikeValue, Each, Relations, each_both}
+use Rattle.justfile_model.proofs.Printed.PrintedLiterals.{parts}
+
+-- a view in which literals have other texts
+abbrev pub with_texts : {A B : Type 0} → LeafView A B → (Literal A → Option (List ℕ)) → (Literal A → LiteralContent) → LeafView A B
+with_texts view cooked content = record {
+  bytes = view.bytes;
+  place = view.place;
+  cooked = cooked;
+  leaf_content = view.leaf_content;
+  position_content = view.position_content;
+  literal_content = content;
+}
 
 module _ {A B : Type 0} (view : LeafView A B) (cooked : Literal A → Option (List ℕ)) (content : Literal A → LiteralContent) where
   -- the other view
@@ -258,6 +257,9 @@ module _ {A B : Type 0} (view : LeafView A B) (cooked : Literal A → Option (Li
     literal_same l l' (alike.continue_literal {s = s} {l = t} h k) = record { same_is = λ i. literals.Continue (h.0 i) (k.0 i); agreed = seen.continue s t }
     literal_same l l' (alike.end_literal {s = s} {l = t} h k) = record { same_is = λ i. literals.End (h.0 i) (k.0 i); agreed = seen.end s t }
 
+    contents_same : (l l' : Literal A) → AlikeLiteral same l l' → view.literal_content l ≡ content l'
+    contents_same l l' h = seen.contents l (literal_same l l' h).agreed ∙ ap content (literal_same l l' h).same_is
+
     sees : SeesAlike same view other
     unfolding same
     sees = record {
@@ -268,210 +270,82 @@ module _ {A B : Type 0} (view : LeafView A B) (cooked : Literal A → Option (Li
       literal_place = λ l t t' h. ap view.place h.0;
       assignment_place = λ number n n' h. ap view.place h;
       cooked = λ l l' h. (literal_same l l' h).agreed ∙ ap cooked (literal_same l l' h).same_is;
+      value = λ l l' h. ap literal_value (contents_same l l' h);
+    }
+
+    contents : SeesContent same view other
+    unfolding same
+    contents = record {
+      cooked = sees.cooked;
       name_content = λ n n' h. ap (view.leaf_content _) h;
       command_content = λ lexeme t t' h. ap (view.leaf_content _) h.0;
       position_content = λ kind spelled b b' h. ap (view.position_content kind spelled) h;
-      literal_content = λ l l' h. seen.contents l (literal_same l l' h).agreed ∙ ap content (literal_same l l' h).same_is;
-    }
-
-    -- ---- one attribute
-
-    order_same : (at : B) (after : Bool) (xs : List (Argument A B)) → order_broken view at after xs ≡ [] → order_broken other at after xs ≡ []
-    order_same at after xs h = sym (go after xs) ∙ h
-      where
-        go : (after : Bool) (xs : List (Argument A B)) → order_broken view at after xs ≡ order_broken other at after xs
-        go after [] = refl
-        go after (tree.Positional first value ∷ xs) = ap (λ l. broken_if after AttributePositionalFollowsKeyword first ++ l) (go after xs)
-        go after (tree.Bare key ∷ xs) = go true xs
-        go after (tree.Keyed key value ∷ xs) = go true xs
-
-    repeats_same : (at : B) (before keys : List (KeyArgument A B)) → repeats_broken view at before keys ≡ repeats_broken other at before keys
-    repeats_same at before [] = refl
-    repeats_same at before (k ∷ ks) =
-        let first : List (Broken B) =
-        broken_if (is_some (at_key view (view.bytes k.key) before)) (DuplicateAttributeKey at (view.place k.key)) (view.place k.key) in
-        ap (λ l. first ++ l) (repeats_same at (before ++ k ∷ []) ks)
-
-    -- what is made with one view is made with the other
-    record MadeToo {X : Type 0} (Q : X → X → Type 0) (m : Made B X) (x : X) : Type 0 where
-      value : X
-      is : m ≡ Ok value
-      alike : Q x value
-
-    made_too : {X : Type 0} {Q : X → X → Type 0} {m m' : Made B X} (x : X) → Makes same.position Q m m' → m ≡ Ok x → MadeToo Q m' x
-    made_too {X} {Q} x (made {x = y} {x' = y'} h) e = let e' : y ≡ x = cc in record { value = y'; is = refl; alike = subst (λ z. Q z y') e' h }
-    made_too x (broken h) e = cc
-
-    -- ---- texts
-
-    -- the literals have texts
-    abbrev Texted : Literal A → Type 0
-    Texted l = is_some (view.cooked l) ≡ true
-
-    has_text : (e : Expr A B) → AllByRecursion Texted (expr_literals e) → HasText view e
-    has_text (tree.StringLiteral expanded t) h q is =
-        let e : record { expanded = expanded; token = t } ≡ q = some_back _ q is in
-        subst (λ (q : Quoted A). is_some (quoted_text view q) ≡ true) e h.0
-    has_text _ h q is = cc
-
-    given_text : (o : Option (Expr A B)) (e : Expr A B) → o ≡ Some e → HasText view e → ValueHasText view o
-    given_text o e is h d is2 = subst (HasText view) (some_back e d (sym is ∙ is2)) h
-
-    placed_texts : (xs : List (Argument A B)) → AllByRecursion Texted (flat_map argument_literals xs)
-        → AllByRecursion (λ p. HasText view p.value) (by_position xs)
-    placed_texts [] h = tt
-    placed_texts (tree.Positional first value ∷ xs) h =
-        let p = parts Texted (expr_literals value) (flat_map argument_literals xs) h in (has_text value p.0, placed_texts xs p.1)
-    placed_texts (tree.Bare key ∷ xs) h = placed_texts xs h
-    placed_texts (tree.Keyed key value ∷ xs) h = placed_texts xs (parts Texted (expr_literals value) (flat_map argument_literals xs) h).1
-
-    key_texts : (xs : List (Argument A B)) → AllByRecursion Texted (flat_map argument_literals xs)
-        → AllByRecursion (λ (k : KeyArgument A B). ValueHasText view k.value) (by_key xs)
-    key_texts [] h = tt
-    key_texts (tree.Positional first value ∷ xs) h = key_texts xs (parts Texted (expr_literals value) (flat_map argument_literals xs) h).1
-    key_texts (tree.Bare key ∷ xs) h = ((λ e is. cc), key_texts xs h)
-    key_texts (tree.Keyed key value ∷ xs) h =
-        let p = parts Texted (expr_literals value) (flat_map argument_literals xs) h in
-        (given_text (Some value) value refl (has_text value p.0), key_texts xs p.1)
-
-    have_texts : (xs : List (Argument A B)) → AllByRecursion Texted (flat_map argument_literals xs) → HasTexts view (by_position xs) (by_key xs)
-    have_texts xs h = record {
-      values = All-from_recursion _ (by_position xs) (placed_texts xs h);
-      given = All-from_recursion _ (by_key xs) (key_texts xs h);
+      literal_content = contents_same;
     }
 
     -- ---- attributes
 
-    -- the entry is the same in the other view, and breaks no rule there
-    record KeptOne (before : List (Entry A B)) (w : WrittenAttribute A B) (e : Entry A B) : Type 0 where
-      means : entry_of other w ≡ Some e
-      unbroken : attribute_broken other w ≡ []
-      distinct : duplicate_broken other before e ≡ []
-      itself : AlikeEntry same e e
-
-    -- an attribute of this kind
-    record KeptKind (at : B) (kind : AttributeKind) (xs : List (Argument A B)) (attribute : Attribute A B) : Type 0 where
-      means : attribute_of other kind (by_position xs) (by_key xs) ≡ Some attribute
-      unbroken : arguments_broken other at kind (by_position xs) (by_key xs) ≡ []
-      itself : AlikeAttribute same attribute attribute
-
-    kind_kept : (at : B) (kind : AttributeKind) (xs : List (Argument A B)) (attribute : Attribute A B)
-        → AllByRecursion Agreed (flat_map argument_literals xs) → AllByRecursion Texted (flat_map argument_literals xs)
-        → attribute_of view kind (by_position xs) (by_key xs) ≡ Some attribute → arguments_broken view at kind (by_position xs) (by_key xs) ≡ []
-        → KeptKind at kind xs attribute
+    written_alike : (ws : List (WrittenAttribute A B)) → AllAgreed (written_literals ws) → Each (AlikeWritten same) ws ws
     unfolding same
-    kind_kept at kind xs attribute agreed texts means unbroken =
-        let is = attribute_unbroken view at kind (by_position xs) (by_key xs) unbroken (have_texts xs texts) in
-        let first : is.attribute ≡ attribute = some_back is.attribute attribute (sym is.meant ∙ means) in
-        let each = arguments_alike xs agreed in
-        let too = made_too is.attribute (new_attribute_alike same view other sees at at refl kind (positions_alike same each) (keys_alike same each)) is.made in
-        let equal : is.attribute ≡ too.value = attribute_same too.alike in
-        let known = attribute_made other at kind (by_position xs) (by_key xs) too.value too.is in
-        record {
-          means = known.0 ∙ ap Some (sym equal ∙ first);
-          unbroken = known.1;
-          itself = subst (λ x. AlikeAttribute same x x) first (subst (λ x. AlikeAttribute same is.attribute x) (sym equal) too.alike);
-        }
+    written_alike [] h = a.nil
+    written_alike (w ∷ ws) h =
+        let p = parts Agreed (flat_map argument_literals w.arguments) (written_literals ws) h in
+        a.cons (record { name = refl; arguments = arguments_alike w.arguments p.0; comment = refl }) (written_alike ws p.1)
 
-    one_kept : (before : List (Entry A B)) (w : WrittenAttribute A B) (e : Entry A B) → Each (AlikeEntry same) before before
-        → AllByRecursion Agreed (flat_map argument_literals w.arguments) → AllByRecursion Texted (flat_map argument_literals w.arguments)
-        → entry_of view w ≡ Some e → attribute_broken view w ≡ [] → duplicate_broken view before e ≡ [] → KeptOne before w e
-    unfolding same
-    one_kept before w e earlier agreed texts means unbroken distinct =
-        let k = bind_back (kind_named (view.bytes w.name)) _ e means in
-        let kind : AttributeKind = k.first in
-        let named : kind_named (view.bytes w.name) ≡ Some kind = k.is in
-        let m = bind_back (attribute_of view kind (by_position w.arguments) (by_key w.arguments)) _ e k.gives in
-        let at : B = view.place w.name in
-        let known : known_broken view w kind ≡ [] = sym (ap (named_broken view w) named) ∙ unbroken in
-        let orders = order_broken view at false w.arguments in
-        let repeats = repeats_broken view at [] (by_key w.arguments) in
-        let own = nothing_in (orders ++ repeats) (arguments_broken view at kind (by_position w.arguments) (by_key w.arguments)) known in
-        let two = nothing_in orders repeats own.0 in
-        let made : KeptKind at kind w.arguments m.first = kind_kept at kind w.arguments m.first agreed texts m.is own.1 in
-        let entry : Entry A B = record { name = at; attribute = m.first; comment = w.comment } in
-        let is : entry ≡ e = some_back entry e m.gives in
-        let itself : AlikeEntry same e e = subst (λ x. AlikeEntry same x x) is (record { name = refl; attribute = made.itself; comment = refl }) in
-        let checked = made_too {Q = λ x y. Unit {0}} tt (repeated_too earlier itself) ((distinct_passes view before e).1 distinct) in
-        record {
-          means = rw (named, made.means) (ap Some is);
-          unbroken = rw (named, order_same at false w.arguments two.0, sym (repeats_same at [] (by_key w.arguments)) ∙ two.1, made.unbroken) refl;
-          distinct = (distinct_passes other before e).0 checked.is;
-          itself = itself;
-        }
-      where
-        repeated_too : {ds : List (Entry A B)} {e : Entry A B} → Each (AlikeEntry same) ds ds → AlikeEntry same e e
-            → Makes same.position (λ x y. Unit {0}) (new.check_repeated view ds e) (new.check_repeated other ds e)
-        repeated_too d k = repeated_alike same view other sees d k
-
-    -- ---- the attributes of an item
-
-    record KeptAll (before : List (Entry A B)) (ws : List (WrittenAttribute A B)) (es : List (Entry A B)) : Type 0 where
-      means : all_of (entry_of other) ws ≡ Some es
-      unbroken : flat_map (attribute_broken other) ws ≡ []
-      distinct : duplicates_broken other before ws ≡ []
-      itself : Each (AlikeEntry same) es es
-
-    all_kept : (before : List (Entry A B)) (ws : List (WrittenAttribute A B)) (es : List (Entry A B)) → Each (AlikeEntry same) before before
-        → AllByRecursion Agreed (written_literals ws) → AllByRecursion Texted (written_literals ws) → all_of (entry_of view) ws ≡ Some es
-        → flat_map (attribute_broken view) ws ≡ [] → duplicates_broken view before ws ≡ [] → KeptAll before ws es
-    all_kept before [] es earlier agreed texts means unbroken distinct =
-        let e : [] ≡ es = some_back [] es means in
-        record { means = means; unbroken = refl; distinct = refl; itself = subst (λ l. Each (AlikeEntry same) l l) e a.nil }
-    all_kept before (w ∷ ws) es earlier agreed texts means unbroken distinct =
-        let m = first_of_all (entry_of view) w ws es means in
-        let own : List (Literal A) = flat_map argument_literals w.arguments in
-        let g = parts Agreed own (written_literals ws) agreed in
-        let t = parts Texted own (written_literals ws) texts in
-        let u = nothing_in (attribute_broken view w) (flat_map (attribute_broken view) ws) unbroken in
-        let after : duplicate_broken view before m.first ++ duplicates_broken view (before ++ m.first ∷ []) ws ≡ [] =
-        sym (ap (λ o. of_some (duplicate_broken view before) o ++ duplicates_broken view (before ++ of_some (λ e. e ∷ []) o) ws) m.first_is) ∙ distinct in
-        let d = nothing_in (duplicate_broken view before m.first) (duplicates_broken view (before ++ m.first ∷ []) ws) after in
-        let one = one_kept before w m.first earlier g.0 t.0 m.first_is u.0 d.0 in
-        let others = all_kept (before ++ m.first ∷ []) ws m.others (each_both earlier (a.cons one.itself a.nil)) g.1 t.1 m.others_are u.1 d.1 in
-        record {
-          means = rw (one.means, others.means) (ap Some (sym m.all_are));
-          unbroken = rw (one.unbroken, others.unbroken) refl;
-          distinct = rw (one.means, one.distinct, others.distinct) refl;
-          itself = subst (λ l. Each (AlikeEntry same) l l) (sym m.all_are) (a.cons one.itself others.itself);
-        }
+    entries_same : (ws : List (WrittenAttribute A B)) → AllAgreed (written_literals ws) → entries_of view ws ≡ entries_of other ws
+    entries_same ws h = option_same (λ es es' k. list_same entry_same k) (entries_alike same view other sees contents (written_alike ws h))
 
     -- the attributes of a construct mean the same, and break no rule
     pub record KeptConstruct {C : Type 0} (current : VersionNumbers) (ws : List (WrittenAttribute A B)) (c : Content A B C B) (entries : List (Entry A B)) : Type 0 where
       pub means : entries_of other ws ≡ Some entries
       pub unbroken : construct_broken current other ws c ≡ []
 
-    -- with any attributes
-    form_kept : {C : Type 0} (current : VersionNumbers) (c : Content A B C B) → AllByRecursion Agreed (content_literals c)
-        → form_broken current view c ≡ [] → form_broken current other c ≡ []
-    form_kept current (tree.Alias parts) agreed h = h
-    form_kept current (tree.Assignment parts) agreed h = h
-    form_kept current (tree.Function parts) agreed h = h
-    form_kept current (tree.Import parts) agreed h = h
-    form_kept current (tree.Module parts) agreed h = h
-    form_kept current (tree.Recipe parts) agreed h = h
-    form_kept current (tree.Setting parts) agreed h = sym (setting_broken_same current view cooked content parts agreed) ∙ h
-    form_kept current (tree.Unexport name) agreed h = h
+    parameters_alike : (ps : List (Parameter A B)) → Each (SameParameter same view other) ps ps
+    unfolding same
+    parameters_alike [] = a.nil
+    parameters_alike (p ∷ ps) = a.cons (record { kind = refl; bytes = refl; place = refl; default = refl }) (parameters_alike ps)
+
+    places_alike : (bs : List B) → Each same.position bs bs
+    unfolding same
+    places_alike [] = a.nil
+    places_alike (b ∷ bs) = a.cons refl (places_alike bs)
+
+    star_alike : (o : Option B) → AlikeOption same.position o o
+    unfolding same
+    star_alike None = absent
+    star_alike (Some b) = present refl
+
+    dependencies_alike : (ds : List (Dependency A B B)) → Each (SameStars same view other) ds ds
+    dependencies_alike [] = a.nil
+    dependencies_alike (d ∷ ds) = a.cons (star_alike d.star, places_alike (stars d.arguments)) (dependencies_alike ds)
+
+    value_alike : (v : SettingValue A B) → AllByRecursion Agreed (setting_literals v) → AlikeValue same v v
+    value_alike (tree.Truth value) h = a.truth
+    value_alike (tree.Value e) h = a.value (expr_alike e h)
+    value_alike (tree.Interpreter e es) h = let p = parts Agreed (expr_literals e) (exprs_literals es) h in a.interpreter (expr_alike e p.0) (exprs_alike es p.1)
+
+    content_alike : {C : Type 0} (c : Content A B C B) → AllByRecursion Agreed (content_literals c) → AlikeForm same view other c c
+    unfolding same
+    content_alike (tree.Alias p) h = form.alias refl
+    content_alike (tree.Assignment p) h = form.assignment refl
+    content_alike (tree.Function p) h = form.function refl
+    content_alike (tree.Import p) h = form.import refl
+    content_alike (tree.Module p) h = form.module_of refl
+    content_alike (tree.Recipe p) h =
+        form.recipe refl (parameters_alike p.header.parameters) (dependencies_alike p.header.priors) (dependencies_alike p.header.subsequents)
+    content_alike (tree.Setting p) h = form.setting refl (value_alike p.value h)
+    content_alike (tree.Unexport n) h = form.unexport refl
 
     pub construct_kept : {C : Type 0} (current : VersionNumbers) (ws : List (WrittenAttribute A B)) (c : Content A B C B) (entries : List (Entry A B))
-        → AllByRecursion Agreed (written_literals ws) → AllByRecursion Texted (written_literals ws) → AllByRecursion Agreed (content_literals c)
+        → AllByRecursion Agreed (written_literals ws) → AllByRecursion Agreed (content_literals c)
         → entries_of view ws ≡ Some entries → construct_broken current view ws c ≡ [] → KeptConstruct current ws c entries
-    construct_kept current ws c entries agreed texts in_content means unbroken =
-        let m = bind_back (all_of (entry_of view) ws) _ entries means in
-        let sorted : in_order (entry_cmp view) m.first ≡ entries = some_back _ entries m.gives in
-        let u = unbroken_parts current view ws c unbroken in
-        let two = nothing_in (flat_map (attribute_broken view) ws) (duplicates_broken view [] ws) u.0 in
-        let all = all_kept [] ws m.first a.nil agreed texts m.is two.0 two.1 in
-        let order : Each (AlikeEntry same) (in_order (entry_cmp view) m.first) (in_order (entry_cmp other) m.first) =
-        ordered_alike same view other sees all.itself in
-        let equal : in_order (entry_cmp view) m.first ≡ in_order (entry_cmp other) m.first = list_same entry_same order in
-        let other_means : entries_of other ws ≡ Some entries = rw all.means (ap Some (sym equal ∙ sorted)) in
-        let meaning : meaning_broken view c entries ≡ [] = sym (ap (of_some (meaning_broken view c)) means) ∙ u.1 in
-        let same_meaning : meaning_broken other c entries ≡ [] =
-        sym (meaning_broken_same view cooked content c entries (literals_meant Agreed view ws entries means agreed)) ∙ meaning in
+    construct_kept current ws c entries agreed in_content means unbroken =
+        let each = written_alike ws agreed in
         record {
-          means = other_means;
-          unbroken = rw (all.unbroken, all.distinct, other_means) (λ i. same_meaning i ++ form_kept current c in_content u.2 i);
+          means = sym (entries_same ws agreed) ∙ means;
+          unbroken =
+              none_alike (construct_broken_alike same view other sees current each (content_alike c in_content) (entries_alike same view other sees contents each))
+              unbroken;
         }
 
     -- ---- items
@@ -481,33 +355,32 @@ module _ {A B : Type 0} (view : LeafView A B) (cooked : Literal A → Option (Li
       unbroken : broken_of current other items ≡ []
 
     meanings_kept : {C : Type 0} (current : VersionNumbers) (items : List (WrittenItem A B C B)) (all : List (OrderedItem A B C))
-        → AllByRecursion Agreed (all_literals items) → AllByRecursion Texted (all_literals items) → undocumented view items ≡ Some all
+        → AllByRecursion Agreed (all_literals items) → undocumented view items ≡ Some all
         → broken_of current view items ≡ [] → KeptMeanings current items all
-    meanings_kept current [] all agreed texts means unbroken = record { means = means; unbroken = refl }
-    meanings_kept current (tree.Newline ∷ items) all agreed texts means unbroken =
+    meanings_kept current [] all agreed means unbroken = record { means = means; unbroken = refl }
+    meanings_kept current (tree.Newline ∷ items) all agreed means unbroken =
         let m = meanings_of view tree.Newline items all means in
-        let others = meanings_kept current items m.others agreed texts m.others_are unbroken in
+        let others = meanings_kept current items m.others agreed m.others_are unbroken in
         record {
           means = rw others.means (ap (λ x. Some (x ∷ m.others)) (some_back tree.Newline m.first m.first_is) ∙ ap Some (sym m.all_are));
           unbroken = others.unbroken;
         }
-    meanings_kept current (tree.Comment text ∷ items) all agreed texts means unbroken =
+    meanings_kept current (tree.Comment text ∷ items) all agreed means unbroken =
         let m = meanings_of view (tree.Comment text) items all means in
-        let others = meanings_kept current items m.others agreed texts m.others_are unbroken in
+        let others = meanings_kept current items m.others agreed m.others_are unbroken in
         record {
           means = rw others.means (ap (λ x. Some (x ∷ m.others)) (some_back (tree.Comment text) m.first m.first_is) ∙ ap Some (sym m.all_are));
           unbroken = others.unbroken;
         }
-    meanings_kept current (tree.Construct ws c ∷ items) all agreed texts means unbroken =
+    meanings_kept current (tree.Construct ws c ∷ items) all agreed means unbroken =
         let m = meanings_of view (tree.Construct ws c) items all means in
         let i = construct_meant view ws c m.first m.first_is in
         let own : List (Literal A) = written_literals ws ++ content_literals c in
         let g = parts Agreed own (all_literals items) agreed in
-        let t = parts Texted own (all_literals items) texts in
         let u = nothing_in (construct_broken current view ws c) (broken_of current view items) unbroken in
         let one = construct_kept current ws c i.entries (parts Agreed (written_literals ws) (content_literals c) g.0).0
-        (parts Texted (written_literals ws) (content_literals c) t.0).0 (parts Agreed (written_literals ws) (content_literals c) g.0).1 i.means u.0 in
-        let others = meanings_kept current items m.others g.1 t.1 m.others_are u.1 in
+        (parts Agreed (written_literals ws) (content_literals c) g.0).1 i.means u.0 in
+        let others = meanings_kept current items m.others g.1 m.others_are u.1 in
         record {
           means = rw (one.means, others.means) (ap (λ x. Some (x ∷ m.others)) (sym i.item_is) ∙ ap Some (sym m.all_are));
           unbroken = rw (one.unbroken, others.unbroken) refl;
@@ -518,11 +391,11 @@ module _ {A B : Type 0} (view : LeafView A B) (cooked : Literal A → Option (Li
       pub unbroken : broken_of current other items ≡ []
 
     pub items_kept : {C : Type 0} (current : VersionNumbers) (items : List (WrittenItem A B C B)) (all : List (OrderedItem A B C))
-        → AllByRecursion Agreed (all_literals items) → AllByRecursion Texted (all_literals items) → ordered view items ≡ Some all
+        → AllByRecursion Agreed (all_literals items) → ordered view items ≡ Some all
         → broken_of current view items ≡ [] → KeptItems current items all
-    items_kept current items all agreed texts means unbroken =
+    items_kept current items all agreed means unbroken =
         let d = undocumented_of view items all means in
-        let kept = meanings_kept current items d.items agreed texts d.items_are unbroken in
+        let kept = meanings_kept current items d.items agreed d.items_are unbroken in
         record {
           means = ap (option_map (documented sets_doc Nothing)) kept.means ∙ ap Some (sym d.all_are);
           unbroken = kept.unbroken;

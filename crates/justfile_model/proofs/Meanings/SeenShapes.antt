@@ -33,7 +33,7 @@ use Rattle.justfile_model.proofs.Derivations.Kinded.{IsSpelled, IsName, KindedEx
 use Rattle.justfile_model.proofs.Lists.OrderMaps.{in_order_map_where}
 use Rattle.justfile_model.proofs.Lists.Binds.{of_some_is, never_some}
 use Rattle.justfile_model.proofs.Meanings.MeaningParts.{InOption, InBare, InProperty, InBound, InValue, InRules, InMeaning, entries_in}
-use Rattle.justfile_model.proofs.Meanings.SameView.{SameView, all_over}
+use Rattle.justfile_model.proofs.Relations.Graph.{SameView, all_over}
 use Rattle.justfile_model.proofs.Meanings.SameViewRecipes.{construct_broken_over}
 use Rattle.justfile_model.proofs.Meanings.SameViewRules.{kind_over}
 

@@ -10,7 +10,7 @@ use Rattle.justfile_vocabulary.specs.declared.token_kind.TokenKind.{TokenKind}
 use Rattle.justfile_vocabulary.specs.declared.token_kind.TokenKind.TheVariants as kinds
 use Rattle.justfile_model.specs.Trees.ConditionalOperator.{operator_sign}
 use Rattle.justfile_model.specs.Trees.ContentKeys.{attribute_key, attribute_keys, bound_number_key, bound_word_key, entry_cmp, expr_key, exprs_keys, is_optional, kind_of_attribute, literal_key, option_name_key, own_name_key, parts_keys, property_key, quoted_key, rules_keys, single_keys, texts_keys, word_key}
-use Rattle.justfile_model.specs.Trees.ContentLeaf.{ContentLeaf, content_cmp, count, literal, operator, text, token, unseen}
+use Rattle.justfile_model.specs.Trees.ContentLeaf.{ContentLeaf, content_cmp, count, literal, literal_value, operator, text, token, unseen}
 use Rattle.justfile_model.specs.Grammars.Expressions.{operator_kind}
 use Rattle.justfile_model.specs.Trees.ExpressionCases.{case_node}
 use Rattle.justfile_model.specs.Trees.Key.{Key, absent_key, end, key_cmp, keys_of, leaf, next, node, option_key, present_key, row}
@@ -53,6 +53,7 @@ module _ {R T A B S D R' T' A' B' S' D' : Type 0} (rel : Relations R T A B S D R
   pub record AlikeWritten (w : WrittenAttribute A B) (w' : WrittenAttribute A' B') : Type 0 where
     pub name : rel.name w.name w'.name
     pub arguments : Each AlikeArgument w.arguments w'.arguments
+    pub comment : w.comment ≡ w'.comment
 
   -- an argument by position, and one with a key
 
@@ -90,6 +91,11 @@ module _ {R T A B S D R' T' A' B' S' D' : Type 0} (rel : Relations R T A B S D R
     pub assignment_place : (number : ℕ) (n : A) (n' : A') → rel.assignment number n n' → rel.position (view.place n) (view'.place n')
     pub parameter_bytes : (number : ℕ) (n : A) (rules : Option (ArgumentRules A B)) (n' : A') (rules' : Option (ArgumentRules A' B'))
         → rel.parameter number n rules n' rules' → view.bytes n ≡ view'.bytes n'
+    pub cooked : (l : Literal A) (l' : Literal A') → AlikeLiteral l l' → view.cooked l ≡ view'.cooked l'
+    pub value : (l : Literal A) (l' : Literal A') → AlikeLiteral l l' → literal_value (view.literal_content l) ≡ literal_value (view'.literal_content l')
+
+  -- so is their content, by which attributes are ordered
+  pub record SeesContent (view : LeafView A B) (view' : LeafView A' B') : Type 0 where
     pub cooked : (l : Literal A) (l' : Literal A') → AlikeLiteral l l' → view.cooked l ≡ view'.cooked l'
     pub name_content : (n : A) (n' : A') → rel.name n n' → view.leaf_content kinds.Identifier n ≡ view'.leaf_content kinds.Identifier n'
     pub command_content : (lexeme : List ℕ) (t : A) (t' : A') → rel.literal (literals.Command lexeme) t t'
@@ -153,7 +159,7 @@ module _ {R T A B S D R' T' A' B' S' D' : Type 0} (rel : Relations R T A B S D R
 
   -- ---- keys of content
 
-  module _ (view : LeafView A B) (view' : LeafView A' B') (sees : SeesAlike view view') where
+  module _ (view : LeafView A B) (view' : LeafView A' B') (sees : SeesContent view view') where
     literal_is : {l : Literal A} {l' : Literal A'} → AlikeLiteral l l' → literal_key view l ≡ literal_key view' l'
     literal_is {l} {l'} h i = leaf (literal (sees.literal_content l l' h i))
 

@@ -32,7 +32,7 @@ same_any : {X Y : Type 0} {Rel : X → Y → Type 0} (p : X → Bool) (q : Y →
 same_any p q same a.nil = refl
 same_any p q same (a.cons {x = x} {y = y} h hs) = λ i. same x y h i || same_any p q same hs i
 
-each_flat : {X Y Z W : Type 0} {Rel : X → Y → Type 0} {Rel' : Z → W → Type 0} (f : X → List Z) (g : Y → List W)
+pub each_flat : {X Y Z W : Type 0} {Rel : X → Y → Type 0} {Rel' : Z → W → Type 0} (f : X → List Z) (g : Y → List W)
     → ((x : X) (y : Y) → Rel x y → Each Rel' (f x) (g y)) → {xs : List X} {ys : List Y} → Each Rel xs ys → Each Rel' (flat_map f xs) (flat_map g ys)
 each_flat f g k a.nil = a.nil
 each_flat f g k (a.cons {x = x} {y = y} h hs) = each_both (k x y h) (each_flat f g k hs)
@@ -57,7 +57,7 @@ unless_alike false true e h = cc
 -- ---- rules of places
 
 module _ {B B' : Type 0} (Position : B → B' → Type 0) where
-  broken_if_alike : (b b' : Bool) {r : Rule B} {r' : Rule B'} {t : B} {t' : B'} → b ≡ b' → AlikeRule Position r r' → Position t t'
+  pub broken_if_alike : (b b' : Bool) {r : Rule B} {r' : Rule B'} {t : B} {t' : B'} → b ≡ b' → AlikeRule Position r r' → Position t t'
       → Each (AlikeBroken Position) (broken_if b r t) (broken_if b' r' t')
   broken_if_alike true true e h k = a.cons (record { rule = h; token = k }) a.nil
   broken_if_alike false false e h k = a.nil

@@ -266,7 +266,7 @@ module _ {R T A B S D W R' T' A' B' S' D' W' : Type 0} (rel : Relations R T A B 
   entries_alike : {ws : List W} {ws' : List W'} (run : R) (run' : R') → rel.run run run' → Each Keeps ws ws'
       → Each (AlikeEntry rel) (r.entries_read one kept run ws) (r.entries_read other kept' run' ws')
   entries_alike run run' same q =
-      ordered_alike rel (kept.view run) (kept'.view run') (attributed.keeping.sees run run' same)
+      ordered_alike rel (kept.view run) (kept'.view run') (attributed.keeping.contents run run' same)
       (each_mapped kept.entry kept'.entry attributed.keeping.entry q)
 
   allowed_natural : (item : ItemKind) {ws : List W} {ws' : List W'} (name : T) (name' : T') → rel.token name name' → Each Keeps ws ws' → {s : State R T B}

@@ -14,7 +14,7 @@ use Rattle.justfile_model.specs.Trees.LeafView.{LeafView}
 use Rattle.justfile_model.specs.Lexing.SignificantTokens.{SignificantToken}
 use Rattle.justfile_model.specs.Trees.Tree.{Argument, Entry, Expr, WrittenAttribute, at_last, bare_attribute, commented}
 use Rattle.justfile_model.proofs.Relations.AlikeAttributes as alike
-use Rattle.justfile_model.proofs.Relations.AlikeAttributes.{AlikeArgument, AlikeEntry, AlikeKey, AlikeWritten, SeesAlike, keys_alike, positions_alike}
+use Rattle.justfile_model.proofs.Relations.AlikeAttributes.{AlikeArgument, AlikeEntry, AlikeKey, AlikeWritten, SeesAlike, SeesContent, keys_alike, positions_alike}
 use Rattle.justfile_model.proofs.Relations.AlikeRules as rules
 use Rattle.justfile_model.proofs.Lists.EachLaws.{AlikeOption, absent, each_mapped, present, same_some}
 use Rattle.justfile_model.proofs.Relations.MakesAlike.{Makes, broken, made}
@@ -40,6 +40,7 @@ module _ {R T A B S D W R' T' A' B' S' D' W' : Type 0} (rel : Relations R T A B 
   -- the two see the same; what they keep of an attribute is related, and its entry can be told from it
   pub record Keeping : Type 0 where
     pub sees : (run : R) (run' : R') → rel.run run run' → SeesAlike rel (view run) (view' run')
+    pub contents : (run : R) (run' : R') → rel.run run run' → SeesContent rel (view run) (view' run')
     pub kept : (run : R) (run' : R') → rel.run run run' → (w : WrittenAttribute A B) (w' : WrittenAttribute A' B') (e : Entry A B) (e' : Entry A' B')
         → AlikeWritten rel w w' → AlikeEntry rel e e' → IsMade one (view run) w e → IsMade other (view' run') w' e' → Keeps (keep w e) (keep' w' e')
     pub entry : (x : W) (x' : W') → Keeps x x' → AlikeEntry rel (entry_in x) (entry_in' x')
@@ -234,7 +235,7 @@ module _ {R T A B S D W R' T' A' B' S' D' W' : Type 0} (rel : Relations R T A B 
       let same_view = keeping.sees s.run s'.run h.run in
       let entries = each_mapped entry_in entry_in' keeping.entry d in
       made_kept w w' (new_entry_alike rel (view s.run) (view' s'.run) same_view kind entries (agree.position n n' t) (positions_alike rel k) (keys_alike rel k))
-      (λ e e' is is' j. keeping.kept s.run s'.run h.run w w' e e' (record { name = agree.name n n' t; arguments = k }) j
+      (λ e e' is is' j. keeping.kept s.run s'.run h.run w w' e e' (record { name = agree.name n n' t; arguments = k; comment = refl }) j
       (record { name = n; name_is = refl; comment_is = refl; kind = kind; named = first; before = map entry_in before; made = is })
       (record { name = n'; name_is = refl; comment_is = refl; kind = kind; named = second; before = map entry_in' before'; made = is' }))
       h

@@ -11,7 +11,6 @@ use Rattle.justfile_vocabulary.specs.declared.item_kind.ItemKind.{ItemKind}
 use Rattle.justfile_model.specs.Meanings.AttributeKinds.{is_allowed, is_repeatable, known_keys, least_count, most_count, same_attribute, takes_expressions}
 use Rattle.justfile_model.specs.Meanings.AttributeRules.{allowed_broken, arg_rules, duplicate_rule, excludes, first_invalid, has_more, label_of, quoted_value, rules_in, same_label, same_text}
 use Rattle.justfile_model.specs.Trees.ContentKeys.{kind_of_attribute}
-use Rattle.justfile_model.specs.Trees.ContentLeaf.{literal_value}
 use Rattle.justfile_model.specs.LiteralTexts.Literals.{string_of}
 use Rattle.justfile_model.specs.Meanings.Meaning.{KeyArgument, PositionalArgument, at_key, count_of, is_count, quoted_text, signal_set, single_of, text_of, texts_of}
 use Rattle.justfile_model.specs.Readers.NewAttribute as new
@@ -29,11 +28,11 @@ use Rattle.justfile_model.proofs.Relations.Related as a
 use Rattle.justfile_model.proofs.Relations.Related.{Alike, Each, Relations, each_length}
 
 -- the same, or neither
-same_option : {X : Type 0} (o o' : Option X) → o ≡ o' → AlikeOption (λ (x y : X). x ≡ y) o o'
+pub same_option : {X : Type 0} (o o' : Option X) → o ≡ o' → AlikeOption (λ (x y : X). x ≡ y) o o'
 same_option None o' e = subst (AlikeOption (λ x y. x ≡ y) None) e absent
 same_option (Some x) o' e = subst (AlikeOption (λ x y. x ≡ y) (Some x)) e (present refl)
 
-same_list : {X : Type 0} {xs ys : List X} → Each (λ (x y : X). x ≡ y) xs ys → xs ≡ ys
+pub same_list : {X : Type 0} {xs ys : List X} → Each (λ (x y : X). x ≡ y) xs ys → xs ≡ ys
 same_list a.nil = refl
 same_list (a.cons h hs) = λ i. h i ∷ same_list hs i
 
@@ -49,7 +48,7 @@ module _ {R T A B S D R' T' A' B' S' D' : Type 0} (rel : Relations R T A B S D R
 
   same_value : {q : Quoted A} {q' : Quoted A'} → AlikeQuoted rel q q' → quoted_value view q ≡ quoted_value view' q'
   same_value {q} {q'} h =
-      ap literal_value (sees.literal_content (string_of q.expanded q.token) (string_of q'.expanded q'.token) (quoted_literal rel h))
+      sees.value (string_of q.expanded q.token) (string_of q'.expanded q'.token) (quoted_literal rel h)
 
   pub quoted_place : {q : Quoted A} {q' : Quoted A'} → AlikeQuoted rel q q' → rel.position (view.place q.token) (view'.place q'.token)
   quoted_place {q} {q'} h = sees.literal_place (string_of q.expanded h.lexeme) q.token q'.token h.token
@@ -57,12 +56,28 @@ module _ {R T A B S D R' T' A' B' S' D' : Type 0} (rel : Relations R T A B S D R
   pub key_place : {k : KeyArgument A B} {k' : KeyArgument A' B'} → AlikeKey rel k k' → rel.position (view.place k.key) (view'.place k'.key)
   key_place {k} {k'} h = sees.name_place k.key k'.key h.key
 
-  key_bytes : (k : KeyArgument A B) (k' : KeyArgument A' B') → AlikeKey rel k k' → view.bytes k.key ≡ view'.bytes k'.key
+  pub key_bytes : (k : KeyArgument A B) (k' : KeyArgument A' B') → AlikeKey rel k k' → view.bytes k.key ≡ view'.bytes k'.key
   key_bytes k k' h = sees.bytes k.key k'.key h.key
 
   pub key_found : (word : List ℕ) {ks : List (KeyArgument A B)} {ks' : List (KeyArgument A' B')} → Each (AlikeKey rel) ks ks'
       → AlikeOption (AlikeKey rel) (at_key view word ks) (at_key view' word ks')
   key_found word h = found_alike _ _ (λ k k' j i. bytes_eq (key_bytes k k' j i) word) h
+
+  -- ---- attributes of related values
+
+  pub signals_alike : {given given' : List Signal} → given ≡ given' → AlikeAttribute rel (tree.Signals (signal_set given)) (tree.Signals (signal_set given'))
+  signals_alike {given} e =
+      subst (λ all. AlikeAttribute rel (tree.Signals (signal_set given)) (tree.Signals (signal_set all))) e (alike.signals (signal_set given))
+
+  pub texts_alike : (kind : AttributeKind) {qs : List (Quoted A)} {qs' : List (Quoted A')} → Each (AlikeQuoted rel) qs qs'
+      → AlikeAttribute rel (texts_of view kind qs) (texts_of view' kind qs')
+  texts_alike kind a.nil = alike.plain kind
+  texts_alike kind (a.cons h hs) = alike.texts kind (a.cons h hs)
+
+  pub single_alike : (kind : AttributeKind) {es : List (Expr A B)} {es' : List (Expr A' B')} → Each (Alike rel) es es'
+      → AlikeAttribute rel (single_of view kind es) (single_of view' kind es')
+  single_alike kind a.nil = alike.plain kind
+  single_alike kind (a.cons e es) = alike.single kind e
 
   -- ---- checks
 
@@ -212,18 +227,9 @@ module _ {R T A B S D R' T' A' B' S' D' : Type 0} (rel : Relations R T A B S D R
         step rel.position _ _ (required_found (codes "extra") k) (λ x x' e. step rel.position _ _ (required_found (codes "inputs") k) (λ y y' i.
         step rel.position _ _ (required_found (codes "outputs") k) (λ z z' o. made (alike.cache e i o))))
 
-    signals_alike : {given given' : List Signal} → given ≡ given' → AlikeAttribute rel (tree.Signals (signal_set given)) (tree.Signals (signal_set given'))
-    signals_alike {given} e =
-        subst (λ all. AlikeAttribute rel (tree.Signals (signal_set given)) (tree.Signals (signal_set all))) e (alike.signals (signal_set given))
-
     new_continue_alike : {qs : List (Quoted A)} {qs' : List (Quoted A')} → Each (AlikeQuoted rel) qs qs'
         → Makes rel.position (AlikeAttribute rel) (new.new_continue view at qs) (new.new_continue view' at' qs')
     new_continue_alike h = step rel.position _ _ (all_made rel.position _ _ signal_alike h) (λ s s' e. made (signals_alike (same_list e)))
-
-    texts_alike : (kind : AttributeKind) {qs : List (Quoted A)} {qs' : List (Quoted A')} → Each (AlikeQuoted rel) qs qs'
-        → AlikeAttribute rel (texts_of view kind qs) (texts_of view' kind qs')
-    texts_alike kind a.nil = alike.plain kind
-    texts_alike kind (a.cons h hs) = alike.texts kind (a.cons h hs)
 
     of_literals_alike : (kind : AttributeKind) {qs : List (Quoted A)} {qs' : List (Quoted A')} {ks : List (KeyArgument A B)} {ks' : List (KeyArgument A' B')}
         → Each (AlikeQuoted rel) qs qs' → Each (AlikeKey rel) ks ks'
@@ -232,11 +238,6 @@ module _ {R T A B S D R' T' A' B' S' D' : Type 0} (rel : Relations R T A B S D R
     of_literals_alike attributes.Cache h k = new_cache_alike k
     of_literals_alike attributes.Continue h k = new_continue_alike h
     of_literals_alike kind h k = made (texts_alike kind h)
-
-    single_alike : (kind : AttributeKind) {es : List (Expr A B)} {es' : List (Expr A' B')} → Each (Alike rel) es es'
-        → AlikeAttribute rel (single_of view kind es) (single_of view' kind es')
-    single_alike kind a.nil = alike.plain kind
-    single_alike kind (a.cons e es) = alike.single kind e
 
     of_expressions_alike : (kind : AttributeKind) {es : List (Expr A B)} {es' : List (Expr A' B')} → Each (Alike rel) es es'
         → AlikeAttribute rel (new.new_of_expressions view at kind es) (new.new_of_expressions view' at' kind es')
@@ -283,12 +284,12 @@ module _ {R T A B S D R' T' A' B' S' D' : Type 0} (rel : Relations R T A B S D R
   labels_alike (present h) absent = refl
   labels_alike (present h) (present k) = λ i. same_text view (same_quoted_text h i) (same_quoted_text k i)
 
-  excludes_alike : {x y : Attribute A B} {x' y' : Attribute A' B'} → AlikeAttribute rel x x' → AlikeAttribute rel y y'
+  pub excludes_alike : {x y : Attribute A B} {x' y' : Attribute A' B'} → AlikeAttribute rel x x' → AlikeAttribute rel y y'
       → excludes view x y ≡ excludes view' x' y'
   excludes_alike h k =
       λ i. same_attribute (same_kind rel h i) (same_kind rel k i) && (not (is_repeatable (same_kind rel h i)) || labels_alike (label_alike h) (label_alike k) i)
 
-  duplicate_alike : {n f : B} {n' f' : B'} {x : Attribute A B} {x' : Attribute A' B'} → rel.position n n' → AlikeAttribute rel x x' → rel.position f f'
+  pub duplicate_alike : {n f : B} {n' f' : B'} {x : Attribute A B} {x' : Attribute A' B'} → rel.position n n' → AlikeAttribute rel x x' → rel.position f f'
       → AlikeRule rel.position (duplicate_rule view n x f) (duplicate_rule view' n' x' f')
   duplicate_alike n (alike.plain kind) f = broken.duplicate n f
   duplicate_alike n (alike.single kind e) f = broken.duplicate n f

@@ -1,14 +1,14 @@
--- Rules broken by a table's tokens correspond to rules broken by the tokens that the definitions see.
-use Rattle.std.proofs.Common.{◌≡◌, ap, refl}
-use Rattle.justfile_token.specs.declared.token.Token.{Token}
+-- Broken rules at related tokens, where the relation is a function: the rules of the second are those of the first with the function's tokens.
+use Rattle.std.proofs.Common.{◌≡◌, List, map, ◌∷◌, ap, refl}
 use Rattle.justfile_model.specs.Meanings.Rules as rules
 use Rattle.justfile_model.specs.Meanings.Rules.{Broken, Rule, over_broken, over_rule}
-use Rattle.justfile_model.specs.Lexing.Tok.{Tok, tok_of}
 use Rattle.justfile_model.proofs.Relations.AlikeRules as alike
 use Rattle.justfile_model.proofs.Relations.AlikeRules.{AlikeBroken, AlikeRule}
+use Rattle.justfile_model.proofs.Relations.Related as a
+use Rattle.justfile_model.proofs.Relations.Related.{Each}
 
-module _ (Position : Token → Tok → Type 0) (is : (t : Token) (k : Tok) → Position t k → tok_of t ≡ k) where
-  same_rule : {r : Rule Token} {s : Rule Tok} → AlikeRule Position r s → over_rule tok_of r ≡ s
+module _ {B B' : Type 0} (g : B → B') (Position : B → B' → Type 0) (is : (b : B) (b' : B') → Position b b' → g b ≡ b') where
+  same_rule : {r : Rule B} {s : Rule B'} → AlikeRule Position r s → over_rule g r ≡ s
   same_rule (alike.unknown_attribute a) = ap rules.UnknownAttribute (is _ _ a)
   same_rule (alike.count_mismatch {least = least} {most = most} a e) = λ i. rules.AttributeArgumentCountMismatch (is _ _ a i) (e i) least most
   same_rule (alike.argument_expression a) = ap rules.AttributeArgumentExpression (is _ _ a)
@@ -50,5 +50,9 @@ module _ (Position : Token → Tok → Type 0) (is : (t : Token) (k : Tok) → P
   same_rule (alike.minimum_version e f) = λ i. rules.MinimumVersion (e i) (f i)
 
   -- the same rule, of the tokens that are seen
-  pub same_broken : {b : Broken Token} {c : Broken Tok} → AlikeBroken Position b c → over_broken tok_of b ≡ c
+  pub same_broken : {b : Broken B} {c : Broken B'} → AlikeBroken Position b c → over_broken g b ≡ c
   same_broken h = λ i. record { rule = same_rule h.rule i; token = is _ _ h.token i }
+
+  pub all_broken : {bs : List (Broken B)} {bs' : List (Broken B')} → Each (AlikeBroken Position) bs bs' → map (over_broken g) bs ≡ bs'
+  all_broken a.nil = refl
+  all_broken (a.cons h hs) = λ i. same_broken h i ∷ all_broken hs i
