@@ -294,9 +294,10 @@ module _ {A B C D : Type 0} {f : A → C} {g : B → D} {view : LeafView A B} {o
   star_graph d = option_graph f g g (position_graph f g) d.star
 
   dependency_graph : (d : Dependency A B B) → SameStars (graph f g) view other d (over_dependency f g g d)
-  dependency_graph d =
-      (option_graph f g g (position_graph f g) d.star,
-      each_given _ _ (λ x y k. k) (list_graph f g {Q = λ x y. AlikeOption (graph f g).position x.star y.star} (over_dependency_argument f g g) star_graph d.arguments))
+  dependency_graph d = (
+    option_graph f g g (position_graph f g) d.star,
+    each_given _ _ (λ x y k. k) (list_graph f g {Q = λ x y. AlikeOption (graph f g).position x.star y.star} (over_dependency_argument f g g) star_graph d.arguments),
+  )
 
   value_graph : (v : SettingValue A B) → AlikeValue (graph f g) v (over_setting_value f g v)
   value_graph (tree.Truth value) = a.truth
