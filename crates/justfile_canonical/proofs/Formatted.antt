@@ -16,7 +16,8 @@ use Rattle.justfile_model.proofs.Printed.IndentedShapes.{IsIndentationLiteral, i
 use Rattle.justfile_model.proofs.Printed.Normal.{normal_printable}
 use Rattle.justfile_round_trip.specs.RoundTrip.{ReadsBack, TextDerives, printed}
 use Rattle.justfile_round_trip.proofs.RoundTrip.{back, one_text, shape_derives}
-use Rattle.justfile_canonical.specs.Formatting.{HasNone, IsFormatted, IsIndentedBy, rejected, unprintable}
+use Rattle.justfile_canonical.specs.Formatting.{HasNone, IsFormatted, rejected, unprintable}
+use Rattle.justfile_indentation.specs.OwnIndentation.{IsIndentedBy}
 use Rattle.justfile_canonical.specs.Root.{conditions}
 
 -- ---- indentations

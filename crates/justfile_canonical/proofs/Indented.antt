@@ -1,9 +1,7 @@
--- The indentation of a file's printed text is the text of the literal that sets it.
-use Rattle.std.proofs.Common.{◌≡◌, ℕ, Bool, true, false, List, [], ◌∷◌, ◌++◌, Option, Some, None, Result, Ok, Err, codes, sym, ap, subst, ◌∙◌, if◌then◌else◌}
+-- The indentation that a parsed file sets is the text of its literal.
+use Rattle.std.proofs.Common.{◌≡◌, ℕ, Bool, true, false, List, [], ◌∷◌, ◌++◌, Option, Some, None, Result, Ok, Err, codes, sym, ap, ◌∙◌, if◌then◌else◌}
 use Rattle.std.specs.Prelude.{All, IfOk, IfSome, string_bytes}
-use Rattle.std.specs.Option.{option_map}
 use Rattle.std.proofs.lemmas.List.Elements.{All-head, All-tail}
-use Rattle.std.proofs.lemmas.Option.{none-some, same_Some}
 use Rattle.justfile_vocabulary.specs.Indentation.{indentation_text}
 use Rattle.justfile_numbers.specs.declared.numerator.Numerator.{Numerator}
 use Rattle.justfile_token.specs.StringLiteral.{begins_format_string}
@@ -14,8 +12,6 @@ use Rattle.justfile_token.specs.declared.string_literal.StringLiteral.{StringLit
 use Rattle.justfile_token.specs.declared.token.Token.{Token}
 use Rattle.justfile_model.specs.LiteralTexts.Literals.{LiteralFault, cooked_text, expanded_text, string_of, string_text}
 use Rattle.justfile_model.specs.Meanings.RecipeRules.{or_else}
-use Rattle.justfile_model.specs.Lexing.Tok.{Tok}
-use Rattle.justfile_expression.specs.Expression.{literal_tok}
 use Rattle.justfile_attribute_set.specs.AttributeSet.{attributes_of}
 use Rattle.justfile_attribute_set.specs.Attributes.{are_enabled}
 use Rattle.justfile_setting.specs.declared.setting.Setting.{Setting}
@@ -25,11 +21,10 @@ use Rattle.justfile_item.specs.declared.item.Item.{Item}
 use Rattle.justfile_item.specs.declared.item.Item.TheVariants as items
 use Rattle.justfile_ast.specs.declared.ast.Ast.{Ast}
 use Rattle.justfile_parse_item.specs.Filled.{IsFilledItem, IsFilledLiteral, IsFilledSetting}
-use Rattle.justfile_canonical.specs.Formatting.{IsFileOf, HasCookedIndentation, IsIndentedBy, MatchesLiteral}
+use Rattle.justfile_canonical.specs.Formatting.{IsFileOf}
+use Rattle.justfile_indentation.specs.OwnIndentation.{HasCookedIndentation, MatchesLiteral}
 use Rattle.justfile_parse_file.specs.Parsing.{IsParsedText}
 use Rattle.justfile_canonical.specs.Root.{IsRoot, conditions, unchanged}
-
--- ---- what the literal stands for
 
 unexpanded : (r : Result (List ℕ) LiteralFault) (text : List ℕ) → expanded_text unchanged r ≡ Ok text → r ≡ Ok text
 unexpanded (Ok t) text h = h
@@ -117,25 +112,3 @@ indented path source old new (Err fault) parsed = tt
 pub file_of : (path source : List ℕ) (ast : Ast) → IsRoot path source ast → IsFileOf source ast
 file_of path source ast root =
     record { derives = root.parsed.derives; indented = parsed_indented path source root.old root.new ast root.parsed }
-
--- ---- the indentation of the printed text
-
-literal_by : (found : Option (StringLiteral × Indentation)) (indentation : Indentation) → Some indentation ≡ option_map (λ p. p.1) found → IfSome found MatchesLiteral
-    → IsIndentedBy (option_map (λ p. literal_tok p.0) found) (indentation_text indentation)
-literal_by None indentation e h = absurd (none-some indentation (sym e))
-literal_by (Some p) indentation e h = h ∙ ap (λ (i : Indentation). Ok (indentation_text i)) (sym (same_Some indentation p.1 e))
-
-default_by : (found : Option (StringLiteral × Indentation)) (text : List ℕ) → None ≡ option_map (λ (p : StringLiteral × Indentation). p.1) found → text ≡ codes "    "
-    → IsIndentedBy (option_map (λ p. literal_tok p.0) found) text
-default_by None text e h = h
-default_by (Some p) text e h = absurd (none-some p.1 e)
-
--- the file has a setting `indentation`
-pub indented_by_literal : (found : Option (StringLiteral × Indentation)) (literal : Option Tok) (indentation : Indentation) → Some indentation ≡ option_map (λ p. p.1) found
-    → literal ≡ option_map (λ p. literal_tok p.0) found → IfSome found MatchesLiteral → IsIndentedBy literal (indentation_text indentation)
-indented_by_literal found literal indentation e l h = subst (λ (t : Option Tok). IsIndentedBy t (indentation_text indentation)) (sym l) (literal_by found indentation e h)
-
--- the file doesn't have one
-pub indented_by_default : (found : Option (StringLiteral × Indentation)) (literal : Option Tok) (text : List ℕ) → None ≡ option_map (λ (p : StringLiteral × Indentation). p.1) found
-    → literal ≡ option_map (λ p. literal_tok p.0) found → text ≡ codes "    " → IsIndentedBy literal text
-indented_by_default found literal text e l h = subst (λ (t : Option Tok). IsIndentedBy t text) (sym l) (default_by found text e h)

@@ -1,34 +1,24 @@
 -- The canonical text of a justfile.
-use Rattle.std.specs.Prelude.{◌≡◌, ◌⊎◌, ℕ, true, false, List, Option, Some, None, Ok, IfSome, codes}
+use Rattle.std.specs.Prelude.{◌≡◌, ◌⊎◌, ℕ, true, false, List}
 use Rattle.std.specs.Str.{IsUtf8}
-use Rattle.justfile_vocabulary.specs.Indentation.{indentation_text}
 use Rattle.justfile_numbers.specs.Numerator.{bindings_of, recipes_of}
-use Rattle.justfile_vocabulary.specs.declared.indentation.Indentation.{Indentation}
 use Rattle.justfile_numbers.specs.declared.numerator.Numerator.{Numerator}
 use Rattle.justfile_token.specs.declared.compile_error.CompileError.{CompileError}
-use Rattle.justfile_token.specs.declared.string_literal.StringLiteral.{StringLiteral}
 use Rattle.justfile_model.specs.Lexing.LexResult.{IsFrom, IsLexicalError}
 use Rattle.justfile_model.specs.Grammars.Conditions.{with_limit}
 use Rattle.justfile_model.specs.Meanings.Enabled.{indentation_of}
 use Rattle.justfile_model.specs.Grammars.Features.{Noted}
 use Rattle.justfile_model.specs.Grammars.Files.{NumbersSuffice}
-use Rattle.justfile_model.specs.LiteralTexts.Literals.{string_text}
 use Rattle.justfile_model.specs.Printed.Printing.{printable}
 use Rattle.justfile_model.specs.Lexing.Tok.{Tok}
 use Rattle.justfile_model.specs.Trees.Tree.{Tree, shape_of}
-use Rattle.justfile_expression.specs.Expression.{literal_tok}
-use Rattle.justfile_item.specs.Indented.{items_indentation}
 use Rattle.justfile_ast.specs.Ast.{features_of, tree_of}
 use Rattle.justfile_ast.specs.declared.ast.Ast.{Ast}
 use Rattle.justfile_round_trip.specs.RoundTrip.{TextDerives, printed}
 use Rattle.justfile_parse_file.specs.Parsing.{IsTextRefused, TextWantsNumber}
+use Rattle.justfile_indentation.specs.OwnIndentation.{HasCookedIndentation, IsIndentedBy}
 use Rattle.justfile_canonical.specs.Messages.{error_text}
 use Rattle.justfile_canonical.specs.Root.{conditions}
-
--- The indentation of body lines is the text of the literal in the setting `indentation`, or four spaces if there is no such setting.
-abbrev pub IsIndentedBy : Option Tok → (indentation : List ℕ) → Type 0
-IsIndentedBy None indentation = indentation ≡ codes "    "
-IsIndentedBy (Some literal) indentation = string_text literal.lexeme ≡ Ok indentation
 
 -- The text is a justfile that can be printed, and `canonical` is its canonical text, at its own indentation.
 pub record IsFormatted (source canonical : List ℕ) : Type 0 where
@@ -76,14 +66,6 @@ pub record LacksNumbers (source : List ℕ) : Type 0 where
   pub wants : TextWantsNumber conditions source old new
   pub never_enough : (limit : ℕ) (tree : Tree) (features : List (Noted Tok)) → TextDerives (with_limit limit conditions) source tree features
       → NumbersSuffice 0 0 tree → ⊥
-
--- The indentation is the text of its literal.
-abbrev pub MatchesLiteral : StringLiteral × Indentation → Type 0
-MatchesLiteral p = string_text (literal_tok p.0).lexeme ≡ Ok (indentation_text p.1)
-
--- The file's indentation, if it sets one, is the text of its literal.
-abbrev pub HasCookedIndentation : Ast → Type 0
-HasCookedIndentation ast = IfSome (items_indentation ast.items.items) MatchesLiteral
 
 -- The file is that of the text.
 pub record IsFileOf (source : List ℕ) (ast : Ast) : Type 0 where

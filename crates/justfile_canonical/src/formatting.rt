@@ -2,7 +2,8 @@
 ghost use Rattle.std.specs.Prelude.{◌≡◌, IfErr, IfOk, OnOk, false, string_bytes, true};
 ghost use Rattle.justfile_canonical.specs.declared.fault.FormatFault.TheVariants as faults;
 ghost use Rattle.justfile_canonical.specs.Fault.{IsFormatFaultOf, IsFaultOfPrinting, IsRejectionFor};
-ghost use Rattle.justfile_canonical.specs.Formatting.{IsFileOf, IsFormatted, HasCookedIndentation, IsIndentedBy, IsPrinted};
+ghost use Rattle.justfile_canonical.specs.Formatting.{IsFileOf, IsFormatted, IsPrinted};
+ghost use Rattle.justfile_indentation.specs.OwnIndentation.{HasCookedIndentation, IsIndentedBy};
 ghost use Rattle.justfile_vocabulary.specs.Indentation.{indentation_text};
 ghost use Rattle.justfile_ast.specs.Ast.{ast_shape, tree_of};
 ghost use Rattle.justfile_model.specs.Meanings.Enabled.{indentation_of};
@@ -11,6 +12,7 @@ ghost use Rattle.justfile_model.specs.Printed.Printing.{printable};
 use crate::fault::FormatFault;
 use crate::root::parse_root;
 use justfile_ast::Ast;
+use justfile_indentation::own_indentation;
 use justfile_token::{CompileError, Fault};
 use justfile_vocabulary::Indentation;
 use std::alloc::Global;
@@ -107,17 +109,4 @@ pub fn printing_indentation(ast: &Ast<'_>) -> Result<Indentation, FormatFault>
         return Err(FormatFault::NotPrintable);
     }
     Ok(own_indentation(ast))
-}
-
-/// Returns the indentation of body lines that the canonical text has: that of the setting
-/// `indentation`, or four spaces.
-#[tactic(auto, using(crate::proofs::Indented::indented_by_literal, crate::proofs::Indented::indented_by_default))]
-pub fn own_indentation(ast: &Ast<'_>) -> Indentation
-    ensures { HasCookedIndentation ast.now
-        → IsIndentedBy (indentation_of (tree_of ast.now)) (indentation_text result) }
-{
-    match ast.indentation() {
-        Some(indentation) => indentation,
-        None => Indentation::default(),
-    }
 }

@@ -6,7 +6,7 @@ ghost use Rattle.justfile_model.specs.Lexing.SignificantTokens.{identifiers, sig
 ghost use Rattle.justfile_model.specs.Lexing.Tok.{Tok};
 ghost use Rattle.justfile_parse_file.specs.Parsing.{HasNoTree};
 ghost use Rattle.justfile_parse_item.specs.MethodResults.{CountersMoved};
-ghost use Rattle.justfile_canonical.specs.Formatting.{HasCookedIndentation};
+ghost use Rattle.justfile_indentation.specs.OwnIndentation.{HasCookedIndentation};
 ghost use Rattle.justfile_canonical.specs.Root.{HasNoRoot, IsRoot, IsRootFrom, conditions};
 
 use justfile_ast::Ast;

@@ -6,7 +6,8 @@ use Rattle.justfile_syntax.specs.Printing.{normal, printable, text}
 use Rattle.justfile_syntax.specs.Trees.{indentation_of}
 use Rattle.justfile_ast.specs.Ast.{ast_shape, features_of, tree_of}
 use Rattle.justfile_ast.specs.declared.ast.Ast.{Ast}
-use Rattle.justfile_canonical.specs.Formatting.{IsFileOf, IsFormatted, IsIndentedBy, IsPrinted, IsUnprintable, LacksNumbers}
+use Rattle.justfile_canonical.specs.Formatting.{IsFileOf, IsFormatted, IsPrinted, IsUnprintable, LacksNumbers}
+use Rattle.justfile_indentation.specs.OwnIndentation.{IsIndentedBy}
 use Rattle.justfile_format.specs.Failure.{IfRejected, IsOfFile, IsOfTextOrWriting}
 use Rattle.justfile_format.specs.Formatting.{Formats, WritesFile}
 use Rattle.justfile_format.specs.Outcome.{AppendsBeginning, FormatsBeginning, WritesFileBeginning}

@@ -100,7 +100,8 @@ pub mod format {
     //! From a text to its canonical text.
 
     pub use justfile_canonical::fault::FormatFault;
-    pub use justfile_canonical::formatting::{format_and_forget, format_text, own_indentation};
+    pub use justfile_canonical::formatting::{format_and_forget, format_text};
+    pub use justfile_indentation::own_indentation;
 }
 
 pub mod fragment {
