@@ -5,7 +5,7 @@ ghost use Rattle.justfile_expression.specs.Resolved.{number_of};
 use crate::setting::Setting;
 use justfile_attribute::Interpreter;
 use justfile_expression::Expression;
-use justfile_inner_expressions::resolve_expressions;
+use justfile_inner_expressions::resolve_each;
 use justfile_numbers::Number;
 use std::collections::HashMap;
 

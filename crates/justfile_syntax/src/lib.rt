@@ -186,10 +186,11 @@ pub mod laws {
         bodies_follow_colons, levels_close_before_blank_lines, literals_end_at_first_end,
         open_is_unclosed, reads_up_to_first_end,
     };
+    pub use justfile_numbers::laws::versions_ordered;
     pub use justfile_recipe_header::laws::header_parts_equal;
     pub use justfile_round_trip::modes_agree;
     pub use justfile_vocabulary::laws::{
-        attribute_names, indentation_texts, one_spelling, signal_names, versions_ordered,
+        attribute_names, indentation_texts, one_spelling, signal_names,
     };
 }
 
