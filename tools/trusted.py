@@ -144,7 +144,7 @@ GROUPS = [
     [("justfile_format/src/run.rt", ["run"])],
     [
         ("justfile_lex/src/lexer.rt", ["lex"]),
-        ("justfile_parse/src/parse.rt", ["parse", "parse_source"]),
+        ("justfile_parse/src/parser.rt", ["parse", "parse_source"]),
         ("justfile_ast/src/ast.rt", ["print", "print_to", "printable"]),
     ],
     [("justfile_files/src/run.rt", ["run"]), ("line_diff/src/unified.rt", ["unified_diff"])],
