@@ -6,7 +6,6 @@ use Rattle.std.proofs.lemmas.Map.Views.{All-map-IsPermutation}
 use Rattle.justfile_attribute.proofs.Ordered.{kind_seen}
 use Rattle.justfile_attribute.specs.New.{HasDerivedAttributeFields}
 use Rattle.justfile_attribute.specs.declared.attribute.Attribute.{Attribute}
-use Rattle.justfile_attribute_rules.specs.Made.{IsRefusedBy}
 use Rattle.justfile_attribute_rules.specs.RuleErrors.{IsKindOfRule}
 use Rattle.justfile_attribute_set.specs.AttributeSet.{IsInvalidBy, NamesInvalid}
 use Rattle.justfile_attribute_set.specs.Attributes.{has_kind, kind_of}
@@ -39,50 +38,25 @@ use Rattle.justfile_written.specs.declared.written.Written.{Written}
 use Rattle.justfile_parse_item.specs.ItemTable.{in_content_order}
 use Rattle.justfile_parse_attribute.specs.AttributeTable.{Entries}
 use Rattle.justfile_parse_attribute.specs.Attributes.{entry_of_pair}
-use Rattle.justfile_parse_base.specs.ParseErrors.{IsParseError, IsErrorOfFault}
+use Rattle.justfile_parse_base.proofs.RuleSteps.{fails_broken, fails_with}
+use Rattle.justfile_parse_base.specs.ParseErrors.{IsParseError, IsErrorOfFault, IsFaultOfRead}
 use Rattle.justfile_parse_attribute.specs.DerivedAttributeFields.{HaveDerivedAttributeFields, HaveDerivedPairFields}
-use Rattle.justfile_parse_base.specs.declared.parse_error.ParseError.TheVariants as errors
 use Rattle.justfile_parse_base.specs.declared.parse_error.ParseError.{ParseError}
 use Rattle.justfile_parse_expression.specs.TableReader as tokens
 use Rattle.justfile_parse_expression.specs.TableReader.{Read, State, leaves}
 use Rattle.justfile_parse_expression.specs.Significant.{TableEntry}
-use Rattle.justfile_parse_expression.specs.declared.expression_error.ExpressionError.TheVariants as causes
 use Rattle.justfile_expression.specs.LeafViews.{views_leaves}
 use Rattle.justfile_expression.specs.LeafTree.{Leaf}
 
--- reading stops if a rule is broken
-pub rule_fails : (X Y : Type 0) (rule : Broken Token) (fault : Fault) (failure : ParseError) (s : State) → IsErrorOfFault failure fault → IsRefusedBy {Y = X} (Err rule) fault
-    → IsParseError {Y = Y} failure s ⊥ (Err (reading.BreaksRule rule))
-rule_fails X Y rule (faults.Compile e) (errors.Compile error) s h k = rw h k
-rule_fails X Y rule faults.Memory (errors.Compile error) s h k = absurd h
-rule_fails X Y rule faults.Numbers (errors.Compile error) s h k = absurd h
-rule_fails X Y rule fault (errors.Expression causes.Memory) s h k = tt
-rule_fails X Y rule (faults.Compile e) (errors.Expression causes.Numbers) s h k = absurd h
-rule_fails X Y rule faults.Memory (errors.Expression causes.Numbers) s h k = absurd h
-rule_fails X Y rule faults.Numbers (errors.Expression causes.Numbers) s h k = absurd k
-rule_fails X Y rule (faults.Compile e) (errors.Expression (causes.Refused r)) s h k = absurd h
-rule_fails X Y rule faults.Memory (errors.Expression (causes.Refused r)) s h k = absurd h
-rule_fails X Y rule faults.Numbers (errors.Expression (causes.Refused r)) s h k = absurd h
-rule_fails X Y rule (faults.Compile e) (errors.Expression (causes.Literal r)) s h k = absurd h
-rule_fails X Y rule faults.Memory (errors.Expression (causes.Literal r)) s h k = absurd h
-rule_fails X Y rule faults.Numbers (errors.Expression (causes.Literal r)) s h k = absurd h
+tells_extraneous : (count : ℕ) (opener : Token) (fault : Fault) → IsExtraneousFault count opener fault → IsFaultOfRead (reading.Extraneous count opener) fault
+tells_extraneous count opener (faults.Compile e) k = k
+tells_extraneous count opener faults.Memory k = absurd k
+tells_extraneous count opener faults.Numbers k = absurd k
 
 -- reading stops if a blank line or a comment follows the attributes
-pub extraneous_fails : (Y : Type 0) (count : ℕ) (opener : Token) (fault : Fault) (failure : ParseError) (s : State) → IsErrorOfFault failure fault → IsExtraneousFault count opener fault
+extraneous_fails : (Y : Type 0) (count : ℕ) (opener : Token) (fault : Fault) (failure : ParseError) (s : State) → IsErrorOfFault failure fault → IsExtraneousFault count opener fault
     → IsParseError {Y = Y} failure s ⊥ (Err (reading.Extraneous count opener))
-extraneous_fails Y count opener (faults.Compile e) (errors.Compile error) s h k = rw h k
-extraneous_fails Y count opener faults.Memory (errors.Compile error) s h k = absurd h
-extraneous_fails Y count opener faults.Numbers (errors.Compile error) s h k = absurd h
-extraneous_fails Y count opener fault (errors.Expression causes.Memory) s h k = tt
-extraneous_fails Y count opener (faults.Compile e) (errors.Expression causes.Numbers) s h k = absurd h
-extraneous_fails Y count opener faults.Memory (errors.Expression causes.Numbers) s h k = absurd h
-extraneous_fails Y count opener faults.Numbers (errors.Expression causes.Numbers) s h k = absurd k
-extraneous_fails Y count opener (faults.Compile e) (errors.Expression (causes.Refused r)) s h k = absurd h
-extraneous_fails Y count opener faults.Memory (errors.Expression (causes.Refused r)) s h k = absurd h
-extraneous_fails Y count opener faults.Numbers (errors.Expression (causes.Refused r)) s h k = absurd h
-extraneous_fails Y count opener (faults.Compile e) (errors.Expression (causes.Literal r)) s h k = absurd h
-extraneous_fails Y count opener faults.Memory (errors.Expression (causes.Literal r)) s h k = absurd h
-extraneous_fails Y count opener faults.Numbers (errors.Expression (causes.Literal r)) s h k = absurd h
+extraneous_fails Y count opener fault failure s h k = fails_with Y (reading.Extraneous count opener) fault failure s h (tells_extraneous count opener fault k)
 
 -- ---- the attributes of an item of a kind
 
@@ -114,7 +88,7 @@ module _ (item : ItemKind) (ws : Entries) (name : TableEntry) (s : State) (entri
       go : (o : Found) → IsInvalidBy o item name.0 e → IsParseError error s ⊥ (refusing o)
       go None k = absurd k
       go (Some first) k =
-          rule_fails (Unit {0}) (Unit {0} × State) (record { rule = InvalidAttribute item (kind_of_attribute first.attribute); token = name.0 }) (faults.Compile e) error s h
+          fails_broken (Unit {0}) (Unit {0} × State) (record { rule = InvalidAttribute item (kind_of_attribute first.attribute); token = name.0 }) (faults.Compile e) error s h
           (record { token = k.0; says = says (kind_of_attribute first.attribute) e.kind k.1 })
 
 -- ---- a recipe's attributes that exclude each other
@@ -147,7 +121,7 @@ module _ (recipe : Token) where
       → e.kind ≡ kind → e.token ≡ recipe → IsErrorOfFault error (faults.Compile e) → IsParseError error s ⊥ (obeying bs s)
   is_excluded [] kind e error s first is at h = absurd first
   is_excluded (b ∷ bs) kind e error s first is at h =
-      rule_fails (Unit {0}) (Unit {0} × State) b (faults.Compile e) error s h (record {
+      fails_broken (Unit {0}) (Unit {0} × State) b (faults.Compile e) error s h (record {
         token = at ∙ sym first.1;
         says = subst (λ (k : CompileErrorKind). IsKindOfRule b.token b.rule k) (sym is) (subst (λ (t : Token). IsKindOfRule t b.rule kind) (sym first.1) first.0);
       })

@@ -1,7 +1,6 @@
 pub mod FilePaths
 pub mod Followed
 pub mod NumberedNames
-pub mod Refused
 pub mod PlainValues
 pub mod SettingSteps
 pub mod Bodies

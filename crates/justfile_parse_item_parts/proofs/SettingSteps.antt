@@ -29,7 +29,7 @@ use Rattle.justfile_expression.specs.LeafTree.{Leaf}
 use Rattle.justfile_token.specs.declared.fault.Fault.{Fault}
 use Rattle.justfile_parse_base.specs.ParseErrors.{IsParseError, IsErrorOfFault, IsFaultOfRead}
 use Rattle.justfile_parse_base.specs.declared.parse_error.ParseError.{ParseError}
-use Rattle.justfile_parse_item_parts.proofs.Refused.{errs}
+use Rattle.justfile_parse_base.proofs.RuleSteps.{fails_with}
 
 -- ---- keywords
 
@@ -124,4 +124,4 @@ interpreter_is s = bind_alike (expect kinds.BracketL s) _ _ (λ opener. brackete
 pub no_setting_fails : (name : TableEntry) (s : State) (operator : TableEntry) (from : State) (error : ParseError) (fault : Fault)
     → expect kinds.ColonEquals s ≡ Ok (operator, from) → IsErrorOfFault error fault → IsFaultOfRead (UnknownSetting name.0) fault
     → IsParseError error from ⊥ (reader.after_operator (reader.no_setting name) s)
-no_setting_fails name s operator from error fault found h k = rw found (errs (LeafValue × State) (UnknownSetting name.0) fault error from h k)
+no_setting_fails name s operator from error fault found h k = rw found (fails_with (LeafValue × State) (UnknownSetting name.0) fault error from h k)

@@ -64,7 +64,7 @@ fn begins_path<X: Expander>(parser: &TokenCursor<'_, '_, X>) -> bool
 
 /// Takes the mark `x` if an identifier comes next, and returns whether it did. Refuses any other
 /// identifier.
-#[tactic(auto, using(crate::proofs::Refused::errs), unfolding(justfile_model::specs::Readers::PartReader::expansion_mark, justfile_parse_expression::specs::TableReader::leaves))]
+#[tactic(auto, using(justfile_parse_base::proofs::RuleSteps::fails_with), unfolding(justfile_model::specs::Readers::PartReader::expansion_mark, justfile_parse_expression::specs::TableReader::leaves))]
 fn parse_mark<'src, X: Expander>(
     parser: &mut TokenCursor<'_, 'src, X>,
 ) -> Result<bool, ParseError<'src>>

@@ -27,7 +27,7 @@ use std::alloc::Global;
 
 /// Makes the setting with this keyword from its value, which has to be a plain literal. `name` is
 /// where an error is reported.
-#[tactic(auto, using(crate::proofs::Refused::errs, crate::proofs::PlainValues::no_literal, crate::proofs::PlainValues::not_plain, crate::proofs::PlainValues::plain))]
+#[tactic(auto, using(justfile_parse_base::proofs::RuleSteps::fails_with, crate::proofs::PlainValues::no_literal, crate::proofs::PlainValues::not_plain, crate::proofs::PlainValues::plain))]
 pub(crate) fn make_plain<'src>(
     alloc: Global,
     current: Version,
@@ -90,7 +90,7 @@ fn is_plain_literal(literal: &StringLiteral<'_>) -> bool
 }
 
 /// Makes the setting `indentation` from its literal.
-#[tactic(auto, using(crate::proofs::Refused::errs, crate::proofs::PlainValues::is_indentation, crate::proofs::PlainValues::no_indentation))]
+#[tactic(auto, using(justfile_parse_base::proofs::RuleSteps::fails_with, crate::proofs::PlainValues::is_indentation, crate::proofs::PlainValues::no_indentation))]
 fn make_indentation<'src>(
     alloc: Global,
     literal: StringLiteral<'src>,

@@ -98,7 +98,7 @@ fn parse_truth<'src, X: Expander>(
 }
 
 /// Returns the boolean that a word spells.
-#[tactic(auto, using(crate::proofs::Refused::errs), unfolding(justfile_model::specs::Readers::PartReader::truth_of, justfile_parse_expression::specs::TableReader::leaves))]
+#[tactic(auto, using(justfile_parse_base::proofs::RuleSteps::fails_with), unfolding(justfile_model::specs::Readers::PartReader::truth_of, justfile_parse_expression::specs::TableReader::leaves))]
 fn find_truth<'src>(alloc: Global, word: &SignificantToken<'src>) -> Result<bool, ParseError<'src>>
     ensures { (s : State) → ReadsRuled tree.Truth result s (reader.truth_of (word.now, s)) }
 {

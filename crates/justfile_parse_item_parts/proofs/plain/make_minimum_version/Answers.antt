@@ -6,7 +6,7 @@ use Rattle.justfile_parse_base.specs.ParseErrors.{IsParseError}
 use Rattle.justfile_parse_expression.specs.TableReader.{Read, State}
 use Rattle.justfile_parse_item_parts.specs.PartTable.{LeafValue}
 use Rattle.justfile_parse_item_parts.proofs.PlainValues.{is_version, later_version, no_version}
-use Rattle.justfile_parse_item_parts.proofs.Refused.{errs}
+use Rattle.justfile_parse_base.proofs.RuleSteps.{fails_with}
 use Rattle.justfile_parse_item_parts.proofs.plain.make_minimum_version.Goals as goal
 use Rattle.justfile_setting.proofs.VersionTexts.{later, read, unread}
 use Rattle.std.proofs.Common.{string_bytes}
@@ -20,7 +20,7 @@ returns-in-Ok-clause-reads c =
     let above = sym (later minimum c.args.current) ∙ sym c.lt.ensures ∙ c.if-lt.true in
     let refusal = BreaksRule (record { rule = MinimumVersion (version_numbers minimum) current; token = l.token }) in
     λ s. subst (λ (o : Read LeafValue). IsParseError c.rule_error.result s ⊥ o) (sym (later_version current l s (version_numbers minimum) is above))
-    (errs (LeafValue × State) refusal c.minimum_version_fault.result c.rule_error.result s c.rule_error.ensures c.minimum_version_fault.ensures)
+    (fails_with (LeafValue × State) refusal c.minimum_version_fault.result c.rule_error.result s c.rule_error.ensures c.minimum_version_fault.ensures)
 
 pub returns-in-Ok-2-clause-reads : goal.returns-in-Ok-2-clause-reads
 returns-in-Ok-2-clause-reads c =
@@ -35,4 +35,4 @@ returns-clause-reads c =
     let none = ap version_of (sym c.as_str.ensures.value) ∙ unread c.as_str.result.now c.in-Err.ensures.value.0 in
     let refusal = BreaksRule (record { rule = InvalidMinimumVersion (string_bytes l.cooked); token = l.token }) in
     λ s. subst (λ (o : Read LeafValue). IsParseError c.rule_error-in-Err.result s ⊥ o) (sym (no_version current l s none))
-    (errs (LeafValue × State) refusal c.invalid_minimum_version_fault.result c.rule_error-in-Err.result s c.rule_error-in-Err.ensures c.invalid_minimum_version_fault.ensures)
+    (fails_with (LeafValue × State) refusal c.invalid_minimum_version_fault.result c.rule_error-in-Err.result s c.rule_error-in-Err.ensures c.invalid_minimum_version_fault.ensures)

@@ -4,7 +4,7 @@ use Rattle.justfile_vocabulary.specs.declared.keyword.Keyword.{Keyword}
 use Rattle.justfile_model.specs.Readers.ReaderState.{UnknownSetting}
 use Rattle.justfile_parse_base.specs.ParseErrors.{IsParseError}
 use Rattle.justfile_parse_expression.specs.TableReader.{Read, State}
-use Rattle.justfile_parse_item_parts.proofs.Refused.{errs}
+use Rattle.justfile_parse_base.proofs.RuleSteps.{fails_with}
 use Rattle.justfile_parse_item_parts.proofs.SettingSteps.{keyword_found, keyword_refused}
 use Rattle.justfile_parse_item_parts.proofs.setting_value.setting_keyword.Goals as goal
 use Rattle.justfile_setting.proofs.KeywordNames.{found}
@@ -17,4 +17,4 @@ pub returns-in-None : goal.returns-in-None
 returns-in-None c =
     let is = ap keyword_named (sym c.lexeme.ensures) ∙ sym (found c.lexeme.result.now c.from_lexeme.result c.from_lexeme.ensures) ∙ c.in-None.is in
     λ s. subst (λ (o : Read Keyword). IsParseError c.rule_error.result s ⊥ o) (sym (keyword_refused c.args.name.now s is))
-    (errs (Keyword × State) (UnknownSetting c.args.name.now.0) c.unknown_setting_fault.result c.rule_error.result s c.rule_error.ensures c.unknown_setting_fault.ensures)
+    (fails_with (Keyword × State) (UnknownSetting c.args.name.now.0) c.unknown_setting_fault.result c.rule_error.result s c.rule_error.ensures c.unknown_setting_fault.ensures)
