@@ -1,43 +1,33 @@
-//! The program on the arguments and the standard streams of the system.
+//! The formatter as a program, on the arguments and the standard streams of the system.
 
 use crate::failure::{Failure, report};
 use crate::run::run;
-use std::env;
-use std::io::{self, ErrorKind};
+use std::alloc::Global;
+use std::io::{Read, Write};
 use std::process::ExitCode;
+use system_run::Program;
 
-/// Returns the arguments after the program's name. If one of them isn't UTF-8, returns `?` alone,
-/// which the program doesn't take.
-fn arguments(rt: &HostRuntime) -> io::Result<Vec<String>> {
-    let alloc = rt.alloc();
-    let mut arguments = Vec::new(alloc);
-    match env::args(rt) {
-        Ok(all) => {
-            for argument in all.skip(1) {
-                arguments.push(argument)?;
-            }
-        }
-        Err(error) if error.kind() == ErrorKind::InvalidData => {
-            arguments.push("?".to_string(alloc)?)?;
-        }
-        Err(error) => return Err(error),
+/// The program `justfmt`.
+pub struct Justfmt;
+
+impl Program for Justfmt {
+    fn run<R: Read, W: Write, E: Write>(
+        alloc: Global,
+        arguments: &[String],
+        reader: &mut R,
+        writer: &mut W,
+        errors: &mut E,
+    ) -> u8 {
+        run(alloc, arguments, reader, writer, errors)
     }
-    Ok(arguments)
-}
 
-/// Does what the arguments ask for on the standard streams, and returns the exit status.
-fn run_on_streams(rt: &HostRuntime, arguments: &[String]) -> u8 {
-    let mut reader = rt.stdin();
-    let mut writer = rt.stdout();
-    let mut errors = rt.stderr();
-    run(rt.alloc(), arguments, &mut reader, &mut writer, &mut errors)
+    fn report_memory<E: Write>(errors: &mut E) -> u8 {
+        report(&Failure::Memory, errors)
+    }
 }
 
 /// Does what the program's arguments ask for on the standard streams, as `run` does, and returns
 /// the exit status.
 pub fn run_on_system(rt: &HostRuntime) -> ExitCode {
-    match arguments(rt) {
-        Ok(arguments) => ExitCode::from(run_on_streams(rt, &arguments)),
-        Err(_) => ExitCode::from(report(&Failure::Memory, &mut rt.stderr())),
-    }
+    system_run::run_on_system::<Justfmt>(rt)
 }
