@@ -2,7 +2,6 @@
 //! settles: prints to itself.
 
 use crate::expansion::Expansion;
-use crate::fields::indentation_of;
 use crate::files::parse;
 use crate::printing::settles;
 use justfile_syntax::ast::Ast;
@@ -10,7 +9,7 @@ use justfile_syntax::compile_error_kind::CompileErrorKind;
 use justfile_syntax::fault::Fault;
 use justfile_syntax::indentation::Indentation;
 use justfile_syntax::parser::RECURSION_LIMIT;
-use row_notation::{Answer, Text, push_fault};
+use row_notation::{Answer, Text, indentation_of, push_fault};
 
 /// The indentations at which the printed text has to settle.
 const INDENTATIONS: [&str; 3] = ["    ", "  ", "\t"];

@@ -2,30 +2,26 @@
 
 use crate::beginnings::beginnings;
 use crate::expansion::Expansion;
-use crate::fields::indentation_of;
-use crate::printing::{copies, prints, prints_item};
-use crate::refusal::{push_expected, push_message};
+use crate::printing::prints;
 use crate::resolution::resolves;
 use crate::word::Word;
 use justfile_syntax::ast::Ast;
 use justfile_syntax::fault::{CompileResult, Fault};
 use justfile_syntax::format::own_indentation;
 use justfile_syntax::indentation::Indentation;
-use justfile_syntax::item::Item;
 use justfile_syntax::numerator::{Number, Numerator};
 use justfile_syntax::parser::{Parser, RECURSION_LIMIT};
 use justfile_syntax::source::Source;
 use justfile_syntax::version::Version;
 use row_items::copies::copies_items;
-use row_items::expressions::expressions;
 use row_items::items::{WORKING_DIRECTORY, file};
-use row_items::names::{attributes, docs, enabled, features, keys, sets, settings, unstable};
-use row_items::orders::orders;
-use row_items::parts::parts;
-use row_items::recipes::{FILE_DEPTH, IMPORT_OFFSETS, RecipePart, push_of_recipe};
-use row_items::values::push_of_value;
-use row_notation::{Answer, Text, field_at, number_at, push_fault};
-use row_parts::values::ValueForm;
+use row_items::items_part::{ItemsPart, push_of_items};
+use row_items::names::{features, unstable};
+use row_items::printing::{copies, prints_item};
+use row_items::recipes::{FILE_DEPTH, IMPORT_OFFSETS, RecipePart};
+use row_notation::{
+    Answer, Text, field_at, indentation_at, number_at, push_expected, push_fault, push_message,
+};
 use std::alloc::Global;
 
 /// Parses a text under a limit of depth, with numbers from a numerator.
@@ -82,25 +78,25 @@ fn push_file(ast: &mut Ast<'_>, answer: &mut Answer, word: Word, fields: &[Strin
         | Word::PrintsAt
         | Word::PrintsItem
         | Word::PrintsUnder => push_printed(ast, answer, word, fields),
-        _ => push_of_items(&ast.items, answer, word, fields),
+        _ => push_of_items(&ast.items, answer, items_part(word, fields)),
     }
 }
 
-/// Writes what a row's word asks for about a file's items.
-fn push_of_items(items: &[Item<'_>], answer: &mut Answer, word: Word, fields: &[String]) {
+/// Returns the part of a file's items that a row's word asks for.
+fn items_part(word: Word, fields: &[String]) -> ItemsPart {
     match word {
-        Word::Attributes => attributes(items, answer),
-        Word::Docs => docs(items, answer),
-        Word::Enabled => enabled(items, answer),
-        Word::Expressions => expressions(items, answer),
-        Word::Keys => keys(items, answer),
-        Word::Literal => push_of_value(items, answer, ValueForm::Literal),
-        Word::Expands | Word::Value => push_of_value(items, answer, ValueForm::Parts),
-        Word::Orders => orders(items, answer),
-        Word::Parts => parts(items, answer),
-        Word::Sets => sets(items, answer),
-        Word::Settings => settings(items, answer),
-        _ => push_of_recipe(items, answer, recipe_part(word, fields)),
+        Word::Attributes => ItemsPart::Attributes,
+        Word::Docs => ItemsPart::Docs,
+        Word::Enabled => ItemsPart::Enabled,
+        Word::Expressions => ItemsPart::Expressions,
+        Word::Keys => ItemsPart::Keys,
+        Word::Literal => ItemsPart::Literal,
+        Word::Expands | Word::Value => ItemsPart::Value,
+        Word::Orders => ItemsPart::Orders,
+        Word::Parts => ItemsPart::Parts,
+        Word::Sets => ItemsPart::Sets,
+        Word::Settings => ItemsPart::Settings,
+        _ => ItemsPart::Recipe(recipe_part(word, fields)),
     }
 }
 
@@ -150,14 +146,14 @@ fn push_printed(ast: &mut Ast<'_>, answer: &mut Answer, word: Word, fields: &[St
 /// Returns the indentation of a row.
 fn indentation_for(word: Word, fields: &[String]) -> Indentation {
     match word {
-        Word::PrintsAt | Word::PrintsItem => indentation_of(field_at(fields, 0)),
+        Word::PrintsAt | Word::PrintsItem => indentation_at(fields, 0),
         _ => Indentation::default(),
     }
 }
 
 /// Writes the parts of the first value of a file, and the file's printed text.
 fn push_value_and_text(ast: &Ast<'_>, answer: &mut Answer) {
-    push_of_value(&ast.items, answer, ValueForm::Parts);
+    push_of_items(&ast.items, answer, ItemsPart::Value);
     copies(ast, answer, Indentation::default());
 }
 

@@ -1,5 +1,4 @@
-//! Runs rows of data about justfiles and about the program `justfmt`, and compares what they find
-//! with what they expect.
+//! Runs rows of data about justfiles, and compares what they find with what they expect.
 //!
 //! The arguments are the names of files of rows. A row has a word, which says what it does, then
 //! its input, and then what it expects:
@@ -16,11 +15,8 @@ mod expansion;
 mod fields;
 mod files;
 mod printing;
-mod program;
-mod refusal;
 mod resolution;
 mod roots;
-mod stream;
 mod symbols;
 mod word;
 

@@ -2,9 +2,8 @@
 
 use crate::fields::are_readable;
 use crate::files::push_fields;
-use crate::program::{breaks_each, formats, formats_at, runs};
 use crate::roots::roots;
-use crate::symbols::push_symbols;
+use crate::symbols::push_symbols_of;
 use row_notation::{Answer, RowWord, field_at};
 
 /// What a row does.
@@ -13,8 +12,6 @@ pub(crate) enum Word {
     Arguments,
     Attributes,
     Beginnings,
-    Breaks,
-    BreaksEach,
     Canonical,
     CanonicalUnder,
     Copies,
@@ -27,8 +24,6 @@ pub(crate) enum Word {
     Expected,
     Expressions,
     Features,
-    Formats,
-    FormatsAt,
     Indented,
     Items,
     Keys,
@@ -48,7 +43,6 @@ pub(crate) enum Word {
     RefusedUnder,
     Resolves,
     Roots,
-    Run,
     Sets,
     Settings,
     Sigils,
@@ -62,8 +56,6 @@ static WORDS: &[(&str, Word, usize)] = &[
     ("arguments", Word::Arguments, 1),
     ("attributes", Word::Attributes, 1),
     ("beginnings", Word::Beginnings, 2),
-    ("breaks", Word::Breaks, 4),
-    ("breaks_each", Word::BreaksEach, 3),
     ("canonical", Word::Canonical, 1),
     ("canonical_under", Word::CanonicalUnder, 2),
     ("copies", Word::Copies, 1),
@@ -76,8 +68,6 @@ static WORDS: &[(&str, Word, usize)] = &[
     ("expected", Word::Expected, 1),
     ("expressions", Word::Expressions, 1),
     ("features", Word::Features, 1),
-    ("formats", Word::Formats, 1),
-    ("formats_at", Word::FormatsAt, 2),
     ("indented", Word::Indented, 1),
     ("items", Word::Items, 1),
     ("keys", Word::Keys, 1),
@@ -97,7 +87,6 @@ static WORDS: &[(&str, Word, usize)] = &[
     ("refused_under", Word::RefusedUnder, 2),
     ("resolves", Word::Resolves, 3),
     ("roots", Word::Roots, 2),
-    ("run", Word::Run, 2),
     ("sets", Word::Sets, 1),
     ("settings", Word::Settings, 1),
     ("sigils", Word::Sigils, 2),
@@ -129,12 +118,8 @@ impl RowWord for Word {
 
     fn push_found(self, answer: &mut Answer, fields: &[String]) {
         match self {
-            Word::Breaks | Word::Run => runs(answer, self, fields),
-            Word::BreaksEach => breaks_each(answer, fields),
-            Word::Formats => formats(answer, field_at(fields, 0)),
-            Word::FormatsAt => formats_at(answer, fields),
             Word::Roots => roots(answer, fields),
-            Word::Symbols => push_symbols(answer, field_at(fields, 0)),
+            Word::Symbols => push_symbols_of(answer, field_at(fields, 0)),
             _ => push_fields(answer, self, fields),
         }
     }

@@ -8,7 +8,7 @@ use std::alloc::AllocError;
 
 /// Writes the expressions of each item: those of each attribute, those of all attributes, those of
 /// the value of a setting, and those of the whole item at every depth. What has none is left out.
-pub fn expressions(items: &[Item<'_>], answer: &mut Answer) {
+pub(crate) fn expressions(items: &[Item<'_>], answer: &mut Answer) {
     for item in items {
         push_of_attributes(item, answer);
         push_of_setting(item, answer);

@@ -2,11 +2,14 @@
 #![tactic(auto)]
 
 pub mod copies;
-pub mod expressions;
+mod expressions;
 pub mod items;
+pub mod items_part;
 pub mod names;
-pub mod orders;
-pub mod parts;
+mod orders;
+mod parts;
+pub mod printing;
 pub mod recipes;
 pub mod resolution;
-pub mod values;
+pub mod symbols;
+mod values;

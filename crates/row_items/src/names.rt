@@ -23,14 +23,14 @@ fn push_key(item: &Item<'_>, answer: &mut Answer) {
 }
 
 /// Writes the keys of the items that have one.
-pub fn keys(items: &[Item<'_>], answer: &mut Answer) {
+pub(crate) fn keys(items: &[Item<'_>], answer: &mut Answer) {
     for item in items {
         push_key(item, answer);
     }
 }
 
 /// Writes the names of the items that are enabled on this system.
-pub fn enabled(items: &[Item<'_>], answer: &mut Answer) {
+pub(crate) fn enabled(items: &[Item<'_>], answer: &mut Answer) {
     for item in items {
         push_enabled(item, answer);
     }
@@ -57,7 +57,7 @@ fn push_name(item: &Item<'_>, answer: &mut Answer) {
 }
 
 /// Writes the doc of each recipe and module of a file's items in ‹›, or `none`.
-pub fn docs(items: &[Item<'_>], answer: &mut Answer) {
+pub(crate) fn docs(items: &[Item<'_>], answer: &mut Answer) {
     for item in items {
         match item {
             Item::Module { doc, .. } => push_doc(answer, doc),
@@ -78,7 +78,7 @@ fn push_doc(answer: &mut Answer, doc: &Option<String>) {
 
 /// Writes the attributes of the first item that has any, each with the offset of its name, and its
 /// comment.
-pub fn attributes(items: &[Item<'_>], answer: &mut Answer) {
+pub(crate) fn attributes(items: &[Item<'_>], answer: &mut Answer) {
     for item in items {
         if push_attributes_of(item, answer) {
             return;
@@ -102,7 +102,7 @@ fn push_attributes_of(item: &Item<'_>, answer: &mut Answer) -> bool {
 }
 
 /// Writes the set that is made from the attributes of a file's first recipe.
-pub fn sets(items: &[Item<'_>], answer: &mut Answer) {
+pub(crate) fn sets(items: &[Item<'_>], answer: &mut Answer) {
     for item in items {
         if let Item::Recipe(recipe) = item {
             return push_joined(&recipe.attributes, answer, recipe.name, recipe.comment);
@@ -112,7 +112,7 @@ pub fn sets(items: &[Item<'_>], answer: &mut Answer) {
 }
 
 /// Writes the properties of each setting of a file's items, and the text that it displays.
-pub fn settings(items: &[Item<'_>], answer: &mut Answer) {
+pub(crate) fn settings(items: &[Item<'_>], answer: &mut Answer) {
     for item in items {
         if let Item::Setting(set) = item {
             push_setting(&set.value, answer);

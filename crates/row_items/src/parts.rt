@@ -9,7 +9,7 @@ use std::alloc::AllocError;
 /// Writes what each item has: its kind, its name, whether it is private, the kinds of its
 /// attributes, its groups, its doc, the truth of a setting, and its expressions, each with the
 /// lexeme that it begins with.
-pub fn parts(items: &[Item<'_>], answer: &mut Answer) {
+pub(crate) fn parts(items: &[Item<'_>], answer: &mut Answer) {
     for item in items {
         push_parts(item, answer);
     }

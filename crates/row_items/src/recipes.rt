@@ -33,7 +33,7 @@ pub enum RecipePart {
 }
 
 /// Writes a part of the first recipe of a file's items.
-pub fn push_of_recipe(items: &[Item<'_>], answer: &mut Answer, part: RecipePart) {
+pub(crate) fn push_of_recipe(items: &[Item<'_>], answer: &mut Answer, part: RecipePart) {
     for item in items {
         if let Item::Recipe(recipe) = item {
             return push_part(recipe, answer, part);

@@ -6,7 +6,7 @@ use row_parts::values::{ValueForm, push_module_path, push_path, push_value, push
 
 /// Writes what a form shows of the first value of a file's items, or the first path if
 /// there is no value.
-pub fn push_of_value(items: &[Item<'_>], answer: &mut Answer, form: ValueForm) {
+pub(crate) fn push_of_value(items: &[Item<'_>], answer: &mut Answer, form: ValueForm) {
     for item in items {
         if push_value_in(item, answer, form) {
             return;

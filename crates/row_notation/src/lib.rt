@@ -9,11 +9,17 @@ mod literal;
 mod refusal;
 mod row;
 mod run;
+mod stream;
 mod text;
 
 pub use crate::answer::Answer;
-pub use crate::fields::{field_at, is_number, number_at};
+pub use crate::fields::{
+    field_at, indentation_at, indentation_of, is_indentation, is_number, number_at,
+};
 pub use crate::literal::push_string_kind;
-pub use crate::refusal::{kind_of, place_after, push_fault, push_refusal};
+pub use crate::refusal::{
+    kind_of, place_after, push_expected, push_fault, push_message, push_refusal,
+};
 pub use crate::run::{RowWord, run_rows};
+pub use crate::stream::Stream;
 pub use crate::text::Text;

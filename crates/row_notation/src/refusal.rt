@@ -2,6 +2,7 @@
 
 use crate::answer::Answer;
 use justfile_token::{CompileError, CompileErrorKind, Fault, StringKind, StringLiteral};
+use justfile_vocabulary::TokenKind;
 use std::alloc::{AllocError, Global};
 
 /// Returns the line and the column after `before`, a beginning of the text. A newline at the end of
@@ -138,5 +139,51 @@ pub fn push_fault(answer: &mut Answer, text: &str, fault: &Fault<'_>) {
         Fault::Compile(error) => push_refusal(answer, text, error),
         Fault::Memory => answer.push("memory"),
         Fault::Numbers => answer.push("numbers"),
+    }
+}
+
+/// Writes the kinds of tokens that are expected, and after `but` the kind of the refused one; or
+/// another fault.
+pub fn push_expected(answer: &mut Answer, text: &str, fault: &Fault<'_>) {
+    match fault {
+        Fault::Compile(error) => match &error.kind {
+            CompileErrorKind::UnexpectedToken { expected, found } => {
+                push_kinds(answer, expected.as_slice());
+                answer.push("but");
+                push_kinds(answer, &[*found]);
+            }
+            _ => push_refusal(answer, text, error),
+        },
+        fault => push_fault(answer, text, fault),
+    }
+}
+
+/// Writes the message of an error; or another fault. Writes `undisplayed` if the fault doesn't
+/// display the message and the excerpt.
+pub fn push_message(answer: &mut Answer, text: &str, fault: &Fault<'_>) {
+    match fault {
+        Fault::Compile(error) => {
+            let alloc = answer.alloc();
+            answer.push_made(format!(in alloc; "{error}"));
+            let shown = format!(in alloc; "{error}\n{}", error.token);
+            answer.push_if("undisplayed", !are_equal(&fault.to_string(alloc), &shown));
+        }
+        fault => push_fault(answer, text, fault),
+    }
+}
+
+/// Whether two texts were made and are equal.
+fn are_equal(one: &Result<String, AllocError>, other: &Result<String, AllocError>) -> bool {
+    match (one, other) {
+        (Ok(one), Ok(other)) => one == other,
+        _ => false,
+    }
+}
+
+/// Writes the names of kinds of tokens.
+fn push_kinds(answer: &mut Answer, kinds: &[TokenKind]) {
+    for kind in kinds {
+        let alloc = answer.alloc();
+        answer.push_made(format!(in alloc; "{kind:?}"));
     }
 }

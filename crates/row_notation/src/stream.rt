@@ -6,11 +6,11 @@ use std::str;
 
 /// A stream that is read or written to.
 #[derive(Drop)]
-pub(crate) struct Stream<'row> {
+pub struct Stream<'row> {
     /// The bytes that are still to be read.
-    pub(crate) unread: &'row [u8],
+    pub unread: &'row [u8],
     /// The bytes that were written.
-    pub(crate) written: Vec<u8>,
+    pub written: Vec<u8>,
     /// How many bytes a call reads or writes at most.
     most_bytes: usize,
     /// After how many more reads or writes it fails.
@@ -18,15 +18,15 @@ pub(crate) struct Stream<'row> {
     /// How many bytes the last of these calls reads or writes at most.
     last_bytes: usize,
     /// Whether it has failed.
-    pub(crate) has_failed: bool,
+    pub has_failed: bool,
     /// Whether flushing it fails.
-    pub(crate) fails_at_flush: bool,
+    pub fails_at_flush: bool,
 }
 
 impl<'row> Stream<'row> {
     /// Makes a stream with these bytes to read, which moves at most `most_bytes` bytes in a call
     /// and doesn't fail.
-    pub(crate) fn new(alloc: Global, unread: &'row [u8], most_bytes: usize) -> Self {
+    pub fn new(alloc: Global, unread: &'row [u8], most_bytes: usize) -> Self {
         Stream {
             unread,
             written: Vec::new(alloc),
@@ -40,13 +40,13 @@ impl<'row> Stream<'row> {
 
     /// Makes the stream fail after `calls` reads or writes, the last of which has at most
     /// `last_bytes` bytes.
-    pub(crate) fn fail_after(&mut self, calls: u32, last_bytes: usize) {
+    pub fn fail_after(&mut self, calls: u32, last_bytes: usize) {
         self.calls = calls;
         self.last_bytes = last_bytes;
     }
 
     /// Returns what was written, or `not UTF-8`.
-    pub(crate) fn text(&self) -> &str {
+    pub fn text(&self) -> &str {
         str::from_utf8(&self.written).unwrap_or("not UTF-8")
     }
 

@@ -1,13 +1,12 @@
 //! Runs of the program `justfmt`.
 
-use crate::fields::indentation_of;
-use crate::stream::Stream;
 use crate::word::Word;
 use formatted::{formatted, formatted_as_set};
-use justfile_format::run::run;
+use justfile_format::system::Justfmt;
 use justfile_syntax::format::format_text;
-use row_notation::{Answer, field_at, number_at, push_fault};
+use row_notation::{Answer, Stream, field_at, indentation_at, number_at, push_fault};
 use std::alloc::{AllocError, Global};
+use system_run::Program;
 
 /// How many bytes a call reads or writes at most.
 const MOST_BYTES: usize = 2;
@@ -49,7 +48,7 @@ impl<'row> Streams<'row> {
 
     /// Runs the program, and returns its exit status.
     fn run(&mut self, alloc: Global, arguments: &[String]) -> u8 {
-        run(
+        Justfmt::run(
             alloc,
             arguments,
             &mut self.input,
@@ -192,7 +191,7 @@ fn push_caller(answer: &mut Answer, source: &str, expected: &str) {
 /// Writes what `formatted` returns for a text at an indentation.
 pub(crate) fn formats_at(answer: &mut Answer, fields: &[String]) {
     let source = field_at(fields, 1);
-    match formatted(answer.alloc(), source, indentation_of(field_at(fields, 0))) {
+    match formatted(answer.alloc(), source, indentation_at(fields, 0)) {
         Ok(text) => answer.push(text.as_str()),
         Err(fault) => push_fault(answer, source, &fault),
     }

@@ -1,0 +1,18 @@
+//! Runs rows of data about the program `justfmt` and about callers that format, and compares what
+//! they find with what they expect.
+//!
+//! The arguments are the names of files of rows. The program prints the rows that fail or can't be
+//! read, and at the end how many hold, fail and can't be read. The exit status is 0 if the files
+//! could be read. `docs/ROWS.md` has the notation and the words.
+#![tactic(auto)]
+
+mod program;
+mod word;
+
+use crate::word::Word;
+use row_notation::run_rows;
+use std::io;
+
+fn main(rt: HostRuntime) -> io::Result<()> {
+    run_rows::<Word>(&rt)
+}
