@@ -152,7 +152,7 @@ def crate_before(line, section):
 def known(crate):
     """The words that a name with this crate may have. Those of justfiles and the names of laws stand in any section."""
     if crate == "tests":
-        return words("text_rows") | words("justfile_rows") | words("justfile_syntax") | tests() | set(NAMES)
+        return set(NAMES).union(tests(), *map(words, ("text_rows", "justfile_rows", "program_rows", "justfile_syntax")))
     if crate.endswith("/specs"):
         return words(crate) | set(NAMES)
     elsewhere = ELSEWHERE[None] | ELSEWHERE.get(crate, set())
