@@ -2,7 +2,7 @@
 use Rattle.std.proofs.Common.{◌≡◌, ◌≤◌, ℕ, ◌+◌, ◌-◌, List, [], ◌∷◌, ◌++◌, Option, None, Some, Result, Ok, Err, length, take, drop, refl, sym, ap, subst, ◌∙◌, arith, append_assoc, append-nil, take-append-drop}
 use Rattle.std.proofs.Math.Seq.{take-append-add, take-append_seam, take-length}
 use Rattle.std.specs.Prelude.{IfSome, OnErr, OnOk}
-use Rattle.justfile_format.specs.Outcome.{AppendsBeginning}
+use Rattle.system_run.specs.Beginning.{AppendsBeginning}
 use Rattle.justfile_ast.specs.Written.{AppendsPart}
 use Rattle.std.proofs.lemmas.List.{drop-take, drop_all, length-append, length-drop, length-take-le}
 use Rattle.std.proofs.lemmas.List.Edits.{take-paste}

@@ -10,7 +10,8 @@ use Rattle.justfile_canonical.specs.Formatting.{IsFileOf, IsFormatted, IsPrinted
 use Rattle.justfile_indentation.specs.OwnIndentation.{IsIndentedBy}
 use Rattle.justfile_format.specs.Failure.{IfRejected, IsOfFile, IsOfTextOrWriting}
 use Rattle.justfile_format.specs.Formatting.{Formats, WritesFile}
-use Rattle.justfile_format.specs.Outcome.{AppendsBeginning, FormatsBeginning, WritesFileBeginning}
+use Rattle.justfile_format.specs.Outcome.{FormatsBeginning, WritesFileBeginning}
+use Rattle.system_run.specs.Beginning.{AppendsBeginning}
 use Rattle.justfile_format.specs.declared.failure.Failure.{Failure}
 use Rattle.justfile_format.specs.declared.failure.Failure.TheVariants as failures
 

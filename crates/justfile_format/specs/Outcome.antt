@@ -1,21 +1,14 @@
 -- Why a run fails, and what it leaves.
-use Rattle.std.specs.Prelude.{◌≡◌, ◌≢◌, ℕ, List, ◌++◌, Option, IfSome, String, string_bytes}
-use Rattle.std.specs.Io.KnownBytes.{Appends}
+use Rattle.std.specs.Prelude.{◌≡◌, ◌≢◌, ℕ, List, Option, IfSome, String, string_bytes}
 use Rattle.std.specs.Str.{IsUtf8}
 use Rattle.justfile_format.specs.Arguments.{AsksCheck, AsksFormat}
 use Rattle.justfile_format.specs.Failure.{failure_text, status_of}
 use Rattle.justfile_ast.specs.declared.ast.Ast.{Ast}
 use Rattle.justfile_canonical.specs.Formatting.{IsFormatted, IsPrinted, IsUnprintable, LacksNumbers}
 use Rattle.justfile_format.specs.Formatting.{IsRejection}
+use Rattle.system_run.specs.Beginning.{AppendsBeginning}
 use Rattle.justfile_format.specs.declared.failure.Failure.{Failure}
 use Rattle.justfile_format.specs.declared.failure.Failure.TheVariants.{Usage, Reading, NotUtf8, Rejected, NotPrintable, Writing, Memory, Numbers}
-
--- If the bytes are known, the beginning of the text or all of it was appended to them.
-pub record AppendsBeginning (old new : Option (List ℕ)) (text : List ℕ) : Type 0 where
-  pub written : List ℕ
-  pub rest : List ℕ
-  pub is : text ≡ written ++ rest
-  pub appended : Appends old new written
 
 -- The text has a canonical text, and the beginning of it or all of it was written after what had been written before.
 pub record FormatsBeginning (source : List ℕ) (old new : Option (List ℕ)) : Type 0 where

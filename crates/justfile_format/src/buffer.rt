@@ -2,8 +2,8 @@
 ghost use Rattle.std.specs.Io.KnownBytes.{Appends};
 ghost use Rattle.std.specs.Prelude.{◌≡◌, ◌+◌, ◌≤◌, ◌++◌, length, take};
 
-use crate::output::write_up_to;
 use std::io::{self, ErrorKind, Write};
+use system_run::write_up_to;
 
 /// A writer that holds bytes until they are many, and then writes them to another one. Bytes that
 /// couldn't be written stay held. Nothing is written when it is dropped. It borrows its room, since

@@ -1,13 +1,13 @@
 //! Why nothing was formatted, and how that is reported.
 ghost use Rattle.std.specs.Prelude.{◌≡◌};
 ghost use Rattle.justfile_format.specs.Failure.{failure_text, status_of};
-ghost use Rattle.justfile_format.specs.Outcome.{AppendsBeginning};
+ghost use Rattle.system_run.specs.Beginning.{AppendsBeginning};
 
-use crate::output::write_up_to;
 use justfile_syntax::ast::WriteFault;
 use justfile_syntax::format::FormatFault;
 use std::alloc::{AllocError, AllocFailed};
 use std::io::Write;
+use system_run::write_up_to;
 
 /// Why nothing was formatted.
 #[derive(Debug, Drop)]
@@ -109,7 +109,7 @@ impl Failure {
 }
 
 /// Writes the failure's lines up to the first write that fails, and returns the exit status.
-#[tactic(auto, using(crate::proofs::Outcomes::front))]
+#[tactic(auto, using(system_run::proofs::Beginnings::front))]
 pub fn report<E: Write>(failure: &Failure, errors: &mut E) -> u8
     ensures status { result ≡ status_of failure.now }
     ensures written { AppendsBeginning (E.contents errors.old) (E.contents errors.new)

@@ -9,7 +9,8 @@ ghost use Rattle.justfile_indentation.specs.OwnIndentation.{HasCookedIndentation
 ghost use Rattle.justfile_format.specs.declared.failure.Failure.TheVariants as failures;
 ghost use Rattle.justfile_format.specs.Buffered.{buffered};
 ghost use Rattle.justfile_format.specs.Failure.{IfRejected, IsOfFile, IsOfText, IsOfTextOrWriting};
-ghost use Rattle.justfile_format.specs.Outcome.{AppendsBeginning, FormatsBeginning, WritesFileBeginning};
+ghost use Rattle.justfile_format.specs.Outcome.{FormatsBeginning, WritesFileBeginning};
+ghost use Rattle.system_run.specs.Beginning.{AppendsBeginning};
 ghost use Rattle.justfile_format.specs.Formatting.{Formats, IsRejection, WritesFile};
 
 use crate::buffer::Buffer;

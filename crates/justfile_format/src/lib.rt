@@ -5,6 +5,5 @@ mod buffer;
 pub mod failure;
 pub mod formatting;
 mod input;
-mod output;
 pub mod run;
 pub mod system;

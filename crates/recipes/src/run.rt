@@ -1,29 +1,47 @@
 //! A run of the program.
-ghost use Rattle.std.specs.Prelude.{◌≡◌, IfErr, IfOk, IfSome, map, string_bytes};
+ghost use Rattle.std.specs.Prelude.{◌≡◌, ◌≢◌, IfErr, IfOk, IfSome, map, string_bytes};
+ghost use Rattle.system_run.specs.Beginning.{AppendsBeginning};
 ghost use Rattle.std.specs.Io.KnownBytes.{Appends};
-ghost use Rattle.recipes.specs.Lists.{HasListing, Lists};
+ghost use Rattle.recipes.specs.Lists.{HasListing, IsCompileError, IsRefused, IsRefusal, Lists, ListsBeginning};
 
 use crate::listing::listing;
 use justfile_syntax::fault::{CompileResult, Fault};
 use justfile_syntax::outline::symbols;
 use std::alloc::Global;
 use std::io::{Read, Write};
+use system_run::write_up_to;
 
-/// Writes the list of the recipes of the reader's justfile. Returns the exit status: 0 if it was
-/// written, 1 if the text isn't a justfile, memory or numbers ran out, or reading or writing
-/// failed.
+/// The list was written.
+const LISTED: u8 = 0;
+
+/// The text isn't a justfile.
+const REFUSED: u8 = 1;
+
+/// Reading failed, or memory or numbers ran out.
+const FAILED: u8 = 2;
+
+/// A write failed.
+const UNWRITTEN: u8 = 3;
+
+/// Writes the list of the recipes of the reader's justfile, and returns the exit status: 0 if it
+/// was written, 1 if the text isn't a justfile, 2 if reading failed or memory or numbers ran out,
+/// 3 if a write failed. With 1 and 2 nothing was written, with 3 a beginning of the list.
 pub fn run<R: Read, W: Write, E: Write>(
     alloc: Global,
     reader: &mut R,
     writer: &mut W,
     errors: &mut E,
 ) -> u8
-    ensures { result ≡ 0 → IfSome (R.remaining reader.old)
+    ensures listed { result ≡ 0 → IfSome (R.remaining reader.old)
         (λ source. Lists source (W.contents writer.old) (W.contents writer.new)) }
+    ensures refused { result ≡ 1 → IfSome (R.remaining reader.old) IsRefused }
+    ensures unwritten { result ≢ 0 → result ≢ 3 → writer.new ≡ writer.old }
+    ensures part { result ≡ 3 → IfSome (R.remaining reader.old)
+        (λ source. ListsBeginning source (W.contents writer.old) (W.contents writer.new)) }
 {
     match read(alloc, reader) {
         Some(text) => write_list(alloc, text.as_str(), writer, errors),
-        None => 1,
+        None => FAILED,
     }
 }
 
@@ -39,9 +57,14 @@ fn read<R: Read>(alloc: Global, reader: &mut R) -> Option<String>
     }
 }
 
-/// Writes the list of the recipes of a justfile, or why there is none. Returns 0 or 1.
+/// Writes the list of the recipes of a justfile, or why there is none. Returns the exit status.
 fn write_list<W: Write, E: Write>(alloc: Global, source: &str, writer: &mut W, errors: &mut E) -> u8
-    ensures { result ≡ 0 → Lists source.now (W.contents writer.old) (W.contents writer.new) }
+    ensures listed { result ≡ 0
+        → Lists source.now (W.contents writer.old) (W.contents writer.new) }
+    ensures refused { result ≡ 1 → IsRefused source.now }
+    ensures unwritten { result ≢ 0 → result ≢ 3 → writer.new ≡ writer.old }
+    ensures part { result ≡ 3
+        → ListsBeginning source.now (W.contents writer.old) (W.contents writer.new) }
 {
     match list(alloc, source) {
         Ok(listing) => write(listing.as_str(), writer),
@@ -51,26 +74,36 @@ fn write_list<W: Write, E: Write>(alloc: Global, source: &str, writer: &mut W, e
 
 /// Returns the list of the recipes of a justfile.
 fn list(alloc: Global, source: &str) -> CompileResult<'_, String>
-    ensures { IfOk result (λ listing. HasListing source.now (string_bytes listing)) }
+    ensures ok { IfOk result (λ listing. HasListing source.now (string_bytes listing)) }
+    ensures err { IfErr result (IsRefusal source.now) }
 {
     let symbols = symbols(alloc, "justfile", source)?;
     Ok(listing(alloc, &symbols)?)
 }
 
-/// Writes a text. Returns 0, or 1 if a write fails.
+/// Writes a text. Returns the exit status.
+#[tactic(auto, using(system_run::proofs::Beginnings::all_of, system_run::proofs::Beginnings::front))]
 fn write<W: Write>(text: &str, writer: &mut W) -> u8
-    ensures { result ≡ 0 → Appends (W.contents writer.old) (W.contents writer.new) text.now }
+    ensures listed { result ≡ 0 → Appends (W.contents writer.old) (W.contents writer.new) text.now }
+    ensures part { result ≢ 0
+        → AppendsBeginning (W.contents writer.old) (W.contents writer.new) text.now }
+    ensures status { result ≢ 0 → result ≡ 3 }
 {
-    match writer.write_all(text.as_bytes()) {
-        Ok(()) => 0,
-        Err(_) => 1,
+    if write_up_to(text.as_bytes(), writer) == text.len() {
+        LISTED
+    } else {
+        UNWRITTEN
     }
 }
 
-/// Writes what a fault says, as far as that goes, and returns 1.
+/// Writes what a fault says, as far as that goes. Returns the exit status.
 fn report<E: Write>(fault: &Fault<'_>, errors: &mut E) -> u8
-    ensures { result ≡ 1 }
+    ensures refused { result ≡ 1 → IsCompileError fault.now }
+    ensures status { result ≢ 1 → result ≡ 2 }
 {
     let _ = write!(errors, "error: {fault}\n");
-    1
+    match fault {
+        Fault::Compile(_) => REFUSED,
+        Fault::Memory | Fault::Numbers => FAILED,
+    }
 }

@@ -1,6 +1,10 @@
-//! Runs a program on the arguments and the standard streams of the system.
+//! Runs a program on the arguments and the standard streams of the system, and writes bytes until a
+//! write fails.
 #![tactic(auto)]
 
+mod output;
+
+pub use crate::output::write_up_to;
 use std::alloc::Global;
 use std::env;
 use std::io::{self, ErrorKind, Read, Write};

@@ -6,7 +6,7 @@ use std::io::Write;
 
 /// Writes the bytes up to the first write that fails or accepts none of them, and returns how many
 /// were written. An interruption is a write that fails.
-pub(crate) fn write_up_to<W: Write>(bytes: &[u8], writer: &mut W) -> usize
+pub fn write_up_to<W: Write>(bytes: &[u8], writer: &mut W) -> usize
     ensures count { result ≤ length bytes.now }
     ensures written { Appends (W.contents writer.old) (W.contents writer.new)
         (take result bytes.now) }
