@@ -9,7 +9,7 @@ use justfile_vocabulary::{AttributeKind, ItemKind, Keyword, ListFeature, Switch,
 use std::ops::RangeInclusive;
 
 /// Why a text isn't a valid justfile.
-#[derive(Drop, PartialEq)]
+#[derive(Debug, Drop, PartialEq)]
 pub enum CompileErrorKind<'src> {
     /// The key `min` of an `arg` attribute is greater than its key `max`.
     ArgAttributeMinExceedsMax {

@@ -486,10 +486,3 @@ impl fmt::Debug for CompileError<'_> {
         write_kind(&self.kind, self.token.line, f)
     }
 }
-
-/// Writes the message of an error of this kind in the first line.
-impl fmt::Debug for CompileErrorKind<'_> {
-    fn fmt<W: fmt::Write>(&self, f: &mut fmt::Formatter<W>) -> fmt::Result {
-        write_kind(self, 0, f)
-    }
-}

@@ -1,4 +1,4 @@
-//! The words and numbers of justfiles and their texts. Nothing here depends on tokens.
+//! The words of justfiles and their texts. Nothing here depends on tokens.
 #![tactic(auto)]
 
 pub mod alternative;
