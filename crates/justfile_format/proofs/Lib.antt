@@ -1,6 +1,3 @@
-pub mod Buffers
-pub mod Failures
-pub mod Files
 pub mod Outcomes
 pub mod WholeInput
 pub mod Written

@@ -2,25 +2,12 @@
 use Rattle.std.specs.Prelude.{◌≡◌, ◌≢◌, ℕ, List, Option, IfSome, String, string_bytes}
 use Rattle.std.specs.Str.{IsUtf8}
 use Rattle.justfile_format.specs.Arguments.{AsksCheck, AsksFormat}
-use Rattle.justfile_format.specs.Failure.{failure_text, status_of}
-use Rattle.justfile_ast.specs.declared.ast.Ast.{Ast}
-use Rattle.justfile_canonical.specs.Formatting.{IsFormatted, IsPrinted, IsUnprintable, LacksNumbers}
-use Rattle.justfile_format.specs.Formatting.{IsRejection}
+use Rattle.justfile_writing.specs.Failure.{failure_text, status_of}
+use Rattle.justfile_canonical.specs.Formatting.{IsUnprintable, LacksNumbers}
+use Rattle.justfile_writing.specs.Formatting.{FormatsBeginning, IsRejection}
 use Rattle.system_run.specs.Beginning.{AppendsBeginning}
-use Rattle.justfile_format.specs.declared.failure.Failure.{Failure}
-use Rattle.justfile_format.specs.declared.failure.Failure.TheVariants.{Usage, Reading, NotUtf8, Rejected, NotPrintable, Writing, Memory, Numbers}
-
--- The text has a canonical text, and the beginning of it or all of it was written after what had been written before.
-pub record FormatsBeginning (source : List ℕ) (old new : Option (List ℕ)) : Type 0 where
-  pub canonical : List ℕ
-  pub formatted : IsFormatted source canonical
-  pub written : AppendsBeginning old new canonical
-
--- The beginning of the canonical text of the file or all of it was written after what had been written before.
-pub record WritesFileBeginning (ast : Ast) (old new : Option (List ℕ)) : Type 0 where
-  pub canonical : List ℕ
-  pub printed : IsPrinted ast canonical
-  pub written : AppendsBeginning old new canonical
+use Rattle.justfile_writing.specs.declared.failure.Failure.{Failure}
+use Rattle.justfile_writing.specs.declared.failure.Failure.TheVariants.{Usage, Reading, NotUtf8, Rejected, NotPrintable, Writing, Memory, Numbers}
 
 -- What a failure implies about the arguments, the input, and the output before and after. That reading failed or memory ran out implies
 -- nothing.

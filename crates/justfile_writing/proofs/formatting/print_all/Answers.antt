@@ -1,6 +1,6 @@
 use Rattle.std.proofs.KnownBytes.{Appends-kept}
-use Rattle.justfile_format.proofs.Buffers.{all_of, anyway, kept, part_of}
-use Rattle.justfile_format.proofs.formatting.print_all.Goals as goal
+use Rattle.justfile_writing.proofs.Buffers.{all_of, anyway, kept, part_of}
+use Rattle.justfile_writing.proofs.formatting.print_all.Goals as goal
 
 pub returns-in_err-print_to-clause-err : goal.returns-in_err-print_to-clause-err
 returns-in_err-print_to-clause-err g c = anyway c.from_residual.result (part_of _ _ _ c.in_err-print_to.ensures.err)

@@ -4,10 +4,10 @@ use Rattle.justfile_canonical.specs.Fault.{IsFormatFaultOf}
 use Rattle.justfile_canonical.specs.Formatting.{IsUnprintable, LacksNumbers}
 use Rattle.justfile_canonical.specs.declared.fault.FormatFault.{FormatFault}
 use Rattle.justfile_canonical.specs.declared.fault.FormatFault.TheVariants as faults
-use Rattle.justfile_format.specs.Failure.{IfRejected, IsOfText, IsOfTextOrWriting, failure_of}
-use Rattle.justfile_format.specs.Formatting.{IsRejection}
-use Rattle.justfile_format.specs.declared.failure.Failure.{Failure}
-use Rattle.justfile_format.specs.declared.failure.Failure.TheVariants as failures
+use Rattle.justfile_writing.specs.Failure.{IfRejected, IsOfText, IsOfTextOrWriting, failure_of}
+use Rattle.justfile_writing.specs.Formatting.{IsRejection}
+use Rattle.justfile_writing.specs.declared.failure.Failure.{Failure}
+use Rattle.justfile_writing.specs.declared.failure.Failure.TheVariants as failures
 
 pub rejected : (source : List ℕ) (fault : FormatFault) → IsFormatFaultOf (codes "justfile") source fault → IfRejected (IsRejection source) (failure_of fault)
 rejected source (faults.Rejected lines) why = why

@@ -6,12 +6,12 @@ ghost use Rattle.justfile_syntax.specs.Words.{indentation_text};
 ghost use Rattle.justfile_ast.specs.Ast.{ast_shape};
 ghost use Rattle.justfile_canonical.specs.Formatting.{IsFormatted, IsUnprintable, LacksNumbers};
 ghost use Rattle.justfile_indentation.specs.OwnIndentation.{HasCookedIndentation};
-ghost use Rattle.justfile_format.specs.declared.failure.Failure.TheVariants as failures;
-ghost use Rattle.justfile_format.specs.Buffered.{buffered};
-ghost use Rattle.justfile_format.specs.Failure.{IfRejected, IsOfFile, IsOfText, IsOfTextOrWriting};
-ghost use Rattle.justfile_format.specs.Outcome.{FormatsBeginning, WritesFileBeginning};
+ghost use Rattle.justfile_writing.specs.declared.failure.Failure.TheVariants as failures;
+ghost use Rattle.justfile_writing.specs.Buffered.{buffered};
+ghost use Rattle.justfile_writing.specs.Failure.{IfRejected, IsOfFile, IsOfText, IsOfTextOrWriting};
+ghost use Rattle.justfile_writing.specs.Formatting.{FormatsBeginning, WritesFileBeginning};
 ghost use Rattle.system_run.specs.Beginning.{AppendsBeginning};
-ghost use Rattle.justfile_format.specs.Formatting.{Formats, IsRejection, WritesFile};
+ghost use Rattle.justfile_writing.specs.Formatting.{Formats, IsRejection, WritesFile};
 
 use crate::buffer::Buffer;
 use crate::failure::Failure;

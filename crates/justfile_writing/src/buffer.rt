@@ -22,7 +22,7 @@ pub(crate) struct Buffer<'w, W> {
 
 impl<W: Write> Buffer<'_, W> {
     ghost use Rattle.std.specs.Prelude.{OnOk};
-    ghost use Rattle.justfile_format.specs.Buffered.{PassesOn, buffered};
+    ghost use Rattle.justfile_writing.specs.Buffered.{PassesOn, buffered};
 
     /// Writes the bytes that are held.
     ///
@@ -88,7 +88,7 @@ impl<W: Write> Buffer<'_, W> {
 /// What was written to the buffer: the bytes that the writer beneath got, and then those that are
 /// held.
 impl<W: Write> Write for Buffer<'_, W> {
-    ghost use Rattle.justfile_format.specs.Buffered.{buffered};
+    ghost use Rattle.justfile_writing.specs.Buffered.{buffered};
 
     ghost contents = { buffered W.contents };
 

@@ -8,12 +8,12 @@ use Rattle.justfile_ast.specs.Ast.{ast_shape, features_of, tree_of}
 use Rattle.justfile_ast.specs.declared.ast.Ast.{Ast}
 use Rattle.justfile_canonical.specs.Formatting.{IsFileOf, IsFormatted, IsPrinted, IsUnprintable, LacksNumbers}
 use Rattle.justfile_indentation.specs.OwnIndentation.{IsIndentedBy}
-use Rattle.justfile_format.specs.Failure.{IfRejected, IsOfFile, IsOfTextOrWriting}
-use Rattle.justfile_format.specs.Formatting.{Formats, WritesFile}
-use Rattle.justfile_format.specs.Outcome.{FormatsBeginning, WritesFileBeginning}
+use Rattle.justfile_writing.specs.Failure.{IfRejected, IsOfFile, IsOfTextOrWriting}
+use Rattle.justfile_writing.specs.Formatting.{Formats, WritesFile}
+use Rattle.justfile_writing.specs.Formatting.{FormatsBeginning, WritesFileBeginning}
 use Rattle.system_run.specs.Beginning.{AppendsBeginning}
-use Rattle.justfile_format.specs.declared.failure.Failure.{Failure}
-use Rattle.justfile_format.specs.declared.failure.Failure.TheVariants as failures
+use Rattle.justfile_writing.specs.declared.failure.Failure.{Failure}
+use Rattle.justfile_writing.specs.declared.failure.Failure.TheVariants as failures
 
 -- ---- a file that is printed
 

@@ -1,6 +1,6 @@
 //! Why nothing was formatted, and how that is reported.
 ghost use Rattle.std.specs.Prelude.{◌≡◌};
-ghost use Rattle.justfile_format.specs.Failure.{failure_text, status_of};
+ghost use Rattle.justfile_writing.specs.Failure.{failure_text, status_of};
 ghost use Rattle.system_run.specs.Beginning.{AppendsBeginning};
 
 use justfile_syntax::ast::WriteFault;
@@ -31,7 +31,7 @@ pub enum Failure {
 }
 
 impl From<AllocError> for Failure {
-    ghost use Rattle.justfile_format.specs.declared.failure.Failure.TheVariants.{Memory};
+    ghost use Rattle.justfile_writing.specs.declared.failure.Failure.TheVariants.{Memory};
 
     ghost from_gives = { λ _ e. e ≡ Memory };
 
@@ -41,7 +41,7 @@ impl From<AllocError> for Failure {
 }
 
 impl<T: Drop> From<AllocFailed<T>> for Failure {
-    ghost use Rattle.justfile_format.specs.declared.failure.Failure.TheVariants.{Memory};
+    ghost use Rattle.justfile_writing.specs.declared.failure.Failure.TheVariants.{Memory};
 
     ghost from_gives = { λ _ e. e ≡ Memory };
 
@@ -51,7 +51,7 @@ impl<T: Drop> From<AllocFailed<T>> for Failure {
 }
 
 impl From<FormatFault> for Failure {
-    ghost use Rattle.justfile_format.specs.Failure.{failure_of};
+    ghost use Rattle.justfile_writing.specs.Failure.{failure_of};
 
     ghost from_gives = { λ fault failure. failure ≡ failure_of fault };
 
@@ -66,7 +66,7 @@ impl From<FormatFault> for Failure {
 }
 
 impl From<WriteFault> for Failure {
-    ghost use Rattle.justfile_format.specs.declared.failure.Failure.TheVariants.{Writing};
+    ghost use Rattle.justfile_writing.specs.declared.failure.Failure.TheVariants.{Writing};
 
     ghost from_gives = { λ _ e. e ≡ Writing };
 

@@ -2,7 +2,7 @@
 use Rattle.std.specs.Prelude.{◌≡◌, ℕ, ◌+◌, ◌-◌, List, ◌∷◌, ◌++◌, Option, length, take}
 use Rattle.std.specs.Option.{option_map}
 use Rattle.std.specs.Io.KnownBytes.{Appends}
-use Rattle.justfile_format.specs.declared.buffer.Buffer.{Buffer}
+use Rattle.justfile_writing.specs.declared.buffer.Buffer.{Buffer}
 
 -- the bytes that aren't written yet
 abbrev pub held : {W : Type 0} → Buffer W → List ℕ

@@ -2,8 +2,8 @@
 use Rattle.std.specs.Prelude.{ℕ, List, codes, string_bytes}
 use Rattle.justfile_canonical.specs.declared.fault.FormatFault.{FormatFault}
 use Rattle.justfile_canonical.specs.declared.fault.FormatFault.TheVariants as faults
-use Rattle.justfile_format.specs.declared.failure.Failure.{Failure}
-use Rattle.justfile_format.specs.declared.failure.Failure.TheVariants.{Usage, Reading, NotUtf8, Rejected, NotPrintable, Writing, Memory, Numbers}
+use Rattle.justfile_writing.specs.declared.failure.Failure.{Failure}
+use Rattle.justfile_writing.specs.declared.failure.Failure.TheVariants.{Usage, Reading, NotUtf8, Rejected, NotPrintable, Writing, Memory, Numbers}
 
 -- 2 if the text is rejected or can't be printed; each other failure has the status 3
 abbrev pub status_of : Failure → ℕ

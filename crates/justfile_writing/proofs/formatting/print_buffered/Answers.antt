@@ -1,7 +1,7 @@
 use Rattle.std.proofs.Common.{refl, rules, []}
-use Rattle.justfile_format.proofs.Buffers.{emptied, ends_err, ends_ok}
-use Rattle.justfile_format.specs.Buffered.{held}
-use Rattle.justfile_format.proofs.formatting.print_buffered.Goals as goal
+use Rattle.justfile_writing.proofs.Buffers.{emptied, ends_err, ends_ok}
+use Rattle.justfile_writing.specs.Buffered.{held}
+use Rattle.justfile_writing.proofs.formatting.print_buffered.Goals as goal
 
 pub returns-clause-ok : goal.returns-clause-ok
 returns-clause-ok g c =

@@ -10,8 +10,8 @@ use lib.Seq.{paste}
 use Rattle.std.specs.Option.{option_map}
 use Rattle.std.specs.Io.KnownBytes.{Appends, Keeps}
 use Rattle.std.proofs.KnownBytes.{Appends-kept, Appends-nil}
-use Rattle.justfile_format.specs.Buffered.{PassesOn, buffered, held}
-use Rattle.justfile_format.specs.declared.buffer.Buffer.{Buffer}
+use Rattle.justfile_writing.specs.Buffered.{PassesOn, buffered, held}
+use Rattle.justfile_writing.specs.declared.buffer.Buffer.{Buffer}
 
 -- ---- by the parts of a buffer
 
