@@ -23,8 +23,8 @@ static UNKNOWN: &[(&str, usize, &str, usize)] = &[
     ("script extra", 0, "extra", 7),
 ];
 
-/// The name of an attribute, the number of its positional arguments, each of which is a variable with
-/// this name, and the text of the attribute that is made of them.
+/// The name of an attribute, the number of its positional arguments, each a variable with this name,
+/// and the text of the attribute that is made of them.
 static MADE: &[(&str, usize, &str)] = &[
     ("private", 0, "private"),
     ("doc", 0, "doc"),
