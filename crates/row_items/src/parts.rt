@@ -6,9 +6,9 @@ use row_parts::attributes::put_groups;
 use row_parts::shown::{put_expression_of, put_if, put_marked};
 use std::alloc::AllocError;
 
-/// Writes what each item has: its kind, its name, whether it is private, the kinds of its
-/// attributes, its groups, its doc, the truth of a setting, and its expressions, each with the
-/// lexeme that it begins with.
+/// Writes what each item has: its kind, its name, whether it is private, of an alias whether it is
+/// public, the kinds of its attributes, its groups, its doc, the truth of a setting, and its
+/// expressions, each with the lexeme that it begins with.
 pub(crate) fn parts(items: &[Item<'_>], answer: &mut Answer) {
     for item in items {
         push_parts(item, answer);
@@ -20,6 +20,7 @@ fn push_parts(item: &Item<'_>, answer: &mut Answer) {
     shown.put_made(item.kind().to_string(answer.alloc()));
     put_item_name(item, &mut shown);
     put_if(&mut shown, " private", item.is_private());
+    put_public(item, &mut shown);
     put_kinds(item, &mut shown);
     put_item_doc(item, &mut shown);
     put_truth(item, &mut shown);
@@ -33,6 +34,13 @@ fn push_parts(item: &Item<'_>, answer: &mut Answer) {
 fn put_item_name(item: &Item<'_>, shown: &mut Text) {
     if let Some(name) = item.name() {
         put_marked(shown, " name ", name.lexeme());
+    }
+}
+
+/// Writes whether an alias is public.
+fn put_public(item: &Item<'_>, shown: &mut Text) {
+    if let Item::Alias(alias) = item {
+        put_if(shown, " public", alias.is_public());
     }
 }
 

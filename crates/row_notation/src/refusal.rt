@@ -18,7 +18,7 @@ pub fn place_after(text: &str, before: &str) -> (usize, usize) {
     (line, before.len() - start)
 }
 
-/// Returns a kind of error that holds the name of a key.
+/// Returns the name of a kind of error with what it holds, a key with its offset.
 fn kind_with_key(alloc: Global, kind: &CompileErrorKind<'_>) -> Result<String, AllocError> {
     match kind {
         CompileErrorKind::ArgAttributeRequiresMultipleOrVariadic { key } => {
@@ -70,7 +70,8 @@ fn kind_of_group(
     )
 }
 
-/// Returns a kind of error about settings and paths of files.
+/// Returns the name of a kind of error with what it holds, in one about settings and paths of files
+/// a token with its offset and a version as it is displayed.
 fn kind_of_setting(alloc: Global, kind: &CompileErrorKind<'_>) -> Result<String, AllocError> {
     match kind {
         CompileErrorKind::ExpectedKeyword { expected, found } => {

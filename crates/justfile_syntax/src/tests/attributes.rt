@@ -1,4 +1,4 @@
-//! Attributes made with keys that the parser never passes for their kind.
+//! Attributes made of expressions, and with keys that the parser never passes for their kind.
 
 use crate::attribute::{Attribute, AttributeKind, KeywordArguments};
 use crate::compile_error::CompileError;
@@ -21,6 +21,20 @@ static UNKNOWN: &[(&str, usize, &str, usize)] = &[
     ("working-directory b", 1, "b", 18),
     ("private long", 0, "long", 8),
     ("script extra", 0, "extra", 7),
+];
+
+/// The name of an attribute, the number of its positional arguments, each a variable with this name,
+/// and the text of the attribute that is made of them.
+static MADE: &[(&str, usize, &str)] = &[
+    ("private", 0, "private"),
+    ("doc", 0, "doc"),
+    ("doc", 1, "doc(doc)"),
+    ("env", 2, "env(env, env)"),
+    (
+        "working-directory",
+        1,
+        "working-directory(working-directory)",
+    ),
 ];
 
 /// Makes `count` positional arguments, each a variable with this name.
@@ -49,7 +63,13 @@ fn keys<'src>(rt: &impl Abort, alloc: Global, names: &[Name<'src>]) -> KeywordAr
 }
 
 /// Checks that an error is about an unknown key `wanted` of the attribute `of`, at this offset.
-fn compare_error(rt: &impl Abort, error: &CompileError<'_>, of: &str, wanted: &str, at: usize) {
+fn compare_error(
+    rt: &impl Abort,
+    error: &CompileError<'_>,
+    of: &str,
+    wanted: &str,
+    at: Option<usize>,
+) {
     match &error.kind {
         CompileErrorKind::UnknownAttributeKey { attribute, key } => {
             same_text(rt, wanted, attribute, of);
@@ -57,22 +77,46 @@ fn compare_error(rt: &impl Abort, error: &CompileError<'_>, of: &str, wanted: &s
         }
         _ => panic!(rt; "{wanted:?}"),
     }
-    same(rt, wanted, &error.token.offset, &at);
+    same(rt, wanted, &Some(error.token.offset), &at);
 }
 
-/// Checks that the attribute with this name and these keys is refused for one of the keys.
-fn compare_refused<'src>(
+/// Checks that an attribute has this text.
+fn compare_text(rt: &impl Abort, alloc: Global, attribute: &Attribute<'_>, wanted: &str) {
+    let text = attribute.to_string(alloc).expect(rt, wanted);
+    same_text(rt, wanted, text.as_str(), wanted);
+}
+
+/// Checks that the attribute with this name and these keys is refused for the key `wanted` at an
+/// offset, or without an offset that it has the text `wanted`.
+fn compare_new<'src>(
     rt: &impl Abort,
     alloc: Global,
     name: Name<'src>,
     others: &[Name<'src>],
-    (count, wanted, at): (usize, &str, usize),
+    (count, wanted, at): (usize, &str, Option<usize>),
 ) {
     let kind = AttributeKind::from_name(name.lexeme()).expect(rt, name.lexeme());
     let arguments = arguments(rt, alloc, name, count);
     match Attribute::new(alloc, name, kind, arguments, keys(rt, alloc, others)) {
+        Ok(attribute) => compare_text(rt, alloc, &attribute, wanted),
         Err(Fault::Compile(error)) => compare_error(rt, &error, name.lexeme(), wanted, at),
-        _ => panic!(rt; "{wanted:?}"),
+        Err(_) => panic!(rt; "{wanted:?}"),
+    }
+}
+
+/// Checks the attribute of a text, in which keys follow the name, as `compare_new` does.
+fn compare(rt: &impl Abort, alloc: Global, text: &str, wanted: (usize, &str, Option<usize>)) {
+    match names(rt, alloc, text).as_slice() {
+        [name, others @ ..] => compare_new(rt, alloc, *name, others, wanted),
+        [] => panic!(rt; "no name"),
+    }
+}
+
+#[test]
+fn attributes_are_made_of_expressions(rt: HostRuntime) {
+    let alloc = rt.alloc();
+    for (text, count, wanted) in MADE {
+        compare(&rt, alloc, text, (*count, *wanted, None));
     }
 }
 
@@ -80,11 +124,6 @@ fn compare_refused<'src>(
 fn keys_that_a_kind_does_not_take(rt: HostRuntime) {
     let alloc = rt.alloc();
     for (text, count, wanted, at) in UNKNOWN {
-        match names(&rt, alloc, text).as_slice() {
-            [name, others @ ..] => {
-                compare_refused(&rt, alloc, *name, others, (*count, *wanted, *at));
-            }
-            [] => panic!(&rt; "no name"),
-        }
+        compare(&rt, alloc, text, (*count, *wanted, Some(*at)));
     }
 }
