@@ -1,13 +1,13 @@
 //! Writing a file in place.
 
 use crate::new_file::create_beside;
+use crate::opened::Opened;
 use crate::replace::bars_replacing;
-use crate::unchanged::check_unchanged;
 use justfile_files::folder::ReplaceError;
 use std::alloc::Global;
 use std::env;
 use std::fs::{self, OpenFile};
-use std::io::{self, Error, Write};
+use std::io::{self, Write};
 use std::os::unix::fs::FileExt;
 
 /// Writes a text over that of an open file, of which a copy is kept meanwhile. If writing fails,
@@ -15,42 +15,35 @@ use std::os::unix::fs::FileExt;
 pub(crate) fn write_in_place(
     rt: &HostRuntime,
     alloc: Global,
-    path: &str,
-    file: &fs::File,
-    source: &str,
+    opened: Opened<'_>,
     text: &str,
 ) -> Result<(), ReplaceError> {
-    let copy = keep_copy(rt, alloc, path, source)?;
-    let written = write_over(rt, alloc, path, file, source, text, copy.as_str());
+    let copy = keep_copy(rt, alloc, opened)?;
+    let written = write_over(rt, alloc, opened, text, copy.as_str());
     if !matches!(&written, Err(ReplaceError::Other(_))) {
         let _ = fs::remove_file(rt, copy.as_str());
     }
     written
 }
 
-/// Writes a text over that of an open file.
+/// Writes a text over that of an open file, or puts it back.
 fn write_over(
     rt: &HostRuntime,
     alloc: Global,
-    path: &str,
-    file: &fs::File,
-    source: &str,
+    opened: Opened<'_>,
     text: &str,
     copy: &str,
 ) -> Result<(), ReplaceError> {
-    check_unchanged(rt, path, file, source)?;
-    let Err(error) = overwrite(file, source.len(), text) else {
+    // made first, since there may be no memory for it later
+    let lost = format!(in alloc; "can't be put back: its text is in {copy}")?;
+    opened.check_unchanged(rt)?;
+    let Err(error) = overwrite(opened.file, opened.source.len(), text) else {
         return Ok(());
     };
-    match put_back(file, source) {
+    match put_back(opened.file, opened.source) {
         Ok(()) => Err(ReplaceError::System(error)),
-        Err(_) => Err(ReplaceError::Other(lost(alloc, error, copy)?)),
+        Err(_) => Err(ReplaceError::Other(lost)),
     }
-}
-
-/// Returns the words that tell where the text of a file is that can't be put back.
-fn lost(alloc: Global, error: Error, copy: &str) -> Result<String, ReplaceError> {
-    Ok(format!(in alloc; "can't be replaced: {error}; its text is in {copy}")?)
 }
 
 /// Writes a text over the bytes of a file. What is longer than these comes first, so that a full
@@ -73,14 +66,9 @@ fn put_back(file: &fs::File, source: &str) -> io::Result<()> {
 
 /// Writes the text of a file into a new one beside it, as far as the disk, or into one in the folder
 /// of temporary files if none can be made there. Returns its path.
-fn keep_copy(
-    rt: &HostRuntime,
-    alloc: Global,
-    path: &str,
-    source: &str,
-) -> Result<String, ReplaceError> {
-    let (mut file, copy) = create_copy(rt, alloc, path)?;
-    match write_copy(&mut file, source) {
+fn keep_copy(rt: &HostRuntime, alloc: Global, opened: Opened<'_>) -> Result<String, ReplaceError> {
+    let (mut file, copy) = create_copy(rt, alloc, opened.path)?;
+    match write_copy(&mut file, opened.source) {
         Ok(()) => Ok(copy),
         Err(error) => {
             let _ = fs::remove_file(rt, copy.as_str());

@@ -4,8 +4,8 @@
 pub mod file_system;
 mod in_place;
 mod new_file;
+mod opened;
 mod replace;
 mod search;
-mod unchanged;
 
 pub use search::find_justfile;

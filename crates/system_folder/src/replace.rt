@@ -2,14 +2,14 @@
 
 use crate::in_place::write_in_place;
 use crate::new_file::create_beside;
-use crate::unchanged::check_unchanged;
+use crate::opened::Opened;
 use justfile_files::folder::ReplaceError;
 use std::alloc::Global;
 use std::fs::{self, Files, Metadata, OpenFile, OpenOptions};
 use std::io::{self, Error, ErrorKind, Write};
 use std::os::unix::fs::MetadataExt;
 
-/// Replaces the text of the file that a path leads to.
+/// Replaces the text of the file that a name leads to.
 pub(crate) fn replace_file(
     rt: &HostRuntime,
     alloc: Global,
@@ -17,19 +17,25 @@ pub(crate) fn replace_file(
     source: &str,
     text: &str,
 ) -> Result<(), ReplaceError> {
-    let path = target_of(rt, alloc, name)?;
-    let file = open_plain(rt, path.as_str())?;
-    check_unchanged(rt, path.as_str(), &file, source)?;
-    if replace_whole(rt, alloc, path.as_str(), &file, source, text)? {
+    let target = target_of(rt, alloc, name)?;
+    let path = target.as_str();
+    let file = open_plain(rt, path)?;
+    let opened = Opened {
+        path,
+        file: &file,
+        source,
+    };
+    opened.check_unchanged(rt)?;
+    if replace_whole(rt, alloc, opened, text)? {
         return Ok(());
     }
-    write_in_place(rt, alloc, path.as_str(), &file, source, text)
+    write_in_place(rt, alloc, opened, text)
 }
 
 /// Returns the path that a link leads to, or the name itself if it is none.
 fn target_of(rt: &HostRuntime, alloc: Global, name: &str) -> io::Result<String> {
     if fs::symlink_metadata(rt, name)?.is_symlink() {
-        // a path that can't be told is written in place
+        // a file whose path can't be told is written in place
         if let Ok(path) = fs::canonicalize(rt, name) {
             return Ok(path.into_string());
         }
@@ -59,39 +65,24 @@ fn check_plain(metadata: &Metadata) -> io::Result<()> {
 fn replace_whole(
     rt: &HostRuntime,
     alloc: Global,
-    path: &str,
-    file: &fs::File,
-    source: &str,
+    opened: Opened<'_>,
     text: &str,
 ) -> Result<bool, ReplaceError> {
-    let old = file.metadata()?;
-    if !may_be_replaced(rt, path, &old)? {
+    let old = opened.file.metadata()?;
+    if !may_be_replaced(rt, opened.path, &old)? {
         return Ok(false);
     }
-    let (mut new, beside) = match create_beside(rt, alloc, path, "new") {
+    let (mut new, beside) = match create_beside(rt, alloc, opened.path, "new") {
         Ok(made) => made,
         Err(error) => return unless_barred(error),
     };
-    let replaced = put_in_place(
-        rt,
-        &mut new,
-        beside.as_str(),
-        path,
-        file,
-        &old,
-        source,
-        text,
-    );
+    let replaced = put_in_place(rt, &mut new, beside.as_str(), opened, &old, text);
+    if !matches!(&replaced, Ok(true)) {
+        let _ = fs::remove_file(rt, beside.as_str());
+    }
     match replaced {
-        Ok(true) => Ok(true),
-        Ok(false) => {
-            let _ = fs::remove_file(rt, beside.as_str());
-            Ok(false)
-        }
-        Err(error) => {
-            let _ = fs::remove_file(rt, beside.as_str());
-            unless_barred(error)
-        }
+        Err(error) => unless_barred(error),
+        ended => ended,
     }
 }
 
@@ -106,16 +97,14 @@ fn may_be_replaced(rt: &HostRuntime, path: &str, old: &Metadata) -> io::Result<b
     Ok((mode >> 3) & 0o7 == mode & 0o7)
 }
 
-/// Writes a new file and renames it to a path. Returns whether it did: not where the old file has
-/// another owner or group.
+/// Writes a new file and renames it to the path of the old one. Returns whether it did: not where
+/// the old one has another owner or group.
 fn put_in_place(
     rt: &HostRuntime,
     new: &mut fs::File,
     beside: &str,
-    path: &str,
-    file: &fs::File,
+    opened: Opened<'_>,
     old: &Metadata,
-    source: &str,
     text: &str,
 ) -> Result<bool, ReplaceError> {
     let made = new.metadata()?;
@@ -123,8 +112,8 @@ fn put_in_place(
         return Ok(false);
     }
     write_new(new, old, text)?;
-    check_unchanged(rt, path, file, source)?;
-    fs::rename(rt, beside, path)?;
+    opened.check_unchanged(rt)?;
+    fs::rename(rt, beside, opened.path)?;
     Ok(true)
 }
 
