@@ -5,3 +5,4 @@ pub mod FileResult
 pub mod Outcome
 pub mod Question
 pub mod Request
+pub mod Stream

@@ -12,3 +12,4 @@ pub mod question;
 mod report;
 pub mod request;
 pub mod run;
+pub mod stream;

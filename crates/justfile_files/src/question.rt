@@ -8,13 +8,16 @@ pub const HELP: &str = "\
 Formats justfiles.
 
 usage: justfiles [--check | --diff] [--] [FILE..]
+       justfiles [--check | --diff] [--name FILE] -
 
 without an option  formats the files in place
 --check            writes the name of each file that isn't formatted
 --diff             writes what formatting would change, as `patch -p0` takes it
+--name FILE        the name of standard input in messages
 --help, --version  write this text, and the version of the language
 
-Without a FILE it takes the justfile that `just` would find. The status is 0 if all files are
+Without a FILE it takes the justfile that `just` would find, and for - standard input, whose formatted
+text it writes to standard output. The status is 0 if all files are
 formatted, 1 if one isn't, 2 if one is no justfile, and 3 if anything else fails.
 ";
 

@@ -7,5 +7,6 @@ mod new_file;
 mod opened;
 mod replace;
 mod search;
+pub mod stream;
 
 pub use search::find_justfile;
