@@ -70,7 +70,7 @@ done
 
 put -- "$formatted"; put -n.just "$unformatted"; put - "$unformatted"
 run -n.just; row 'a name with - is no name without --' "$status $(cat ../errors)" '3 usage: justfiles [--check | --diff] [FILE..]'
-run -; row '- is no file without --' "$status" 3
+run - < /dev/null; row '- is no file without --' "$status $(text -)" "0 $unformatted."
 run -- - -n.just; row 'after -- both are files' "$status $(text -)$(text -n.just)" "0 $formatted.$formatted."
 run --check --diff x; row 'two options' "$status" 3
 rm -- -- - -n.just
@@ -80,6 +80,18 @@ mkdir -p below/below; put .JustFile "$unformatted"
 (cd below/below && justfiles); row 'and formatted' "$? $(text .JustFile)" "0 $formatted."
 put justfile "$unformatted"; run; row 'not where a folder has two' "$status $(text justfile)" "3 $unformatted."
 rm -r .JustFile justfile below
+stream() {
+    printf '%s' "$1" > ../input; shift; justfiles "$@" < ../input > ../output 2> ../errors
+    status=$?
+}
+stream "$unformatted" -; row '- formats standard input' "$status $(text ../output)" "0 $formatted."
+stream "$formatted" -; row 'and writes what is formatted' "$status $(text ../output)" "0 $formatted."
+stream "$unformatted" --check --name a.just -; row '--check with a name' "$status $(cat ../output)" '1 a.just'
+stream "$formatted" --check -; row '--check of a formatted stream' "$status $(cat ../output)" '0 '
+stream "$unformatted" --diff --name 'a b' -; row '--diff with a name' "$status $(head -n 1 ../output)" '1 --- "a b"'
+stream "$broken" --name x.just -; row 'a rejected stream' "$status $(text ../output) $(grep -c 'x.just:1:16$' ../errors)" '2 . 1'
+stream "$unformatted" --name -; row 'a name without a stream' "$status $(cat ../output)" '3 '
+justfiles - < ../input > /dev/full 2> ../errors; row 'a stream that cannot be written' "$? $(grep -c '^error: ' ../errors)" '3 1'
 run --help; row '--help' "$status $(grep -c '^usage: justfiles ' ../output) $(cat ../errors)" '0 1 '
 run --version; row '--version' "$status $(grep -c '^justfiles' ../output) $(cat ../errors)" '0 1 '
 
@@ -295,6 +307,16 @@ git add justfile; put justfile "$unformatted"; put other.txt x; git add other.tx
 row 'and not what is unformatted after' "$status" 0
 git checkout -q justfile; put justfile "$broken"; git add justfile; commit
 row 'it tells a rejected file, with its place' "$status $(grep -c 'justfile:1:16$' ../errors)" '1 1'
+git reset -q --hard; put justfile "$unformatted"; git add justfile; commit
+row 'and says what to run' "$status $(grep -c '(run: justfiles justfile && git add justfile)$' ../errors)" '1 1'
+git reset -q --hard; echo '*.just text eol=crlf' > .gitattributes; put crlf.just "$formatted"; git add .; commit
+row 'a formatted file that git converts' "$status" 0
+git rm -qf .gitattributes crlf.just; commit
+mkdir ../relative; (TMPDIR=../relative; export TMPDIR; put justfile "$formatted
+"; git add justfile; commit); row 'nothing stays in a relative TMPDIR' "$(ls ../relative)" ''
+git reset -q --hard; put "$(printf 'b\377d.just')" "$formatted"; git add .; commit
+row 'a name that is not UTF-8 is told' "$status $(LC_ALL=C grep -ac "$(printf 'rejected: b\377d.just')" ../errors)" '1 1'
+git reset -q; rm -f b*d.just
 git reset -q --hard; git rm -q 'with blank.just'; commit; row 'a file that is deleted' "$status" 0
 git mv "quote's.just" renamed.just; commit; row 'a file that is renamed' "$status" 0
 git mv renamed.just again.just; put again.just "$unformatted"; git add .; commit
