@@ -263,7 +263,7 @@ if command -v vim > /dev/null; then
     row 'Vim saves a rejected file' "$(text justfile)" "$broken."
     row 'and shows its error and place after its own message' "$(grep -v '^$' ../messages | tail -n 2 | sed 's/^".*written$/written/')" \
         "written
-error: expected '*', identifier, or '(', but found end of line at 1:16"
+1:16 error: expected '*', identifier, or '(', but found end of line"
     put justfile 'a:="1"
 
 
