@@ -3,14 +3,15 @@
 # scratch repository: files.sh [PROGRAM]
 #
 # Each row is what is tried and how it ended. Ends with 1 if something ended otherwise than it should.
-# What needs another user or a small file system is tried only by root, and the function for Vim only
-# where there is Vim. Needs git and patch.
+# What needs another user or a small file system is tried only by root, system calls that fail only where
+# there is strace, access lists where there is setfacl, and the function for Vim where there is Vim. Needs
+# git and patch.
 set -u
 top=$(cd "$(dirname "$0")/.." && pwd)
 program=${1:-$top/crates/justfiles/out/justfiles}
 [ -x "$program" ] || { echo "files.sh: no program $program: rt run in crates/justfiles builds it" >&2; exit 2; }
 work=$(mktemp -d) || exit 2
-trap 'umount "$work/small" 2> /dev/null; chmod -R u+w "$work"; rm -rf "$work"' EXIT
+trap 'umount "$work/small" "$work/files/mounted.just" 2> /dev/null; chmod -R u+w "$work"; rm -rf "$work"' EXIT
 mkdir "$work/bin" && cp "$program" "$work/bin/justfiles" && cd "$work" && mkdir files && cd files || exit 2
 PATH=$work/bin:$PATH
 unformatted='name:="x"
@@ -68,13 +69,31 @@ line.just' 'tab	.just' ' blanks ' 'üñí.just'; do
 done
 
 put -- "$formatted"; put -n.just "$unformatted"; put - "$unformatted"
-run -n.just; row 'a name with - is no name without --' "$status $(cat ../errors)" '3 usage: justfiles [--check | --diff] FILE..'
-run -; row '- is no file without --' "$status" 3
+run -n.just; row 'a name with - is no name without --' "$status $(cat ../errors)" '3 usage: justfiles [--check | --diff] [FILE..]'
+run - < /dev/null; row '- is no file without --' "$status $(text -)" "0 $unformatted."
 run -- - -n.just; row 'after -- both are files' "$status $(text -)$(text -n.just)" "0 $formatted.$formatted."
-run; row 'no file' "$status $(cat ../errors)" '3 usage: justfiles [--check | --diff] FILE..'
-run --check; row '--check without a file' "$status" 3
 run --check --diff x; row 'two options' "$status" 3
 rm -- -- - -n.just
+run; row 'no file, and no justfile here or above' "$status $(cat ../errors)" '3 error: no justfile found'
+mkdir -p below/below; put .JustFile "$unformatted"
+(cd below/below && justfiles --check) > ../output; row 'without a file the justfile above is checked' "$? $(cat ../output)" '1 ../../.JustFile'
+(cd below/below && justfiles); row 'and formatted' "$? $(text .JustFile)" "0 $formatted."
+put justfile "$unformatted"; run; row 'not where a folder has two' "$status $(text justfile)" "3 $unformatted."
+rm -r .JustFile justfile below
+stream() {
+    printf '%s' "$1" > ../input; shift; justfiles "$@" < ../input > ../output 2> ../errors
+    status=$?
+}
+stream "$unformatted" -; row '- formats standard input' "$status $(text ../output)" "0 $formatted."
+stream "$formatted" -; row 'and writes what is formatted' "$status $(text ../output)" "0 $formatted."
+stream "$unformatted" --check --name a.just -; row '--check with a name' "$status $(cat ../output)" '1 a.just'
+stream "$formatted" --check -; row '--check of a formatted stream' "$status $(cat ../output)" '0 '
+stream "$unformatted" --diff --name 'a b' -; row '--diff with a name' "$status $(head -n 1 ../output)" '1 --- "a b"'
+stream "$broken" --name x.just -; row 'a rejected stream' "$status $(text ../output) $(grep -c 'x.just:1:16$' ../errors)" '2 . 1'
+stream "$unformatted" --name -; row 'a name without a stream' "$status $(cat ../output)" '3 '
+justfiles - < ../input > /dev/full 2> ../errors; row 'a stream that cannot be written' "$? $(grep -c '^error: ' ../errors)" '3 1'
+run --help; row '--help' "$status $(grep -c '^usage: justfiles ' ../output) $(cat ../errors)" '0 1 '
+run --version; row '--version' "$status $(grep -c '^justfiles' ../output) $(cat ../errors)" '0 1 '
 
 put a.just "$unformatted"; put b.just "$broken"; put c.just "$formatted"; put d.just "$unformatted"
 run a.just b.just missing.just c.just d.just
@@ -105,9 +124,93 @@ mkdir sub; put sub/target.just "$unformatted"; ln -s sub/target.just link.just; 
 run link.just
 row 'a link stays, and its file is formatted' "$status $(readlink link.just) $(text sub/target.just)" "0 sub/target.just $formatted."
 run dangling.just; row 'a link to nothing' "$status $(readlink dangling.just)" '3 nowhere'
-put mode.just "$unformatted"; chmod 754 mode.just; run mode.just
-row 'permissions stay' "$status $(stat -c %a mode.just)" '0 754'
-row 'no other file is left over' "$(ls -A | grep -c '\.new$')" 0
+for mode in 644 600 755 754 664 640; do
+    put mode.just "$unformatted"; chmod $mode mode.just; run mode.just
+    row "permissions stay: $mode" "$status $(stat -c %a mode.just) $(text mode.just)" "0 $mode $formatted."
+done
+printf '\357\273\277name:="x"\n' > mark.just; run mark.just
+row 'a byte order mark is dropped' "$status $(text mark.just)" "0 $formatted."
+
+# what is lost by replacing a file is kept by writing it in place
+place() {
+    inode=$(stat -c '%i %u %g %a' "$2"); run "$2"
+    row "$1 is written in place" "$status $(text "$2")$(stat -c '%i %u %g %a' "$2")" "0 $formatted.$inode"
+}
+put hard.just "$unformatted"; ln hard.just also.just; place 'a file with two links' hard.just
+row 'and its other name has the text' "$(text also.just)" "$formatted."
+put group.just "$unformatted"; chmod 660 group.just; place 'a file whose group may do more than others' group.just
+long=$(printf '%0250d' 0).just; put "$long" "$unformatted"; place 'a file with a long name' "$long"; rm "$long"
+if command -v setfacl > /dev/null && setfacl -m u:1:rw mode.just 2> /dev/null; then
+    put list.just "$unformatted"; chmod 600 list.just; setfacl -m u:1:rw list.just; before=$(getfacl -p list.just)
+    place 'a file with an access list' list.just
+    row 'and the list stays' "$(getfacl -p list.just)" "$before"
+    mkdir lists; setfacl -d -m u:1:rwx lists; put lists/a.just "$unformatted"; chmod 600 lists/a.just; run lists/a.just
+    row 'a list of the folder gives no more than the mode' "$status $(getfacl -pc lists/a.just | sed -n 's/^user:[^:].*effective:/list /p')$(stat -c %a lists/a.just)" '0 list ---600'
+fi
+put full.just "$unformatted"; i=0; while [ $i -lt 100 ]; do : > full.just.$i.new; i=$((i + 1)); done; run full.just
+row 'what is in the way is named' "$status $(text full.just)$(cat ../errors)" "3 $unformatted.error: full.just: can't be replaced: full.just.0.new to full.just.99.new are in the way"
+rm full.just.1.new; run full.just
+row 'and what is left over is passed' "$status $(text full.just)$(ls full.just.*.new | wc -l)" "0 $formatted.99"
+rm full.just.*.new
+put secret 'a secret'; put planted.just "$unformatted"; ln -s secret planted.just.0.new; run planted.just
+row 'a link at the name of the new file is not followed' "$status $(text planted.just)$(text secret)" "0 $formatted.a secret."
+rm planted.just.0.new
+row 'no other file is left over' "$(ls -A | grep -c '\.new$\|\.old$')" 0
+
+# an output that goes away
+mkdir many; i=0; while [ $i -lt 3000 ]; do put "many/a-name-that-is-long-enough-$i.just" "$unformatted"; i=$((i + 1)); done
+for option in --check --diff; do
+    { justfiles $option many/*.just 2> ../errors; echo $? > ../status; } | head -n 1 > ../output
+    row "$option into head: it stops" "$(cat ../status) $(cat ../errors)$(wc -l < ../output)" '3 1'
+done
+rm -r many
+
+# system calls that fail, are slow, or kill the program
+traced() {
+    LC_ALL=C strace -f -o ../trace "$@" 2> ../errors > ../output
+}
+if command -v strace > /dev/null && traced true; then
+    put kept.just "$unformatted"
+    traced -e trace=chown,lchown,fchown,fchownat,chmod,fchmodat justfiles kept.just
+    row 'no owner and no mode is set by a name' "$? $(grep -c 'ch[mo]' ../trace)" '0 0'
+    put saved.just "$unformatted"; { sleep 0.5; put saved.just 'b := "y"
+'; } &
+    traced -e inject=fsync:delay_enter=1500000 justfiles saved.just; status=$?; wait
+    row 'what is saved meanwhile stays' "$status $(text saved.just)$(cat ../errors)" '3 b := "y"
+.error: saved.just: changed meanwhile'
+    put other.just 'b := "y"
+'; put saved.just "$unformatted"; { sleep 0.5; mv other.just saved.just; } &
+    traced -e inject=fsync:delay_enter=1500000 justfiles saved.just; status=$?; wait
+    row 'and what is put in its place' "$status $(text saved.just)" '3 b := "y"
+.'
+    put swapped.just "$unformatted"; chmod 600 secret; { sleep 0.5; ln -sf secret swapped.just.0.new; } &
+    traced -e inject=fchmod:delay_enter=1500000 justfiles swapped.just; wait
+    row 'a link that is put in the place of the new file' "$(text secret)$(stat -c %a secret)" 'a secret.600'
+    rm -f swapped.just*; put whole.just "$unformatted"; put linked.just "$unformatted"; ln linked.just linked.too
+    for file in whole.just linked.just; do
+        wrong=
+        for call in openat read write pwrite64 fsync ftruncate fchmod rename fstat newfstatat unlink; do
+            for number in 1 2 3 4 5 6 7 8; do
+                for fault in error=ENOSPC error=EIO signal=KILL; do
+                    put $file "$unformatted"; rm -f $file.*
+                    (traced -e inject=$call:$fault:when=$number justfiles $file) 2> /dev/null
+                    got=$(text $file)
+                    copy=$(text $file.0.old 2> /dev/null)
+                    case $got in
+                    "$unformatted." | "$formatted.") continue ;;
+                    esac
+                    [ "$copy" = "$unformatted." ] || wrong="$wrong $call:$fault:$number"
+                done
+            done
+        done
+        row "each system call fails or kills: $file is as it was, formatted or beside it" "$wrong" ''
+        rm -f $file.*
+    done
+    put linked.just "$unformatted"
+    traced -e inject=pwrite64:error=EIO:when=2+ justfiles linked.just
+    row 'an error names the copy of what cannot be put back' "$? $(text linked.just.0.old)$(grep -c 'its text is in linked.just.0.old' ../errors)" "3 $unformatted.1"
+    rm -f linked.*
+fi
 
 # files may have one block
 i=0; : > big.just; while [ $i -lt 200 ]; do echo "name$i:='some text that is long enough'"; i=$((i + 1)); done >> big.just
@@ -119,7 +222,12 @@ if [ "$(id -u)" = 0 ] && mkdir ../small && mount -t tmpfs -o size=16k none ../sm
     cp ../kept ../small/big.just; run ../small/big.just
     row 'on a full disk a file is left as it was' "$status $(cmp ../small/big.just ../kept && echo same)" '3 same'
     row 'and no other file' "$(ls -A ../small | wc -l) $(grep -c '^error: ../small/big.just: ' ../errors)" '1 1'
+    ln ../small/big.just ../small/also.just; run ../small/big.just
+    row 'one that is written in place too' "$status $(cmp ../small/big.just ../kept && echo same) $(ls -A ../small | wc -l)" '3 same 2'
     umount ../small
+    put mounted.just "$unformatted"; put shown.just "$unformatted"; mount --bind shown.just mounted.just
+    run mounted.just; umount mounted.just
+    row 'a mounted file' "$status $(text shown.just)$(text mounted.just)" "0 $formatted.$unformatted."
 fi
 justfiles --diff big.just > /dev/full 2> ../errors; row 'a report that cannot be written' "$?" 3
 row 'and an error that says so' "$(grep -c '^error: big.just: ' ../errors)" 1
@@ -134,8 +242,11 @@ if [ "$(id -u)" = 0 ] && command -v setpriv > /dev/null; then
     row 'no permission to write the file' "$? $(text other/readonly.just)" "3 $unformatted."
     chmod 666 other/readonly.just; chmod 555 other
     as_nobody other/readonly.just
-    row 'no permission to write its folder' "$? $(text other/readonly.just)" "3 $unformatted."
-    chmod 777 other; chmod 000 other/readonly.just
+    row 'no permission to write its folder' "$? $(text other/readonly.just)$(ls "${TMPDIR:-/tmp}" | grep -c '^justfiles.*old$')" "0 $formatted.0"
+    put other/readonly.just "$unformatted"; chmod 777 other
+    as_nobody other/readonly.just
+    row 'a file of another owner' "$? $(text other/readonly.just)$(stat -c '%u %g %a' other/readonly.just)" "0 $formatted.0 0 666"
+    put other/readonly.just "$unformatted"; chmod 000 other/readonly.just
     as_nobody other/readonly.just
     row 'no permission to read the file' "$?" 3
     chown 65534:65534 other/readonly.just; chmod 640 other/readonly.just; justfiles other/readonly.just
@@ -152,7 +263,7 @@ if command -v vim > /dev/null; then
     row 'Vim saves a rejected file' "$(text justfile)" "$broken."
     row 'and shows its error and place after its own message' "$(grep -v '^$' ../messages | tail -n 2 | sed 's/^".*written$/written/')" \
         "written
-error: expected '*', identifier, or '(', but found end of line at 1:16"
+1:16 error: expected '*', identifier, or '(', but found end of line"
     put justfile 'a:="1"
 
 
@@ -196,6 +307,16 @@ git add justfile; put justfile "$unformatted"; put other.txt x; git add other.tx
 row 'and not what is unformatted after' "$status" 0
 git checkout -q justfile; put justfile "$broken"; git add justfile; commit
 row 'it tells a rejected file, with its place' "$status $(grep -c 'justfile:1:16$' ../errors)" '1 1'
+git reset -q --hard; put justfile "$unformatted"; git add justfile; commit
+row 'and says what to run' "$status $(grep -c '(run: justfiles justfile && git add justfile)$' ../errors)" '1 1'
+git reset -q --hard; echo '*.just text eol=crlf' > .gitattributes; put crlf.just "$formatted"; git add .; commit
+row 'a formatted file that git converts' "$status" 0
+git rm -qf .gitattributes crlf.just; commit
+mkdir ../relative; (TMPDIR=../relative; export TMPDIR; put justfile "$formatted
+"; git add justfile; commit); row 'nothing stays in a relative TMPDIR' "$(ls ../relative)" ''
+git reset -q --hard; put "$(printf 'b\377d.just')" "$formatted"; git add .; commit
+row 'a name that is not UTF-8 is told' "$status $(LC_ALL=C grep -ac "$(printf 'rejected: b\377d.just')" ../errors)" '1 1'
+git reset -q; rm -f b*d.just
 git reset -q --hard; git rm -q 'with blank.just'; commit; row 'a file that is deleted' "$status" 0
 git mv "quote's.just" renamed.just; commit; row 'a file that is renamed' "$status" 0
 git mv renamed.just again.just; put again.just "$unformatted"; git add .; commit

@@ -4,7 +4,7 @@ ghost use Rattle.justfile_files.specs.Folder.{KeepsFiles, Replaces};
 ghost use Rattle.file_cases.specs.Memory.{IsIndex, bytes_in};
 
 use crate::Faults;
-use justfile_files::folder::Folder;
+use justfile_files::folder::{Folder, ReplaceError};
 use std::alloc::{AllocError, Global};
 use std::io::{self, Error, ErrorKind};
 use std::str;
@@ -90,20 +90,32 @@ fn copy_of(alloc: Global, files: &[MemoryFile], name: &str) -> io::Result<Vec<u8
     Ok(bytes)
 }
 
-/// Replaces the bytes of the first file with a name by those of a text.
-fn put(alloc: Global, files: &mut Vec<MemoryFile>, name: &str, text: &str) -> io::Result<()>
+/// Replaces the bytes of the first file with a name, if they are those of the text `source`, by
+/// those of another text.
+fn put(
+    alloc: Global,
+    files: &mut Vec<MemoryFile>,
+    name: &str,
+    source: &str,
+    text: &str,
+) -> Result<(), ReplaceError>
+    ensures read { OnOk result (IfSome (bytes_in files.old.items name.now)
+        (λ known. source.now ≡ known)) }
     ensures ok { OnOk result (Replaces (bytes_in files.old.items) (bytes_in files.new.items)
         name.now text.now) }
     ensures err { OnErr result (KeepsFiles (bytes_in files.old.items) (bytes_in files.new.items)) }
 {
     let Some(index) = index_of(files, name) else {
-        return Err(Error::from(ErrorKind::NotFound));
+        return Err(ReplaceError::System(Error::from(ErrorKind::NotFound)));
     };
-    let mut bytes = Vec::new(alloc);
-    bytes.extend_from_slice(text.as_bytes())?;
-    let name = files[index].name;
-    files[index] = MemoryFile { name, bytes };
-    Ok(())
+    if files[index].bytes.as_slice() == source.as_bytes() {
+        let mut bytes = Vec::new(alloc);
+        bytes.extend_from_slice(text.as_bytes())?;
+        let name = files[index].name;
+        files[index] = MemoryFile { name, bytes };
+        return Ok(());
+    }
+    Err(ReplaceError::Changed)
 }
 
 impl Folder for MemoryFolder {
@@ -120,12 +132,18 @@ impl Folder for MemoryFolder {
         copy_of(alloc, &self.files, name)
     }
 
-    fn replace(&mut self, alloc: Global, name: &str, text: &str) -> io::Result<()> {
+    fn replace(
+        &mut self,
+        alloc: Global,
+        name: &str,
+        source: &str,
+        text: &str,
+    ) -> Result<(), ReplaceError> {
         let number = self.replacements;
         self.replacements = number.saturating_add(1);
         if number == self.faults.replacement {
-            return Err(Error::from(ErrorKind::StorageFull));
+            return Err(ReplaceError::System(Error::from(ErrorKind::StorageFull)));
         }
-        put(alloc, &mut self.files, name, text)
+        put(alloc, &mut self.files, name, source, text)
     }
 }

@@ -32,7 +32,7 @@ impl Write for MemoryWriter {
         let number = self.writes;
         self.writes = number.saturating_add(1);
         if number == self.fault {
-            return Err(Error::from(ErrorKind::BrokenPipe));
+            return Err(Error::from(ErrorKind::StorageFull));
         }
         self.bytes.extend_from_slice(buf)?;
         Ok(buf.len())

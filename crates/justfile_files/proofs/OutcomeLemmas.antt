@@ -1,20 +1,25 @@
 -- What becomes of files, one after the other.
-use Rattle.std.proofs.Common.{◌≡◌, ◌≢◌, ◌⊎◌, inl, inr, ℕ, ◌+◌, ◌<◌, max, List, [], ◌∷◌, ◌++◌, length, map, take, get_or, Bool, true, false, true≢false, Result, Ok, Err, Option, None, Some, IfSome, String, string_bytes, refl, sym, ap, subst, ◌∙◌, arith, append-nil}
-use Rattle.std.specs.List.{All, AllZip, flat_map}
-use Rattle.std.specs.Prelude.{IfErr, IfOk}
+use Rattle.std.proofs.Common.{lit<, zero, suc, ◌≡◌, ◌≢◌, ◌⊎◌, inl, inr, ℕ, ◌+◌, ◌<◌, ◌≤◌, max, All, Contains, List, [], ◌∷◌, ◌++◌, length, map, take, drop, get_or, Bool, true, false, true≢false, Result, Ok, Err, Option, None, Some, IfOk, IfSome, String, string_bytes, refl, sym, ap, subst, ◌∙◌, arith, append-nil}
+use Rattle.std.specs.List.{AllZip, FoldsTo, flat_map}
 use Rattle.std.specs.Io.KnownBytes.{Appends}
 use Rattle.std.proofs.KnownBytes.{Appends-nil, Appends-trans}
 use Rattle.std.proofs.lemmas.Grind.{flat_map-append}
-use Rattle.std.proofs.lemmas.List.{map-append, take_more}
-use Rattle.std.proofs.lemmas.List.Elements.{All-cons, All-head, All-nil, All-tail}
+use Rattle.std.proofs.lemmas.List.{get_or-map, length-map, map-append, take_all, take_more, take-append-drop}
+use Rattle.std.proofs.lemmas.List.Elements.{All-append, All-cons, All-head, All-nil, All-tail}
 use Rattle.std.proofs.lemmas.Option.{same_Some}
-use Rattle.justfile_files.specs.Failure.{failure_status, status_in}
+use Rattle.justfile_files.specs.Failure.{IsMessage, TellFailure, failure_status, message_of}
+use Rattle.justfile_files.specs.FileResult.{Finds, HasResult, Reports}
 use Rattle.justfile_files.specs.Folder.{Files, KeepsFiles, Replaces}
 use Rattle.justfile_files.specs.declared.failure.Failure.{Failure}
-use Rattle.justfile_files.specs.Outcome.{BecomesFormatted, ChangesFiles, IsUnformatted, HasOutcome, HasOutcomes, HasStatus, IsReported, Means, Outcome, WritesReport, differs, failed, formatted, greatest, rejected, report_of, status_of, unreported}
+use Rattle.justfile_files.specs.declared.failure.Failure.TheVariants as failures
+use Rattle.justfile_files.specs.Outcome.{AppendsBeginning, BecomesFormatted, ChangesFiles, IsUnformatted, HasOutcome, HasOutcomes, HasStatus, IsReport, IsReportOf, IsReported, Means, Outcome, differs, failed, formatted, greatest, messages_of, rejected, report_of, reported_status, status_of, unreported}
 use Rattle.justfile_files.specs.Request.{texts}
 use Rattle.justfile_files.specs.declared.request.Task.{Task}
 use Rattle.justfile_files.specs.declared.request.Task.TheVariants.{Format}
+use Rattle.std.proofs.Common.{Global}
+use Rattle.std.specs.declared.alloc.AllocError.{AllocError}
+use Rattle.std.specs.declared.io.Error.{Error}
+use Rattle.justfile_files.proofs.OutputLemmas.{none, then_beginning, whole}
 
 greatest-push : (xs : List ℕ) (y : ℕ) → greatest (xs ++ y ∷ []) ≡ max (greatest xs) y
 greatest-push [] y = omega arith
@@ -27,15 +32,7 @@ each_push P Q [] (b ∷ ys) x y f h q = absurd h
 each_push P Q (a ∷ xs) [] x y f h q = absurd h
 each_push P Q (a ∷ xs) (b ∷ ys) x y f h q = (f a b h.0, each_push P Q xs ys x y f h.1 q)
 
-all_before : {A : Type 0} (P : A → Type 0) (xs : List A) (y : A) → All P (xs ++ y ∷ []) → All P xs
-all_before P [] y h = All-nil P
-all_before P (x ∷ xs) y h = All-cons P x xs (All-head P x (xs ++ y ∷ []) h) (all_before P xs y (All-tail P x (xs ++ y ∷ []) h))
-
-all_last : {A : Type 0} (P : A → Type 0) (xs : List A) (y : A) → All P (xs ++ y ∷ []) → P y
-all_last P [] y h = All-head P y [] h
-all_last P (x ∷ xs) y h = all_last P xs y (All-tail P x (xs ++ y ∷ []) h)
-
-texts_more : {A : Type 0} (words : List (String A)) (i : ℕ) (word : String A) (name : List ℕ) → i < length words → word ≡ get_or words i word → name ≡ string_bytes word
+pub texts_more : {A : Type 0} (words : List (String A)) (i : ℕ) (word : String A) (name : List ℕ) → i < length words → word ≡ get_or words i word → name ≡ string_bytes word
     → texts (take i words) ++ name ∷ [] ≡ texts (take (i + 1) words)
 texts_more {A} words i word name l e n =
     ap (λ x. texts (take i words) ++ x ∷ []) (n ∙ ap (λ (s : String A). string_bytes s) e)
@@ -51,185 +48,444 @@ pub text_read : (old new : Files) (name bytes source : List ℕ) → KeepsFiles 
 text_read old new name bytes source kept read e =
     subst (λ (o : Option (List ℕ)). IfSome o (λ b. source ≡ b)) (sym (kept name)) (same_bytes bytes source (old name) read e)
 
+-- steps, one after the other
+folds_both : {P A : Type 0} (R : P → A → P → Type 0) (p q r : P) (xs ys : List A) → FoldsTo R p xs q → FoldsTo R q ys r → FoldsTo R p (xs ++ ys) r
+folds_both R p q r [] ys h k = subst (λ x. FoldsTo R x ys r) (sym h) k
+folds_both R p q r (x ∷ xs) ys h k = (h.0, h.1, folds_both R h.0 q r xs ys h.2 k)
+
+flat_map-push : {A B : Type 0} (f : A → List B) (xs : List A) (x : A) → flat_map f (xs ++ x ∷ []) ≡ flat_map f xs ++ f x
+flat_map-push f xs x = flat_map-append f xs (x ∷ []) ∙ ap (λ l. flat_map f xs ++ l) (append-nil (f x))
+
+-- some text is that of a file, if the file's is known
+some_text : (bytes : Option (List ℕ)) → (source : List ℕ) × IfSome bytes (λ b. source ≡ b)
+some_text None = ([], tt)
+some_text (Some b) = (b, refl)
+
+only_one : (name other : List ℕ) → Contains (name ∷ []) other → name ≡ other
+only_one name other h = at h.0 h.1 h.2
+  where
+    at : (k : ℕ) → k < 1 → get_or (name ∷ []) k other ≡ other → name ≡ other
+    at zero l e = e
+    at (suc k) l e = absurd (omega arith)
+
+two_not_three : (◌≡◌ {A = ℕ} 2 3) → ⊥
+two_not_three e = omega arith
+
+-- ---- failures
+
+pub is_told : (r : Result (String Global) AllocError) (name reason : List ℕ) → IfOk r (λ m. string_bytes m ≡ message_of name reason)
+    → IfOk r (λ m. IsMessage name (string_bytes m))
+is_told (Ok m) name reason h = inl (reason, h)
+is_told (Err e) name reason h = tt
+
+pub one_message : {E : Type 0} (tells : E → List ℕ → E → Type 0) (name : List ℕ) (old new : E) → (message : List ℕ) × IsMessage name message × tells old message new
+    → (messages : List (List ℕ)) × All (IsMessage name) messages × FoldsTo tells old messages new
+one_message tells name old new m = (m.0 ∷ [], All-cons (IsMessage name) m.0 [] m.1 (All-nil (IsMessage name)), (new, m.2, refl))
+
+pub small_status : (o : Outcome) (status : ℕ) → Some status ≡ reported_status o → status ≤ 3
+small_status formatted status e = omega (arith, same_Some status 0 e)
+small_status (differs report) status e = omega (arith, same_Some status 1 e)
+small_status (unreported report messages) status e = cc
+small_status (rejected lines) status e = omega (arith, same_Some status 2 e)
+small_status (failed message) status e = omega (arith, same_Some status 3 e)
+
+-- ---- the words that are names
+
+pub given_text : (words : List (String Global)) (i : ℕ) (word : String Global) (name : List ℕ) → i < length words → word ≡ get_or words i word → name ≡ string_bytes word
+    → Contains (texts words) name
+given_text words i word name l e n =
+    let text : String Global → List ℕ = λ s. string_bytes s in
+    (i, rw (length-map words text) l, get_or-map text words i word name l ∙ ap text (sym e) ∙ sym n)
+
+pub texts_split : (words : List (String Global)) (i : ℕ) (word : String Global) (name : List ℕ) → i < length words → word ≡ get_or words i word → name ≡ string_bytes word
+    → texts words ≡ (texts (take i words) ++ name ∷ []) ++ texts (drop (i + 1) words)
+texts_split words i word name l e n =
+    let text : String Global → List ℕ = λ s. string_bytes s in
+    ap texts (sym (take-append-drop (i + 1) words)) ∙ map-append text (take (i + 1) words) (drop (i + 1) words)
+    ∙ ap (λ l. l ++ texts (drop (i + 1) words)) (sym (texts_more words i word name l e n))
+
+pub texts_all : (words : List (String Global)) (i : ℕ) → length words ≤ i → texts (take i words) ≡ texts words
+texts_all words i l = ap texts (take_all i words l)
+
+-- any other failure has one message
+pub other_failure : (name message : List ℕ) (failure : Failure) → ((lines : String Global) → failure ≡ failures.Rejected lines → ⊥)
+    → ((error : Error) → failure ≡ failures.Writing error → ⊥) → IsMessage name message
+    → (Some 3 ≡ failure_status failure) × TellFailure name failure (message ∷ [])
+other_failure name message (failures.Rejected lines) r w m = absurd (r lines refl)
+other_failure name message (failures.Writing error) r w m = absurd (w error refl)
+other_failure name message (failures.Reading error) r w m = (refl, (message, m, refl))
+other_failure name message failures.NotUtf8 r w m = (refl, (message, m, refl))
+other_failure name message (failures.Exhausted what) r w m = (refl, (message, m, refl))
+other_failure name message (failures.Replacing error) r w m = (refl, (message, m, refl))
+
+all_last : (xs : List Outcome) (y : Outcome) → All IsReported (xs ++ y ∷ []) → All IsReported (y ∷ [])
+all_last [] y h = h
+all_last (x ∷ xs) y h = all_last xs y (All-tail IsReported x (xs ++ y ∷ []) h)
+
+same_known : (source bytes : List ℕ) (o : Option (List ℕ)) → o ≡ Some bytes → IfSome o (λ b. source ≡ b) → source ≡ bytes
+same_known source bytes o e h = subst (λ (x : Option (List ℕ)). IfSome x (λ b. source ≡ b)) e h
+
+module _ (formats : List ℕ → List ℕ → Type 0) (rejects : List ℕ → List ℕ → List ℕ → Type 0) (task : Task) {E : Type 0} (tells : E → List ℕ → E → Type 0) where
+  -- All reports so far were written.
+  pub record AllReported (names : List (List ℕ)) (files : Files) (output_old output_new : Option (List ℕ)) (errors_old errors_new : E) (status : ℕ) : Type 0 where
+    pub outcomes : List Outcome
+    pub each : AllZip (λ name outcome. HasOutcome formats rejects task name (files name) outcome) names outcomes
+    pub status_is : status ≡ greatest (map status_of outcomes)
+    pub all : All IsReported outcomes
+    pub written : Appends output_old output_new (flat_map report_of outcomes)
+    pub told : FoldsTo tells errors_old (flat_map messages_of outcomes) errors_new
+
 module _ (formats : List ℕ → List ℕ → Type 0) (rejects : List ℕ → List ℕ → List ℕ → Type 0)
     (one : (source text other : List ℕ) → formats source text → formats source other → text ≡ other)
     (settled : (source text : List ℕ) → formats source text → formats text text)
     (never_both : (name source lines text : List ℕ) → rejects name source lines → formats source text → ⊥)
     (task : Task) where
-  -- changes, one after the other
-  kept-trans : (a b c : Option (List ℕ)) → (b ≡ a) ⊎ BecomesFormatted formats task a b → (c ≡ b) ⊎ BecomesFormatted formats task b c
-      → (c ≡ a) ⊎ BecomesFormatted formats task a c
-  kept-trans a b c (inl p) (inl q) = inl (q ∙ p)
-  kept-trans a b c (inl p) (inr q) = inr (subst (λ x. BecomesFormatted formats task x c) p q)
-  kept-trans a b c (inr p) (inl q) = inr (subst (λ x. BecomesFormatted formats task a x) (sym q) p)
-  kept-trans a b c (inr p) (inr q) =
-      let same : q.source ≡ p.text = same_Some q.source p.text (sym q.was ∙ p.is) in
-      let again : q.text ≡ p.text = one p.text q.text p.text (subst (λ s. formats s q.text) same q.formatted) (settled p.source p.text p.formatted) in
-      inr (record {
-        in_place = p.in_place;
-        source = p.source;
-        text = p.text;
-        was = p.was;
-        is = q.is ∙ ap Some again;
-        formatted = p.formatted;
-      })
+  -- ---- changes, one after the other
+  module _ (names : List (List ℕ)) where
+    -- what was formatted is its own formatted text
+    settles : (source text before after : List ℕ) (bytes : Option (List ℕ)) → formats source text → bytes ≡ Some text → bytes ≡ Some before → formats before after → after ≡ text
+    settles source text before after bytes f e h g =
+        one text after text (subst (λ s. formats s after) (same_Some before text (sym h ∙ e)) g) (settled source text f)
 
-  pub changes-trans : (a b c : Files) → ChangesFiles formats task a b → ChangesFiles formats task b c → ChangesFiles formats task a c
-  changes-trans a b c f g = λ name. kept-trans (a name) (b name) (c name) (f name) (g name)
+    kept-trans : (files mid : Files) (a b c : Option (List ℕ)) → ChangesFiles formats task names files mid
+        → (b ≡ a) ⊎ BecomesFormatted formats task names files a b → (c ≡ b) ⊎ BecomesFormatted formats task names mid b c
+        → (c ≡ a) ⊎ BecomesFormatted formats task names files a c
+    kept-trans files mid a b c f (inl p) (inl q) = inl (q ∙ p)
+    kept-trans files mid a b c f (inl p) (inr q) = first (f q.named)
+      where
+        first : (mid q.named ≡ files q.named) ⊎ BecomesFormatted formats task names files (files q.named) (mid q.named)
+            → (c ≡ a) ⊎ BecomesFormatted formats task names files a c
+        first (inl same) = inr (record {
+          in_place = q.in_place;
+          source = q.source;
+          text = q.text;
+          was = sym p ∙ q.was;
+          is = q.is;
+          formatted = q.formatted;
+          named = q.named;
+          is_given = q.is_given;
+          had = sym same ∙ q.had;
+        })
+        first (inr r) =
+            let text_is : q.text ≡ r.text = settles r.source r.text q.source q.text (mid q.named) r.formatted r.is q.had q.formatted in
+            let source_is : q.source ≡ r.text = same_Some q.source r.text (sym q.had ∙ r.is) in
+            inl (q.is ∙ ap Some (text_is ∙ sym source_is) ∙ sym q.was ∙ p)
+    kept-trans files mid a b c f (inr p) (inl q) = inr (record {
+      in_place = p.in_place;
+      source = p.source;
+      text = p.text;
+      was = p.was;
+      is = q ∙ p.is;
+      formatted = p.formatted;
+      named = p.named;
+      is_given = p.is_given;
+      had = p.had;
+    })
+    kept-trans files mid a b c f (inr p) (inr q) = inr (record {
+      in_place = p.in_place;
+      source = p.source;
+      text = p.text;
+      was = p.was;
+      is = q.is ∙ ap Some (settles p.source p.text q.source q.text b p.formatted p.is q.was q.formatted);
+      formatted = p.formatted;
+      named = p.named;
+      is_given = p.is_given;
+      had = p.had;
+    })
 
-  pub changes-none : (a b : Files) → KeepsFiles a b → ChangesFiles formats task a b
-  changes-none a b h = λ name. inl (h name)
+    pub changes-trans : (a b c : Files) → ChangesFiles formats task names a b → ChangesFiles formats task names b c → ChangesFiles formats task names a c
+    changes-trans a b c f g = λ name. kept-trans a b (a name) (b name) (c name) f (f name) (g name)
+
+    -- one of the names is enough
+    pub changes-widened : (name : List ℕ) (a b : Files) → Contains names name → ChangesFiles formats task (name ∷ []) a b → ChangesFiles formats task names a b
+    changes-widened name a b given f = λ other. widened (a other) (b other) (f other)
+      where
+        widened : (old new : Option (List ℕ)) → (new ≡ old) ⊎ BecomesFormatted formats task (name ∷ []) a old new → (new ≡ old) ⊎ BecomesFormatted formats task names a old new
+        widened old new (inl e) = inl e
+        widened old new (inr r) = inr (record {
+          in_place = r.in_place;
+          source = r.source;
+          text = r.text;
+          was = r.was;
+          is = r.is;
+          formatted = r.formatted;
+          named = name;
+          is_given = given;
+          had = ap a (only_one name r.named r.is_given) ∙ r.had;
+        })
+
+    pub changes-none : (a b : Files) → KeepsFiles a b → ChangesFiles formats task names a b
+    changes-none a b h = λ name. inl (h name)
+
+  becomes : (name source text : List ℕ) (files : Files) (old new : Option (List ℕ)) → IfSome (files name) (λ b. source ≡ b) → formats source text → task ≡ Format
+      → (new ≡ old) ⊎ ((bytes : List ℕ) × (files name ≡ Some bytes) × (old ≡ Some bytes) × (new ≡ Some text))
+      → (new ≡ old) ⊎ BecomesFormatted formats task (name ∷ []) files old new
+  becomes name source text files old new is f in_place (inl e) = inl e
+  becomes name source text files old new is f in_place (inr h) = inr (record {
+    in_place = in_place;
+    source = h.0;
+    text = text;
+    was = h.2;
+    is = h.3;
+    formatted = subst (λ s. formats s text) (same_known source h.0 (files name) h.1 is) f;
+    named = name;
+    is_given = (0, lit< tt, refl);
+    had = h.1;
+  })
+
+  pub changes_replaced : (name source text : List ℕ) (old new : Files) → Replaces old new name text → IfSome (old name) (λ b. source ≡ b) → formats source text
+      → task ≡ Format → ChangesFiles formats task (name ∷ []) old new
+  changes_replaced name source text old new r is f in_place = λ other. becomes name source text old (old other) (new other) is f in_place (r.others other)
+
+  -- ---- outcomes, one after the other
 
   -- what an outcome means is true of the formatted text too
   still : (name source text : List ℕ) (o : Outcome) → formats source text → (IsUnformatted o → ⊥) → Means formats rejects task name o source
       → Means formats rejects task name o text
   still name source text formatted f apart h = settled source text f
   still name source text (differs report) f apart h = absurd (apart tt)
-  still name source text unreported f apart h = absurd (apart tt)
-  still name source text rejected f apart h = absurd (never_both name source h.0 text h.1 f)
-  still name source text failed f apart h = tt
+  still name source text (unreported report messages) f apart h = absurd (apart tt)
+  still name source text (rejected lines) f apart h = absurd (never_both name source lines text h f)
+  still name source text (failed message) f apart h = h
 
-  stays : (name : List ℕ) (old new : Option (List ℕ)) (o : Outcome) → (new ≡ old) ⊎ BecomesFormatted formats task old new
-      → HasOutcome formats rejects task name old o → HasOutcome formats rejects task name new o
-  stays name old new o (inl e) h = subst (λ b. HasOutcome formats rejects task name b o) (sym e) h
-  stays name old new o (inr b) h = record {
+  stays : (names : List (List ℕ)) (name : List ℕ) (files : Files) (old new : Option (List ℕ)) (o : Outcome)
+      → (new ≡ old) ⊎ BecomesFormatted formats task names files old new → HasOutcome formats rejects task name old o → HasOutcome formats rejects task name new o
+  stays names name files old new o (inl e) h = subst (λ b. HasOutcome formats rejects task name b o) (sym e) h
+  stays names name files old new o (inr b) h = record {
+    source = b.text;
+    known = subst (λ (x : Option (List ℕ)). IfSome x (λ y. b.text ≡ y)) (sym b.is) refl;
     means =
-        subst (λ (x : Option (List ℕ)). IfSome x (Means formats rejects task name o)) (sym b.is)
-        (still name b.source b.text o b.formatted (h.in_place b.in_place) (subst (λ (x : Option (List ℕ)). IfSome x (Means formats rejects task name o)) b.was h.means));
+        still name b.source b.text o b.formatted (h.in_place b.in_place)
+        (subst (Means formats rejects task name o) (same_known h.source b.source old b.was h.known) h.means);
     in_place = h.in_place;
   }
 
-  -- no file yet
-  pub outcomes-none : (files : Files) (output : Option (List ℕ)) → HasOutcomes formats rejects task [] files output output 0
-  outcomes-none files output = record { outcomes = []; each = tt; status_is = refl; reported = λ _. Appends-nil output }
+  module _ {E : Type 0} (tells : E → List ℕ → E → Type 0) where
+    pub none_yet : (files : Files) (output : Option (List ℕ)) (errors : E) → AllReported formats rejects task tells [] files output output errors errors 0
+    none_yet files output errors = record { outcomes = []; each = tt; status_is = refl; all = All-nil IsReported; written = Appends-nil output; told = refl }
 
-  -- one file more
-  pub outcomes-push : (names : List (List ℕ)) (name : List ℕ) (old new : Files) (a b c : Option (List ℕ)) (status more : ℕ)
-      → HasOutcomes formats rejects task names old a b status → ChangesFiles formats task old new → HasStatus formats rejects task name new b c more
-      → HasOutcomes formats rejects task (names ++ name ∷ []) new a c (max status more)
-  outcomes-push names name old new a b c status more h f s = record {
-    outcomes = h.outcomes ++ s.outcome ∷ [];
-    each =
-        each_push (λ n o. HasOutcome formats rejects task n (old n) o) (λ n o. HasOutcome formats rejects task n (new n) o) names h.outcomes name s.outcome
-        (λ n o. stays n (old n) (new n) o (f n)) h.each s.is;
-    status_is =
-        ap (λ x. max x more) h.status_is ∙ ap (max (greatest (map status_of h.outcomes))) s.status_is
-        ∙ sym (greatest-push (map status_of h.outcomes) (status_of s.outcome))
-        ∙ ap greatest (sym (map-append status_of h.outcomes (s.outcome ∷ [])));
-    reported = λ all.
-        subst (λ (l : List ℕ). Appends a c l) (ap (λ l. flat_map report_of h.outcomes ++ l) (sym (append-nil (report_of s.outcome))) ∙ sym (flat_map-append report_of h.outcomes (s.outcome ∷ [])))
-        (Appends-trans a b c (flat_map report_of h.outcomes) (report_of s.outcome) (h.reported (all_before IsReported h.outcomes s.outcome all)) (s.reported (all_last IsReported h.outcomes s.outcome all)));
-  }
+    pub all_reported : {names : List (List ℕ)} {files : Files} {a b : Option (List ℕ)} {errors_old errors_new : E} {status : ℕ}
+        → AllReported formats rejects task tells names files a b errors_old errors_new status → HasOutcomes formats rejects task tells names files a b errors_old errors_new status
+    all_reported {names} {files} {a} {b} h = record {
+      outcomes = h.outcomes;
+      seen = names;
+      rest = [];
+      names_are = sym (append-nil names);
+      each = h.each;
+      status_is = h.status_is;
+      reported = λ _. (refl, h.written);
+      beginning = whole a b (flat_map report_of h.outcomes) h.written;
+      told = h.told;
+    }
 
-  -- one word more
-  pub outcomes_more : {A : Type 0} (words : List (String A)) (i : ℕ) (word : String A) {name : List ℕ} {old new : Files} {a b c : Option (List ℕ)} {status more total : ℕ}
-      → i < length words → word ≡ get_or words i word → name ≡ string_bytes word → total ≡ max status more
-      → HasOutcomes formats rejects task (texts (take i words)) old a b status → ChangesFiles formats task old new → HasStatus formats rejects task name new b c more
-      → HasOutcomes formats rejects task (texts (take (i + 1) words)) new a c total
-  outcomes_more words i word {name} {old} {new} {a} {b} {c} {status} {more} {total} l e n t h f s =
-      subst (λ k. HasOutcomes formats rejects task (texts (take (i + 1) words)) new a c k) (sym t)
-      (subst (λ names. HasOutcomes formats rejects task names new a c (max status more)) (texts_more words i word name l e n)
-      (outcomes-push (texts (take i words)) name old new a b c status more h f s))
+    reported_is : (o : Outcome) (status : ℕ) → Some status ≡ reported_status o → (status ≡ status_of o) × IsReported o
+    reported_is formatted status e = (same_Some status 0 e, tt)
+    reported_is (differs report) status e = (same_Some status 1 e, tt)
+    reported_is (unreported report messages) status e = cc
+    reported_is (rejected lines) status e = (same_Some status 2 e, tt)
+    reported_is (failed message) status e = (same_Some status 3 e, tt)
 
-  -- ---- one file
+    unreported_is : (o : Outcome) → None ≡ reported_status o → (status_of o ≡ 3) × (IsReported o → ⊥)
+    unreported_is formatted e = cc
+    unreported_is (differs report) e = cc
+    unreported_is (unreported report messages) e = (refl, λ h. h)
+    unreported_is (rejected lines) e = cc
+    unreported_is (failed message) e = cc
 
-  -- what is true of the text that was read is true of the file
-  known : (name source : List ℕ) (bytes : Option (List ℕ)) (o : Outcome) → IfSome bytes (λ b. source ≡ b) → Means formats rejects task name o source
-      → IfSome bytes (Means formats rejects task name o)
-  known name source None o is m = tt
-  known name source (Some b) o is m = subst (Means formats rejects task name o) is m
+    -- one file more
+    module _ (names : List (List ℕ)) (name : List ℕ) (old new : Files) (a b c : Option (List ℕ)) (e f g : E) (status : ℕ)
+        (given : List (List ℕ)) (so_far : AllReported formats rejects task tells names old a b e f status) (changes : ChangesFiles formats task given old new) where
+      each_with : (o : Outcome) → HasOutcome formats rejects task name (new name) o
+          → AllZip (λ n p. HasOutcome formats rejects task n (new n) p) (names ++ name ∷ []) (so_far.outcomes ++ o ∷ [])
+      each_with o h =
+          each_push (λ n p. HasOutcome formats rejects task n (old n) p) (λ n p. HasOutcome formats rejects task n (new n) p) names so_far.outcomes name o
+          (λ n p. stays given n old (old n) (new n) p (changes n)) so_far.each h
 
-  anything : (name : List ℕ) (bytes : Option (List ℕ)) → IfSome bytes (Means formats rejects task name failed)
-  anything name None = tt
-  anything name (Some x) = tt
+      status_with : (o : Outcome) (total : ℕ) → total ≡ max status (status_of o) → total ≡ greatest (map status_of (so_far.outcomes ++ o ∷ []))
+      status_with o total t =
+          t ∙ ap (λ x. max x (status_of o)) so_far.status_is ∙ sym (greatest-push (map status_of so_far.outcomes) (status_of o))
+          ∙ ap greatest (sym (map-append status_of so_far.outcomes (o ∷ [])))
 
-  pub status_failed : (name : List ℕ) (files : Files) (a : Option (List ℕ)) (status : ℕ) → status ≡ 3 → HasStatus formats rejects task name files a a status
-  status_failed name files a status e = record {
-    outcome = failed;
-    is = record { means = anything name (files name); in_place = λ _ h. h };
-    status_is = e;
-    reported = λ _. Appends-nil a;
-  }
+      told_with : (o : Outcome) → FoldsTo tells f (messages_of o) g → FoldsTo tells e (flat_map messages_of (so_far.outcomes ++ o ∷ [])) g
+      told_with o h =
+          subst (λ l. FoldsTo tells e l g) (sym (flat_map-push messages_of so_far.outcomes o))
+          (folds_both tells e f g (flat_map messages_of so_far.outcomes) (messages_of o) so_far.told h)
 
-  pub status_rejected : (name source lines : List ℕ) (files : Files) (a : Option (List ℕ)) → IfSome (files name) (λ b. source ≡ b) → rejects name source lines
-      → HasStatus formats rejects task name files a a 2
-  status_rejected name source lines files a is r = record {
-    outcome = rejected;
-    is = record { means = known name source (files name) rejected is (lines, r); in_place = λ _ h. h };
-    status_is = refl;
-    reported = λ _. Appends-nil a;
-  }
+      pub one_more : (more total : ℕ) → HasStatus formats rejects task tells name new b c f g (Some more) → total ≡ max status more
+          → AllReported formats rejects task tells (names ++ name ∷ []) new a c e g total
+      one_more more total s t =
+          let o = s.outcome in
+          let is = reported_is o more s.status_is in
+          record {
+            outcomes = so_far.outcomes ++ o ∷ [];
+            each = each_with o s.is;
+            status_is = status_with o total (t ∙ ap (max status) is.0);
+            all = All-append IsReported so_far.outcomes (o ∷ []) so_far.all (All-cons IsReported o [] is.1 (All-nil IsReported));
+            written =
+                subst (Appends a c) (sym (flat_map-push report_of so_far.outcomes o))
+                (Appends-trans a b c (flat_map report_of so_far.outcomes) (report_of o) so_far.written (s.reported is.1));
+            told = told_with o s.told;
+          }
 
-  pub status_formatted : (name source : List ℕ) (files : Files) (a : Option (List ℕ)) → IfSome (files name) (λ b. source ≡ b) → formats source source
-      → HasStatus formats rejects task name files a a 0
-  status_formatted name source files a is f = record {
-    outcome = formatted;
-    is = record { means = known name source (files name) formatted is f; in_place = λ _ h. h };
-    status_is = refl;
-    reported = λ _. Appends-nil a;
-  }
+      -- its report couldn't be written
+      pub last_one : (all rest : List (List ℕ)) → all ≡ (names ++ name ∷ []) ++ rest → HasStatus formats rejects task tells name new b c f g None
+          → max status 3 ≡ 3 → HasOutcomes formats rejects task tells all new a c e g 3
+      last_one all rest split s t =
+          let o = s.outcome in
+          let is = unreported_is o s.status_is in
+          record {
+            outcomes = so_far.outcomes ++ o ∷ [];
+            seen = names ++ name ∷ [];
+            rest = rest;
+            names_are = split;
+            each = each_with o s.is;
+            status_is = status_with o 3 (sym t ∙ ap (max status) (sym is.0));
+            reported = λ h. absurd (is.1 (All-head IsReported o [] (all_last so_far.outcomes o h)));
+            beginning =
+                subst (AppendsBeginning a c) (sym (flat_map-push report_of so_far.outcomes o))
+                (then_beginning a b c (flat_map report_of so_far.outcomes) (report_of o) so_far.written s.beginning);
+            told = told_with o s.told;
+          }
 
-  pub status_differs : (name source text : List ℕ) (files : Files) (a b : Option (List ℕ)) → IfSome (files name) (λ b. source ≡ b) → formats source text → text ≢ source
-      → task ≢ Format → WritesReport task name source text a b → HasStatus formats rejects task name files a b 1
-  status_differs name source text files a b is f apart option w = record {
-    outcome = differs w.report;
-    is = record { means = known name source (files name) (differs w.report) is (text, f, apart, w.is); in_place = λ e _. option e };
-    status_is = refl;
-    reported = λ _. w.written;
-  }
+    -- one word more
+    module _ (words : List (String Global)) (i : ℕ) (word : String Global) (name : List ℕ) (l : i < length words) (e : word ≡ get_or words i word) (n : name ≡ string_bytes word) where
+      pub word_more : {old new : Files} {a b c : Option (List ℕ)} {errors mid last : E} {status more total : ℕ} {given : List (List ℕ)}
+          → AllReported formats rejects task tells (texts (take i words)) old a b errors mid status → ChangesFiles formats task given old new
+          → HasStatus formats rejects task tells name new b c mid last (Some more) → total ≡ max status more
+          → AllReported formats rejects task tells (texts (take (i + 1) words)) new a c errors last total
+      word_more {old} {new} {a} {b} {c} {errors} {mid} {last} {status} {more} {total} {given} so_far changes s t =
+          subst (λ (ns : List (List ℕ)). AllReported formats rejects task tells ns new a c errors last total) (texts_more words i word name l e n)
+          (one_more (texts (take i words)) name old new a b c errors mid last status given so_far changes more total s t)
 
-  pub status_unreported : (name source text : List ℕ) (files : Files) (a b : Option (List ℕ)) (status : ℕ) → IfSome (files name) (λ b. source ≡ b)
-      → formats source text → text ≢ source → task ≢ Format → status ≡ 3 → HasStatus formats rejects task name files a b status
-  status_unreported name source text files a b status is f apart option e = record {
-    outcome = unreported;
-    is = record { means = known name source (files name) unreported is (text, f, apart); in_place = λ e _. option e };
-    status_is = e;
-    reported = λ h. absurd h;
-  }
+      pub word_last : {old new : Files} {a b c : Option (List ℕ)} {errors mid last : E} {status : ℕ} {given : List (List ℕ)} {result : Option ℕ}
+          → AllReported formats rejects task tells (texts (take i words)) old a b errors mid status → ChangesFiles formats task given old new
+          → HasStatus formats rejects task tells name new b c mid last result → result ≡ None → status ≤ 3
+          → HasOutcomes formats rejects task tells (texts words) new a c errors last 3
+      word_last {old} {new} {a} {b} {c} {errors} {mid} {last} {status} {given} {result} so_far changes s none small =
+          last_one (texts (take i words)) name old new a b c errors mid last status given so_far changes (texts words) (texts (drop (i + 1) words))
+          (texts_split words i word name l e n) (subst (HasStatus formats rejects task tells name new b c mid last) none s) (omega arith)
 
-  pub status_reported : (name source text : List ℕ) (files : Files) (a b : Option (List ℕ)) (result : Result Bool Failure) → IfSome (files name) (λ b. source ≡ b)
-      → formats source text → text ≢ source → task ≢ Format → IfOk result (λ is. (is ≡ false) × WritesReport task name source text a b)
-      → IfErr result (λ failure. failure_status failure ≡ 3) → HasStatus formats rejects task name files a b (status_in result)
-  status_reported name source text files a b (Ok true) is f apart option w e = absurd (true≢false w.0)
-  status_reported name source text files a b (Ok false) is f apart option w e = status_differs name source text files a b is f apart option w.1
-  status_reported name source text files a b (Err failure) is f apart option w e =
-      status_unreported name source text files a b (failure_status failure) is f apart option e
+    pub words_done : (words : List (String Global)) (i : ℕ) {files : Files} {a b : Option (List ℕ)} {errors last : E} {status : ℕ} → length words ≤ i
+        → AllReported formats rejects task tells (texts (take i words)) files a b errors last status
+        → HasOutcomes formats rejects task tells (texts words) files a b errors last status
+    words_done words i {files} {a} {b} {errors} {last} {status} l h =
+        subst (λ (ns : List (List ℕ)). HasOutcomes formats rejects task tells ns files a b errors last status) (texts_all words i l) (all_reported h)
 
-  replaced_means : (name source text : List ℕ) (old new : Option (List ℕ))
+    -- ---- one file
+
+    pub status_formatted : (name : List ℕ) (files : Files) (a b : Option (List ℕ)) (errors : E)
+        → HasResult formats rejects task name (files name) a b (Ok true) → HasStatus formats rejects task tells name files a b errors errors (Some 0)
+    status_formatted name files a b errors h = record {
+      outcome = formatted;
+      is = record { source = h.source; known = h.known; means = h.found.0; in_place = λ _ h. h };
+      status_is = refl;
+      reported = λ _. h.found.1;
+      beginning = whole a b [] h.found.1;
+      told = refl;
+    }
+
+    pub status_differs : (name : List ℕ) (files : Files) (a b : Option (List ℕ)) (errors : E)
+        → HasResult formats rejects task name (files name) a b (Ok false) → HasStatus formats rejects task tells name files a b errors errors (Some 1)
+    status_differs name files a b errors h =
+        let report = h.found.1.0 in
+        record {
+          outcome = differs report;
+          is = record { source = h.source; known = h.known; means = h.found.1.1; in_place = λ e _. h.found.0 e };
+          status_is = refl;
+          reported = λ _. h.found.1.2;
+          beginning = whole a b report h.found.1.2;
+          told = refl;
+        }
+
+    -- a failure that leaves nothing known of the file
+    status_failed : (name message : List ℕ) (files : Files) (a b : Option (List ℕ)) (errors_old errors_new : E)
+        → Appends a b [] → IsMessage name message → FoldsTo tells errors_old (message ∷ []) errors_new
+        → HasStatus formats rejects task tells name files a b errors_old errors_new (Some 3)
+    status_failed name message files a b errors_old errors_new written m told =
+        let source = some_text (files name) in
+        record {
+          outcome = failed message;
+          is = record { source = source.0; known = source.1; means = m; in_place = λ _ h. h };
+          status_is = refl;
+          reported = λ _. written;
+          beginning = whole a b [] written;
+          told = told;
+        }
+
+    -- a failure after it was told
+    module _ (name : List ℕ) (files : Files) (a b : Option (List ℕ)) (errors_old errors_new : E) where
+      other_told : (messages : List (List ℕ)) → Appends a b [] → (message : List ℕ) × IsMessage name message × (messages ≡ message ∷ [])
+          → FoldsTo tells errors_old messages errors_new → HasStatus formats rejects task tells name files a b errors_old errors_new (Some 3)
+      other_told messages written m told =
+          status_failed name m.0 files a b errors_old errors_new written m.1 (subst (λ l. FoldsTo tells errors_old l errors_new) m.2 told)
+
+      pub status_told : (failure : Failure) (messages : List (List ℕ)) (status : Option ℕ)
+          → HasResult formats rejects task name (files name) a b (Err failure) → TellFailure name failure messages → FoldsTo tells errors_old messages errors_new
+          → status ≡ failure_status failure → HasStatus formats rejects task tells name files a b errors_old errors_new status
+      status_told (failures.Rejected lines) messages status h m told e = record {
+        outcome = rejected (string_bytes lines);
+        is = record { source = h.source; known = h.known; means = h.found.0; in_place = λ _ h. h };
+        status_is = e;
+        reported = λ _. h.found.1;
+        beginning = whole a b [] h.found.1;
+        told = subst (λ l. FoldsTo tells errors_old l errors_new) m told;
+      }
+      status_told (failures.Writing error) messages status h m told e = record {
+        outcome = unreported h.found.1.0 messages;
+        is = record { source = h.source; known = h.known; means = (h.found.1.1, m); in_place = λ i _. h.found.0 i };
+        status_is = e;
+        reported = λ x. absurd x;
+        beginning = h.found.1.2;
+        told = told;
+      }
+      status_told (failures.Reading error) messages status h m told e =
+          subst (HasStatus formats rejects task tells name files a b errors_old errors_new) (sym e) (other_told messages h.found m told)
+      status_told failures.NotUtf8 messages status h m told e =
+          subst (HasStatus formats rejects task tells name files a b errors_old errors_new) (sym e) (other_told messages h.found m told)
+      status_told (failures.Exhausted what) messages status h m told e =
+          subst (HasStatus formats rejects task tells name files a b errors_old errors_new) (sym e) (other_told messages h.found m told)
+      status_told (failures.Replacing error) messages status h m told e =
+          subst (HasStatus formats rejects task tells name files a b errors_old errors_new) (sym e) (other_told messages h.found m told)
+
+  -- ---- results
+
+  pub result_nothing : (name : List ℕ) (bytes : Option (List ℕ)) (a : Option (List ℕ)) (failure : Failure) → failure_status failure ≡ Some 3
+      → HasResult formats rejects task name bytes a a (Err failure)
+  result_nothing name bytes a (failures.Rejected lines) e = cc
+  result_nothing name bytes a (failures.Writing error) e = cc
+  result_nothing name bytes a (failures.Reading error) e = let s = some_text bytes in record { source = s.0; known = s.1; found = Appends-nil a }
+  result_nothing name bytes a failures.NotUtf8 e = let s = some_text bytes in record { source = s.0; known = s.1; found = Appends-nil a }
+  result_nothing name bytes a (failures.Exhausted what) e = let s = some_text bytes in record { source = s.0; known = s.1; found = Appends-nil a }
+  result_nothing name bytes a (failures.Replacing error) e = let s = some_text bytes in record { source = s.0; known = s.1; found = Appends-nil a }
+
+  pub result_formatted : (name source : List ℕ) (bytes a : Option (List ℕ)) → IfSome bytes (λ b. source ≡ b) → formats source source
+      → HasResult formats rejects task name bytes a a (Ok true)
+  result_formatted name source bytes a is f = record { source = source; known = is; found = (f, Appends-nil a) }
+
+  pub result_reported : (name source text : List ℕ) (bytes a b : Option (List ℕ)) (result : Result Bool Failure) → IfSome bytes (λ x. source ≡ x)
+      → formats source text → text ≢ source → task ≢ Format → Reports task name source text a b result → HasResult formats rejects task name bytes a b result
+  result_reported name source text bytes a b (Ok true) is f apart option r = absurd (true≢false r.0)
+  result_reported name source text bytes a b (Ok false) is f apart option r =
+      record { source = source; known = is; found = (option, (r.1.0, record { text = text; formatted = f; differs = apart; is = r.1.1 }, r.1.2)) }
+  result_reported name source text bytes a b (Err (failures.Writing error)) is f apart option r =
+      record { source = source; known = is; found = (option, (r.0, record { text = text; formatted = f; differs = apart; is = r.1 }, r.2)) }
+  result_reported name source text bytes a b (Err (failures.Rejected lines)) is f apart option r = absurd (two_not_three (same_Some 2 3 r.0))
+  result_reported name source text bytes a b (Err (failures.Reading error)) is f apart option r = record { source = source; known = is; found = r.1 }
+  result_reported name source text bytes a b (Err failures.NotUtf8) is f apart option r = record { source = source; known = is; found = r.1 }
+  result_reported name source text bytes a b (Err (failures.Exhausted what)) is f apart option r = record { source = source; known = is; found = r.1 }
+  result_reported name source text bytes a b (Err (failures.Replacing error)) is f apart option r = record { source = source; known = is; found = r.1 }
+
+  replaced_known : (text : List ℕ) (old new : Option (List ℕ))
       → (new ≡ old) ⊎ ((bytes : List ℕ) × (old ≡ Some bytes) × (old ≡ Some bytes) × (new ≡ Some text))
-      → IfSome old (λ b. new ≡ Some text) → formats source text → IfSome new (Means formats rejects task name formatted)
-  replaced_means name source text old new (inr h) r f =
-      subst (λ (x : Option (List ℕ)). IfSome x (Means formats rejects task name formatted)) (sym h.3) (settled source text f)
-  replaced_means name source text None new (inl e) r f =
-      subst (λ (x : Option (List ℕ)). IfSome x (Means formats rejects task name formatted)) (sym e) tt
-  replaced_means name source text (Some b) new (inl e) r f =
-      subst (λ (x : Option (List ℕ)). IfSome x (Means formats rejects task name formatted)) (sym r) (settled source text f)
+      → IfSome old (λ b. new ≡ Some text) → IfSome new (λ b. text ≡ b)
+  replaced_known text old new (inr h) r = subst (λ (x : Option (List ℕ)). IfSome x (λ b. text ≡ b)) (sym h.3) refl
+  replaced_known text None new (inl e) r = subst (λ (x : Option (List ℕ)). IfSome x (λ b. text ≡ b)) (sym e) tt
+  replaced_known text (Some b) new (inl e) r = subst (λ (x : Option (List ℕ)). IfSome x (λ b. text ≡ b)) (sym r) refl
 
-  pub status_replaced : (name source text : List ℕ) (old new : Files) (a : Option (List ℕ)) → Replaces old new name text → formats source text
-      → HasStatus formats rejects task name new a a 0
-  status_replaced name source text old new a r f = record {
-    outcome = formatted;
-    is = record { means = replaced_means name source text (old name) (new name) (r.others name) r.replaced f; in_place = λ _ h. h };
-    status_is = refl;
-    reported = λ _. Appends-nil a;
+  pub result_replaced : (name source text : List ℕ) (old new : Files) (a : Option (List ℕ)) → Replaces old new name text → formats source text
+      → HasResult formats rejects task name (new name) a a (Ok true)
+  result_replaced name source text old new a r f = record {
+    source = text;
+    known = replaced_known text (old name) (new name) (r.others name) r.replaced;
+    found = (settled source text f, Appends-nil a);
   }
-
-  same_known : (source bytes : List ℕ) (o : Option (List ℕ)) → o ≡ Some bytes → IfSome o (λ b. source ≡ b) → source ≡ bytes
-  same_known source bytes o e h = subst (λ (x : Option (List ℕ)). IfSome x (λ b. source ≡ b)) e h
-
-  becomes : (source text : List ℕ) (named old new : Option (List ℕ)) → IfSome named (λ b. source ≡ b) → formats source text → task ≡ Format
-      → (new ≡ old) ⊎ ((bytes : List ℕ) × (named ≡ Some bytes) × (old ≡ Some bytes) × (new ≡ Some text))
-      → (new ≡ old) ⊎ BecomesFormatted formats task old new
-  becomes source text named old new is f in_place (inl e) = inl e
-  becomes source text named old new is f in_place (inr h) = inr (record {
-    in_place = in_place;
-    source = h.0;
-    text = text;
-    was = h.2;
-    is = h.3;
-    formatted = subst (λ s. formats s text) (same_known source h.0 named h.1 is) f;
-  })
-
-  pub changes_replaced : (name source text : List ℕ) (old new : Files) → Replaces old new name text → IfSome (old name) (λ b. source ≡ b) → formats source text
-      → task ≡ Format → ChangesFiles formats task old new
-  changes_replaced name source text old new r is f in_place = λ other. becomes source text (old name) (old other) (new other) is f in_place (r.others other)

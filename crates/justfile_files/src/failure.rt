@@ -1,9 +1,13 @@
 //! Why the task failed for a file, and how that is told.
-ghost use Rattle.std.specs.Prelude.{◌≡◌};
-ghost use Rattle.justfile_files.specs.Failure.{failure_status};
+ghost use Rattle.std.specs.Prelude.{◌≡◌, ℕ, All, List, IfOk, string_bytes};
+ghost use Rattle.std.specs.List.{FoldsTo};
+ghost use Rattle.justfile_files.specs.Failure.{IsMessage, TellFailure, failure_status, message_of};
 
+use crate::folder::ReplaceError;
 use crate::formatter::Refusal;
-use std::io::{self, Write};
+use crate::messages::Messages;
+use std::alloc::{AllocError, Global};
+use std::io::{self, ErrorKind};
 
 /// Why the task failed for a file.
 #[derive(Debug, Drop)]
@@ -17,7 +21,7 @@ pub(crate) enum Failure {
     /// Something ran out that formatting needs, such as memory.
     Exhausted(&'static str),
     /// The file can't be replaced.
-    Replacing(io::Error),
+    Replacing(ReplaceError),
     /// The report of the file can't be written.
     Writing(io::Error),
 }
@@ -35,34 +39,99 @@ impl From<Refusal> for Failure {
     }
 }
 
-impl Failure {
-    /// Returns the status of the file: 2 if its text can't be formatted, 3 for any other failure.
-    fn status(&self) -> u8
-        ensures { result ≡ failure_status self.now }
-    {
-        match self {
-            Failure::Rejected(_) => 2,
-            Failure::Reading(_)
-            | Failure::NotUtf8
-            | Failure::Exhausted(_)
-            | Failure::Replacing(_)
-            | Failure::Writing(_) => 3,
+/// Tells why the task failed for the file with this name. Returns the status of the file: 2 if its
+/// text can't be formatted, none if its report can't be written, 3 for any other failure.
+pub(crate) fn report<E: Messages>(
+    alloc: Global,
+    name: &str,
+    failure: &Failure,
+    errors: &mut E,
+) -> Option<u8>
+    ensures status { result ≡ failure_status failure.now }
+    ensures told { (messages : List (List ℕ)) × TellFailure name.now failure.now messages
+        × FoldsTo E.tells errors.old messages errors.new }
+{
+    match failure {
+        Failure::Rejected(lines) => {
+            errors.tell(lines.as_str());
+            Some(2)
+        }
+        Failure::Writing(error) => {
+            tell_unless_gone(alloc, name, error, failure, errors);
+            None
+        }
+        _ => {
+            tell_reason(alloc, name, failure, errors);
+            Some(3)
         }
     }
 }
 
-/// Writes the lines that tell why the task failed for the file with this name, as far as they can
-/// be written. Returns the status of the file.
-pub(crate) fn report<E: Write>(name: &str, failure: &Failure, errors: &mut E) -> u8
-    ensures { result ≡ failure_status failure.now }
+/// Tells that a report couldn't be written, unless nobody reads the reports any longer.
+fn tell_unless_gone<E: Messages>(
+    alloc: Global,
+    name: &str,
+    error: &io::Error,
+    failure: &Failure,
+    errors: &mut E,
+)
+    ensures { (messages : List (List ℕ)) × All (IsMessage name.now) messages
+        × FoldsTo E.tells errors.old messages errors.new }
 {
-    let _ = match failure {
-        Failure::Reading(error) => writeln!(errors, "error: {name}: can't be read: {error}"),
-        Failure::NotUtf8 => writeln!(errors, "error: {name}: not UTF-8"),
-        Failure::Rejected(lines) => errors.write_all(lines.as_bytes()),
-        Failure::Exhausted(what) => writeln!(errors, "error: {name}: {what}"),
-        Failure::Replacing(error) => writeln!(errors, "error: {name}: can't be replaced: {error}"),
-        Failure::Writing(error) => writeln!(errors, "error: {name}: can't be reported: {error}"),
-    };
-    failure.status()
+    if error.kind() == ErrorKind::BrokenPipe {
+        return;
+    }
+    tell_reason(alloc, name, failure, errors);
+}
+
+/// Tells the reason of a failure in one message.
+fn tell_reason<E: Messages>(alloc: Global, name: &str, failure: &Failure, errors: &mut E)
+    ensures { (message : List ℕ) × IsMessage name.now message
+        × E.tells errors.old message errors.new }
+{
+    match message(alloc, name, failure) {
+        Ok(message) => errors.tell(message.as_str()),
+        Err(_) => errors.tell("error: out of memory\n"),
+    }
+}
+
+/// Returns the message that tells the reason of a failure.
+fn message(alloc: Global, name: &str, failure: &Failure) -> Result<String, AllocError>
+    ensures { IfOk result (λ message. IsMessage name.now (string_bytes message)) }
+{
+    let reason = reason(alloc, failure)?;
+    with_reason(alloc, name, reason.as_str())
+}
+
+/// Returns the message with this reason.
+fn with_reason(alloc: Global, name: &str, reason: &str) -> Result<String, AllocError>
+    ensures { IfOk result (λ message. string_bytes message ≡ message_of name.now reason.now) }
+{
+    let mut message = "error: ".to_string(alloc)?;
+    message.push_str(name)?;
+    message.push_str(": ")?;
+    message.push_str(reason)?;
+    message.push_str("\n")?;
+    Ok(message)
+}
+
+/// Returns the reason of a failure in words.
+fn reason(alloc: Global, failure: &Failure) -> Result<String, AllocError> {
+    match failure {
+        Failure::Reading(error) => format!(in alloc; "can't be read: {error}"),
+        Failure::NotUtf8 => "not UTF-8".to_string(alloc),
+        Failure::Rejected(lines) => lines.as_str().to_string(alloc),
+        Failure::Exhausted(what) => what.to_string(alloc),
+        Failure::Replacing(error) => replace_reason(alloc, error),
+        Failure::Writing(error) => format!(in alloc; "can't be reported: {error}"),
+    }
+}
+
+/// Returns the reason why a file wasn't replaced in words.
+fn replace_reason(alloc: Global, error: &ReplaceError) -> Result<String, AllocError> {
+    match error {
+        ReplaceError::System(error) => format!(in alloc; "can't be replaced: {error}"),
+        ReplaceError::Changed => "changed meanwhile".to_string(alloc),
+        ReplaceError::Other(words) => words.as_str().to_string(alloc),
+    }
 }

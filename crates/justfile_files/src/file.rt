@@ -1,11 +1,12 @@
 //! What is done with one file.
-ghost use Rattle.std.specs.Prelude.{◌≡◌, ◌≢◌, ◌≤◌, ◌+◌};
-ghost use Rattle.justfile_files.specs.Failure.{status_in};
+ghost use Rattle.std.specs.Prelude.{◌≡◌, ◌∷◌, ◌≤◌, [], IfSome};
+ghost use Rattle.justfile_files.specs.FileResult.{HasResult};
 ghost use Rattle.justfile_files.specs.Outcome.{ChangesFiles, HasStatus};
 
 use crate::failure::{Failure, report};
 use crate::folder::Folder;
 use crate::formatter::Formatter;
+use crate::messages::Messages;
 use crate::report::write_report;
 use crate::request::Task;
 use std::alloc::Global;
@@ -13,8 +14,8 @@ use std::io::Write;
 use std::str;
 
 /// Does the task with the file of this name, and returns its status: 0 if it is formatted, 1 if it
-/// isn't, 2 if it can't be formatted, 3 for any other failure.
-pub(crate) fn handle_file<F: Formatter, D: Folder, O: Write, E: Write>(
+/// isn't, 2 if it can't be formatted, none if its report can't be written, 3 for any other failure.
+pub(crate) fn handle_file<F: Formatter, D: Folder, O: Write, E: Messages>(
     alloc: Global,
     task: Task,
     formatter: &F,
@@ -22,16 +23,17 @@ pub(crate) fn handle_file<F: Formatter, D: Folder, O: Write, E: Write>(
     name: &str,
     output: &mut O,
     errors: &mut E,
-) -> u8
-    ensures status { HasStatus F.formats F.rejects task name.now (D.contents folder.new)
-        (O.contents output.old) (O.contents output.new) result }
-    ensures files { ChangesFiles F.formats task (D.contents folder.old) (D.contents folder.new) }
-    ensures silent { result ≤ 1 → errors.new ≡ errors.old }
+) -> Option<u8>
+    ensures status { HasStatus F.formats F.rejects task E.tells name.now (D.contents folder.new)
+        (O.contents output.old) (O.contents output.new) errors.old errors.new result }
+    ensures files { ChangesFiles F.formats task (name.now ∷ [])
+        (D.contents folder.old) (D.contents folder.new) }
+    ensures silent { IfSome result (λ status. status ≤ 1 → errors.new ≡ errors.old) }
 {
     match format_file(alloc, task, formatter, folder, name, output) {
-        Ok(true) => 0,
-        Ok(false) => 1,
-        Err(failure) => report(name, &failure, errors),
+        Ok(true) => Some(0),
+        Ok(false) => Some(1),
+        Err(failure) => report(alloc, name, &failure, errors),
     }
 }
 
@@ -44,9 +46,10 @@ fn format_file<F: Formatter, D: Folder, O: Write>(
     name: &str,
     output: &mut O,
 ) -> Result<bool, Failure>
-    ensures status { HasStatus F.formats F.rejects task name.now (D.contents folder.new)
-        (O.contents output.old) (O.contents output.new) (status_in result) }
-    ensures files { ChangesFiles F.formats task (D.contents folder.old) (D.contents folder.new) }
+    ensures found { HasResult F.formats F.rejects task name.now (D.contents folder.new name.now)
+        (O.contents output.old) (O.contents output.new) result }
+    ensures files { ChangesFiles F.formats task (name.now ∷ [])
+        (D.contents folder.old) (D.contents folder.new) }
 {
     let bytes = match folder.read(alloc, name) {
         Ok(bytes) => bytes,
@@ -62,7 +65,7 @@ fn format_file<F: Formatter, D: Folder, O: Write>(
     if task != Task::Format {
         return write_report(alloc, task, name, source, text.as_str(), output);
     }
-    match folder.replace(alloc, name, text.as_str()) {
+    match folder.replace(alloc, name, source, text.as_str()) {
         Ok(()) => Ok(true),
         Err(error) => Err(Failure::Replacing(error)),
     }

@@ -2,8 +2,31 @@
 ghost use Rattle.std.specs.Prelude.{◌≡◌, ℕ, List, Option, IfOk, IfSome, OnErr, OnOk};
 ghost use Rattle.justfile_files.specs.Folder.{KeepsFiles, Replaces};
 
-use std::alloc::Global;
+use std::alloc::{AllocError, Global};
 use std::io;
+
+/// Why the bytes of a file weren't replaced.
+#[derive(Debug, Drop)]
+pub enum ReplaceError {
+    /// The system refused it.
+    System(io::Error),
+    /// The file holds other bytes than those that were read.
+    Changed,
+    /// What the words tell.
+    Other(String),
+}
+
+impl From<io::Error> for ReplaceError {
+    fn from(error: io::Error) -> Self {
+        ReplaceError::System(error)
+    }
+}
+
+impl From<AllocError> for ReplaceError {
+    fn from(error: AllocError) -> Self {
+        ReplaceError::System(io::Error::from(error))
+    }
+}
 
 /// A folder of files with names: for the program the file system, for a test a folder in memory.
 pub trait Folder {
@@ -20,12 +43,21 @@ pub trait Folder {
             (λ known. bytes.items ≡ known)) }
         ensures kept { KeepsFiles (contents self.old) (contents self.new) };
 
-    /// Replaces the bytes of a file by those of a text, all of them or none.
+    /// Replaces the bytes of a file, which are those of the text `source`, by those of another
+    /// text, all of them or none.
     ///
     /// # Errors
     ///
-    /// The file can't be replaced, and is as it was.
-    fn replace(&mut self, alloc: Global, name: &str, text: &str) -> io::Result<()>
+    /// The file holds other bytes, or can't be replaced. It is as it was.
+    fn replace(
+        &mut self,
+        alloc: Global,
+        name: &str,
+        source: &str,
+        text: &str,
+    ) -> Result<(), ReplaceError>
+        ensures read { OnOk result (IfSome (contents self.old name.now)
+            (λ known. source.now ≡ known)) }
         ensures ok { OnOk result
             (Replaces (contents self.old) (contents self.new) name.now text.now) }
         ensures err { OnErr result (KeepsFiles (contents self.old) (contents self.new)) };

@@ -1,10 +1,11 @@
 //! What is written about a file that isn't formatted.
-ghost use Rattle.std.specs.Prelude.{◌≡◌, ◌≢◌, false, IfErr, IfOk, string_bytes};
+ghost use Rattle.std.specs.Prelude.{◌≡◌, ◌≢◌, IfOk, string_bytes};
 ghost use Rattle.justfile_files.specs.declared.request.Task.TheVariants as tasks;
-ghost use Rattle.justfile_files.specs.Failure.{failure_status};
-ghost use Rattle.justfile_files.specs.Outcome.{IsReport, WritesReport};
+ghost use Rattle.justfile_files.specs.Outcome.{IsReport};
+ghost use Rattle.justfile_files.specs.FileResult.{Reports};
 
 use crate::failure::Failure;
+use crate::output::write_text;
 use crate::request::Task;
 use line_diff::unified_diff;
 use std::alloc::{AllocError, Global};
@@ -21,19 +22,14 @@ pub(crate) fn write_report<O: Write>(
     output: &mut O,
 ) -> Result<bool, Failure>
     requires { task ≢ tasks.Format }
-    ensures ok { IfOk result (λ formatted. (formatted ≡ false)
-        × WritesReport task name.now source.now text.now
-        (O.contents output.old) (O.contents output.new)) }
-    ensures err { IfErr result (λ failure. failure_status failure ≡ 3) }
+    ensures { Reports task name.now source.now text.now
+        (O.contents output.old) (O.contents output.new) result }
 {
     let report = match report_text(alloc, task, name, source, text) {
         Ok(report) => report,
         Err(_) => return Err(Failure::Exhausted("out of memory")),
     };
-    if let Err(error) = output.write_all(report.as_bytes()) {
-        return Err(Failure::Writing(error));
-    }
-    match output.flush() {
+    match write_text(report.as_str(), output) {
         Ok(()) => Ok(false),
         Err(error) => Err(Failure::Writing(error)),
     }

@@ -6,20 +6,22 @@ ghost use Rattle.justfile_files.specs.Request.{request_of, texts};
 use crate::file::handle_file;
 use crate::folder::Folder;
 use crate::formatter::Formatter;
+use crate::messages::Messages;
 use crate::request::{Task, request_in};
 use std::alloc::Global;
 use std::io::Write;
 
 /// The form of the arguments.
-pub const USAGE: &str = "usage: justfiles [--check | --diff] FILE..\n";
+pub const USAGE: &str = "usage: justfiles [--check | --diff] [FILE..]\n";
 
 /// Does what the arguments ask for with the files of a folder: formats them in place, or writes the
 /// name of each that isn't formatted (`--check`), or a diff to its formatted text (`--diff`). If it
-/// fails for a file, it writes an error and goes on with the next one.
+/// fails for a file, it tells why and goes on with the next one. If a report can't be written, it
+/// stops.
 ///
 /// Returns the greatest status of a file: 0 if it is formatted, or is now; 1 if it isn't; 2 if its
 /// text can't be formatted; 3 for any other failure, or if the arguments have another form.
-pub fn run<F: Formatter, D: Folder, O: Write, E: Write>(
+pub fn run<F: Formatter, D: Folder, O: Write, E: Messages>(
     alloc: Global,
     arguments: &[String],
     formatter: &F,
@@ -28,25 +30,28 @@ pub fn run<F: Formatter, D: Folder, O: Write, E: Write>(
     errors: &mut E,
 ) -> u8
     ensures usage { request_of (texts arguments.now) ≡ None
-        → (result ≡ 3) × (folder.new ≡ folder.old) × (output.new ≡ output.old) }
+        → (result ≡ 3) × (folder.new ≡ folder.old) × (output.new ≡ output.old)
+        × E.tells errors.old USAGE.now errors.new }
     ensures files { IfSome (request_of (texts arguments.now)) (λ request.
-        ChangesFiles F.formats request.0 (D.contents folder.old) (D.contents folder.new)) }
+        ChangesFiles F.formats request.0 request.1
+        (D.contents folder.old) (D.contents folder.new)) }
     ensures outcomes { IfSome (request_of (texts arguments.now)) (λ request.
-        HasOutcomes F.formats F.rejects request.0 request.1 (D.contents folder.new)
-        (O.contents output.old) (O.contents output.new) result) }
+        HasOutcomes F.formats F.rejects request.0 E.tells request.1 (D.contents folder.new)
+        (O.contents output.old) (O.contents output.new) errors.old errors.new result) }
     ensures silent { result ≤ 1 → errors.new ≡ errors.old }
 {
     match request_in(arguments) {
         Some((task, names)) => handle_files(alloc, task, formatter, folder, names, output, errors),
         None => {
-            let _ = errors.write_all(USAGE.as_bytes());
+            errors.tell(USAGE);
             3
         }
     }
 }
 
-/// Does the task with each of the files, and returns the greatest status.
-fn handle_files<F: Formatter, D: Folder, O: Write, E: Write>(
+/// Does the task with each of the files, up to the first one whose report can't be written, and
+/// returns the greatest status.
+fn handle_files<F: Formatter, D: Folder, O: Write, E: Messages>(
     alloc: Global,
     task: Task,
     formatter: &F,
@@ -55,22 +60,20 @@ fn handle_files<F: Formatter, D: Folder, O: Write, E: Write>(
     output: &mut O,
     errors: &mut E,
 ) -> u8
-    ensures files { ChangesFiles F.formats task (D.contents folder.old) (D.contents folder.new) }
-    ensures outcomes { HasOutcomes F.formats F.rejects task (texts names.now)
-        (D.contents folder.new) (O.contents output.old) (O.contents output.new) result }
+    ensures files { ChangesFiles F.formats task (texts names.now)
+        (D.contents folder.old) (D.contents folder.new) }
+    ensures outcomes { HasOutcomes F.formats F.rejects task E.tells (texts names.now)
+        (D.contents folder.new) (O.contents output.old) (O.contents output.new)
+        errors.old errors.new result }
     ensures silent { result ≤ 1 → errors.new ≡ errors.old }
 {
     let mut status: u8 = 0;
     for name in names {
-        status = status.max(handle_file(
-            alloc,
-            task,
-            formatter,
-            folder,
-            name.as_str(),
-            output,
-            errors,
-        ));
+        let name = name.as_str();
+        let Some(next) = handle_file(alloc, task, formatter, folder, name, output, errors) else {
+            return 3;
+        };
+        status = status.max(next);
     }
     status
 }

@@ -1,14 +1,14 @@
 -- Hunks, one after the other.
-use Rattle.std.proofs.Common.{◌≡◌, ℕ, ◌+◌, ◌-◌, ◌≤◌, ◌<◌, List, [], ◌∷◌, ◌++◌, length, map, take, drop, All, false, Result, Ok, Err, OnOk, codes, nat_eq, is_ok, if◌then◌else◌, refl, sym, ap, subst, ◌∙◌, arith, append_assoc, append-nil}
-use Rattle.std.specs.List.{ends_with, flat_map}
+use Rattle.std.proofs.Common.{◌≡◌, ◌≢◌, ℕ, ◌+◌, ◌-◌, ◌≤◌, ◌<◌, List, [], ◌∷◌, ◌++◌, length, map, take, drop, get_or, All, Any, false, Result, Ok, Err, OnOk, codes, nat_eq, is_ok, if◌then◌else◌, refl, sym, ap, subst, ◌∙◌, arith, append_assoc, append-nil}
+use Rattle.std.specs.List.{HoldsAt, ends_with, flat_map}
 use Rattle.std.proofs.lemmas.Grind.{flat_map-append}
-use Rattle.std.proofs.lemmas.List.{drop-drop, length-drop, length-map, length-take, take-append-drop}
-use Rattle.std.proofs.lemmas.List.Elements.{All-head, All-tail}
+use Rattle.std.proofs.lemmas.List.{drop-drop, get_or_default, get_or-drop, get_or-take, length-drop, length-map, length-take, take-append-drop}
+use Rattle.std.proofs.lemmas.List.Elements.{All-append, All-cons, All-head, All-nil, All-tail}
 use Rattle.line_diff.specs.declared.edits.Edit.{Edit}
-use Rattle.line_diff.specs.Edits.{IsKept, new_lines, old_lines}
+use Rattle.line_diff.specs.Edits.{IsChange, IsKept, new_lines, old_lines}
 use Rattle.line_diff.specs.Lines.{text_lines}
 use Rattle.line_diff.specs.Unified.{IsUnified, diff_text, header_text}
-use Rattle.line_diff.specs.Hunks.{AreHunks, Hunk, ended_line, Leads, hunk_text, hunks_text}
+use Rattle.line_diff.specs.Hunks.{AreHunks, HasChange, Hunk, ended_line, Leads, hunk_text, hunks_text}
 
 -- lines that are kept
 pub kept_old : (edits : List Edit) → All IsKept edits → old_lines edits ≡ map (λ e. e.line.now) edits
@@ -24,12 +24,13 @@ pub record Reached (edits : List Edit) (from old_before new_before : ℕ) (text 
   pub hunks : List Hunk
   pub leads : (more : List Hunk) → Leads old_before new_before more (old_lines (drop from edits)) (new_lines (drop from edits))
       → Leads 0 0 (hunks ++ more) (old_lines edits) (new_lines edits)
+  pub changed : All HasChange hunks
   pub is : text ≡ hunks_text hunks
   pub old_small : old_before ≤ from
   pub new_small : new_before ≤ from
 
 pub begins : (edits : List Edit) → Reached edits 0 0 0 []
-begins edits = record { hunks = []; leads = λ more h. h; is = refl; old_small = omega arith; new_small = omega arith }
+begins edits = record { hunks = []; leads = λ more h. h; changed = All-nil HasChange; is = refl; old_small = omega arith; new_small = omega arith }
 
 -- the edits from one place on are those up to another place, a hunk, and the rest
 cut : (edits : List Edit) (from start finish : ℕ) → from ≤ start → start ≤ finish
@@ -51,10 +52,31 @@ parts part all kept hunk rest same e f =
     ∙ ap (λ (l : List (List ℕ)). same ++ l) (flat_map-append part hunk rest)
     ∙ sym (append_assoc same (flat_map part hunk) (flat_map part rest))
 
+-- a change between the two ends of a hunk
+pub within_hunk : (edits : List Edit) (start at finish : ℕ) → start ≤ at → at < finish → finish ≤ length edits → HoldsAt IsChange edits at
+    → Any IsChange (take (finish - start) (drop start edits))
+within_hunk [] start at finish h k l change = absurd (omega arith)
+within_hunk (e ∷ es) start at finish h k l change =
+    let hunk = take (finish - start) (drop start (e ∷ es)) in
+    let short : at - start < length hunk = omega (arith, length-take (finish - start) (drop start (e ∷ es)), length-drop start (e ∷ es)) in
+    let same : get_or hunk (at - start) e ≡ get_or (e ∷ es) at e =
+    get_or-take (finish - start) (drop start (e ∷ es)) (at - start) e (omega arith)
+    ∙ get_or-drop start (e ∷ es) (at - start) e ∙ ap (λ (i : ℕ). get_or (e ∷ es) i e) (omega arith) in
+    (at - start, get_or hunk (at - start) e, short, get_or_default hunk (at - start) (get_or hunk (at - start) e) e short, subst IsChange (sym same) (change e))
+
+-- what is kept before a change is kept before the lines of context too
+pub kept_before : (edits : List Edit) (from start at : ℕ) → start ≤ at → All IsKept (take (at - from) (drop from edits)) → All IsKept (take (start - from) (drop from edits))
+kept_before edits from start at h kept k d l =
+    let rest = drop from edits in
+    let nearer : k < start - from = omega (arith, length-take (start - from) rest) in
+    let same : get_or (take (at - from) rest) k d ≡ get_or (take (start - from) rest) k d =
+    get_or-take (at - from) rest k d (omega arith) ∙ sym (get_or-take (start - from) rest k d nearer) in
+    subst IsKept same (kept k d (omega (arith, length-take (at - from) rest, length-take (start - from) rest)))
+
 -- one hunk more
 module _ (edits : List Edit) (from old_before new_before : ℕ) (text : List ℕ) (start finish old_count new_count : ℕ) (new_text : List ℕ)
     (reached : Reached edits from old_before new_before text) (kept : All IsKept (take (start - from) (drop from edits)))
-    (after : from ≤ start) (some : start < finish) (within : finish ≤ length edits) where
+    (change : Any IsChange (take (finish - start) (drop start edits))) (after : from ≤ start) (some : start < finish) (within : finish ≤ length edits) where
   abbrev hunk : Hunk
   hunk = record { old_before = old_before + (start - from); new_before = new_before + (start - from); edits = take (finish - start) (drop start edits) }
 
@@ -83,6 +105,7 @@ module _ (edits : List Edit) (from old_before new_before : ℕ) (text : List ℕ
           ap (λ (k : ℕ). new_before + k) (sym lines_kept),
           rw (← o, ← n) led,
         ));
+    changed = All-append HasChange reached.hunks (hunk ∷ []) reached.changed (All-cons HasChange hunk [] change (All-nil HasChange));
     is = is ∙ ap (λ (l : List ℕ). l ++ hunk_text hunk) reached.is
         ∙ ap (λ (l : List ℕ). hunks_text reached.hunks ++ l) (sym (append-nil (hunk_text hunk))) ∙ sym (flat_map-append hunk_text reached.hunks (hunk ∷ []));
     old_small = omega (arith, reached.old_small, length-take (finish - start) (drop start edits), length-drop start edits);
@@ -95,6 +118,7 @@ pub ends : (edits : List Edit) (from old_before new_before : ℕ) (text : List �
 ends edits from o n text r kept = record {
   hunks = r.hunks;
   leads = subst (λ hs. Leads 0 0 hs (old_lines edits) (new_lines edits)) (append-nil r.hunks) (r.leads [] (kept_old _ kept ∙ sym (kept_new _ kept)));
+  changed = r.changed;
   is = r.is;
 }
 
@@ -126,13 +150,25 @@ without_hunks name bytes [] e none = e
 without_hunks name bytes (h ∷ hs) e none = absurd (omega (arith, ap length e))
 
 pub headed : (name old new text bytes header : List ℕ) (edits : List Edit) → AreHunks edits bytes → old_lines edits ≡ text_lines old
-    → new_lines edits ≡ text_lines new → 0 < length bytes → header ≡ header_text name → text ≡ header ++ bytes → IsUnified name old new text
-headed name old new text bytes header edits h o n some e is = record {
+    → new_lines edits ≡ text_lines new → old ≢ new → 0 < length bytes → header ≡ header_text name → text ≡ header ++ bytes → IsUnified name old new text
+headed name old new text bytes header edits h o n apart some e is = record {
   hunks = h.hunks;
   leads = rw (← o, ← n) h.leads;
+  changed = h.changed;
+  same = λ same. absurd (apart same);
   is = is ∙ ap (λ (l : List ℕ). l ++ bytes) e ∙ with_hunks name bytes h.hunks h.is some;
 }
 
 pub unheaded : (name old new bytes : List ℕ) (edits : List Edit) → AreHunks edits bytes → old_lines edits ≡ text_lines old → new_lines edits ≡ text_lines new
     → length bytes ≡ 0 → IsUnified name old new bytes
-unheaded name old new bytes edits h o n none = record { hunks = h.hunks; leads = rw (← o, ← n) h.leads; is = without_hunks name bytes h.hunks h.is none }
+unheaded name old new bytes edits h o n none = record {
+  hunks = h.hunks;
+  leads = rw (← o, ← n) h.leads;
+  changed = h.changed;
+  same = λ _. empty bytes none;
+  is = without_hunks name bytes h.hunks h.is none;
+}
+  where
+    empty : (bytes : List ℕ) → length bytes ≡ 0 → bytes ≡ []
+    empty [] none = refl
+    empty (b ∷ bs) none = absurd (omega arith)

@@ -1,16 +1,20 @@
 -- Hunks, how they lead from one text to another, and how they are written.
-use Rattle.std.specs.Prelude.{◌≡◌, ◌==◌, ℕ, ◌+◌, List, [], ◌∷◌, ◌++◌, length, codes, decimal, if◌then◌else◌, nat_eq}
+use Rattle.std.specs.Prelude.{◌≡◌, ◌==◌, ℕ, ◌+◌, All, Any, List, [], ◌∷◌, ◌++◌, length, codes, decimal, if◌then◌else◌, nat_eq}
 use Rattle.std.specs.List.{ends_with, flat_map}
 use Rattle.line_diff.specs.declared.edits.Change.{Change}
 use Rattle.line_diff.specs.declared.edits.Change.TheVariants.{Keep, Remove, Insert}
 use Rattle.line_diff.specs.declared.edits.Edit.{Edit}
-use Rattle.line_diff.specs.Edits.{new_lines, old_lines}
+use Rattle.line_diff.specs.Edits.{IsChange, new_lines, old_lines}
 
 -- edits, after so many lines of the old text and so many of the new
 pub record Hunk : Type 0 where
   pub old_before : ℕ
   pub new_before : ℕ
   pub edits : List Edit
+
+-- The hunk takes a line out or puts one in.
+abbrev pub HasChange : Hunk → Type 0
+HasChange hunk = Any IsChange hunk.edits
 
 -- After so many lines of the old text and of the new, hunks lead from the other lines of the old text to those of the new: before each hunk,
 -- and after the last, both texts have the same lines.
@@ -47,8 +51,9 @@ hunk_text h = codes "@@ -" ++ range_text h.old_before (length (old_lines h.edits
 abbrev pub hunks_text : List Hunk → List ℕ
 hunks_text hunks = flat_map hunk_text hunks
 
--- The text is that of hunks that lead from the lines of the old text to those of the new.
+-- The text is that of hunks that lead from the lines of the old text to those of the new. Each of them changes something.
 pub record AreHunks (edits : List Edit) (text : List ℕ) : Type 0 where
   pub hunks : List Hunk
   pub leads : Leads 0 0 hunks (old_lines edits) (new_lines edits)
+  pub changed : All HasChange hunks
   pub is : text ≡ hunks_text hunks

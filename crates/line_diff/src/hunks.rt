@@ -1,6 +1,7 @@
 //! Hunks: the changes that lie near one another, with the lines around them.
-ghost use Rattle.std.specs.Prelude.{◌≡◌, ◌+◌, ◌-◌, ◌≤◌, ◌<◌, All, IfNone, IfSome, length, take, drop};
-ghost use Rattle.line_diff.specs.Edits.{IsKept, new_lines, old_lines};
+ghost use Rattle.std.specs.Prelude.{◌≡◌, ◌+◌, ◌-◌, ◌≤◌, ◌<◌, All, Any, IfNone, IfSome, length, take, drop};
+ghost use Rattle.std.specs.List.{HoldsAt};
+ghost use Rattle.line_diff.specs.Edits.{IsChange, IsKept, new_lines, old_lines};
 
 use crate::edits::{Change, Edit};
 
@@ -12,6 +13,7 @@ fn next_change(edits: &[Edit<'_>], from: usize) -> Option<usize>
     ensures none { IfNone result (All IsKept (drop from edits.now)) }
     ensures before { IfSome result (λ at. All IsKept (take (at - from) (drop from edits.now))) }
     ensures bounds { IfSome result (λ at. (from ≤ at) × (at < length edits.now)) }
+    ensures change { IfSome result (HoldsAt IsChange edits.now) }
 {
     let mut index = from;
     'changes: while index < edits.len() {
@@ -46,6 +48,8 @@ pub(crate) fn next_hunk(edits: &[Edit<'_>], from: usize) -> Option<(usize, usize
     ensures before { IfSome result (λ p. All IsKept (take (p.0 - from) (drop from edits.now))) }
     ensures bounds { IfSome result
         (λ p. (from ≤ p.0) × (p.0 < p.1) × (p.1 ≤ length edits.now)) }
+    ensures change { IfSome result
+        (λ p. Any IsChange (take (p.1 - p.0) (drop p.0 edits.now))) }
 {
     let first = next_change(edits, from)?;
     let start = first.saturating_sub(CONTEXT).max(from);

@@ -21,6 +21,9 @@ use std::alloc::{AllocError, Global};
 pub fn unified_diff(alloc: Global, name: &str, old: &str, new: &str) -> Result<String, AllocError>
     ensures { IfOk result (λ text. IsUnified name.now old.now new.now (string_bytes text)) }
 {
+    if old == new {
+        return Ok(String::new(alloc));
+    }
     let old_lines = lines_of(alloc, old)?;
     let new_lines = lines_of(alloc, new)?;
     let edits = diff_lines(alloc, &old_lines, &new_lines)?;
