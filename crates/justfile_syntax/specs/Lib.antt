@@ -1,4 +1,5 @@
 pub mod Attributes
+pub mod Chunks
 pub mod Derivations
 pub mod Errors
 pub mod Expressions

@@ -48,6 +48,12 @@ pub mod byte_class {
     pub use justfile_vocabulary::byte_class::{ByteClass, byte_class};
 }
 
+pub mod chunks {
+    //! The chunks of a text, which is cut at its items.
+
+    pub use justfile_spans::{Span, chunks};
+}
+
 pub mod compile_error {
     //! Errors: what is wrong, and at which token.
 
@@ -156,6 +162,7 @@ pub mod laws {
     pub use justfile_ast::laws::same_numbers;
     pub use justfile_attribute_set::laws::sets_in_order;
     pub use justfile_canonical::laws::formatted_texts;
+    pub use justfile_chunks::chunks_derive;
     pub use justfile_expression::laws::{
         expressions_ordered, literals_ordered, namepaths_ordered, names_ordered, tokens_ordered,
     };

@@ -1,0 +1,408 @@
+-- The chunks of a text are lexed by themselves to their tokens in the text.
+use Rattle.std.proofs.Common.{◌≡◌, ◌≢◌, ◌∙◌, ℕ, ◌+◌, ◌<◌, Bool, true, false, cond, List, [], ◌∷◌, ◌++◌, ◌⊎◌, inl, inr, length, map, Some, None, Ok, refl, sym, ap, subst, arith, append_assoc, length-append, ⊎_elim}
+use Rattle.std.specs.Prelude.{reverse}
+use Rattle.std.specs.Str.{IsUtf8}
+use Rattle.std.proofs.lemmas.List.{map-append}
+use Rattle.std.proofs.lemmas.List.Concat.{flat_map-append}
+use Rattle.justfile_vocabulary.specs.ByteClass.{class_of}
+use Rattle.justfile_vocabulary.specs.declared.token_kind.TokenKind.TheVariants as kinds
+use Rattle.justfile_model.specs.Lexing.Lexed.{Begins, Lexed}
+use Rattle.justfile_model.specs.Lexing.Modes.{Mode, mode, mode_after, start_mode}
+use Rattle.justfile_model.specs.Lexing.Next.{layout, next, token_by_class, token_within_line}
+use Rattle.justfile_model.specs.Lexing.SignificantTokens.{is_whitespace}
+use Rattle.justfile_model.specs.Lexing.Tok.{Tok, tok}
+use Rattle.justfile_model.specs.Trees.Tree.{lexeme}
+use Rattle.justfile_model.proofs.Lexing.LexedLaws.{ended, joined, one_list}
+use Rattle.justfile_model.proofs.Lexing.NextLaws.{token_cut}
+use Rattle.justfile_model.proofs.Lexing.UnclosedLaws.{reverse_more}
+use Rattle.justfile_round_trip.proofs.LiteralTexts.FormatScans.{same_front}
+use Rattle.justfile_round_trip.proofs.LiteralTexts.LexedModes.{LexesTo, Mark, lexed, mark, toks}
+use Rattle.justfile_round_trip.proofs.RecipeBodies.Lines.{blank_line}
+use Rattle.justfile_round_trip.proofs.Values.TokenFacts.{Runs}
+use Rattle.justfile_chunks_grammar.specs.Chunks.{AreParts, IsCut, Parts, after_feed, chunk_texts, next_kind, text_of}
+use Rattle.justfile_chunks.proofs.CutModes.{BodyHasLevel, level_after, mode_at_cut}
+use Rattle.justfile_chunks.proofs.PartLexes.{EndsEmpty, EndsOnce, IsPart, but_last, colons_back, last_lexes, last_marks, part_lexes, same_colons}
+use Rattle.justfile_chunks.proofs.PartSteps.{Uncut, kind_is, len_is}
+use Rattle.justfile_chunks_grammar.proofs.Colons.{IndentsHaveColons, NeedsColon, colon_after}
+use Rattle.justfile_chunks.proofs.SameModes.{HaveColon, NoneIsEof, marks, mode_past}
+use Rattle.justfile_chunks.proofs.SameNext.{SameMode}
+use Rattle.justfile_chunks.proofs.SplitRuns.{in_order, runs_of, split_run, split_utf8}
+use Rattle.justfile_chunks.proofs.TidyModes.{LevelFact, Tidy, fed_run}
+
+-- ---- parts
+
+-- the tokens after the earlier ones, the last one first
+abbrev pub onto : (earlier part : List Tok) → List Tok
+onto earlier [] = earlier
+onto earlier (t ∷ part) = onto (t ∷ earlier) part
+
+-- the first part, up to a cut, and the others
+pub record Split (earlier later part : List Tok) (parts : List (List Tok)) : Type 0 where
+  pub rest : List Tok
+  pub is : later ≡ part ++ rest
+  pub some : 0 < length part
+  pub uncut : Uncut earlier part rest
+  pub cut : IsCut (onto earlier part) rest
+  pub others : Parts (onto earlier part) rest parts
+
+-- the first part is the last one, or a cut is after it
+abbrev pub FirstPart : (earlier later : List Tok) → (parts : List (List Tok)) → Type 0
+FirstPart earlier later [] = ⊥
+FirstPart earlier later (part ∷ parts) = ((later ≡ part) × (parts ≡ [])) ⊎ Split earlier later part parts
+
+pub first_part : {earlier later : List Tok} {parts : List (List Tok)} → Parts earlier later parts → FirstPart earlier later parts
+first_part Parts.last = inl (refl, refl)
+first_part (Parts.cut {later = l} c rest) = inr (record { rest = l; is = refl; some = omega arith; uncut = tt; cut = c; others = rest })
+first_part (Parts.uncut {earlier = e} {later = l} {part = p} {parts = ps} {t = t} u rest) = by (first_part rest)
+  where
+    more : (p rest : List Tok) → l ≡ p ++ rest → Uncut (t ∷ e) p rest → Uncut e (t ∷ p) rest
+    more [] rest is h = tt
+    more (w ∷ p) rest is h = (λ c. u (subst (λ x. IsCut (t ∷ e) x) (sym is) c), h)
+
+    by : ((l ≡ p) × (ps ≡ [])) ⊎ Split (t ∷ e) l p ps → ((t ∷ l ≡ t ∷ p) × (ps ≡ [])) ⊎ Split e (t ∷ l) (t ∷ p) ps
+    by (inl h) = inl (ap (λ x. t ∷ x) h.0, h.1)
+    by (inr s) = inr (record {
+      rest = s.rest;
+      is = ap (λ x. t ∷ x) s.is;
+      some = omega arith;
+      uncut = more p s.rest s.is s.uncut;
+      cut = s.cut;
+      others = s.others;
+    })
+
+onto_mode : (part earlier : List Tok) → mode (onto earlier part) ≡ mode_past (mode earlier) part
+onto_mode [] earlier = refl
+onto_mode (t ∷ part) earlier = onto_mode part (t ∷ earlier)
+
+-- ---- after a cut
+
+-- the later tokens of a text, at its start or after a cut
+pub record Later (earlier later : List Tok) : Type 0 where
+  pub same : SameMode (mode earlier) start_mode
+  pub utf8 : IsUtf8 (text_of later)
+  pub run : Runs (mode earlier) (text_of later) later
+  pub ends : EndsOnce later
+  pub empty : EndsEmpty later
+
+ends_rest : (p rest : List Tok) → 0 < length rest → EndsOnce (p ++ rest) → EndsOnce rest
+ends_rest [] rest l h = h
+ends_rest (t ∷ p) rest l h = by (p ++ rest) (omega (arith, l, length-append p rest)) h (ends_rest p rest l)
+  where
+    by : (x : List Tok) → 0 < length x → EndsOnce (t ∷ x) → (EndsOnce x → EndsOnce rest) → EndsOnce rest
+    by [] l h f = absurd (omega arith)
+    by (u ∷ x) l h f = f h.1
+
+empty_rest : (p rest : List Tok) → 0 < length rest → EndsEmpty (p ++ rest) → EndsEmpty rest
+empty_rest [] rest l h = h
+empty_rest (t ∷ p) rest l h = by (p ++ rest) (omega (arith, l, length-append p rest)) h (empty_rest p rest l)
+  where
+    by : (x : List Tok) → 0 < length x → EndsEmpty (t ∷ x) → (EndsEmpty x → EndsEmpty rest) → EndsEmpty rest
+    by [] l h f = absurd (omega arith)
+    by (u ∷ x) l h f = f h
+
+none_ends : (p rest : List Tok) → 0 < length rest → EndsOnce (p ++ rest) → NoneIsEof p
+none_ends [] rest l h = tt
+none_ends (t ∷ p) rest l h = by (p ++ rest) (omega (arith, l, length-append p rest)) h (none_ends p rest l)
+  where
+    by : (x : List Tok) → 0 < length x → EndsOnce (t ∷ x) → (EndsOnce x → NoneIsEof p) → (t.kind ≢ kinds.Eof) × NoneIsEof p
+    by [] l h f = absurd (omega arith)
+    by (u ∷ x) l h f = (h.0, f h.1)
+
+-- outside of levels a token has bytes
+pub first_bytes : (t : Tok) (ts : List Tok) (m : Mode) (x : List ℕ) → t.kind ≢ kinds.Eof → m.levels ≡ [] → IsUtf8 x → Runs m x (t ∷ ts) → 0 < length t.lexeme
+first_bytes t ts m x ne ls u r =
+    ⊎_elim (λ some. some) (λ none. absurd (⊎_elim (λ end. ne end) (λ close. omega (arith, close.1, ap length ls)) none))
+    ((token_cut m x u t.kind (length t.lexeme) r.2).1)
+
+pub some_text : (rest : List Tok) (m : Mode) (x : List ℕ) → EndsOnce rest → next_kind rest ≢ Some kinds.Eof → m.levels ≡ [] → IsUtf8 x → Runs m x rest
+    → 0 < length (text_of rest)
+some_text [] m x o ne ls u r = absurd o
+some_text (t ∷ []) m x o ne ls u r = absurd (ne (ap (λ k. cond (is_whitespace k) None (Some k)) o))
+some_text (t ∷ w ∷ ts) m x o ne ls u r = omega (arith, first_bytes t (w ∷ ts) m x o.0 ls u r, length-append t.lexeme (text_of (w ∷ ts)))
+
+same_clear : (m : Mode) → SameMode m start_mode → BodyHasLevel m
+same_clear m s = λ h. let bad : true ≡ false = sym h ∙ s.in_body in cc
+
+-- the mode after a part that ends at a cut
+at_cut : (p earlier rest : List Tok) (v : List ℕ) → 0 < length p → BodyHasLevel (mode earlier) → Runs (mode earlier) (text_of p ++ v) (p ++ rest) → 0 < length v
+    → IsCut (onto earlier p) rest
+    → SameMode (mode (onto earlier p)) start_mode
+at_cut [] earlier rest v l b r some c = absurd (omega arith)
+at_cut (t ∷ []) earlier rest v l b r some c =
+    by (text_of (t ∷ []) ++ v) (omega (arith, length-append (text_of (t ∷ [])) v, some)) r.2
+  where
+    by : (x : List ℕ) → 0 < length x → next (mode earlier) x ≡ Ok (t.kind, length t.lexeme) → SameMode (mode (t ∷ earlier)) start_mode
+    by [] l e = absurd (omega arith)
+    by (y ∷ ys) l e = mode_at_cut (mode earlier) t.kind (length t.lexeme) t y ys b e c.ends c.outside
+at_cut (t ∷ w ∷ p) earlier rest v l b r some c =
+    let following : r.0 ≡ text_of (w ∷ p) ++ v = (same_front t.lexeme r.0 t.lexeme (text_of (w ∷ p) ++ v) (sym r.1
+    ∙ append_assoc t.lexeme (text_of (w ∷ p)) v) refl).1 in
+    at_cut (w ∷ p) (t ∷ earlier) rest v (omega arith) (level_after t.kind t (mode earlier) b)
+    (subst (λ x. Runs (mode (t ∷ earlier)) x (w ∷ p ++ rest)) following r.3) some c
+
+start_tidy : (earlier : List Tok) → SameMode (mode earlier) start_mode → Tidy earlier
+start_tidy earlier s = record {
+  levels = subst (λ ls. LevelFact ls (mode earlier).in_body) (sym s.levels) s.in_body;
+  line = λ start flat body. let bad : true ≡ false = sym body ∙ s.in_body in cc;
+}
+
+no_colon : (m n : Mode) → HaveColon false m n
+no_colon m n = record { first = λ e. cc; second = λ e. cc }
+
+-- a part up to a cut, and the tokens after it
+pub record NextPart (earlier part rest : List Tok) : Type 0 where
+  pub some : 0 < length (text_of rest)
+  pub more : 0 < length rest
+  pub is_part : IsPart (text_of rest) rest some more part earlier start_mode false
+  pub ended : SameMode (mode_past (mode earlier) part) start_mode
+  pub goes_on : next_kind rest ≢ Some kinds.Eof
+  pub later : Later (onto earlier part) rest
+
+pub next_part : (earlier later part : List Tok) (parts : List (List Tok)) → Later earlier later → (s : Split earlier later part parts) → 0 < length s.rest
+    → NextPart earlier part s.rest
+next_part earlier later part parts h s l =
+    let text : text_of later ≡ text_of part ++ text_of s.rest = ap text_of s.is ∙ flat_map-append lexeme part s.rest in
+    let utf8 : IsUtf8 (text_of part ++ text_of s.rest) = subst IsUtf8 text h.utf8 in
+    let run : Runs (mode earlier) (text_of part ++ text_of s.rest) (part ++ s.rest) =
+    (subst (λ x. Runs (mode earlier) x (part ++ s.rest)) text (subst (λ ts. Runs (mode earlier) (text_of later) ts) s.is h.run)) in
+    let ends : EndsOnce (part ++ s.rest) = subst EndsOnce s.is h.ends in
+    let two = split_run (mode earlier) (text_of part ++ text_of s.rest) part s.rest run in
+    let following : two.following ≡ text_of s.rest = sym (same_front (text_of part) (text_of s.rest) (text_of part) two.following two.rest_is refl).1 in
+    let rest_run : Runs (mode_past (mode earlier) part) (text_of s.rest) s.rest = subst
+    (λ x. Runs (mode_past (mode earlier) part) x s.rest) following two.run in
+    let rest_utf8 : IsUtf8 (text_of s.rest) = subst IsUtf8 following (split_utf8 part s.rest (mode earlier) (text_of part ++ text_of s.rest) utf8 run) in
+    let some : 0 < length (text_of s.rest) = some_text s.rest (mode_past (mode earlier) part) (text_of s.rest) (ends_rest part s.rest l ends)
+    (goes_on (onto earlier part) s.rest s.cut)
+    (sym (ap (λ (m : Mode). m.levels) (onto_mode part earlier)) ∙ outside (onto earlier part) s.rest s.cut) rest_utf8 rest_run in
+    let same : SameMode (mode (onto earlier part)) start_mode = at_cut part earlier s.rest (text_of s.rest) s.some
+    (same_clear (mode earlier) h.same) run some s.cut in
+    let past : SameMode (mode_past (mode earlier) part) start_mode = subst (λ m. SameMode m start_mode) (onto_mode part earlier) same in
+    record {
+      some = some;
+      more = l;
+      is_part = record {
+        tidy = start_tidy earlier h.same;
+        same = h.same;
+        colons = no_colon (mode earlier) start_mode;
+        no_eof = none_ends part s.rest l ends;
+        uncut = s.uncut;
+        fed = fed_run part (mode earlier) (text_of part ++ text_of s.rest) utf8 two.first past.line_start;
+        utf8 = utf8;
+        run = run;
+      };
+      ended = past;
+      goes_on = goes_on (onto earlier part) s.rest s.cut;
+      later = record {
+        same = same;
+        utf8 = rest_utf8;
+        run = subst (λ m. Runs m (text_of s.rest) s.rest) (sym (onto_mode part earlier)) rest_run;
+        ends = ends_rest part s.rest l ends;
+        empty = empty_rest part s.rest l (subst EndsEmpty s.is h.empty);
+      };
+    }
+  where
+    goes_on : (e rest : List Tok) → IsCut e rest → next_kind rest ≢ Some kinds.Eof
+    goes_on [] rest c = absurd c
+    goes_on (t ∷ e) rest c = c.goes_on
+
+    outside : (e rest : List Tok) → IsCut e rest → (mode e).levels ≡ []
+    outside [] rest c = absurd c
+    outside (t ∷ e) rest c = c.outside
+
+-- ---- the tokens of a text
+
+ends_after : (text : List ℕ) (e ts : List Tok) → Begins text e → EndsOnce ts → EndsOnce (reverse e ++ ts)
+ends_after text [] ts b o = o
+ends_after text (t ∷ e) ts b o = subst EndsOnce (sym (reverse_more t e ts)) (ends_after text e (t ∷ ts) b.0 (by ts o))
+  where
+    by : (ts : List Tok) → EndsOnce ts → EndsOnce (t ∷ ts)
+    by [] o = absurd o
+    by (u ∷ ts) o = (b.2, o)
+
+lexed_ends : (text : List ℕ) (tokens : List Tok) → Lexed text tokens → EndsOnce tokens
+lexed_ends text tokens l = subst EndsOnce (in_order text tokens l) (ends_after text l.earlier (l.last ∷ []) l.begins l.is_end)
+
+ends_empty : (front : List Tok) (t : Tok) → t.lexeme ≡ [] → EndsEmpty (front ++ (t ∷ []))
+ends_empty [] t e = e
+ends_empty (u ∷ []) t e = e
+ends_empty (u ∷ w ∷ front) t e = ends_empty (w ∷ front) t e
+
+-- ---- the chunks
+
+-- The line feed before a part, and the end of the text after it, as tokens at some places. The flag says that the part is the first one.
+pub record Borders : Type 0 where
+  pub feed : List Tok → Tok
+  pub eof : Bool → List Tok → Tok
+  pub feed_kind : (part : List Tok) → (feed part).kind ≡ kinds.Eol
+  pub feed_text : (part : List Tok) → (feed part).lexeme ≡ 10 ∷ []
+  pub eof_kind : (first : Bool) (part : List Tok) → (eof first part).kind ≡ kinds.Eof
+  pub eof_text : (first : Bool) (part : List Tok) → (eof first part).lexeme ≡ []
+
+-- at the start of the text
+pub plain : Borders
+plain = record {
+  feed = λ part. tok kinds.Eol (10 ∷ []) 0 0 0;
+  eof = λ first part. tok kinds.Eof [] 0 0 0;
+  feed_kind = λ part. refl;
+  feed_text = λ part. refl;
+  eof_kind = λ first part. refl;
+  eof_text = λ first part. refl;
+}
+
+-- the text of a chunk; before each but the first there is a line feed
+abbrev text_by : Bool → List Tok → List ℕ
+text_by true part = text_of part
+text_by false part = after_feed part
+
+abbrev texts_by : Bool → List (List Tok) → List (List ℕ)
+texts_by first [] = []
+texts_by first (part ∷ parts) = text_by first part ∷ map after_feed parts
+
+module _ (b : Borders) where
+  -- these tokens, and before them the line feed of the part
+  abbrev pub tokens_by : Bool → (part tokens : List Tok) → List Tok
+  tokens_by true part tokens = tokens
+  tokens_by false part tokens = b.feed part ∷ tokens
+
+  abbrev pub closed : Bool → List Tok → List Tok
+  closed first part = part ++ (b.eof first part ∷ [])
+
+  -- the tokens of the chunks: each but the last is ended
+  abbrev pub chunks_by : Bool → List (List Tok) → List (List Tok)
+  chunks_by first [] = []
+  chunks_by first (part ∷ []) = tokens_by first part part ∷ []
+  chunks_by first (part ∷ q ∷ parts) = tokens_by first part (closed first part) ∷ chunks_by false (q ∷ parts)
+
+-- The text has these tokens, up to their places, if each indent follows a colon: of these tokens, or of those of the text.
+pub record ChunkLexes (text : List ℕ) (tokens : List Tok) : Type 0 where
+  pub lexes : IndentsHaveColons false tokens → (us : List Tok) × Lexed text us × (marks us ≡ marks tokens)
+  pub has : (us : List Tok) → Lexed text us → IndentsHaveColons false us → marks us ≡ marks tokens
+
+abbrev pub AllLex : List (List ℕ) → List (List Tok) → Type 0
+AllLex [] [] = Unit {0}
+AllLex (text ∷ texts) (tokens ∷ others) = ChunkLexes text tokens × AllLex texts others
+AllLex _ _ = ⊥
+
+marks_toks : (text : List ℕ) (offset : ℕ) (ms : List Mark) → marks (toks text offset ms) ≡ ms ++ (mark kinds.Eof [] ∷ [])
+marks_toks text offset [] = refl
+marks_toks text offset (m ∷ ms) = ap (λ x. m ∷ x) (marks_toks text (offset + length m.lexeme) ms)
+
+feed_first : (x : List ℕ) → next start_mode (10 ∷ x) ≡ Ok (kinds.Eol, 1)
+unfolding next layout token_within_line token_by_class class_of
+feed_first x = refl
+
+module _ (b : Borders) (part tokens : List Tok) (ms : List Mark) (are : marks tokens ≡ ms ++ (mark kinds.Eof [] ∷ []))
+    (to : IndentsHaveColons false tokens → LexesTo start_mode (text_of part) ms)
+    (back : (us : List Tok) → Runs start_mode (text_of part) us → EndsOnce us → IndentsHaveColons false us → IndentsHaveColons false tokens) where
+  lexes_by : (first : Bool) → IndentsHaveColons false tokens → (us : List Tok) × Lexed (text_by first part) us
+      × (marks us ≡ marks (tokens_by b first part tokens))
+  lexes_by true c = (toks (text_of part) 0 ms, lexed (text_of part) ms (to c), marks_toks (text_of part) 0 ms ∙ sym are)
+  lexes_by false c =
+      let ns : List Mark = mark kinds.Eol (10 ∷ []) ∷ ms in (
+        toks (after_feed part) 0 ns,
+        lexed (after_feed part) ns (blank_line false (to c)),
+        marks_toks (after_feed part) 0 ns
+            ∙ (λ i. mark (sym (b.feed_kind part) i) (sym (b.feed_text part) i) ∷ sym are i),
+      )
+
+  colons_by : (first : Bool) (us : List Tok) → Runs start_mode (text_by first part) us → EndsOnce us → IndentsHaveColons false us
+      → IndentsHaveColons false tokens
+  colons_by true us r o c = back us r o c
+  colons_by false [] r o c = absurd o
+  colons_by false (u ∷ us) r o c =
+      let same = sym r.2 ∙ feed_first (text_of part) in
+      let kind : u.kind ≡ kinds.Eol = kind_is u.kind kinds.Eol (length u.lexeme) 1 same in
+      let front = same_front u.lexeme r.0 (10 ∷ []) (text_of part) (sym r.1) (len_is u.kind kinds.Eol (length u.lexeme) 1 same) in
+      back us
+      (subst (λ k. Runs (mode_after k u start_mode) (text_of part) us) kind (subst (λ x. Runs (mode_after u.kind u start_mode) x us) front.1 r.3))
+      (ends_later us o) (subst (λ k. IndentsHaveColons (colon_after k false) us) kind c.1)
+    where
+      ends_later : (us : List Tok) → EndsOnce (u ∷ us) → EndsOnce us
+      ends_later [] o = let bad : kinds.Eol ≡ kinds.Eof = sym (kind_is u.kind kinds.Eol (length u.lexeme) 1 (sym r.2 ∙ feed_first (text_of part))) ∙ o in cc
+      ends_later (w ∷ us) o = o.1
+
+  chunk_by : (first : Bool) → ChunkLexes (text_by first part) (tokens_by b first part tokens)
+  chunk_by first = record {
+    lexes = λ c. lexes_by first (later first c);
+    has = λ us l c.
+        let x = lexes_by first (colons_by first us (runs_of (text_by first part) us l) (lexed_ends (text_by first part) us l) c) in
+        ap marks (one_list (text_by first part) us x.0 l x.1) ∙ x.2;
+  }
+    where
+      later : (first : Bool) → IndentsHaveColons false (tokens_by b first part tokens) → IndentsHaveColons false tokens
+      later true c = c
+      later false c = subst (λ k. IndentsHaveColons (colon_after k false) tokens) (b.feed_kind part) c.1
+
+colons_front : (ts us : List Tok) (colon : Bool) → IndentsHaveColons colon (ts ++ us) → IndentsHaveColons colon ts
+colons_front [] us colon c = tt
+colons_front (t ∷ ts) us colon c = (c.0, colons_front ts us (colon_after t.kind colon) c.1)
+
+colons_closed : (ts : List Tok) (t : Tok) (colon : Bool) → t.kind ≡ kinds.Eof → IndentsHaveColons colon ts → IndentsHaveColons colon (ts ++ (t ∷ []))
+colons_closed [] t colon e c = (subst (λ k. NeedsColon k colon) (sym e) tt, tt)
+colons_closed (u ∷ ts) t colon e c = (c.0, colons_closed ts t (colon_after u.kind colon) e c.1)
+
+module _ (b : Borders) where
+  -- a chunk that ends at a cut
+  cut_chunk : (earlier part rest : List Tok) → NextPart earlier part rest → (first : Bool)
+      → ChunkLexes (text_by first part) (tokens_by b first part (closed b first part))
+  cut_chunk earlier part rest n first =
+      let t = b.eof first part in
+      let are : marks (part ++ (t ∷ [])) ≡ marks part ++ (mark kinds.Eof [] ∷ []) =
+      map-append (λ (t : Tok). mark t.kind t.lexeme) part (t ∷ []) ∙ (λ i. marks part ++ (mark (b.eof_kind first part i) (b.eof_text first part i) ∷ [])) in
+      chunk_by b part (closed b first part) (marks part) are
+      (λ c. record { is = part_lexes (text_of rest) rest n.some n.more part earlier start_mode false n.is_part (colons_front part (t ∷ []) false c) n.ended })
+      (λ us r o c. colons_closed part t false (b.eof_kind first part) (colons_back
+      (text_of rest) rest n.some n.more part us earlier start_mode false n.is_part r o c))
+      first
+
+  -- the last chunk
+  last_chunk : (earlier later : List Tok) → Later earlier later → (first : Bool) → ChunkLexes (text_by first later) (tokens_by b first later later)
+  last_chunk earlier later h =
+      chunk_by b later later (marks (but_last later)) (last_marks later h.ends h.empty)
+      (λ c. record { is = last_lexes later (mode earlier) start_mode false h.same (no_colon (mode earlier) start_mode) c h.ends h.empty h.run })
+      (λ us r o c. same_colons later us (mode earlier) start_mode false (text_of later) h.same (no_colon (mode earlier) start_mode) h.run r h.ends o c)
+
+pub parts_some : {earlier later : List Tok} {parts : List (List Tok)} → Parts earlier later parts → 0 < length later
+parts_some Parts.last = omega arith
+parts_some (Parts.cut c rest) = omega arith
+parts_some (Parts.uncut u rest) = omega arith
+
+all_lex : (b : Borders) (parts : List (List Tok)) (earlier later : List Tok) → Later earlier later → Parts earlier later parts → (first : Bool)
+    → AllLex (texts_by first parts) (chunks_by b first parts)
+all_lex b [] earlier later h p first = absurd (first_part p)
+all_lex b (part ∷ []) earlier later h p first = by (first_part p)
+  where
+    by : ((later ≡ part) × (◌≡◌ {A = List (List Tok)} [] [])) ⊎ Split earlier later part []
+        → AllLex (text_by first part ∷ []) (tokens_by b first part part ∷ [])
+    by (inl e) = (subst (λ x. ChunkLexes (text_by first x) (tokens_by b first x x)) e.0 (last_chunk b earlier later h first), tt)
+    by (inr s) = absurd (first_part s.others)
+all_lex b (part ∷ q ∷ parts) earlier later h p first = by (first_part p) (all_lex b (q ∷ parts))
+  where
+    by : ((later ≡ part) × (q ∷ parts ≡ [])) ⊎ Split earlier later part (q ∷ parts)
+        → ((earlier later : List Tok) → Later earlier later → Parts earlier later (q ∷ parts) → (first : Bool)
+        → AllLex (texts_by first (q ∷ parts)) (chunks_by b first (q ∷ parts)))
+        → ChunkLexes (text_by first part) (tokens_by b first part (closed b first part)) × AllLex (map after_feed (q ∷ parts)) (chunks_by b false (q ∷ parts))
+    by (inl e) more = cc (e.1)
+    by (inr s) more =
+        let n = next_part earlier later part (q ∷ parts) h s (parts_some s.others) in
+        (cut_chunk b earlier part s.rest n first, more (onto earlier part) s.rest n.later s.others false)
+
+module _ (text : List ℕ) (tokens : List Tok) (u : IsUtf8 text) (l : Lexed text tokens) where
+  pub whole_is : text_of tokens ≡ text
+  whole_is = joined text tokens u l
+
+  pub from_start : Later [] tokens
+  from_start =
+      let e = ended text tokens u l in
+      record {
+        same = record { openers = refl; levels = refl; in_body = refl; interpolation = refl; line_start = refl; after_f = refl };
+        utf8 = subst IsUtf8 (sym whole_is) u;
+        run = subst (λ x. Runs start_mode x tokens) (sym whole_is) (runs_of text tokens l);
+        ends = lexed_ends text tokens l;
+        empty = subst EndsEmpty (sym e.are) (ends_empty e.front e.last e.lexeme_is);
+      }
+
+  -- the chunks of a text are lexed to their tokens
+  pub chunks_lex : (b : Borders) (parts : List (List Tok)) → AreParts tokens parts → AllLex (chunk_texts parts) (chunks_by b true parts)
+  chunks_lex b [] p = absurd (first_part p)
+  chunks_lex b (part ∷ parts) p = all_lex b (part ∷ parts) [] tokens from_start p true

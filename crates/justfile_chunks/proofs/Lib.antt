@@ -1,0 +1,14 @@
+pub mod AllCuts
+pub mod ChunkTokens
+pub mod CutModes
+pub mod FeedTexts
+pub mod MovedChunks
+pub mod MovedPlaces
+pub mod PartLexes
+pub mod PartNext
+pub mod PartSteps
+pub mod SameModes
+pub mod SameNext
+pub mod SplitRuns
+pub mod TidyModes
+pub mod TreeCuts

@@ -1,0 +1,165 @@
+-- Modes that differ in lines, in places and in a pending colon differ in no more after the same tokens, if none of their indents needs that colon.
+use Rattle.std.proofs.Common.{◌≡◌, ◌≢◌, ◌∙◌, ℕ, Bool, true, false, ◌||◌, List, [], ◌∷◌, map, Option, Some, None, Ok, Err, refl, sym, ap}
+use Rattle.std.specs.Str.{bytes_eq}
+use Rattle.justfile_vocabulary.specs.declared.token_kind.TokenKind.{TokenKind}
+use Rattle.justfile_vocabulary.specs.declared.token_kind.TokenKind.TheVariants as kinds
+use Rattle.justfile_token.specs.declared.delimiter.Delimiter.TheVariants.{Brace, Bracket, FormatString, Paren}
+use Rattle.justfile_token.specs.StringKind.{kind_of}
+use Rattle.justfile_model.specs.declared.open_delimiter.OpenDelimiter.{OpenDelimiter}
+use Rattle.justfile_model.specs.Lexing.Modes.{Mode, ends_in_line_feed, mode_after, tail_of}
+use Rattle.justfile_model.specs.Lexing.Next.{NextToken}
+use Rattle.justfile_model.specs.Lexing.Tok.{Tok}
+use Rattle.justfile_round_trip.proofs.LiteralTexts.LexedModes.{Mark, mark}
+use Rattle.justfile_chunks_grammar.proofs.Colons.{NeedsColon, colon_after}
+use Rattle.justfile_chunks.proofs.SameNext.{SameFound, SameMode, delimiters, found}
+
+tail_same : (os : List OpenDelimiter) → delimiters (tail_of os) ≡ tail_of (delimiters os)
+tail_same [] = refl
+tail_same (o ∷ os) = refl
+
+tails : (os ps : List OpenDelimiter) → delimiters os ≡ delimiters ps → delimiters (tail_of os) ≡ delimiters (tail_of ps)
+tails os ps e = tail_same os ∙ ap tail_of e ∙ sym (tail_same ps)
+
+-- a body begins with an indent in both or in neither
+abbrev pub SameIndent : TokenKind → Mode → Mode → Type 0
+SameIndent kinds.Indent m n = (m.in_body || m.colon) ≡ (n.in_body || n.colon)
+SameIndent _ m n = Unit {0}
+
+-- the modes after a token of this kind and this text
+pub same_after : (k : TokenKind) (t u : Tok) (m n : Mode) → t.lexeme ≡ u.lexeme → SameMode m n → SameIndent k m n
+    → SameMode (mode_after k t m) (mode_after k u n)
+same_after kinds.BraceL t u m n l s e =
+    record {
+      openers = ap (λ ds. Brace ∷ ds) s.openers;
+      levels = s.levels;
+      in_body = s.in_body;
+      interpolation = s.interpolation;
+      line_start = refl;
+      after_f = refl;
+    }
+same_after kinds.BracketL t u m n l s e =
+    record {
+      openers = ap (λ ds. Bracket ∷ ds) s.openers;
+      levels = s.levels;
+      in_body = s.in_body;
+      interpolation = s.interpolation;
+      line_start = refl;
+      after_f = refl;
+    }
+same_after kinds.ParenL t u m n l s e =
+    record {
+      openers = ap (λ ds. Paren ∷ ds) s.openers;
+      levels = s.levels;
+      in_body = s.in_body;
+      interpolation = s.interpolation;
+      line_start = refl;
+      after_f = refl;
+    }
+same_after kinds.FormatStringStart t u m n l s e =
+    record {
+      openers = λ i. FormatString (kind_of (l i)) ∷ s.openers i;
+      levels = s.levels;
+      in_body = s.in_body;
+      interpolation = s.interpolation;
+      line_start = refl;
+      after_f = refl;
+    }
+same_after kinds.BraceR t u m n l s e =
+    record {
+      openers = tails m.openers n.openers s.openers;
+      levels = s.levels;
+      in_body = s.in_body;
+      interpolation = s.interpolation;
+      line_start = refl;
+      after_f = refl;
+    }
+same_after kinds.BracketR t u m n l s e =
+    record {
+      openers = tails m.openers n.openers s.openers;
+      levels = s.levels;
+      in_body = s.in_body;
+      interpolation = s.interpolation;
+      line_start = refl;
+      after_f = refl;
+    }
+same_after kinds.ParenR t u m n l s e =
+    record {
+      openers = tails m.openers n.openers s.openers;
+      levels = s.levels;
+      in_body = s.in_body;
+      interpolation = s.interpolation;
+      line_start = refl;
+      after_f = refl;
+    }
+same_after kinds.FormatStringEnd t u m n l s e =
+    record {
+      openers = tails m.openers n.openers s.openers;
+      levels = s.levels;
+      in_body = s.in_body;
+      interpolation = s.interpolation;
+      line_start = refl;
+      after_f = refl;
+    }
+same_after kinds.Indent t u m n l s e =
+    record { openers = s.openers; levels = λ i. l i ∷ s.levels i; in_body = e; interpolation = s.interpolation; line_start = refl; after_f = refl }
+same_after kinds.Dedent t u m n l s e =
+    record { openers = s.openers; levels = ap tail_of s.levels; in_body = refl; interpolation = s.interpolation; line_start = s.line_start; after_f = refl }
+same_after kinds.InterpolationStart t u m n l s e =
+    record { openers = s.openers; levels = s.levels; in_body = s.in_body; interpolation = refl; line_start = refl; after_f = refl }
+same_after kinds.InterpolationEnd t u m n l s e =
+    record { openers = s.openers; levels = s.levels; in_body = s.in_body; interpolation = refl; line_start = refl; after_f = refl }
+same_after kinds.Whitespace t u m n l s e =
+    record { openers = s.openers; levels = s.levels; in_body = s.in_body; interpolation = s.interpolation; line_start = ap ends_in_line_feed l; after_f = refl }
+same_after kinds.Identifier t u m n l s e =
+    record {
+      openers = s.openers;
+      levels = s.levels;
+      in_body = s.in_body;
+      interpolation = s.interpolation;
+      line_start = refl;
+      after_f = ap (λ b. bytes_eq b (102 ∷ [])) l;
+    }
+same_after _ t u m n l s e =
+    record { openers = s.openers; levels = s.levels; in_body = s.in_body; interpolation = s.interpolation; line_start = refl; after_f = refl }
+
+-- ---- colons
+
+-- this colon is in both modes
+pub record HaveColon (colon : Bool) (m n : Mode) : Type 0 where
+  pub first : colon ≡ true → m.colon ≡ true
+  pub second : colon ≡ true → n.colon ≡ true
+
+pub colons_kept : (k : TokenKind) (t u : Tok) (m n : Mode) (colon : Bool) → HaveColon colon m n
+    → HaveColon (colon_after k colon) (mode_after k t m) (mode_after k u n)
+colons_kept kinds.Colon t u m n colon h = record { first = λ e. refl; second = λ e. refl }
+colons_kept kinds.Dedent t u m n colon h = record { first = λ e. cc; second = λ e. cc }
+colons_kept _ t u m n colon h = record { first = h.first; second = h.second }
+
+pub or_true : (a b : Bool) → b ≡ true → (a || b) ≡ true
+or_true true b h = refl
+or_true false b h = h
+
+pub both_indent : (k : TokenKind) (m n : Mode) (colon : Bool) → HaveColon colon m n → NeedsColon k colon → SameIndent k m n
+both_indent kinds.Indent m n colon h e = or_true m.in_body m.colon (h.first e) ∙ sym (or_true n.in_body n.colon (h.second e))
+both_indent _ m n colon h e = tt
+
+-- ---- tokens
+
+abbrev pub marks : List Tok → List Mark
+marks ts = map (λ t. mark t.kind t.lexeme) ts
+
+pub same_marks : (m n : Mark) (ms ns : List Mark) → ◌≡◌ {A = List Mark} (m ∷ ms) (n ∷ ns) → (m ≡ n) × (ms ≡ ns)
+same_marks m n ms ns e = (cc, cc)
+
+-- the mode after these tokens
+abbrev pub mode_past : Mode → List Tok → Mode
+mode_past m [] = m
+mode_past m (t ∷ ts) = mode_past (mode_after t.kind t m) ts
+
+abbrev pub NoneIsEof : List Tok → Type 0
+NoneIsEof [] = Unit {0}
+NoneIsEof (t ∷ ts) = (t.kind ≢ kinds.Eof) × NoneIsEof ts
+
+pub some_same : (x : TokenKind × ℕ) (a b : NextToken) → SameFound a b → a ≡ Ok x → b ≡ Ok x
+some_same x a (Ok y) s e = let h : ◌≡◌ {A = Option (TokenKind × ℕ)} (Some y) (Some x) = sym s.same ∙ ap found e in cc
+some_same x a (Err r) s e = let h : ◌≡◌ {A = Option (TokenKind × ℕ)} None (Some x) = sym s.same ∙ ap found e in cc

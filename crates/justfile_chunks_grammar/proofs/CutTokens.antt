@@ -1,0 +1,140 @@
+-- A cut between tokens is one between the significant ones among them.
+use Rattle.std.proofs.Common.{◌≡◌, ◌⊎◌, ◌∙◌, Bool, true, false, cond, List, [], ◌∷◌, ◌++◌, Option, Some, refl, sym, ap, subst, append-nil}
+use Rattle.std.specs.Prelude.{reverse}
+use Rattle.justfile_vocabulary.specs.declared.token_kind.TokenKind.{TokenKind}
+use Rattle.justfile_vocabulary.specs.declared.token_kind.TokenKind.TheVariants as kinds
+use Rattle.justfile_model.specs.Grammars.Expressions.{Tokens}
+use Rattle.justfile_model.specs.Lexing.Modes.{Mode, mode, mode_after}
+use Rattle.justfile_model.specs.Lexing.SignificantTokens.{SignificantToken, is_whitespace, significant_from}
+use Rattle.justfile_model.specs.Lexing.Tok.{Tok}
+use Rattle.justfile_model.proofs.Lexing.UnclosedLaws.{reverse_more}
+use Rattle.justfile_chunks_grammar.specs.Chunks.{IsCutAfter, ends_line, line_kind, next_kind}
+use Rattle.justfile_chunks_grammar.proofs.Passes.{CutAfter, CutHere, bare, in_body, line_with, open_after}
+use Rattle.justfile_chunks_grammar.proofs.Sides.{behind}
+
+abbrev pub significant : Tok → Bool → SignificantToken
+significant t glued = record { tok = t; glued = glued }
+
+pub ends_dark : (k : TokenKind) → ends_line k ≡ true → is_whitespace k ≡ false
+ends_dark kinds.Whitespace e = sym e
+ends_dark _ e = refl
+
+-- ---- tokens up to one, and those after it
+
+pub significant_append : (ts : List Tok) (t : Tok) (us : List Tok) (glued : Bool) → is_whitespace t.kind ≡ false
+    → significant_from glued (ts ++ (t ∷ us)) ≡ significant_from glued (ts ++ (t ∷ [])) ++ significant_from true us
+significant_append [] t us glued e = by (is_whitespace t.kind) e
+  where
+    by : (b : Bool) → b ≡ false
+        → cond b (significant_from false us) (significant t glued ∷ significant_from true us) ≡ cond b [] (significant t glued ∷ []) ++ significant_from true us
+    by true h = cc
+    by false h = refl
+significant_append (a ∷ ts) t us glued e = by (significant_append ts t us false e) (significant_append ts t us true e) (is_whitespace a.kind)
+  where
+    by : significant_from false (ts ++ (t ∷ us)) ≡ significant_from false (ts ++ (t ∷ [])) ++ significant_from true us
+        → significant_from true (ts ++ (t ∷ us)) ≡ significant_from true (ts ++ (t ∷ [])) ++ significant_from true us → (b : Bool)
+        → cond b (significant_from false (ts ++ (t ∷ us))) (significant a glued ∷ significant_from true (ts ++ (t ∷ us)))
+        ≡ cond b (significant_from false (ts ++ (t ∷ []))) (significant a glued ∷ significant_from true (ts ++ (t ∷ []))) ++ significant_from true us
+    by h k true = h
+    by h k false = ap (λ l. significant a glued ∷ l) k
+
+-- the last token, and those before it
+record EndsWith (earlier : Tokens) (glued : Bool) (ts : List Tok) (t : Tok) : Type 0 where
+  is_glued : Bool
+  is : behind earlier (significant_from glued (ts ++ (t ∷ []))) ≡ significant t is_glued ∷ behind earlier (significant_from glued ts)
+
+ends_with : (ts : List Tok) (t : Tok) (glued : Bool) (earlier : Tokens) → is_whitespace t.kind ≡ false → EndsWith earlier glued ts t
+ends_with [] t glued earlier e = record { is_glued = glued; is = by (is_whitespace t.kind) e }
+  where
+    by : (b : Bool) → b ≡ false → behind earlier (cond b [] (significant t glued ∷ [])) ≡ significant t glued ∷ earlier
+    by true h = cc
+    by false h = refl
+ends_with (a ∷ ts) t glued earlier e = by (ends_with ts t false earlier e) (ends_with ts t true (significant a glued ∷ earlier) e) (is_whitespace a.kind) refl
+  where
+    by : EndsWith earlier false ts t → EndsWith (significant a glued ∷ earlier) true ts t → (b : Bool) → is_whitespace a.kind ≡ b
+        → EndsWith earlier glued (a ∷ ts) t
+    by h k true w = record {
+      is_glued = h.is_glued;
+      is =
+          ap (λ c. behind earlier (cond c (significant_from false (ts ++ (t ∷ []))) (significant a glued ∷ significant_from true (ts ++ (t ∷ []))))) w ∙ h.is
+          ∙ sym (ap (λ c. significant t h.is_glued ∷ behind earlier (cond c (significant_from false ts) (significant a glued ∷ significant_from true ts))) w);
+    }
+    by h k false w = record {
+      is_glued = k.is_glued;
+      is =
+          ap (λ c. behind earlier (cond c (significant_from false (ts ++ (t ∷ []))) (significant a glued ∷ significant_from true (ts ++ (t ∷ []))))) w ∙ k.is
+          ∙ sym (ap (λ c. significant t k.is_glued ∷ behind earlier (cond c (significant_from false ts) (significant a glued ∷ significant_from true ts))) w);
+    }
+
+-- ---- what whitespace doesn't change
+
+-- F and G go from token to token by their kinds.
+module _ {X : Type 0} (f : TokenKind → X → X) (white : (k : TokenKind) (x : X) → is_whitespace k ≡ true → f k x ≡ x) (F : Tokens → X) (G : List Tok → X)
+    (F_is : (t : SignificantToken) (earlier : Tokens) → F (t ∷ earlier) ≡ f t.tok.kind (F earlier))
+    (G_is : (t : Tok) (earlier : List Tok) → G (t ∷ earlier) ≡ f t.kind (G earlier)) where
+  same_after : (ts : List Tok) (glued : Bool) (earlier : Tokens) (all : List Tok) → F earlier ≡ G all
+      → F (behind earlier (significant_from glued ts)) ≡ G (reverse ts ++ all)
+  same_after [] glued earlier all h = h
+  same_after (t ∷ ts) glued earlier all h =
+      by (same_after ts false earlier (t ∷ all)) (same_after ts true (significant t glued ∷ earlier) (t ∷ all)) (is_whitespace t.kind) refl
+      ∙ sym (ap G (reverse_more t ts all))
+    where
+      by : (F earlier ≡ G (t ∷ all) → F (behind earlier (significant_from false ts)) ≡ G (reverse ts ++ (t ∷ all)))
+          → (F (significant t glued ∷ earlier) ≡ G (t ∷ all) → F (behind (significant t glued ∷ earlier) (significant_from true ts)) ≡ G (reverse ts ++ (t ∷ all)))
+          → (b : Bool) → is_whitespace t.kind ≡ b
+          → F (behind earlier (cond b (significant_from false ts) (significant t glued ∷ significant_from true ts))) ≡ G (reverse ts ++ (t ∷ all))
+      by i j true e = i (h ∙ sym (white t.kind (G all) e) ∙ sym (G_is t all))
+      by i j false e = j (F_is (significant t glued) earlier ∙ ap (f t.kind) h ∙ sym (G_is t all))
+
+line_white : (k : TokenKind) (line : Option TokenKind) → is_whitespace k ≡ true → line_with k line ≡ line
+line_white kinds.Whitespace line e = refl
+line_white _ line e = cc
+
+body_white : (k : TokenKind) (body : Bool) → is_whitespace k ≡ true → open_after k body ≡ body
+body_white kinds.Whitespace body e = refl
+body_white _ body e = cc
+
+-- whether a body is open after the earlier tokens, whitespace included
+abbrev body_open : List Tok → Bool
+body_open [] = false
+body_open (t ∷ earlier) = open_after t.kind (body_open earlier)
+
+line_is : (ts : List Tok) → line_kind (bare (behind [] (significant_from false ts))) ≡ line_kind (reverse ts)
+line_is ts =
+    same_after line_with line_white (λ s. line_kind (bare s)) line_kind (λ t earlier. refl) (λ t earlier. refl) ts false [] [] refl
+    ∙ ap line_kind (append-nil (reverse ts))
+
+body_is : (ts : List Tok) → in_body (behind [] (significant_from false ts)) ≡ body_open (reverse ts)
+body_is ts =
+    same_after open_after body_white in_body body_open (λ t earlier. refl) (λ t earlier. refl) ts false [] [] refl ∙ ap body_open (append-nil (reverse ts))
+
+no_level : (earlier : List Tok) → (mode earlier).levels ≡ [] → body_open earlier ≡ false
+no_level [] h = refl
+no_level (t ∷ earlier) h = by (mode earlier) (no_level earlier) t.kind h
+  where
+    by : (m : Mode) → (m.levels ≡ [] → body_open earlier ≡ false) → (k : TokenKind) → (mode_after k t m).levels ≡ [] → open_after k (body_open earlier) ≡ false
+    by m i kinds.Indent e = cc
+    by m i kinds.Dedent e = refl
+    by m i _ e = i e
+
+pub next_is : (us : List Tok) (glued : Bool) → next_kind (bare (significant_from glued us)) ≡ next_kind us
+next_is [] glued = refl
+next_is (t ∷ us) glued = by (next_is us false) (is_whitespace t.kind) refl
+  where
+    by : next_kind (bare (significant_from false us)) ≡ next_kind us → (b : Bool) → is_whitespace t.kind ≡ b
+        → next_kind (bare (cond b (significant_from false us) (significant t glued ∷ significant_from true us))) ≡ cond b (next_kind us) (Some t.kind)
+    by h true e = h
+    by h false e = ap (λ c. cond c (next_kind (bare (significant_from true us))) (Some t.kind)) e
+
+pub cut_here : (front : List Tok) (t : Tok) (later : List Tok) → IsCutAfter t (reverse front) later
+    → CutHere (significant_from true later) (behind [] (significant_from false (front ++ (t ∷ []))))
+cut_here front t later c =
+    let w = ends_with front t false [] (ends_dark t.kind c.ends) in
+    let cut : CutAfter (significant_from true later) (significant t w.is_glued) (behind [] (significant_from false front)) = record {
+      ends = c.ends;
+      outside = ap (open_after t.kind) (body_is front) ∙ no_level (t ∷ reverse front) c.outside;
+      no_body = λ e. c.no_body (sym (next_is later true) ∙ e);
+      no_attributes = λ e. c.no_attributes (sym (line_is front) ∙ e);
+      no_doc = λ e. subst (λ n. (n ≡ Some kinds.Comment) ⊎ (n ≡ Some kinds.Eol)) (sym (next_is later true)) (c.no_doc (sym (line_is front) ∙ e));
+    } in
+    subst (CutHere (significant_from true later)) (sym w.is) cut

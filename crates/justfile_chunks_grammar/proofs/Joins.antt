@@ -1,0 +1,465 @@
+-- Items before a cut and items after it derive together, and items with a cut derive apart.
+use Rattle.std.proofs.Common.{◌≡◌, ◌⊎◌, ◌∙◌, ℕ, cond, List, [], ◌∷◌, ◌++◌, Option, Some, refl, sym, ap}
+use Rattle.std.specs.Str.{trim_end}
+use Rattle.justfile_vocabulary.specs.declared.token_kind.TokenKind.TheVariants as kinds
+use Rattle.justfile_model.specs.Grammars.Docs.{Before, LineEnd, Nothing, Other}
+use Rattle.justfile_model.specs.Grammars.Expressions.{Tokens, IsKind}
+use Rattle.justfile_model.specs.Grammars.Features.{ConstructFeatures}
+use Rattle.justfile_model.specs.Grammars.Grammar as g
+use Rattle.justfile_model.specs.Grammars.Grammar.{File, ItemRest, Items, TokenProjection}
+use Rattle.justfile_model.specs.Lexing.SignificantTokens.{SignificantToken, is_whitespace}
+use Rattle.justfile_model.specs.Trees.Tree as tree
+use Rattle.justfile_model.specs.Trees.Tree.{Construct, WrittenItem}
+use Rattle.justfile_chunks_grammar.specs.Chunks.{ends_line, line_kind, next_kind}
+use Rattle.justfile_chunks_grammar.proofs.AgainAttributes as again_attributes
+use Rattle.justfile_chunks_grammar.proofs.AgainItems as again_items
+use Rattle.justfile_chunks_grammar.proofs.AlikeItems.{before_after}
+use Rattle.justfile_chunks_grammar.proofs.DocsAppend.{AreApart, BeginsNoConstruct, TakesNone}
+use Rattle.justfile_chunks_grammar.proofs.Over.{Ahead, Over, any_of, is_any, is_quiet, not_name, one, past, same, step}
+use Rattle.justfile_chunks_grammar.proofs.Passes.{At, AtStart, CutAfter, CutHere, FirstQuiet, LastOpen, bare, begins_line, clash, first_attributes, first_block, first_on_line, here, later, later_of, mark_start, no_cut, none_left, onward, past_line, past_recipe, starts}
+
+module _ {A B C S : Type 0} (projection : TokenProjection A B C S) (MayEnter : ℕ → Option SignificantToken → Type 0) where
+  abbrev ManyItems : Type 0
+  ManyItems = List (WrittenItem A B C S)
+
+  abbrev ManyFeatures : Type 0
+  ManyFeatures = List (ConstructFeatures B)
+
+  -- ---- the items before a cut, which end at this token, and those after it
+
+  module _ (eof : SignificantToken) (is_eof : IsKind kinds.Eof eof) (us : Tokens) where
+    abbrev Before' : (earlier ts : Tokens) → Type 0
+    Before' = At (CutHere us) eof []
+
+    no_indent : (earlier : Tokens) → CutHere us earlier → IsKind kinds.Indent eof → ⊥
+    no_indent earlier k e = let bad : kinds.Eof ≡ kinds.Indent = sym is_eof ∙ e in cc
+
+    module _ (js : ManyItems) (gs : ManyFeatures) (second : Items projection MayEnter js gs us) where
+      -- these items, and then the others
+      pub record Joined (R : ManyItems → ManyFeatures → Tokens → Type 0) (items : ManyItems) (fs : ManyFeatures) (part : Tokens) : Type 0 where
+        pub whole : Tokens
+        pub derives : R (items ++ js) (fs ++ gs) whole
+        pub over : Over is_any (eof ∷ []) us part whole
+
+      record JoinedRest (R : ManyItems → ManyFeatures → Tokens → Type 0) (items : ManyItems) (fs : ManyFeatures) (part : Tokens) : Type 0 where
+        joined : Joined R items fs part
+        ahead : Ahead part joined.whole
+
+      mutual
+        pub items_joined : {items : ManyItems} {fs : ManyFeatures} {part : Tokens} → Items projection MayEnter items fs part → (earlier : Tokens)
+            → Before' earlier part
+            → AtStart earlier → Joined (Items projection MayEnter) items fs part
+        items_joined (g.end kind) earlier (here k) s = record { whole = us; derives = second; over = same }
+        items_joined (g.end kind) earlier (later at) s = elim at [ ]
+        items_joined (g.blank kind more) earlier (here k) s = absurd (let bad : kinds.Eof ≡ kinds.Eol = sym is_eof ∙ kind in cc)
+        items_joined (g.blank {token = t} kind more) earlier (later at) s =
+            let x = items_joined more (t ∷ earlier) at (starts t earlier (ap ends_line kind)) in
+            record { whole = t ∷ x.whole; derives = g.blank kind x.derives; over = step refl x.over }
+        items_joined (g.comment kind r) earlier (here k) s = absurd (let bad : kinds.Eof ≡ kinds.Comment = sym is_eof ∙ kind in cc)
+        items_joined (g.comment {token = t} kind r) earlier (later at) s =
+            let x = rest_joined r (t ∷ earlier) (ap ends_line kind) at in
+            record { whole = t ∷ x.joined.whole; derives = g.comment kind x.joined.derives; over = step refl x.joined.over }
+        items_joined (g.on_line a o r) earlier at s =
+            let l = later_of at (ap is_quiet is_eof) (first_attributes projection MayEnter a (first_on_line projection MayEnter o)) in
+            let p = (past_line us eof [] projection MayEnter a o r earlier s at l).1 in
+            let x = rest_joined r p.earlier p.unended p.at in
+            let y = again_items.on_line projection MayEnter o x.ahead in
+            let z = again_attributes.attribute_lines projection.leaf projection.position MayEnter a y.ahead in
+            record { whole = z.after; derives = g.on_line z.derives y.derives x.joined.derives; over = past z.over (past (any_of y.over) x.joined.over) }
+        items_joined (g.block a b more) earlier at s =
+            let l = later_of at (ap is_quiet is_eof) (first_attributes projection MayEnter a (first_block projection MayEnter b)) in
+            let p = past_recipe us eof [] no_indent projection MayEnter a b earlier s at l in
+            let x = items_joined more p.earlier p.at p.start in
+            let y = again_items.block projection MayEnter b x.whole in
+            let z = again_attributes.attribute_lines projection.leaf projection.position MayEnter a y.ahead in
+            record { whole = z.after; derives = g.block z.derives y.derives x.derives; over = past z.over (past y.over x.over) }
+
+        rest_joined : {items : ManyItems} {fs : ManyFeatures} {part : Tokens} → ItemRest projection MayEnter items fs part → (earlier : Tokens)
+            → LastOpen earlier
+            → Before' earlier part → JoinedRest (ItemRest projection MayEnter) items fs part
+        rest_joined (g.trailing kind e) earlier o (here k) = absurd (no_cut us earlier o k)
+        rest_joined (g.trailing {token = t} kind e) earlier o (later at) =
+            let x = end_joined e (t ∷ earlier) (ap ends_line kind) at in
+            record {
+              joined = record { whole = t ∷ x.joined.whole; derives = g.trailing kind x.joined.derives; over = step refl x.joined.over };
+              ahead = one (not_name t (ap is_quiet kind));
+            }
+        rest_joined (g.bare e) earlier o at =
+            let x = end_joined e earlier o at in
+            record { joined = record { whole = x.joined.whole; derives = g.bare x.joined.derives; over = x.joined.over }; ahead = x.ahead }
+
+        end_joined : {items : ManyItems} {fs : ManyFeatures} {part : Tokens} → g.LineEnd projection MayEnter items fs part → (earlier : Tokens)
+            → LastOpen earlier
+            → Before' earlier part → JoinedRest (g.LineEnd projection MayEnter) items fs part
+        end_joined (g.line_end kind more) earlier o (here k) = absurd (no_cut us earlier o k)
+        end_joined (g.line_end {token = t} kind more) earlier o (later at) =
+            let x = items_joined more (t ∷ earlier) at (starts t earlier (ap ends_line kind)) in
+            record {
+              joined = record { whole = t ∷ x.whole; derives = g.line_end kind x.derives; over = step refl x.over };
+              ahead = one (not_name t (ap is_quiet kind));
+            }
+        end_joined (g.file_end kind) earlier o (here k) = absurd (no_cut us earlier o k)
+        end_joined (g.file_end kind) earlier o (later at) = elim at [ ]
+
+      pub file_joined : {items : ManyItems} {fs : ManyFeatures} {part : Tokens} → File projection MayEnter items fs part → Before' [] part
+          → Joined (File projection MayEnter) items fs part
+      file_joined (g.with_byte_order_mark kind more) (here k) = absurd k
+      file_joined (g.with_byte_order_mark {token = t} kind more) (later at) =
+          let x = items_joined more (t ∷ []) at (mark_start t kind) in
+          record { whole = t ∷ x.whole; derives = g.with_byte_order_mark kind x.derives; over = step refl x.over }
+      file_joined (g.without_byte_order_mark more) at =
+          let x = items_joined more [] at refl in
+          record { whole = x.whole; derives = g.without_byte_order_mark x.derives; over = x.over }
+
+    -- ---- docs
+
+    mutual
+      items_end : {items : ManyItems} {fs : ManyFeatures} {part : Tokens} → Items projection MayEnter items fs part → (earlier : Tokens) → Before' earlier part
+          → AtStart earlier → (before : Before) → (CutHere us earlier → before ≡ LineEnd) → before_after before items ≡ LineEnd
+      items_end (g.end kind) earlier (here k) s before n = n k
+      items_end (g.end kind) earlier (later at) s before n = elim at [ ]
+      items_end (g.blank kind more) earlier (here k) s before n = absurd (let bad : kinds.Eof ≡ kinds.Eol = sym is_eof ∙ kind in cc)
+      items_end (g.blank {token = t} kind more) earlier (later at) s before n =
+          items_end more (t ∷ earlier) at (starts t earlier (ap ends_line kind)) LineEnd (λ k. refl)
+      items_end (g.comment kind r) earlier (here k) s before n = absurd (let bad : kinds.Eof ≡ kinds.Comment = sym is_eof ∙ kind in cc)
+      items_end (g.comment {token = t} kind r) earlier (later at) s before n = rest_end r (t ∷ earlier) (ap ends_line kind) at
+      items_end (g.on_line a o r) earlier at s before n =
+          let l = later_of at (ap is_quiet is_eof) (first_attributes projection MayEnter a (first_on_line projection MayEnter o)) in
+          let p = (past_line us eof [] projection MayEnter a o r earlier s at l).1 in
+          rest_end r p.earlier p.unended p.at
+      items_end (g.block a b more) earlier at s before n =
+          let l = later_of at (ap is_quiet is_eof) (first_attributes projection MayEnter a (first_block projection MayEnter b)) in
+          let p = past_recipe us eof [] no_indent projection MayEnter a b earlier s at l in
+          items_end more p.earlier p.at p.start LineEnd (λ k. refl)
+
+      rest_end : {items : ManyItems} {fs : ManyFeatures} {part : Tokens} → ItemRest projection MayEnter items fs part → (earlier : Tokens) → LastOpen earlier
+          → Before' earlier part → before_after Other items ≡ LineEnd
+      rest_end (g.trailing kind e) earlier o (here k) = absurd (no_cut us earlier o k)
+      rest_end (g.trailing {token = t} kind e) earlier o (later at) = end_end e (t ∷ earlier) (ap ends_line kind) at
+      rest_end (g.bare e) earlier o at = end_end e earlier o at
+
+      end_end : {items : ManyItems} {fs : ManyFeatures} {part : Tokens} → g.LineEnd projection MayEnter items fs part → (earlier : Tokens) → LastOpen earlier
+          → Before' earlier part → before_after Other items ≡ LineEnd
+      end_end (g.line_end kind more) earlier o (here k) = absurd (no_cut us earlier o k)
+      end_end (g.line_end {token = t} kind more) earlier o (later at) =
+          items_end more (t ∷ earlier) at (starts t earlier (ap ends_line kind)) LineEnd (λ k. refl)
+      end_end (g.file_end kind) earlier o (here k) = absurd (no_cut us earlier o k)
+      end_end (g.file_end kind) earlier o (later at) = elim at [ ]
+
+    -- the items before a cut end in a line end
+    pub file_end : {items : ManyItems} {fs : ManyFeatures} {part : Tokens} → File projection MayEnter items fs part → Before' [] part
+        → before_after Nothing items ≡ LineEnd
+    file_end (g.with_byte_order_mark kind more) (here k) = absurd k
+    file_end (g.with_byte_order_mark {token = t} kind more) (later at) =
+        items_end more (t ∷ []) at (mark_start t kind) Nothing (λ (k : CutAfter us t []). absurd (clash (ap ends_line kind) k.ends))
+    file_end (g.without_byte_order_mark more) at = items_end more [] at refl Nothing (λ k. absurd k)
+
+    module _ (js : ManyItems) (begins : (next_kind (bare us) ≡ Some kinds.Comment) ⊎ (next_kind (bare us) ≡ Some kinds.Eol) → BeginsNoConstruct js) where
+      takes_none : (before : Before) → BeginsNoConstruct js → TakesNone before js
+      takes_none Nothing h = h
+      takes_none LineEnd h = h
+      takes_none Other h = tt
+
+      -- a comment at the end of a line, before items
+      comment_apart : (before : Before) (text : List ℕ) (items : ManyItems) → AreApart LineEnd items js → (items ≡ [] → TakesNone before js)
+          → AreApart before (tree.Comment text ∷ tree.Newline ∷ items) js
+      comment_apart before text [] h n = n refl
+      comment_apart before text (i ∷ items) h n = h
+
+      -- after the line of a comment without an item no construct comes next
+      last_doc : {items : ManyItems} {fs : ManyFeatures} {part : Tokens} → Items projection MayEnter items fs part → (t : SignificantToken) (earlier : Tokens)
+          → Before' (t ∷ earlier) part → line_kind (bare earlier) ≡ Some kinds.Comment → items ≡ [] → BeginsNoConstruct js
+      last_doc (g.end kind) t earlier (here k) line e = begins (k.no_doc line)
+      last_doc (g.end kind) t earlier (later at) line e = elim at [ ]
+      last_doc (g.blank kind more) t earlier at line e = cc
+      last_doc (g.comment kind r) t earlier at line e = cc
+      last_doc (g.on_line a o r) t earlier at line e = cc
+      last_doc (g.block a b more) t earlier at line e = cc
+
+      mutual
+        pub items_apart : {items : ManyItems} {fs : ManyFeatures} {part : Tokens} → Items projection MayEnter items fs part → (earlier : Tokens)
+            → Before' earlier part
+            → AtStart earlier → (before : Before) → AreApart before items js
+        items_apart (g.end kind) earlier at s before = tt
+        items_apart (g.blank kind more) earlier (here k) s before = absurd (let bad : kinds.Eof ≡ kinds.Eol = sym is_eof ∙ kind in cc)
+        items_apart (g.blank {token = t} kind more) earlier (later at) s before =
+            items_apart more (t ∷ earlier) at (starts t earlier (ap ends_line kind)) LineEnd
+        items_apart (g.comment kind r) earlier (here k) s before = absurd (let bad : kinds.Eof ≡ kinds.Comment = sym is_eof ∙ kind in cc)
+        items_apart (g.comment {token = t} kind r) earlier (later at) s before =
+            comment_rest r before (trim_end t.tok.lexeme) (t ∷ earlier) (ap ends_line kind) at (begins_line t earlier kinds.Comment kind refl refl s)
+        items_apart (g.on_line a o r) earlier at s before =
+            let l = later_of at (ap is_quiet is_eof) (first_attributes projection MayEnter a (first_on_line projection MayEnter o)) in
+            let p = (past_line us eof [] projection MayEnter a o r earlier s at l).1 in
+            rest_apart r p.earlier p.unended p.at
+        items_apart (g.block a b more) earlier at s before =
+            let l = later_of at (ap is_quiet is_eof) (first_attributes projection MayEnter a (first_block projection MayEnter b)) in
+            let p = past_recipe us eof [] no_indent projection MayEnter a b earlier s at l in
+            items_apart more p.earlier p.at p.start LineEnd
+
+        -- the rest of a line after a construct
+        rest_apart : {items : ManyItems} {fs : ManyFeatures} {part : Tokens} → ItemRest projection MayEnter items fs part → (earlier : Tokens)
+            → LastOpen earlier
+            → Before' earlier part → AreApart Other items js
+        rest_apart (g.trailing kind e) earlier o (here k) = absurd (no_cut us earlier o k)
+        rest_apart (g.trailing {token = t} kind (g.line_end kind2 more)) earlier o (later (here k)) = absurd (no_cut us (t ∷ earlier) (ap ends_line kind) k)
+        rest_apart (g.trailing {token = t} kind (g.line_end {items = items} {token = u} kind2 more)) earlier o (later (later at)) =
+            comment_apart Other (trim_end t.tok.lexeme) items
+            (items_apart more (u ∷ t ∷ earlier) at (starts u (t ∷ earlier) (ap ends_line kind2)) LineEnd) (λ e. tt)
+        rest_apart (g.trailing {token = t} kind (g.file_end kind2)) earlier o (later (here k)) = absurd (no_cut us (t ∷ earlier) (ap ends_line kind) k)
+        rest_apart (g.trailing kind (g.file_end kind2)) earlier o (later (later at)) = elim at [ ]
+        rest_apart (g.bare (g.line_end kind more)) earlier o (here k) = absurd (no_cut us earlier o k)
+        rest_apart (g.bare (g.line_end {token = t} kind more)) earlier o (later at) =
+            items_apart more (t ∷ earlier) at (starts t earlier (ap ends_line kind)) LineEnd
+        rest_apart (g.bare (g.file_end kind)) earlier o (here k) = absurd (no_cut us earlier o k)
+        rest_apart (g.bare (g.file_end kind)) earlier o (later at) = elim at [ ]
+
+        -- the rest of a line after a comment that begins it
+        comment_rest : {items : ManyItems} {fs : ManyFeatures} {part : Tokens} → ItemRest projection MayEnter items fs part → (before : Before) (text : List ℕ)
+            (earlier : Tokens) → LastOpen earlier → Before' earlier part → line_kind (bare earlier) ≡ Some kinds.Comment → AreApart before (tree.Comment text ∷ items) js
+        comment_rest (g.trailing kind e) before text earlier o (here k) line = absurd (no_cut us earlier o k)
+        comment_rest (g.trailing {token = t} kind (g.line_end kind2 more)) before text earlier o (later (here k)) line =
+            absurd (no_cut us (t ∷ earlier) (ap ends_line kind) k)
+        comment_rest (g.trailing {token = t} kind (g.line_end {items = items} {token = u} kind2 more)) before text earlier o (later (later at)) line =
+            comment_apart Other (trim_end t.tok.lexeme) items
+            (items_apart more (u ∷ t ∷ earlier) at (starts u (t ∷ earlier) (ap ends_line kind2)) LineEnd) (λ e. tt)
+        comment_rest (g.trailing {token = t} kind (g.file_end kind2)) before text earlier o (later (here k)) line =
+            absurd (no_cut us (t ∷ earlier) (ap ends_line kind) k)
+        comment_rest (g.trailing kind (g.file_end kind2)) before text earlier o (later (later at)) line = elim at [ ]
+        comment_rest (g.bare (g.line_end kind more)) before text earlier o (here k) line = absurd (no_cut us earlier o k)
+        comment_rest (g.bare (g.line_end {items = items} {token = t} kind more)) before text earlier o (later at) line =
+            comment_apart before text items (items_apart more (t ∷ earlier) at (starts t earlier (ap ends_line kind)) LineEnd)
+            (λ e. takes_none before (last_doc more t earlier at line e))
+        comment_rest (g.bare (g.file_end kind)) before text earlier o (here k) line = absurd (no_cut us earlier o k)
+        comment_rest (g.bare (g.file_end kind)) before text earlier o (later at) line = elim at [ ]
+
+      pub file_apart : {items : ManyItems} {fs : ManyFeatures} {part : Tokens} → File projection MayEnter items fs part → Before' [] part
+          → AreApart Nothing items js
+      file_apart (g.with_byte_order_mark kind more) (here k) = absurd k
+      file_apart (g.with_byte_order_mark {token = t} kind more) (later at) = items_apart more (t ∷ []) at (mark_start t kind) Nothing
+      file_apart (g.without_byte_order_mark more) at = items_apart more [] at refl Nothing
+
+  -- ---- items with a cut
+
+  module _ (u : SignificantToken) (x : Tokens) (eof : SignificantToken) (is_eof : IsKind kinds.Eof eof) where
+    no_body : (earlier : Tokens) → CutHere (u ∷ x) earlier → IsKind kinds.Indent u → ⊥
+    no_body [] k e = k
+    no_body (t ∷ earlier) k e = k.no_body (ap (λ k. cond (is_whitespace k) (next_kind (bare x)) (Some k)) e)
+
+    -- the items before the cut, and those after it
+    pub record Split (R : ManyItems → ManyFeatures → Tokens → Type 0) (items : ManyItems) (fs : ManyFeatures) (whole : Tokens) : Type 0 where
+      pub first : ManyItems
+      pub second : ManyItems
+      pub first_features : ManyFeatures
+      pub second_features : ManyFeatures
+      pub items_are : items ≡ first ++ second
+      pub features_are : fs ≡ first_features ++ second_features
+      pub part : Tokens
+      pub first_derives : R first first_features part
+      pub over : Over is_any (u ∷ x) (eof ∷ []) whole part
+      pub second_derives : Items projection MayEnter second second_features (u ∷ x)
+
+    record SplitRest (R : ManyItems → ManyFeatures → Tokens → Type 0) (items : ManyItems) (fs : ManyFeatures) (whole : Tokens) : Type 0 where
+      split : Split R items fs whole
+      ahead : Ahead whole split.part
+
+    mutual
+      pub items_split : {items : ManyItems} {fs : ManyFeatures} {whole : Tokens} → Items projection MayEnter items fs whole → (earlier : Tokens)
+          → At (CutHere (u ∷ x)) u x earlier whole → AtStart earlier → Split (Items projection MayEnter) items fs whole
+      items_split {items = items} {fs = fs} i earlier (here k) s =
+          record {
+            first = [];
+            second = items;
+            first_features = [];
+            second_features = fs;
+            items_are = refl;
+            features_are = refl;
+            part = eof ∷ [];
+            first_derives = g.end is_eof;
+            over = same;
+            second_derives = i;
+          }
+      items_split (g.end kind) earlier (later at) s = elim at [ ]
+      items_split (g.blank {token = t} kind more) earlier (later at) s =
+          let y = items_split more (t ∷ earlier) at (starts t earlier (ap ends_line kind)) in
+          record {
+            first = tree.Newline ∷ y.first;
+            second = y.second;
+            first_features = y.first_features;
+            second_features = y.second_features;
+            items_are = ap (λ l. tree.Newline ∷ l) y.items_are;
+            features_are = y.features_are;
+            part = t ∷ y.part;
+            first_derives = g.blank kind y.first_derives;
+            over = step refl y.over;
+            second_derives = y.second_derives;
+          }
+      items_split (g.comment {token = t} kind r) earlier (later at) s =
+          let y = rest_split r (t ∷ earlier) (ap ends_line kind) at in
+          record {
+            first = tree.Comment (trim_end t.tok.lexeme) ∷ y.split.first;
+            second = y.split.second;
+            first_features = y.split.first_features;
+            second_features = y.split.second_features;
+            items_are = ap (λ l. tree.Comment (trim_end t.tok.lexeme) ∷ l) y.split.items_are;
+            features_are = y.split.features_are;
+            part = t ∷ y.split.part;
+            first_derives = g.comment kind y.split.first_derives;
+            over = step refl y.split.over;
+            second_derives = y.split.second_derives;
+          }
+      items_split (g.on_line {ws = ws} {c = c} {gs = gs} {cs = cs} a o r) earlier (later at) s =
+          let p = (past_line (u ∷ x) u x projection MayEnter a o r earlier s (later at) tt).1 in
+          let y = rest_split r p.earlier p.unended p.at in
+          let z = again_items.on_line projection MayEnter o y.ahead in
+          let w = again_attributes.attribute_lines projection.leaf projection.position MayEnter a z.ahead in
+          record {
+            first = Construct ws c ∷ y.split.first;
+            second = y.split.second;
+            first_features = record { attributes = gs; content = cs } ∷ y.split.first_features;
+            second_features = y.split.second_features;
+            items_are = ap (λ l. Construct ws c ∷ l) y.split.items_are;
+            features_are = ap (λ l. record { attributes = gs; content = cs } ∷ l) y.split.features_are;
+            part = w.after;
+            first_derives = g.on_line w.derives z.derives y.split.first_derives;
+            over = past w.over (past (any_of z.over) y.split.over);
+            second_derives = y.split.second_derives;
+          }
+      items_split (g.block {ws = ws} {c = c} {gs = gs} {cs = cs} a b more) earlier (later at) s =
+          let p = past_recipe (u ∷ x) u x no_body projection MayEnter a b earlier s (later at) tt in
+          let y = items_split more p.earlier p.at p.start in
+          let z = again_items.block projection MayEnter b y.part in
+          let w = again_attributes.attribute_lines projection.leaf projection.position MayEnter a z.ahead in
+          record {
+            first = Construct ws c ∷ tree.Newline ∷ y.first;
+            second = y.second;
+            first_features = record { attributes = gs; content = cs } ∷ y.first_features;
+            second_features = y.second_features;
+            items_are = ap (λ l. Construct ws c ∷ tree.Newline ∷ l) y.items_are;
+            features_are = ap (λ l. record { attributes = gs; content = cs } ∷ l) y.features_are;
+            part = w.after;
+            first_derives = g.block w.derives z.derives y.first_derives;
+            over = past w.over (past z.over y.over);
+            second_derives = y.second_derives;
+          }
+
+      rest_split : {items : ManyItems} {fs : ManyFeatures} {whole : Tokens} → ItemRest projection MayEnter items fs whole → (earlier : Tokens)
+          → LastOpen earlier
+          → At (CutHere (u ∷ x)) u x earlier whole → SplitRest (ItemRest projection MayEnter) items fs whole
+      rest_split (g.trailing kind e) earlier o (here k) = absurd (no_cut (u ∷ x) earlier o k)
+      rest_split (g.trailing {token = t} kind e) earlier o (later at) =
+          let y = end_split e (t ∷ earlier) (ap ends_line kind) at in
+          record {
+            split = record {
+              first = tree.Comment (trim_end t.tok.lexeme) ∷ y.split.first;
+              second = y.split.second;
+              first_features = y.split.first_features;
+              second_features = y.split.second_features;
+              items_are = ap (λ l. tree.Comment (trim_end t.tok.lexeme) ∷ l) y.split.items_are;
+              features_are = y.split.features_are;
+              part = t ∷ y.split.part;
+              first_derives = g.trailing kind y.split.first_derives;
+              over = step refl y.split.over;
+              second_derives = y.split.second_derives;
+            };
+            ahead = one (not_name t (ap is_quiet kind));
+          }
+      rest_split (g.bare e) earlier o at =
+          let y = end_split e earlier o at in
+          record {
+            split = record {
+              first = y.split.first;
+              second = y.split.second;
+              first_features = y.split.first_features;
+              second_features = y.split.second_features;
+              items_are = y.split.items_are;
+              features_are = y.split.features_are;
+              part = y.split.part;
+              first_derives = g.bare y.split.first_derives;
+              over = y.split.over;
+              second_derives = y.split.second_derives;
+            };
+            ahead = y.ahead;
+          }
+
+      end_split : {items : ManyItems} {fs : ManyFeatures} {whole : Tokens} → g.LineEnd projection MayEnter items fs whole → (earlier : Tokens)
+          → LastOpen earlier
+          → At (CutHere (u ∷ x)) u x earlier whole → SplitRest (g.LineEnd projection MayEnter) items fs whole
+      end_split (g.line_end kind more) earlier o (here k) = absurd (no_cut (u ∷ x) earlier o k)
+      end_split (g.line_end {token = t} kind more) earlier o (later at) =
+          let y = items_split more (t ∷ earlier) at (starts t earlier (ap ends_line kind)) in
+          record {
+            split = record {
+              first = tree.Newline ∷ y.first;
+              second = y.second;
+              first_features = y.first_features;
+              second_features = y.second_features;
+              items_are = ap (λ l. tree.Newline ∷ l) y.items_are;
+              features_are = y.features_are;
+              part = t ∷ y.part;
+              first_derives = g.line_end kind y.first_derives;
+              over = step refl y.over;
+              second_derives = y.second_derives;
+            };
+            ahead = one (not_name t (ap is_quiet kind));
+          }
+      end_split (g.file_end kind) earlier o at = absurd (none_left (onward at (no_cut (u ∷ x) earlier o)))
+
+    pub file_split : {items : ManyItems} {fs : ManyFeatures} {whole : Tokens} → File projection MayEnter items fs whole → At (CutHere (u ∷ x)) u x [] whole
+        → Split (File projection MayEnter) items fs whole
+    file_split (g.with_byte_order_mark kind more) (here k) = absurd k
+    file_split (g.with_byte_order_mark {token = t} kind more) (later at) =
+        let y = items_split more (t ∷ []) at (mark_start t kind) in
+        record {
+          first = y.first;
+          second = y.second;
+          first_features = y.first_features;
+          second_features = y.second_features;
+          items_are = y.items_are;
+          features_are = y.features_are;
+          part = t ∷ y.part;
+          first_derives = g.with_byte_order_mark kind y.first_derives;
+          over = step refl y.over;
+          second_derives = y.second_derives;
+        }
+    file_split (g.without_byte_order_mark more) at =
+        let y = items_split more [] at refl in
+        record {
+          first = y.first;
+          second = y.second;
+          first_features = y.first_features;
+          second_features = y.second_features;
+          items_are = y.items_are;
+          features_are = y.features_are;
+          part = y.part;
+          first_derives = g.without_byte_order_mark y.first_derives;
+          over = y.over;
+          second_derives = y.second_derives;
+        }
+
+  -- ---- items after a cut, with the line end before them
+
+  -- the items without the line end that comes first
+  pub record AfterEnd (items : ManyItems) (fs : ManyFeatures) (us : Tokens) : Type 0 where
+    pub others : ManyItems
+    pub items_are : items ≡ tree.Newline ∷ others
+    pub derives : Items projection MayEnter others fs us
+
+  pub after_end : {items : ManyItems} {fs : ManyFeatures} {t : SignificantToken} {us : Tokens} → File projection MayEnter items fs (t ∷ us) → IsKind kinds.Eol t
+      → AfterEnd items fs us
+  after_end (g.with_byte_order_mark kind more) e = absurd (let bad : kinds.ByteOrderMark ≡ kinds.Eol = sym kind ∙ e in cc)
+  after_end (g.without_byte_order_mark (g.end kind)) e = absurd (let bad : kinds.Eof ≡ kinds.Eol = sym kind ∙ e in cc)
+  after_end (g.without_byte_order_mark (g.blank kind more)) e = record { others = _; items_are = refl; derives = more }
+  after_end (g.without_byte_order_mark (g.comment kind r)) e = absurd (let bad : kinds.Comment ≡ kinds.Eol = sym kind ∙ e in cc)
+  after_end (g.without_byte_order_mark (g.on_line a o r)) e =
+      absurd (clash (ap is_quiet e) (first_attributes projection MayEnter a (first_on_line projection MayEnter o)))
+  after_end (g.without_byte_order_mark (g.block a b more)) e =
+      absurd (clash (ap is_quiet e) (first_attributes projection MayEnter a (first_block projection MayEnter b)))
+
+  -- items whose first token is no token of a construct begin with none
+  pub begins_none : {items : ManyItems} {fs : ManyFeatures} {us : Tokens} → Items projection MayEnter items fs us → (FirstQuiet us → ⊥)
+      → BeginsNoConstruct items
+  begins_none (g.end kind) n = tt
+  begins_none (g.blank kind more) n = tt
+  begins_none (g.comment kind r) n = tt
+  begins_none (g.on_line a o r) n = absurd (n (first_attributes projection MayEnter a (first_on_line projection MayEnter o)))
+  begins_none (g.block a b more) n = absurd (n (first_attributes projection MayEnter a (first_block projection MayEnter b)))

@@ -1,0 +1,367 @@
+-- The grammar's part of the law of chunks: the law for one cut, that tokens that derive a shape have their colons, and that a line end before
+-- tokens is derived as one.
+use Rattle.std.proofs.Common.{◌≡◌, ◌∙◌, ℕ, Bool, true, false, cond, List, [], ◌∷◌, ◌++◌, Option, refl, sym, ap, subst, append_assoc, append-nil}
+use Rattle.std.proofs.lemmas.List.{map-append, reverse-append, reverse-reverse}
+use Rattle.std.specs.Prelude.{◌↔◌, map, reverse}
+use Rattle.justfile_vocabulary.specs.declared.token_kind.TokenKind.{TokenKind}
+use Rattle.justfile_vocabulary.specs.declared.token_kind.TokenKind.TheVariants as kinds
+use Rattle.justfile_model.specs.Grammars.Conditions.{Conditions}
+use Rattle.justfile_model.specs.Grammars.Docs.{LineEnd, documented}
+use Rattle.justfile_model.specs.Grammars.Expressions.{BelowLimit, Tokens, IsKind}
+use Rattle.justfile_model.specs.Grammars.Features.{ConstructFeatures, Noted}
+use Rattle.justfile_model.specs.Grammars.Files.{FileDerives, ShapeDerives, ordered, sets_doc, to_lexemes, to_tokens}
+use Rattle.justfile_model.specs.Grammars.Grammar as g
+use Rattle.justfile_model.specs.Grammars.Grammar.{File, ItemRest, Items, TokenProjection}
+use Rattle.justfile_model.specs.Lexing.SignificantTokens.{SignificantToken, is_whitespace, significant_from, significant_tokens}
+use Rattle.justfile_model.specs.Lexing.Tok.{Tok}
+use Rattle.justfile_model.specs.LiteralTexts.Literals.{Literal, over_literal}
+use Rattle.justfile_model.specs.Trees.LeafView.{LeafView, views_lexemes, views_tokens}
+use Rattle.justfile_model.specs.Trees.Tree as tree
+use Rattle.justfile_model.specs.Trees.Tree.{OrderedItem, Shape, Tree, WrittenItem, lexeme}
+use Rattle.justfile_chunks_grammar.specs.Chunks.{IsCut, IsCutAfter, OneCutLaw, ShapeFeatures, SidesShape, ends_line}
+use Rattle.justfile_chunks_grammar.proofs.AgainAttributes as again_attributes
+use Rattle.justfile_chunks_grammar.proofs.AgainItems as again_items
+use Rattle.justfile_chunks_grammar.proofs.Colons.{IndentsHaveColons, file_colons, with_whitespace}
+use Rattle.justfile_chunks_grammar.proofs.CutTokens.{cut_here, ends_dark, significant, significant_append}
+use Rattle.justfile_chunks_grammar.proofs.Joins.{after_end}
+use Rattle.justfile_chunks_grammar.proofs.Over.{Over, same, step}
+use Rattle.justfile_chunks_grammar.proofs.Passes.{CutHere, clash, self_ahead}
+use Rattle.justfile_chunks_grammar.proofs.Sides.{Derives, Sides, behind, cut_joined, cut_split, past_end, with_end, without_end}
+
+-- ---- the last token
+
+abbrev LastIs : TokenKind → Tokens → Type 0
+LastIs kind [] = ⊥
+LastIs kind (t ∷ []) = IsKind kind t
+LastIs kind (t ∷ u ∷ ts) = LastIs kind (u ∷ ts)
+
+abbrev FirstIs : TokenKind → Tokens → Type 0
+FirstIs kind [] = ⊥
+FirstIs kind (t ∷ ts) = IsKind kind t
+
+last_more : (kind : TokenKind) (t : SignificantToken) (ts : Tokens) → LastIs kind ts → LastIs kind (t ∷ ts)
+last_more kind t [] h = absurd h
+last_more kind t (u ∷ ts) h = h
+
+last_over : (kind : TokenKind) {ok : TokenKind → Bool} {x y ts after : Tokens} → Over ok x y ts after → LastIs kind x → LastIs kind ts
+last_over kind same h = h
+last_over kind (step {t = t} {a = ts} q o) h = last_more kind t ts (last_over kind o h)
+
+last_behind : (kind : TokenKind) (earlier ts : Tokens) → LastIs kind ts → FirstIs kind (behind earlier ts)
+last_behind kind earlier [] h = absurd h
+last_behind kind earlier (t ∷ []) h = h
+last_behind kind earlier (t ∷ u ∷ ts) h = last_behind kind (t ∷ earlier) (u ∷ ts) h
+
+module _ {A B C S : Type 0} (projection : TokenProjection A B C S) (MayEnter : ℕ → Option SignificantToken → Type 0) where
+  mutual
+    items_last : {items : List (WrittenItem A B C S)} {fs : List (ConstructFeatures B)} {ts : Tokens} → Items projection MayEnter items fs ts
+        → LastIs kinds.Eof ts
+    items_last (g.end kind) = kind
+    items_last (g.blank {token = t} {rest = ts} kind more) = last_more kinds.Eof t ts (items_last more)
+    items_last (g.comment {token = t} {rest = ts} kind r) = last_more kinds.Eof t ts (rest_last r)
+    items_last (g.on_line a o r) =
+        let x = again_items.on_line projection MayEnter o (self_ahead projection MayEnter r) in
+        let y = again_attributes.attribute_lines projection.leaf projection.position MayEnter a x.ahead in
+        last_over kinds.Eof y.over (last_over kinds.Eof x.over (rest_last r))
+    items_last (g.block {rest = rest} a b more) =
+        let x = again_items.block projection MayEnter b rest in
+        let y = again_attributes.attribute_lines projection.leaf projection.position MayEnter a x.ahead in
+        last_over kinds.Eof y.over (last_over kinds.Eof x.over (items_last more))
+
+    rest_last : {items : List (WrittenItem A B C S)} {fs : List (ConstructFeatures B)} {ts : Tokens} → ItemRest projection MayEnter items fs ts
+        → LastIs kinds.Eof ts
+    rest_last (g.trailing {token = t} {rest = ts} kind e) = last_more kinds.Eof t ts (end_last e)
+    rest_last (g.bare e) = end_last e
+
+    end_last : {items : List (WrittenItem A B C S)} {fs : List (ConstructFeatures B)} {ts : Tokens} → g.LineEnd projection MayEnter items fs ts
+        → LastIs kinds.Eof ts
+    end_last (g.line_end {token = t} {rest = ts} kind more) = last_more kinds.Eof t ts (items_last more)
+    end_last (g.file_end kind) = kind
+
+  file_last : {items : List (WrittenItem A B C S)} {fs : List (ConstructFeatures B)} {ts : Tokens} → File projection MayEnter items fs ts → LastIs kinds.Eof ts
+  file_last (g.with_byte_order_mark {token = t} {rest = ts} kind more) = last_more kinds.Eof t ts (items_last more)
+  file_last (g.without_byte_order_mark more) = items_last more
+
+not_cut : (later earlier : Tokens) → CutHere later earlier → FirstIs kinds.Eof earlier → ⊥
+not_cut later [] k e = k
+not_cut later (t ∷ earlier) k e = clash (ap ends_line e) k.ends
+
+-- ---- tokens that derive a shape
+
+-- Each indent comes after a colon, with no dedent between them.
+pub colons_law : (conditions : Conditions) (tokens : List Tok) (shape : Shape) (features : ShapeFeatures)
+    → ShapeDerives conditions (significant_tokens tokens) shape features
+    → IndentsHaveColons false tokens
+colons_law conditions tokens shape features d =
+    let c = file_colons to_lexemes (BelowLimit conditions.limit) d.derives false in
+    with_whitespace tokens false false c.are
+
+-- A line end before tokens is derived as one.
+pub feed_law : (conditions : Conditions) (feed : Tok) (tokens : List Tok) (shape : Shape) (features : ShapeFeatures) → feed.kind ≡ kinds.Eol
+    → ShapeDerives conditions (significant_tokens (feed ∷ tokens)) shape features → (right : Shape) × (shape ≡ tree.Newline ∷ right)
+feed_law conditions feed tokens shape features e d =
+    let first : significant_tokens (feed ∷ tokens) ≡ significant feed false ∷ significant_from true tokens =
+    ap (λ k. cond (is_whitespace k) (significant_from false tokens) (significant feed false ∷ significant_from true tokens)) e in
+    let derives = subst (File to_lexemes (BelowLimit conditions.limit) d.written d.by_construct) first d.derives in
+    let a = after_end to_lexemes (BelowLimit conditions.limit) derives e in
+    let p = past_end to_lexemes conditions (views_lexemes conditions.expander) (λ ls. ls) (λ ls ms. refl) a.others shape
+    (sym (ap (ordered (views_lexemes conditions.expander)) a.items_are) ∙ d.ordered_is) in
+    (documented sets_doc LineEnd p.items, p.all_is)
+
+-- ---- one cut
+
+-- the token before a cut, and those before it
+record LastToken (before after : List Tok) : Type 0 where
+  front : List Tok
+  last : Tok
+  before_is : before ≡ front ++ (last ∷ [])
+  cut : IsCutAfter last (reverse front) after
+
+last_token : (before after : List Tok) → IsCut (reverse before) after → LastToken before after
+last_token before after c = by (reverse before) refl c
+  where
+    by : (e : List Tok) → reverse before ≡ e → IsCut e after → LastToken before after
+    by [] e c = absurd c
+    by (t ∷ earlier) e c = record {
+      front = reverse earlier;
+      last = t;
+      before_is = sym (reverse-reverse before) ∙ ap reverse e ∙ reverse-append (t ∷ []) earlier;
+      cut = subst (λ l. IsCutAfter t l after) (sym (reverse-reverse earlier)) c;
+    }
+
+-- for trees and for shapes
+module _ {A B C : Type 0} (projection : TokenProjection A B C B) (conditions : Conditions) (view : LeafView A B)
+    (texts : List (Literal A) → List (Literal (List ℕ))) (texts_append : (ls ms : List (Literal A)) → texts (ls ++ ms) ≡ texts ls ++ texts ms) where
+  abbrev Ordered : Type 0
+  Ordered = List (OrderedItem A B C)
+
+  abbrev Derived : Tokens → Ordered → List (Noted B) → Type 0
+  Derived = Derives projection conditions view texts texts_append
+
+  -- The tokens before a cut and those after it derive these items: with the end of a text after the first ones, and a line end before the others.
+  pub record CutSides (before after : List Tok) (feed eof : Tok) (all : Ordered) (features : List (Noted B)) : Type 0 where
+    pub left : Ordered
+    pub right : Ordered
+    pub left_features : List (Noted B)
+    pub right_features : List (Noted B)
+    pub left_derives : Derived (significant_tokens (before ++ (eof ∷ []))) left left_features
+    pub right_derives : Derived (significant_tokens (feed ∷ after)) (tree.Newline ∷ right) right_features
+    pub all_is : all ≡ left ++ right
+    pub features_are : features ≡ left_features ++ right_features
+
+  module _ (before after : List Tok) (feed eof : Tok) (is_feed : feed.kind ≡ kinds.Eol) (is_eof : eof.kind ≡ kinds.Eof) (l : LastToken before after) where
+    ts : Tokens
+    ts = significant_from false (l.front ++ (l.last ∷ []))
+
+    us : Tokens
+    us = significant_from true after
+
+    parted : (later : List Tok) → significant_tokens (before ++ later) ≡ significant_from false (l.front ++ (l.last ∷ [])) ++ significant_from true later
+    parted later =
+        ap (λ b. significant_from false (b ++ later)) l.before_is ∙ ap (significant_from false) (append_assoc l.front (l.last ∷ []) later)
+        ∙ significant_append l.front l.last later false (ends_dark l.last.kind l.cut.ends)
+
+    whole_is : significant_tokens (before ++ after) ≡ ts ++ us
+    unfolding ts us
+    whole_is = parted after
+
+    left_is : significant_tokens (before ++ (eof ∷ [])) ≡ ts ++ (significant eof true ∷ [])
+    unfolding ts
+    left_is = parted (eof ∷ []) ∙ ap (λ k. ts ++ cond (is_whitespace k) [] (significant eof true ∷ [])) is_eof
+
+    right_is : significant_tokens (feed ∷ after) ≡ significant feed false ∷ us
+    unfolding us
+    right_is = ap (λ k. cond (is_whitespace k) (significant_from false after) (significant feed false ∷ significant_from true after)) is_feed
+
+    cut : CutHere us (behind [] ts)
+    unfolding ts us
+    cut = cut_here l.front l.last after l.cut
+
+    join : (all : Ordered) (features : List (Noted B)) → CutSides before after feed eof all features
+        → Derived (significant_tokens (before ++ after)) all features
+    join all features s =
+        let left = subst (λ t. Derived t s.left s.left_features) left_is s.left_derives in
+        let derives = subst (λ t. Derived t (tree.Newline ∷ s.right) s.right_features) right_is s.right_derives in
+        let right = without_end projection conditions view texts texts_append is_feed derives in
+        let whole = cut_joined projection conditions view texts texts_append ts (significant eof true) is_eof us cut left right in
+        subst (λ t. Derived t all features) (sym whole_is)
+        (subst (λ x. Derived (ts ++ us) x features) (sym s.all_is) (subst (λ n. Derived (ts ++ us) (s.left ++ s.right) n) (sym s.features_are) whole))
+
+    abbrev Both : Tokens → Ordered → List (Noted B) → Type 0
+    Both vs all features = Sides projection conditions view texts texts_append ts vs (significant eof true) all features
+
+    split_by : (vs : Tokens) → us ≡ vs → (all : Ordered) (features : List (Noted B)) → Derived (ts ++ us) all features → Both us all features
+    split_by [] e all features d =
+        absurd (not_cut us (behind [] ts) cut (last_behind kinds.Eof [] ts (file_last projection (BelowLimit conditions.limit)
+        (subst (λ t. File projection (BelowLimit conditions.limit) d.written d.by_construct t) (ap (λ x. ts ++ x) e ∙ append-nil ts) d.derives))))
+    split_by (u ∷ x) e all features d =
+        subst (λ v. Both v all features) (sym e)
+        (cut_split projection conditions view texts texts_append ts (significant eof true) is_eof u x (subst (λ v. CutHere v (behind [] ts)) e cut)
+        (subst (λ v. Derived (ts ++ v) all features) e d))
+
+    split : (all : Ordered) (features : List (Noted B)) → Derived (significant_tokens (before ++ after)) all features
+        → CutSides before after feed eof all features
+    split all features d =
+        let s = split_by us refl all features (subst (λ t. Derived t all features) whole_is d) in
+        record {
+          left = s.left;
+          right = s.right;
+          left_features = s.left_features;
+          right_features = s.right_features;
+          left_derives = subst (λ t. Derived t s.left s.left_features) (sym left_is) s.left_derives;
+          right_derives =
+              subst (λ t. Derived t (tree.Newline ∷ s.right) s.right_features) (sym right_is)
+              (with_end projection conditions view texts texts_append is_feed s.right_derives);
+          all_is = s.all_is;
+          features_are = s.features_are;
+        }
+
+  -- What tokens with a cut derive is what those before it and those after it derive, joined.
+  pub cut_law : (before after : List Tok) (feed eof : Tok) → feed.kind ≡ kinds.Eol → eof.kind ≡ kinds.Eof → IsCut (reverse before) after
+      → (all : Ordered) (features : List (Noted B)) → Derived (significant_tokens (before ++ after)) all features ↔ CutSides before after feed eof all features
+  cut_law before after feed eof is_feed is_eof c all features =
+      let l = last_token before after c in
+      (split before after feed eof is_feed is_eof l all features, join before after feed eof is_feed is_eof l all features)
+
+-- ---- shapes
+
+module _ (conditions : Conditions) where
+  abbrev DerivesShape : Tokens → Shape → ShapeFeatures → Type 0
+  DerivesShape = Derives to_lexemes conditions (views_lexemes conditions.expander) (λ ls. ls) (λ ls ms. refl)
+
+  shape_from : {ts : Tokens} {shape : Shape} {features : ShapeFeatures} → DerivesShape ts shape features → ShapeDerives conditions ts shape features
+  shape_from d = record {
+    written = d.written;
+    by_construct = d.by_construct;
+    derives = d.derives;
+    features_are = d.features_are;
+    cooked = d.cooked;
+    cooks = d.cooks;
+    unbroken = d.unbroken;
+    ordered_is = d.ordered_is;
+  }
+
+  shape_to : {ts : Tokens} {shape : Shape} {features : ShapeFeatures} → ShapeDerives conditions ts shape features → DerivesShape ts shape features
+  shape_to d = record {
+    written = d.written;
+    by_construct = d.by_construct;
+    derives = d.derives;
+    features_are = d.features_are;
+    cooked = d.cooked;
+    cooks = d.cooks;
+    unbroken = d.unbroken;
+    ordered_is = d.ordered_is;
+  }
+
+pub one_cut : OneCutLaw
+one_cut conditions before after feed eof is_feed is_eof c shape features = (to, from)
+  where
+    law : DerivesShape conditions (significant_tokens (before ++ after)) shape features
+        ↔ CutSides to_lexemes conditions (views_lexemes conditions.expander) (λ ls. ls) (λ ls ms. refl) before after feed eof shape features
+    law = cut_law to_lexemes conditions (views_lexemes conditions.expander) (λ ls. ls) (λ ls ms. refl) before after feed eof is_feed is_eof c shape features
+
+    to : ShapeDerives conditions (significant_tokens (before ++ after)) shape features → SidesShape conditions before after feed eof shape features
+    to d =
+        let s = law.0 (shape_to conditions d) in
+        record {
+          left = s.left;
+          right = s.right;
+          left_features = s.left_features;
+          right_features = s.right_features;
+          left_derives = shape_from conditions s.left_derives;
+          right_derives = shape_from conditions s.right_derives;
+          shape_is = s.all_is;
+          features_are = s.features_are;
+        }
+
+    from : SidesShape conditions before after feed eof shape features → ShapeDerives conditions (significant_tokens (before ++ after)) shape features
+    from s = shape_from conditions (law.1 (record {
+      left = s.left;
+      right = s.right;
+      left_features = s.left_features;
+      right_features = s.right_features;
+      left_derives = shape_to conditions s.left_derives;
+      right_derives = shape_to conditions s.right_derives;
+      all_is = s.shape_is;
+      features_are = s.features_are;
+    }))
+
+-- ---- trees
+
+module _ (conditions : Conditions) where
+  abbrev cooked_lexemes : List (Literal Tok) → List (Literal (List ℕ))
+  cooked_lexemes = map (over_literal lexeme)
+
+  abbrev DerivesTree : Tokens → Tree → List (Noted Tok) → Type 0
+  DerivesTree = Derives to_tokens conditions (views_tokens conditions.expander) cooked_lexemes (map-append (over_literal lexeme))
+
+  pub tree_from : {ts : Tokens} {all : Tree} {features : List (Noted Tok)} → DerivesTree ts all features → FileDerives conditions ts all features
+  tree_from d = record {
+    written = d.written;
+    by_construct = d.by_construct;
+    derives = d.derives;
+    features_are = d.features_are;
+    obeys = record { cooked = d.cooked; cooks = d.cooks; unbroken = d.unbroken };
+    ordered_is = d.ordered_is;
+  }
+
+  pub tree_to : {ts : Tokens} {all : Tree} {features : List (Noted Tok)} → FileDerives conditions ts all features → DerivesTree ts all features
+  tree_to d = record {
+    written = d.written;
+    by_construct = d.by_construct;
+    derives = d.derives;
+    features_are = d.features_are;
+    cooked = d.obeys.cooked;
+    cooks = d.obeys.cooks;
+    unbroken = d.obeys.unbroken;
+    ordered_is = d.ordered_is;
+  }
+
+-- the tokens before a cut and those after it derive these trees
+pub record SidesTree (conditions : Conditions) (before after : List Tok) (feed eof : Tok) (all : Tree) (features : List (Noted Tok)) : Type 0 where
+  pub left : Tree
+  pub right : Tree
+  pub left_features : List (Noted Tok)
+  pub right_features : List (Noted Tok)
+  pub left_derives : FileDerives conditions (significant_tokens (before ++ (eof ∷ []))) left left_features
+  pub right_derives : FileDerives conditions (significant_tokens (feed ∷ after)) (tree.Newline ∷ right) right_features
+  pub tree_is : all ≡ left ++ right
+  pub features_are : features ≡ left_features ++ right_features
+
+pub tree_cut : (conditions : Conditions) (before after : List Tok) (feed eof : Tok) → feed.kind ≡ kinds.Eol → eof.kind ≡ kinds.Eof
+    → IsCut (reverse before) after
+    → (all : Tree) (features : List (Noted Tok))
+    → FileDerives conditions (significant_tokens (before ++ after)) all features ↔ SidesTree conditions before after feed eof all features
+tree_cut conditions before after feed eof is_feed is_eof c all features = (to, from)
+  where
+    law : DerivesTree conditions (significant_tokens (before ++ after)) all features
+        ↔ CutSides to_tokens conditions (views_tokens conditions.expander) (cooked_lexemes conditions) (map-append (over_literal lexeme)) before after feed eof all features
+    law =
+        cut_law to_tokens conditions (views_tokens conditions.expander) (cooked_lexemes conditions) (map-append (over_literal lexeme)) before after feed eof is_feed is_eof c
+        all features
+
+    to : FileDerives conditions (significant_tokens (before ++ after)) all features → SidesTree conditions before after feed eof all features
+    to d =
+        let s = law.0 (tree_to conditions d) in
+        record {
+          left = s.left;
+          right = s.right;
+          left_features = s.left_features;
+          right_features = s.right_features;
+          left_derives = tree_from conditions s.left_derives;
+          right_derives = tree_from conditions s.right_derives;
+          tree_is = s.all_is;
+          features_are = s.features_are;
+        }
+
+    from : SidesTree conditions before after feed eof all features → FileDerives conditions (significant_tokens (before ++ after)) all features
+    from s = tree_from conditions (law.1 (record {
+      left = s.left;
+      right = s.right;
+      left_features = s.left_features;
+      right_features = s.right_features;
+      left_derives = tree_to conditions s.left_derives;
+      right_derives = tree_to conditions s.right_derives;
+      all_is = s.tree_is;
+      features_are = s.features_are;
+    }))

@@ -1,0 +1,4 @@
+pub mod CutTests
+pub mod ChunksTo
+pub mod PartFeeds
+pub mod PartSpans
