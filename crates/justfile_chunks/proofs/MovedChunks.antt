@@ -1,5 +1,5 @@
 -- The tokens of each chunk are those of its part of the text, moved.
-use Rattle.std.proofs.Common.{◌≡◌, ◌≢◌, ◌∙◌, ℕ, ◌+◌, ◌-◌, ◌<◌, List, [], ◌∷◌, ◌++◌, ◌⊎◌, inl, inr, length, Some, sym, ap, subst, arith, append_assoc, append-nil, length-append}
+use Rattle.std.proofs.Common.{◌≡◌, ◌≢◌, ◌∙◌, ℕ, ◌+◌, ◌-◌, ◌<◌, List, [], ◌∷◌, ◌++◌, ◌⊎◌, inl, inr, length, map, Some, sym, ap, subst, arith, append_assoc, append-nil, length-append}
 use Rattle.std.specs.List.{count_by}
 use Rattle.std.specs.Str.{IsUtf8}
 use Rattle.std.proofs.lemmas.List.Concat.{flat_map-append}
@@ -11,9 +11,9 @@ use Rattle.justfile_model.specs.Lexing.Tok.{Tok}
 use Rattle.justfile_model.specs.Trees.Tree.{lexeme}
 use Rattle.justfile_round_trip.proofs.LiteralTexts.LexedModes.{Mark, mark}
 use Rattle.justfile_round_trip.proofs.Values.TokenFacts.{Runs}
-use Rattle.justfile_chunks_grammar.specs.Chunks.{AreParts, Parts, after_feed, next_kind, text_of}
+use Rattle.justfile_chunks_grammar.specs.Chunks.{AreParts, Parts, after_feed, moved, next_kind, text_of}
 use Rattle.justfile_chunks.proofs.ChunkTokens.{Later, NextPart, Split, first_bytes, first_part, from_start, next_part, onto, parts_some, some_text, whole_is}
-use Rattle.justfile_chunks.proofs.MovedPlaces.{AreMoved, Moves, Placed, after_text, all_moved, at_start, placed, placed_after, placed_front, inside}
+use Rattle.justfile_chunks.proofs.MovedPlaces.{AreMoved, Moves, Placed, after_text, all_moved, at_start, inside, last_moved, placed, placed_after, placed_front}
 use Rattle.justfile_chunks.proofs.SameModes.{NoneIsEof, marks, same_marks}
 use Rattle.justfile_chunks.proofs.TidyModes.{EndsInFeed, Fed, fed_more}
 
@@ -27,10 +27,16 @@ pub record MovesLater (t : Tok) (part : List Tok) : Type 0 where
       → marks (u ∷ us) ≡ mark kinds.Eol (10 ∷ []) ∷ marks (t ∷ part) ++ ms
       → AreMoved (t.offset - 1) (t.line - 1) (t ∷ part) us
 
+-- All tokens of the last chunk are those of its part, moved.
+pub record MovesLast (t : Tok) (part : List Tok) : Type 0 where
+  pub moves : (u : Tok) (us : List Tok) → Lexed (after_feed (t ∷ part)) (u ∷ us) → marks (u ∷ us) ≡ mark kinds.Eol (10 ∷ []) ∷ marks (t ∷ part)
+      → t ∷ part ≡ map (moved (t.offset - 1) (t.line - 1)) us
+
 abbrev pub AllMove : List (List Tok) → Type 0
 AllMove [] = Unit {0}
 AllMove ([] ∷ parts) = ⊥
-AllMove ((t ∷ part) ∷ parts) = MovesLater t part × AllMove parts
+AllMove ((t ∷ part) ∷ []) = MovesLater t part × MovesLast t part
+AllMove ((t ∷ part) ∷ q ∷ parts) = MovesLater t part × AllMove (q ∷ parts)
 
 abbrev pub ChunksMove : List (List Tok) → Type 0
 ChunksMove [] = ⊥
@@ -45,32 +51,46 @@ first_moves text rest part is h = record {
       all_moved [] [] p rest [] 0 0 at_start part us ms 0 whole chunk e (omega arith);
 }
 
-later_moves : (text before rest : List ℕ) (t : Tok) (part : List Tok) → EndsInFeed before → text ≡ before ++ (text_of (t ∷ part) ++ rest)
-    → Placed text (length before) (t ∷ part) → 0 < length (text_of (t ∷ part)) → MovesLater t part
-unfolding line_of_offset
-later_moves text before rest t part feed is h some = record {
-  moves = λ u us ms l e.
-      let p = text_of (t ∷ part) in
-      let first = same_marks (mark u.kind u.lexeme) (mark kinds.Eol (10 ∷ [])) (marks us) (marks (t ∷ part) ++ ms) e in
-      let one : length u.lexeme ≡ 1 = ap (λ (m : Mark). length m.lexeme) first.0 in
-      let whole : Placed (before ++ (p ++ rest)) (length before + 0) (t ∷ part) = subst (λ n. Placed (before ++ (p ++ rest)) n (t ∷ part)) (omega arith)
-      (subst (λ x. Placed x (length before) (t ∷ part)) is h) in
-      let chunk : Placed (10 ∷ (p ++ [])) (1 + 0) us = subst (λ x. Placed (10 ∷ x) (1 + 0) us) (sym (append-nil p))
-      (subst (λ n. Placed (10 ∷ p) n us) (omega (arith, one)) (placed (10 ∷ p) (u ∷ us) l).1) in
-      all_moved before (10 ∷ []) p rest [] (t.offset - 1) (t.line - 1) by_first (t ∷ part) us ms 0 whole chunk first.1 (omega arith);
-}
-  where
-    line_is : t.line ≡ count_by is_line_feed before
-    line_is =
-        h.0.line_is ∙ ap (λ n. line_of_offset text n) (h.0.offset_is ∙ omega arith) ∙ ap (λ x. line_of_offset x (length before + 0)) is
-        ∙ ap (count_by is_line_feed) ((inside before (text_of (t ∷ part)) rest 0 some).is ∙ append-nil before)
+module _ (text before rest : List ℕ) (t : Tok) (part : List Tok) (feed : EndsInFeed before) (is : text ≡ before ++ (text_of (t ∷ part) ++ rest))
+    (h : Placed text (length before) (t ∷ part)) (some : 0 < length (text_of (t ∷ part))) where
+  line_is : t.line ≡ count_by is_line_feed before
+  unfolding line_of_offset
+  line_is =
+      h.0.line_is ∙ ap (λ n. line_of_offset text n) (h.0.offset_is ∙ omega arith) ∙ ap (λ x. line_of_offset x (length before + 0)) is
+      ∙ ap (count_by is_line_feed) ((inside before (text_of (t ∷ part)) rest 0 some).is ∙ append-nil before)
 
-    by_first : Moves before (10 ∷ []) (t.offset - 1) (t.line - 1)
-    by_first =
-        let moves : Moves before (10 ∷ []) (length before - 1) (count_by is_line_feed before - 1) = subst
-        (λ x. Moves x (10 ∷ []) (length x - 1) (count_by is_line_feed x - 1)) (sym feed.is) (after_text feed.front) in
-        subst (λ n. Moves before (10 ∷ []) n (t.line - 1)) (ap (λ n. n - 1) (sym h.0.offset_is))
-        (subst (λ n. Moves before (10 ∷ []) (length before - 1) (n - 1)) (sym line_is) moves)
+  by_first : Moves before (10 ∷ []) (t.offset - 1) (t.line - 1)
+  by_first =
+      let moves : Moves before (10 ∷ []) (length before - 1) (count_by is_line_feed before - 1) =
+      subst (λ x. Moves x (10 ∷ []) (length x - 1) (count_by is_line_feed x - 1)) (sym feed.is) (after_text feed.front) in
+      subst (λ n. Moves before (10 ∷ []) n (t.line - 1)) (ap (λ n. n - 1) (sym h.0.offset_is))
+      (subst (λ n. Moves before (10 ∷ []) (length before - 1) (n - 1)) (sym line_is) moves)
+
+  in_text : Placed (before ++ (text_of (t ∷ part) ++ rest)) (length before + 0) (t ∷ part)
+  in_text = subst (λ n. Placed (before ++ (text_of (t ∷ part) ++ rest)) n (t ∷ part)) (omega arith) (subst (λ x. Placed x (length before) (t ∷ part)) is h)
+
+  in_chunk : (u : Tok) (us : List Tok) → Lexed (after_feed (t ∷ part)) (u ∷ us) → length u.lexeme ≡ 1 → Placed (10 ∷ (text_of (t ∷ part) ++ [])) (1 + 0) us
+  in_chunk u us l one =
+      let p = text_of (t ∷ part) in
+      subst (λ x. Placed (10 ∷ x) (1 + 0) us) (sym (append-nil p)) (subst (λ n. Placed (10 ∷ p) n us) (omega (arith, one)) (placed (10 ∷ p) (u ∷ us) l).1)
+
+  later_moves : MovesLater t part
+  later_moves = record {
+    moves = λ u us ms l e.
+        let first = same_marks (mark u.kind u.lexeme) (mark kinds.Eol (10 ∷ [])) (marks us) (marks (t ∷ part) ++ ms) e in
+        all_moved before (10 ∷ []) (text_of (t ∷ part)) rest [] (t.offset - 1) (t.line - 1) by_first (t ∷ part) us ms 0 in_text
+        (in_chunk u us l (ap (λ (m : Mark). length m.lexeme) first.0)) first.1 (omega arith);
+  }
+
+last_moves : (text before : List ℕ) (t : Tok) (part : List Tok) (feed : EndsInFeed before) (is : text ≡ before ++ (text_of (t ∷ part) ++ []))
+    → (h : Placed text (length before) (t ∷ part)) (some : 0 < length (text_of (t ∷ part))) → MovesLast t part
+last_moves text before t part feed is h some = record {
+  moves = λ u us l e.
+      let first = same_marks (mark u.kind u.lexeme) (mark kinds.Eol (10 ∷ [])) (marks us) (marks (t ∷ part)) e in
+      last_moved before (10 ∷ []) (text_of (t ∷ part)) (t.offset - 1) (t.line - 1) (by_first text before [] t part feed is h some) some (t ∷ part) us 0
+      (in_text text before [] t part feed is h some)
+      (in_chunk text before [] t part feed is h some u us l (ap (λ (m : Mark). length m.lexeme) first.0)) first.1 (omega arith);
+}
 
 module _ (text : List ℕ) where
   -- the text before, and the part
@@ -115,10 +135,19 @@ module _ (text : List ℕ) where
   all_move [] earlier later before h p ne is pl f = tt
   all_move (part ∷ parts) earlier later before h p ne is pl f = by (first_part p) (all_move parts)
     where
-      with_first : (p : List Tok) (rest : List ℕ) → text ≡ before ++ (text_of p ++ rest) → Placed text (length before) p → 0 < length (text_of p)
-          → AllMove parts → AllMove (p ∷ parts)
-      with_first [] rest is pl l more = absurd (omega arith)
-      with_first (t ∷ p) rest is pl l more = (later_moves text before rest t p f is pl l, more)
+      last : (p : List Tok) → text ≡ before ++ (text_of p ++ []) → Placed text (length before) p → 0 < length (text_of p) → AllMove (p ∷ [])
+      last [] is pl l = absurd (omega arith)
+      last (t ∷ p) is pl l = (later_moves text before [] t p f is pl l, last_moves text before t p f is pl l)
+
+      inner : (p : List Tok) (ps : List (List Tok)) (rest : List ℕ) → 0 < length ps → text ≡ before ++ (text_of p ++ rest) → Placed text (length before) p
+          → 0 < length (text_of p) → AllMove ps → AllMove (p ∷ ps)
+      inner p [] rest some is pl l more = absurd (omega arith)
+      inner [] (q ∷ ps) rest some is pl l more = absurd (omega arith)
+      inner (t ∷ p) (q ∷ ps) rest some is pl l more = (later_moves text before rest t p f is pl l, more)
+
+      there : (ps : List (List Tok)) {e x : List Tok} → Parts e x ps → 0 < length ps
+      there [] p = absurd (first_part p)
+      there (q ∷ ps) p = omega arith
 
       by : ((later ≡ part) × (parts ≡ [])) ⊎ Split earlier later part parts
           → ((earlier later : List Tok) (before : List ℕ) → Later earlier later → Parts earlier later parts → next_kind later ≢ Some kinds.Eof
@@ -126,16 +155,16 @@ module _ (text : List ℕ) where
           → AllMove (part ∷ parts)
       by (inl e) more =
           let bytes = some_text later (mode earlier) (text_of later) h.ends ne h.same.levels h.utf8 h.run in
-          with_first part [] (is ∙ ap (λ x. before ++ x) (ap text_of e.0 ∙ sym (append-nil (text_of part)))) (subst (Placed text (length before)) e.0 pl)
-          (subst (λ x. 0 < length (text_of x)) e.0 bytes)
-          (subst AllMove (sym e.1) tt)
+          subst (λ ps. AllMove (part ∷ ps)) (sym e.1)
+          (last part (is ∙ ap (λ x. before ++ x) (ap text_of e.0 ∙ sym (append-nil (text_of part)))) (subst (Placed text (length before)) e.0 pl)
+          (subst (λ x. 0 < length (text_of x)) e.0 bytes))
       by (inr s) more =
           let n = next before earlier later part parts h s is in
-          with_first part (text_of s.rest) (text_is before earlier later part parts h s is) (placed_part before earlier later part parts h s is pl)
+          inner part parts (text_of s.rest) (there parts s.others) (text_is before earlier later part parts h s is)
+          (placed_part before earlier later part parts h s is pl)
           (part_bytes before earlier later part parts h s is)
           (more (onto earlier part) s.rest (before ++ text_of part) n.later s.others n.goes_on (text_after before earlier later part parts h s is)
-          (placed_rest before earlier later part parts h s is pl)
-          (feed_after before earlier later part parts h s is f))
+          (placed_rest before earlier later part parts h s is pl) (feed_after before earlier later part parts h s is f))
 
 -- the tokens of the chunks of a text are its tokens, moved
 pub chunks_move : (text : List ℕ) (tokens : List Tok) (parts : List (List Tok)) → IsUtf8 text → Lexed text tokens → AreParts tokens parts → ChunksMove parts

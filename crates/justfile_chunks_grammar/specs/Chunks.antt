@@ -7,14 +7,14 @@ use Rattle.justfile_vocabulary.specs.ByteNames as byte
 use Rattle.justfile_vocabulary.specs.declared.token_kind.TokenKind.{TokenKind}
 use Rattle.justfile_vocabulary.specs.declared.token_kind.TokenKind.TheVariants.{BracketL, ByteOrderMark, Comment, Dedent, Eof, Eol, Indent, Whitespace}
 use Rattle.justfile_model.specs.Grammars.Conditions.{Conditions}
-use Rattle.justfile_model.specs.Grammars.Features.{Noted, over_noted}
-use Rattle.justfile_model.specs.Grammars.Files.{FileDerives, ShapeDerives}
+use Rattle.justfile_model.specs.Grammars.Features.{Noted}
+use Rattle.justfile_model.specs.Grammars.Files.{ShapeDerives}
 use Rattle.justfile_model.specs.Lexing.Lexed.{Lexed}
 use Rattle.justfile_model.specs.Lexing.Modes.{mode}
 use Rattle.justfile_model.specs.Lexing.SignificantTokens.{is_whitespace, significant_tokens}
 use Rattle.justfile_model.specs.Lexing.Tok.{Tok, tok}
 use Rattle.justfile_model.specs.Trees.Tree as tree
-use Rattle.justfile_model.specs.Trees.Tree.{OrderedItem, Shape, Tree, lexeme, over_entry, over_item}
+use Rattle.justfile_model.specs.Trees.Tree.{OrderedItem, Shape, lexeme, over_entry, over_item}
 
 -- ---- cuts, by the tokens before them, the last one first, and the tokens after them
 
@@ -142,7 +142,7 @@ OneCutLaw = (conditions : Conditions) (before after : List Tok) (feed eof : Tok)
     → (shape : Shape) (features : ShapeFeatures)
     → ShapeDerives conditions (significant_tokens (before ++ after)) shape features ↔ SidesShape conditions before after feed eof shape features
 
--- ---- the law for trees: the tokens of chunks are moved
+-- ---- tokens that are moved, as those of a chunk are to their places in the text
 
 -- the token with this much added to its offset and its line
 abbrev pub moved : (offset line : ℕ) → Tok → Tok
@@ -150,40 +150,3 @@ moved offset line t = tok t.kind t.lexeme (offset + t.offset) (line + t.line) t.
 
 abbrev pub moved_item : (offset line : ℕ) → OrderedItem Tok Tok ℕ → OrderedItem Tok Tok ℕ
 moved_item offset line = over_item (moved offset line) (moved offset line) (λ n. line + n) (λ star. star) (map (over_entry (moved offset line) (moved offset line)))
-
--- The text has tokens, which derive the tree and the features when they are moved.
-pub record HasMoved (conditions : Conditions) (text : List ℕ) (offset line : ℕ) (tree : Tree) (features : List (Noted Tok)) : Type 0 where
-  pub tokens : List Tok
-  pub lexed : Lexed text tokens
-  pub unmoved : Tree
-  pub noted : List (Noted Tok)
-  pub derives : FileDerives conditions (significant_tokens tokens) unmoved noted
-  pub tree_is : tree ≡ map (moved_item offset line) unmoved
-  pub features_are : features ≡ map (over_noted (moved offset line)) noted
-
--- the same for the part of a text after its line feed, which is where the part's first token is, less one byte and one line
-abbrev pub HasMovedPart : Conditions → List Tok → Tree → List (Noted Tok) → Type 0
-HasMovedPart conditions [] tree features = ⊥
-HasMovedPart conditions (t ∷ part) tree features = HasMoved conditions (after_feed (t ∷ part)) (t.offset - 1) (t.line - 1) tree features
-
-abbrev pub HaveMovedParts : Conditions → List (List Tok) → List Tree → List (List (Noted Tok)) → Type 0
-HaveMovedParts conditions [] [] [] = Unit {0}
-HaveMovedParts conditions (part ∷ parts) (tree ∷ trees) (fs ∷ features) = HasMovedPart conditions part tree fs × HaveMovedParts conditions parts trees features
-HaveMovedParts conditions _ _ _ = ⊥
-
--- the first chunk isn't moved
-abbrev pub HaveTrees : Conditions → List (List Tok) → List Tree → List (List (Noted Tok)) → Type 0
-HaveTrees conditions (part ∷ parts) (tree ∷ trees) (fs ∷ features) = HasMoved conditions (text_of part) 0 0 tree fs × HaveMovedParts conditions parts trees features
-HaveTrees conditions _ _ _ = ⊥
-
--- the chunks derive trees and features, which are these, moved and joined
-pub record ChunksTree (conditions : Conditions) (parts : List (List Tok)) (tree : Tree) (features : List (Noted Tok)) : Type 0 where
-  pub trees : List Tree
-  pub noted : List (List (Noted Tok))
-  pub have : HaveTrees conditions parts trees noted
-  pub tree_is : tree ≡ joined trees
-  pub features_are : features ≡ flat_map (λ fs. fs) noted
-
-abbrev pub TreeLaw : Type 0
-TreeLaw = (conditions : Conditions) (text : List ℕ) (tokens : List Tok) (parts : List (List Tok)) → IsUtf8 text → Lexed text tokens → AreParts tokens parts
-    → (tree : Tree) (features : List (Noted Tok)) → FileDerives conditions (significant_tokens tokens) tree features ↔ ChunksTree conditions parts tree features

@@ -3,6 +3,7 @@
 use crate::word::Word;
 use justfile_lex::Lexer;
 use justfile_parse_expression::significant::significant;
+use justfile_spans::{Span, chunks};
 use justfile_token::{CompileError, Fault, StringKind, Token};
 use justfile_vocabulary::TokenKind;
 use row_notation::{Answer, Text, kind_of, place_after, push_fault, push_string_kind};
@@ -145,9 +146,25 @@ fn push_kind_of(answer: &mut Answer, token: Token<'_>) {
     }
 }
 
+/// Writes the chunks of the text with these tokens, each by the offsets of its ends.
+fn push_chunks(answer: &mut Answer, tokens: &[Token<'_>]) {
+    match chunks(answer.alloc(), tokens) {
+        Ok(spans) => push_spans(answer, &spans),
+        Err(_) => answer.fail(),
+    }
+}
+
+fn push_spans(answer: &mut Answer, spans: &[Span]) {
+    for span in spans {
+        answer.push_number(span.start);
+        answer.push_number(span.end);
+    }
+}
+
 /// Writes what a row's word asks for about the tokens of a text.
 fn push_lexed(answer: &mut Answer, word: Word, text: &str, tokens: &[Token<'_>]) {
     match word {
+        Word::Chunks => push_chunks(answer, tokens),
         Word::KindOf => push_literal_kind(answer, tokens),
         Word::Kinds => push_kinds(answer, tokens),
         Word::Significant => push_significant(answer, tokens),

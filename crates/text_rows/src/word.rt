@@ -9,6 +9,7 @@ use row_notation::{Answer, RowWord, field_at, is_number};
 #[derive(Clone, Copy, PartialEq, Eq)]
 pub(crate) enum Word {
     AttributeKind,
+    Chunks,
     Class,
     Cooks,
     Identifier,
@@ -28,6 +29,7 @@ pub(crate) enum Word {
 /// The words, each with the least number of fields of its rows.
 static WORDS: &[(&str, Word, usize)] = &[
     ("attribute_kind", Word::AttributeKind, 1),
+    ("chunks", Word::Chunks, 1),
     ("class", Word::Class, 1),
     ("cooks", Word::Cooks, 1),
     ("identifier", Word::Identifier, 2),
@@ -73,7 +75,7 @@ impl RowWord for Word {
             Word::Identifier => identifier(answer, fields),
             Word::Indentation => indentation(answer, text),
             Word::Keyword => keyword(answer, text),
-            Word::KindOf | Word::Kinds | Word::Lexes | Word::Significant => {
+            Word::Chunks | Word::KindOf | Word::Kinds | Word::Lexes | Word::Significant => {
                 lex(answer, self, text);
             }
             Word::Opens => opens(answer, text),
