@@ -260,7 +260,7 @@ module _ (conditions : Conditions) (bound : ℕ) (within : conditions.limit ≤ 
   -- a rule that is broken, attributes before no construct, a name after the last parameter, one of no setting, or a word that may not stand there
   broken_at : (error : CompileError) (r : table_reader.ReadError) (e' : model.ReadError) → IsErrorOfRead {Y = Pair} (Err r) error → ReadErrors rel r e' → IsErrorOf tokens e' error × IsInTable table error.token × Holds error
   broken_at error (reading.BreaksRule b) e' says (a.breaks h) = (
-    record { rule = b; error = says; same = same_broken rel.position (λ t k h. h.is) h },
+    record { rule = b; error = says; same = same_broken tok_of rel.position (λ t k h. h.is) h },
     subst (IsInTable table) (sym says.token) h.token.among,
     rule_held (IsInTable table) rel.position (λ t k h. h.among) b.token h.rule error.kind says.says,
   )
