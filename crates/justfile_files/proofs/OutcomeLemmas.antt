@@ -8,11 +8,11 @@ use Rattle.std.proofs.lemmas.List.{get_or-map, length-map, map-append, take_all,
 use Rattle.std.proofs.lemmas.List.Elements.{All-append, All-cons, All-head, All-nil, All-tail}
 use Rattle.std.proofs.lemmas.Option.{same_Some}
 use Rattle.justfile_files.specs.Failure.{IsMessage, TellFailure, failure_status, message_of}
-use Rattle.justfile_files.specs.FileResult.{Finds, HasResult, Reports}
+use Rattle.justfile_files.specs.FileResult.{HasResult, Reports}
 use Rattle.justfile_files.specs.Folder.{Files, KeepsFiles, Replaces}
 use Rattle.justfile_files.specs.declared.failure.Failure.{Failure}
 use Rattle.justfile_files.specs.declared.failure.Failure.TheVariants as failures
-use Rattle.justfile_files.specs.Outcome.{AppendsBeginning, BecomesFormatted, ChangesFiles, IsUnformatted, HasOutcome, HasOutcomes, HasStatus, IsReport, IsReportOf, IsReported, Means, Outcome, differs, failed, formatted, greatest, messages_of, rejected, report_of, reported_status, status_of, unreported}
+use Rattle.justfile_files.specs.Outcome.{AppendsBeginning, BecomesFormatted, ChangesFiles, IsUnformatted, HasOutcome, HasOutcomes, HasStatus, IsReported, Means, Outcome, differs, failed, formatted, greatest, messages_of, rejected, report_of, reported_status, status_of, unreported}
 use Rattle.justfile_files.specs.Request.{texts}
 use Rattle.justfile_files.specs.declared.request.Task.{Task}
 use Rattle.justfile_files.specs.declared.request.Task.TheVariants.{Format}

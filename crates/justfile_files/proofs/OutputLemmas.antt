@@ -1,5 +1,5 @@
 -- Texts that are written, or a beginning of them.
-use Rattle.std.proofs.Common.{◌≡◌, ◌≤◌, ℕ, List, [], ◌++◌, length, take, drop, append-nil, append_assoc, Option, Some, None, Result, Ok, Err, OnOk, ap, refl, sym, subst, ◌∙◌, take-append-drop}
+use Rattle.std.proofs.Common.{◌≡◌, ◌≤◌, ℕ, List, [], ◌++◌, length, take, drop, append-nil, append_assoc, Option, ap, refl, sym, subst, ◌∙◌, take-append-drop}
 use Rattle.std.specs.Io.KnownBytes.{Appends, Keeps}
 use Rattle.std.proofs.KnownBytes.{Appends-kept, Appends-nil, Appends-trans}
 use Rattle.std.proofs.lemmas.List.{take_all}

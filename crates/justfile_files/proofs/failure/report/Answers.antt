@@ -1,5 +1,4 @@
-use Rattle.std.proofs.Common.{ap, [], ◌∷◌, refl, subst, sym, ◌∙◌, string_bytes}
-use Rattle.justfile_files.specs.Failure.{TellFailure}
+use Rattle.std.proofs.Common.{ap, [], ◌∷◌, refl}
 use Rattle.justfile_files.proofs.OutcomeLemmas.{other_failure}
 use Rattle.justfile_files.proofs.failure.report.Goals as goal
 

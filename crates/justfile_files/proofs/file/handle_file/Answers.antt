@@ -1,4 +1,4 @@
-use Rattle.std.proofs.Common.{false, Ok, subst}
+use Rattle.std.proofs.Common.{Ok, subst}
 use Rattle.justfile_files.specs.FileResult.{HasResult}
 use Rattle.justfile_files.proofs.OutcomeLemmas.{status_differs, status_told}
 use Rattle.justfile_files.proofs.file.handle_file.Goals as goal
