@@ -8,7 +8,7 @@ use Rattle.justfile_token.specs.declared.fault.Fault.{Fault}
 use Rattle.justfile_token.specs.declared.fault.Fault.TheVariants.{Compile, Numbers}
 use Rattle.justfile_model.specs.Grammars.Files.{NumbersSuffice}
 use Rattle.justfile_ast.specs.declared.ast.Ast.{Ast}
-use Rattle.justfile_parse_file.specs.Parsing.{HasNoTree, IsTreeless}
+use Rattle.justfile_parse.specs.Parsing.{HasNoTree, IsTreeless}
 use Rattle.justfile_canonical.specs.Fault.{IsFormatFaultOf, IsFaultOfPrinting, IsRejectionFor}
 use Rattle.justfile_canonical.specs.Formatting.{IsFileOf, LacksNumbers}
 use Rattle.justfile_canonical.specs.Root.{HasNoRoot, conditions}

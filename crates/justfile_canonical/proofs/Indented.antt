@@ -23,7 +23,7 @@ use Rattle.justfile_ast.specs.declared.ast.Ast.{Ast}
 use Rattle.justfile_parse_item.specs.Filled.{IsFilledItem, IsFilledLiteral, IsFilledSetting}
 use Rattle.justfile_canonical.specs.Formatting.{IsFileOf}
 use Rattle.justfile_indentation.specs.OwnIndentation.{HasCookedIndentation, MatchesLiteral}
-use Rattle.justfile_parse_file.specs.Parsing.{IsParsedText}
+use Rattle.justfile_parse.specs.Parsing.{IsParsedText}
 use Rattle.justfile_canonical.specs.Root.{IsRoot, conditions, unchanged}
 
 unexpanded : (r : Result (List ℕ) LiteralFault) (text : List ℕ) → expanded_text unchanged r ≡ Ok text → r ≡ Ok text

@@ -6,7 +6,7 @@ use Rattle.justfile_numbers.specs.declared.numerator.Numerator.{Numerator}
 use Rattle.justfile_token.specs.Modulepath.{names_of}
 use Rattle.justfile_token.specs.declared.fault.Fault.{Fault}
 use Rattle.justfile_ast.specs.declared.ast.Ast.{Ast}
-use Rattle.justfile_parse_file.specs.Parsing.{HasNoTree, IsParsedText}
+use Rattle.justfile_parse.specs.Parsing.{HasNoTree, IsParsedText}
 use Rattle.justfile_canonical.specs.Root.{HasNoRoot, IsRoot, IsRootFrom, conditions}
 
 pub root_from : (path source : List ℕ) (old new : Numerator) (r : Result Ast Fault) → IfOk r (IsParsedText conditions path source 0 [] old new)

@@ -15,7 +15,7 @@ use Rattle.justfile_model.specs.Trees.Tree.{Tree, shape_of}
 use Rattle.justfile_ast.specs.Ast.{features_of, tree_of}
 use Rattle.justfile_ast.specs.declared.ast.Ast.{Ast}
 use Rattle.justfile_round_trip.specs.RoundTrip.{TextDerives, printed}
-use Rattle.justfile_parse_file.specs.Parsing.{IsTextRefused, TextWantsNumber}
+use Rattle.justfile_parse.specs.Parsing.{IsTextRefused, TextWantsNumber}
 use Rattle.justfile_indentation.specs.OwnIndentation.{HasCookedIndentation, IsIndentedBy}
 use Rattle.justfile_canonical.specs.Messages.{error_text}
 use Rattle.justfile_canonical.specs.Root.{conditions}

@@ -7,7 +7,7 @@ use Rattle.justfile_token.specs.declared.fault.Fault.{Fault}
 use Rattle.justfile_model.specs.Grammars.Conditions.{Conditions}
 use Rattle.justfile_model.specs.LiteralTexts.Literals.{Expansions}
 use Rattle.justfile_ast.specs.declared.ast.Ast.{Ast}
-use Rattle.justfile_parse_file.specs.Parsing.{HasNoTree, IsParsedText}
+use Rattle.justfile_parse.specs.Parsing.{HasNoTree, IsParsedText}
 
 -- the expander that leaves each text unchanged
 abbrev pub unchanged : Expansions
