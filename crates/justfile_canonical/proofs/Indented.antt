@@ -20,10 +20,9 @@ use Rattle.justfile_item.specs.Indented.{indentation_set, item_indentation, item
 use Rattle.justfile_item.specs.declared.item.Item.{Item}
 use Rattle.justfile_item.specs.declared.item.Item.TheVariants as items
 use Rattle.justfile_ast.specs.declared.ast.Ast.{Ast}
-use Rattle.justfile_parse_item.specs.Filled.{IsFilledItem, IsFilledLiteral, IsFilledSetting}
 use Rattle.justfile_canonical.specs.Formatting.{IsFileOf}
 use Rattle.justfile_indentation.specs.OwnIndentation.{HasCookedIndentation, MatchesLiteral}
-use Rattle.justfile_parse.specs.Parsing.{IsParsedText}
+use Rattle.justfile_parse.specs.Parsing.{IsFilledItem, IsFilledLiteral, IsFilledSetting, IsParsedText}
 use Rattle.justfile_canonical.specs.Root.{IsRoot, conditions, unchanged}
 
 unexpanded : (r : Result (List ℕ) LiteralFault) (text : List ℕ) → expanded_text unchanged r ≡ Ok text → r ≡ Ok text

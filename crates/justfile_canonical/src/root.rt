@@ -4,8 +4,7 @@ ghost use Rattle.justfile_numbers.specs.Numerator.{constants_of};
 ghost use Rattle.justfile_model.specs.Lexing.Lexed.{Lexed};
 ghost use Rattle.justfile_model.specs.Lexing.SignificantTokens.{identifiers, significant_tokens};
 ghost use Rattle.justfile_model.specs.Lexing.Tok.{Tok};
-ghost use Rattle.justfile_parse.specs.Parsing.{HasNoTree};
-ghost use Rattle.justfile_parse_item.specs.MethodResults.{CountersMoved};
+ghost use Rattle.justfile_parse.specs.Parsing.{CountersMoved, HasNoTree};
 ghost use Rattle.justfile_indentation.specs.OwnIndentation.{HasCookedIndentation};
 ghost use Rattle.justfile_canonical.specs.Root.{HasNoRoot, IsRoot, IsRootFrom, conditions};
 

@@ -1,7 +1,6 @@
 //! Versions of `just`.
 ghost use Rattle.std.specs.Prelude.{◌≡◌, ℕ, ◌∷◌, ◌++◌, IfSome, IfNone};
-ghost use Rattle.justfile_vocabulary.specs.ByteNames as byte;
-ghost use Rattle.justfile_numbers.specs.NumberText.{HasNoDot, IsNumberText};
+ghost use Rattle.justfile_numbers.specs.NumberText.{HasNoDot, IsNumberText, dot};
 
 use std::fmt;
 use std::str::FromStr;
@@ -32,7 +31,7 @@ fn parse_number(text: &str) -> Option<u64>
 /// Returns the texts before and after the first dot, or `None` if there is no dot.
 #[tactic(auto, using(crate::proofs::VersionLemmas::no_dot_all))]
 fn split_at_dot(text: &str) -> Option<(&str, &str)>
-    ensures some { IfSome result (λ parts. text.now ≡ parts.0.now ++ byte.dot ∷ parts.1.now) }
+    ensures some { IfSome result (λ parts. text.now ≡ parts.0.now ++ dot ∷ parts.1.now) }
     ensures first { IfSome result (λ parts. HasNoDot parts.0.now) }
     ensures none { IfNone result (HasNoDot text.now) }
 {

@@ -6,8 +6,7 @@ ghost use Rattle.justfile_model.specs.Lexing.Lexed.{Lexed};
 ghost use Rattle.justfile_model.specs.Lexing.SignificantTokens.{identifiers, significant_tokens};
 ghost use Rattle.justfile_model.specs.Lexing.Tok.{Tok, tok_of};
 ghost use Rattle.justfile_parse_expression.specs.Conditions.{conditions_of};
-ghost use Rattle.justfile_parse_file.specs.Parsing.{HasNoTree, IsOneLex, IsParsed, IsParsedText, IsUnparsed};
-ghost use Rattle.justfile_parse_item.specs.MethodResults.{CountersMoved};
+ghost use Rattle.justfile_parse_file.specs.Parsing.{CountersMoved, HasNoTree, IsOneLex, IsParsed, IsParsedText, IsUnparsed};
 
 use justfile_ast::Ast;
 use justfile_numbers::{Numerator, Version};

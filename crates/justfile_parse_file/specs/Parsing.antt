@@ -23,7 +23,8 @@ use Rattle.justfile_model.specs.Trees.Tree.{Tree, lexeme}
 use Rattle.justfile_model.specs.Meanings.UnstableFeatures.{unstable_features}
 use Rattle.justfile_vocabulary.specs.declared.list_feature.ListFeature.{ListFeature}
 use Rattle.justfile_parse_file.specs.Errors.{IsRefused, IsTooDeepError}
-use Rattle.justfile_parse_item.specs.Filled.{IsFilledItem}
+pub use Rattle.justfile_parse_item.specs.Filled.{IsFilledItem, IsFilledLiteral, IsFilledSetting}
+pub use Rattle.justfile_parse_item.specs.MethodResults.{CountersMoved}
 use Rattle.justfile_parse_file.specs.WantsNumber.{WantsNumber}
 
 -- The tokens are those of one text, and have one source.
