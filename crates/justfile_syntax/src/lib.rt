@@ -105,7 +105,7 @@ pub mod fault {
 pub mod format {
     //! From a text to its canonical text.
 
-    pub use justfile_canonical::fault::FormatFault;
+    pub use justfile_canonical::fault::{FormatFault, Rejection};
     pub use justfile_canonical::formatting::{format_and_forget, format_text};
     pub use justfile_indentation::own_indentation;
 }
