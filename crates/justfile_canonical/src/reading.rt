@@ -54,8 +54,8 @@ fn lend<R: Reader>(ast: &mut Ast<'_>, reader: &mut R)
     R::read(ast, reader);
 }
 
-/// What is asked of a file. The answer may borrow the text.
-pub trait Query<'src> {
+/// What is asked of a file. The answer can't borrow the text.
+pub trait Query {
     /// What answers it.
     type Answer;
 
@@ -68,7 +68,7 @@ pub trait Query<'src> {
     /// # Errors
     ///
     /// `AllocError` if memory runs out.
-    fn answer(&self, alloc: Global, ast: &mut Ast<'src>) -> Result<Self::Answer, AllocError>
+    fn answer(&self, alloc: Global, ast: &mut Ast<'_>) -> Result<Self::Answer, AllocError>
         ensures { IfOk result (λ answer. answers self.now ast.old answer) };
 }
 
@@ -77,7 +77,7 @@ pub trait Query<'src> {
 /// # Errors
 ///
 /// As for `parse_root`.
-pub fn query_root<'src, Q: Query<'src>>(
+pub fn query_root<'src, Q: Query>(
     alloc: Global,
     path: &'src str,
     source: &'src str,
