@@ -22,12 +22,15 @@ without_numbers (inr q) = inr q
 -- a text that isn't a justfile has an error, and the fault has its message
 told : (path source : List ℕ) (old new : Numerator) (e : CompileError) (f : FormatFault) → IsUtf8 source → IsTreeless conditions path source old new e
     → IsRejectionFor e f → IsFormatFaultOf path source f
-told path source old new e (faults.Rejected lines) utf8 treeless is = record {
-  rejected = record { utf8 = utf8; derives_none = treeless.derives_none };
-  error = e;
-  from = treeless.from;
-  cause = without_numbers treeless.cause;
-  is = is;
+told path source old new e (faults.Rejected rejection) utf8 treeless is = record {
+  told = record {
+    rejected = record { utf8 = utf8; derives_none = treeless.derives_none };
+    error = e;
+    from = treeless.from;
+    cause = without_numbers treeless.cause;
+    is = is.0;
+  };
+  place = is.1;
 }
 told path source old new e faults.Memory utf8 treeless is = tt
 told path source old new e faults.NotPrintable utf8 treeless is = absurd is
@@ -57,5 +60,5 @@ lacking path source fault root is =
 pub unprinted : (path source : List ℕ) (ast : Ast) (f : FormatFault) → IsFileOf source ast → IsFaultOfPrinting ast f → IsFormatFaultOf path source f
 unprinted path source ast faults.NotPrintable file h = record { tree = _; features = _; derives = file.derives; cannot_be_printed = h }
 unprinted path source ast faults.Memory file h = tt
-unprinted path source ast (faults.Rejected lines) file h = absurd h
+unprinted path source ast (faults.Rejected rejection) file h = absurd h
 unprinted path source ast faults.Numbers file h = absurd h

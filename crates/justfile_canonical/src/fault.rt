@@ -6,12 +6,28 @@ use std::alloc::{AllocError, AllocFailed};
 use std::error::Error;
 use std::fmt;
 
+/// The error for which a text isn't a justfile. The place is that of the error's token, with the
+/// meanings of a token's fields.
+#[derive(Debug, Drop)]
+pub struct Rejection {
+    /// `error: ` and the message of the error, and the excerpt of the line that it is on. Each line
+    /// ends in a line feed.
+    pub lines: String,
+    /// The number of bytes of the text before the token.
+    pub offset: usize,
+    /// The number of bytes of the token.
+    pub length: usize,
+    /// The line on which the token begins, from 0.
+    pub line: usize,
+    /// The number of bytes on that line before the token.
+    pub column: usize,
+}
+
 /// Why a text isn't formatted.
 #[derive(Debug, Drop)]
 pub enum FormatFault {
-    /// The text isn't a justfile. The lines tell why: `error: ` and the message of the error, and
-    /// the excerpt of the line that it is on. Each of them ends in a line feed.
-    Rejected(String),
+    /// The text isn't a justfile.
+    Rejected(Rejection),
     /// A body line ends in a carriage return, so the printed text wouldn't read back.
     NotPrintable,
     /// Memory ran out. This tells nothing about the text.
@@ -26,7 +42,7 @@ impl FormatFault {
         ensures { result.now ≡ format_fault_text self.now }
     {
         match self {
-            FormatFault::Rejected(lines) => lines.as_str(),
+            FormatFault::Rejected(rejection) => rejection.lines.as_str(),
             FormatFault::NotPrintable => "error: a body line ends in a carriage return\n",
             FormatFault::Memory => "error: out of memory\n",
             FormatFault::Numbers => "error: out of numbers\n",

@@ -1,7 +1,7 @@
 //! From a text to its canonical text.
 ghost use Rattle.std.specs.Prelude.{◌≡◌, IfErr, IfOk, OnOk, false, string_bytes, true};
 ghost use Rattle.justfile_canonical.specs.declared.fault.FormatFault.TheVariants as faults;
-ghost use Rattle.justfile_canonical.specs.Fault.{IsFormatFaultOf, IsFaultOfPrinting, IsRejectionFor};
+ghost use Rattle.justfile_canonical.specs.Fault.{IsFormatFaultOf, IsFaultOfPrinting, IsPlaceOf, IsRejectionFor};
 ghost use Rattle.justfile_canonical.specs.Formatting.{IsFileOf, IsFormatted, IsPrinted};
 ghost use Rattle.justfile_indentation.specs.OwnIndentation.{HasCookedIndentation, IsIndentedBy};
 ghost use Rattle.justfile_vocabulary.specs.Indentation.{indentation_text};
@@ -9,7 +9,7 @@ ghost use Rattle.justfile_ast.specs.Ast.{ast_shape, tree_of};
 ghost use Rattle.justfile_model.specs.Meanings.Enabled.{indentation_of};
 ghost use Rattle.justfile_model.specs.Printed.Printing.{printable};
 
-use crate::fault::FormatFault;
+use crate::fault::{FormatFault, Rejection};
 use crate::root::parse_root;
 use justfile_ast::Ast;
 use justfile_indentation::own_indentation;
@@ -74,8 +74,22 @@ fn rejected_fault(alloc: Global, error: &CompileError<'_>) -> FormatFault
     ensures { IsRejectionFor error.now result }
 {
     match format!(in alloc; "error: {error}\n{}\n", error.token) {
-        Ok(lines) => FormatFault::Rejected(lines),
+        Ok(lines) => FormatFault::Rejected(rejection(lines, error)),
         Err(_) => FormatFault::Memory,
+    }
+}
+
+/// Makes a rejection of the lines for an error, and of its place.
+fn rejection(lines: String, error: &CompileError<'_>) -> Rejection
+    ensures lines { string_bytes result.lines ≡ string_bytes lines }
+    ensures place { IsPlaceOf error.now.token result }
+{
+    Rejection {
+        lines,
+        offset: error.token.offset,
+        length: error.token.length,
+        line: error.token.line,
+        column: error.token.column,
     }
 }
 

@@ -54,6 +54,43 @@ fn lend<R: Reader>(ast: &mut Ast<'_>, reader: &mut R)
     R::read(ast, reader);
 }
 
+/// What is asked of a file. The answer can't borrow the text.
+pub trait Query {
+    /// What answers it.
+    type Answer;
+
+    /// This answers the query for the file.
+    ghost answers: { Self → Ast → Self.Answer → Type 0 };
+
+    /// Answers the query. The file is passed as `&mut` for the same reason as in `formatting.rt`,
+    /// and isn't used any more.
+    ///
+    /// # Errors
+    ///
+    /// `AllocError` if memory runs out.
+    fn answer(&self, alloc: Global, ast: &mut Ast<'_>) -> Result<Self::Answer, AllocError>
+        ensures { IfOk result (λ answer. answers self.now ast.old answer) };
+}
+
+/// Parses a text as the root file at this path, and returns the answer to a query of it.
+///
+/// # Errors
+///
+/// As for `parse_root`.
+pub fn query_root<'src, Q: Query>(
+    alloc: Global,
+    path: &'src str,
+    source: &'src str,
+    query: &Q,
+) -> CompileResult<'src, Q::Answer>
+    ensures ok { IfOk result (λ answer.
+        (ast : Ast) × IsRoot path.now source.now ast × Q.answers query.now ast answer) }
+    ensures err { IfErr result (HasNoRoot path.now source.now) }
+{
+    let mut ast = parse_root(alloc, path, source)?;
+    Ok(query.answer(alloc, &mut ast)?)
+}
+
 /// Parses a text as the root file at this path, and returns its symbols.
 ///
 /// # Errors

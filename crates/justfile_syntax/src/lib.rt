@@ -105,7 +105,7 @@ pub mod fault {
 pub mod format {
     //! From a text to its canonical text.
 
-    pub use justfile_canonical::fault::FormatFault;
+    pub use justfile_canonical::fault::{FormatFault, Rejection};
     pub use justfile_canonical::formatting::{format_and_forget, format_text};
     pub use justfile_indentation::own_indentation;
 }
@@ -279,7 +279,7 @@ pub mod parameter_kind {
 pub mod parser {
     //! From a text or its tokens to a file.
 
-    pub use justfile_canonical::reading::{Reader, read_root, release};
+    pub use justfile_canonical::reading::{Query, Reader, query_root, read_root, release};
     pub use justfile_canonical::root::{parse_root, parse_root_with};
     pub use justfile_literal::cook_string;
     pub use justfile_parse::significant::significant;

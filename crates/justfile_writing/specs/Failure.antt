@@ -28,7 +28,7 @@ failure_text Numbers = codes "error: out of numbers\n"
 
 -- the failure for a fault of formatting
 abbrev pub failure_of : FormatFault → Failure
-failure_of (faults.Rejected lines) = Rejected lines
+failure_of (faults.Rejected rejection) = Rejected rejection.lines
 failure_of faults.NotPrintable = NotPrintable
 failure_of faults.Memory = Memory
 failure_of faults.Numbers = Numbers

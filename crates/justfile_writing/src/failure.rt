@@ -57,7 +57,7 @@ impl From<FormatFault> for Failure {
 
     fn from(fault: FormatFault) -> Self {
         match fault {
-            FormatFault::Rejected(lines) => Failure::Rejected(lines),
+            FormatFault::Rejected(rejection) => Failure::Rejected(rejection.lines),
             FormatFault::NotPrintable => Failure::NotPrintable,
             FormatFault::Memory => Failure::Memory,
             FormatFault::Numbers => Failure::Numbers,

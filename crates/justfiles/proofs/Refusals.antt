@@ -11,11 +11,11 @@ use Rattle.justfiles.specs.Justfile.{IsRefusalOf, IsRejected, rejected, unprinta
 
 pub refused : (name source : List ℕ) (fault : FormatFault) (refusal : Refusal) → IsFormatFaultOf name source fault → IsRefusalOf fault refusal
     → IfRejected (IsRejected name source) refusal
-refused name source (faults.Rejected lines) (Rejected told) f r = rejected (subst (λ l. IsRejection name source (string_bytes l)) (sym r) f)
+refused name source (faults.Rejected rejection) (Rejected told) f r = rejected (subst (λ l. IsRejection name source (string_bytes l)) (sym r) f.told)
 refused name source faults.NotPrintable (Rejected told) f r = unprintable f r
 refused name source faults.Memory (Rejected told) f r = absurd r
 refused name source faults.Numbers (Rejected told) f r = absurd r
-refused name source (faults.Rejected lines) (Exhausted what) f r = tt
+refused name source (faults.Rejected rejection) (Exhausted what) f r = tt
 refused name source faults.NotPrintable (Exhausted what) f r = tt
 refused name source faults.Memory (Exhausted what) f r = tt
 refused name source faults.Numbers (Exhausted what) f r = tt

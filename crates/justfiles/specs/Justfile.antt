@@ -18,7 +18,7 @@ pub data IsRejected (name source lines : List ℕ) : Type 0 where
 
 -- The refusal tells the fault, or memory ran out.
 abbrev pub IsRefusalOf : FormatFault → Refusal → Type 0
-IsRefusalOf (faults.Rejected lines) (Rejected told) = told ≡ lines
+IsRefusalOf (faults.Rejected rejection) (Rejected told) = told ≡ rejection.lines
 IsRefusalOf faults.NotPrintable (Rejected told) = TellsReturn (string_bytes told)
 IsRefusalOf faults.Memory (Rejected told) = ⊥
 IsRefusalOf faults.Numbers (Rejected told) = ⊥

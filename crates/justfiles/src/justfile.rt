@@ -39,7 +39,7 @@ fn refusal(alloc: Global, name: &str, source: &str, fault: FormatFault) -> Refus
     ensures { IsRefusalOf fault result }
 {
     match fault {
-        FormatFault::Rejected(lines) => Refusal::Rejected(lines),
+        FormatFault::Rejected(rejection) => Refusal::Rejected(rejection.lines),
         FormatFault::NotPrintable => unprintable(alloc, name, source),
         FormatFault::Memory => Refusal::Exhausted("out of memory"),
         FormatFault::Numbers => Refusal::Exhausted("out of numbers"),

@@ -5,7 +5,8 @@ use Rattle.std.specs.Global.{Global}
 use Rattle.std.specs.List.{flat_map, list_any}
 use Rattle.std.specs.Prelude.{string_bytes}
 use Rattle.std.specs.Str.{bytes_eq}
-use Rattle.std.proofs.lemmas.List.{flat_map_more, map-append, take_more}
+use Rattle.std.proofs.lemmas.List.{flat_map_more, map-append}
+use Rattle.justfile_syntax.proofs.Loops.{visited}
 use Rattle.recipes.specs.Listing.{name_if_new, with_name, with_names}
 use Rattle.recipes.specs.Names.{texts}
 
@@ -14,17 +15,6 @@ joined_two t u v a b p q = q ∙ ap (λ x. x ++ b) p ∙ append_assoc t a b
 
 pub joined_four : (t u v w x a b c d : List ℕ) → u ≡ t ++ a → v ≡ u ++ b → w ≡ v ++ c → x ≡ w ++ d → x ≡ t ++ (a ++ (b ++ (c ++ d)))
 joined_four t u v w x a b c d p q r s = joined_two t u x a (b ++ (c ++ d)) p (joined_two u v x b (c ++ d) q (joined_two v w x c d r s))
-
--- the elements that a loop has visited, as they are viewed
-module _ {X Y : Type 0} (view : X → Y) (xs : List X) (i : ℕ) (x : X) (inside : i < length xs) (at : x ≡ get_or xs i x) where
-  visited : map view (take (i + 1) xs) ≡ map view (take i xs) ++ view x ∷ []
-  visited = ap (map view) (take_more xs i x inside ∙ ap (λ y. take i xs ++ y ∷ []) (sym at)) ∙ map-append view (take i xs) (x ∷ [])
-
-  -- a loop that appends a text for each element
-  pub appended : (f : Y → List ℕ) (before t u : List ℕ) → t ≡ before ++ flat_map f (map view (take i xs)) → u ≡ t ++ f (view x)
-      → u ≡ before ++ flat_map f (map view (take (i + 1) xs))
-  appended f before t u so_far e =
-      e ∙ ap (λ a. a ++ f (view x)) so_far ∙ flat_map_more f before (map view (take i xs)) (view x) ∙ ap (λ l. before ++ flat_map f l) (sym visited)
 
 names_append : (names xs ys : List (List ℕ)) → with_names names (xs ++ ys) ≡ with_names (with_names names xs) ys
 names_append names [] ys = refl
