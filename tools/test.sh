@@ -35,7 +35,7 @@ if [ "$found" = "$wanted" ] && { [ -n "$2" ] || cmp -s "$at.out" "$at.wanted"; }
     exit 0
 fi
 echo "$1${2:+ $2}: status $found, and not $wanted"
-diff "$at.wanted" "$at.out" 2>/dev/null || cat "$at.out" | tail -n 40
+if [ -n "$2" ]; then cat "$at.out"; else diff "$at.wanted" "$at.out"; fi | head -n 60
 tail -n 5 "$at.errors"
 exit 1
 EOF
