@@ -253,9 +253,9 @@ if [ "$(id -u)" = 0 ] && command -v setpriv > /dev/null; then
     row 'the owner stays' "$? $(stat -c '%u %g %a' other/readonly.just)" '0 65534 65534 640'
 fi
 
-# the function for Vim, as docs/EDITORS.md has it
+# the function for Vim, as README has it
 if command -v vim > /dev/null; then
-    sed -n '/^```vim$/,/^```$/p' "$top/docs/EDITORS.md" | sed '1d;$d' > ../vimrc
+    sed -n '/^```vim$/,/^```$/p' "$top/README.md" | sed '1d;$d' > ../vimrc
     edit() {
         vim -Nu ../vimrc -n -es "$@" -c 'qa!' justfile < /dev/null > /dev/null 2>&1
     }
