@@ -325,7 +325,7 @@ git reset -q --hard; ln -s justfile link.just; ln -s nowhere dangling.just; git 
 row 'links' "$status" 0
 put justfile "$unformatted"; commit -a; row 'commit -a' "$status" 1
 git reset -q --hard; put x.txt y; git add .; commit; row 'no justfile at all' "$status" 0
-step=$(sed -n 's/^  run: \(justfiles .*\)/\1/p' "$top/README.md")
+step=$(sed -n 's/^  run: \(justfiles .*\)/\1/p' "$top/docs/EDITORS.md")
 sh -c "$step" > ../output 2> ../errors; row 'the step of CI passes a formatted file' "$?" 0
 put justfile "$unformatted"; sh -c "$step" > ../output 2> ../errors
 row 'and shows the diff of another' "$? $(grep -c '^+name := ' ../output)" '1 1'

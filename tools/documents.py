@@ -9,11 +9,13 @@
 - Each script that a document names has its run bit, and each command of a block of code is there.
 - Each block of code after a line that ends in a path in backticks and a colon stands in that file, line by line.
 - Each figure that can be computed is as stated, and no command takes two times (figures.py).
-- No line has more than 300 characters.
+- No line of prose or of code has more than 120 characters, and no row of a table more than 400.
+- All documents together have at most so many words. The last line that is printed says how many they have.
 - Each source of a crate begins with a line `//!`, which says what it has.
 
-Prints what it finds, and ends with 1 if it found something. With --write it rewrites the figures of docs/SIZES.md: both
-tables, how the times were measured, and the longest chain of crates, the times from docs/times.txt.
+Prints what it finds, and the words of all documents; ends with 1 if it found something. With --write it rewrites the
+figures of docs/SIZES.md: its table, how the times were measured, and the longest chain of crates, the times from
+docs/times.txt.
 """
 import os
 import re
@@ -26,7 +28,8 @@ import clauses  # noqa: E402
 import figures  # noqa: E402
 from figures import NAMES, TOP, halves  # noqa: E402
 
-LONGEST = 300
+LONGEST = {"line": 120, "row of a table": 400}
+MOST_WORDS = 41_000
 
 # Names in backticks that the repository's code doesn't have, each group with its reason.
 EXCEPTIONS = {
@@ -214,8 +217,9 @@ def check_commands(blocks):
 def check_widths(text):
     """No line is too long."""
     for number, line in enumerate(text.split("\n"), 1):
-        if len(line) > LONGEST:
-            yield f"{number}: {len(line)} characters"
+        kind = "row of a table" if line.startswith("|") else "line"
+        if len(line) > LONGEST[kind]:
+            yield f"{number}: {len(line)} characters, and a {kind} has at most {LONGEST[kind]}"
 
 
 def quotes(text):
@@ -283,7 +287,10 @@ def main():
     found.extend([*clauses.check(), *check_heads()])
     for file in DOCUMENTS:
         found.extend(check_document(file, (TOP / file).read_text()))
-    print("\n".join(found), end="\n" if found else "")
+    words = sum(len((TOP / it).read_text().split()) for it in DOCUMENTS)
+    if words > MOST_WORDS:
+        found.append(f"{words - MOST_WORDS:,} words too many: cut, or say what is new in the place of what is old")
+    print("\n".join([*found, f"{words:,} words in {len(DOCUMENTS)} documents, of at most {MOST_WORDS:,}"]))
     return 1 if found else 0
 
 

@@ -1,7 +1,7 @@
 """The figures of the documents: which ones are stated, and what the repository has.
 
-- The table of sizes, counted in the sources.
-- The table of times, which are those of docs/times.txt, and the longest chain of crates by these.
+- The table of sizes, counted in the sources, and of times, which are those of docs/times.txt, and the longest chain of
+  crates by these.
 - Counts in sentences: wrong bodies, crates, files that name a neighbour.
 - Times in sentences, each that stands soon after a command. A command has one time in all documents, and one that
   proves a crate from nothing has that of the crate and of all below it.
@@ -50,13 +50,6 @@ def sizes(crate):
     return [functions, *map(lines, (code, tests, specs, proofs)), edits]
 
 
-def size_table():
-    each = {crate: sizes(crate) for crate in NAMES}
-    each["all"] = [sum(column) for column in zip(*each.values())]
-    head = ("crate", "functions", "code", "tests", "definitions", "proofs", "wrong bodies")
-    return table(head, {name: list(map(str, row)) for name, row in each.items()})
-
-
 def table(head, rows):
     """A table of Markdown whose columns but the first are numbers."""
     made = ["| " + " | ".join(head) + " |", "|---" + "|---:" * (len(head) - 1) + "|"]
@@ -80,19 +73,21 @@ def measured():
     return how[0], times
 
 
-def time_table(times):
-    """The processor's seconds of each part of each crate and of all its parts, and those on the clock."""
-    rows, shown = {}, "{:.0f}".format
-    for crate in NAMES:
-        parts = [times.get((crate, part)) for part in PARTS]
-        known = [part for part in parts if part]
-        sums = [[part[at] for part in known] for at in (1, 0)]
-        rows[crate] = [shown(part[1]) if part else "" for part in parts]
-        rows[crate] += [shown(sum(it)) if it and None not in it else "" for it in sums]
-    of_part = [sum(cpu for (_, it), (_, cpu) in times.items() if it == part) for part in PARTS]
-    clock = times.get(("all", "clock"), (None, 0))[0]
-    rows["all"] = [*map(shown, of_part), shown(sum(of_part)), shown(clock) if clock else ""]
-    return table(("crate", *PARTS, "in all", "on the clock"), rows)
+def size_table(times):
+    """The sizes of each crate, and the processor's seconds of its proof, with its tests, and of its wrong bodies."""
+    rows, each = {}, {crate: sizes(crate) for crate in NAMES}
+    each["all"] = [sum(column) for column in zip(*each.values())]
+    for crate, (functions, code, tests, specs, proofs, edits) in each.items():
+        proof, test, bodies = (seconds_of(crate, part, times) for part in PARTS)
+        sums = f"{code}{f' + {tests}' * (tests > 0)}", f"{proof}{f' + {test}' * bool(test)}"
+        rows[crate] = [str(functions), sums[0], str(specs), str(proofs), str(edits), sums[1], bodies]
+    return table(("crate", "functions", "code", "definitions", "proofs", "wrong bodies", "s: proof", "bodies"), rows)
+
+
+def seconds_of(crate, part, times):
+    """The processor's seconds of a part of a crate or of all of them, or nothing if it wasn't measured."""
+    of = [cpu for (name, it), (_, cpu) in times.items() if it == part and crate in (name, "all")]
+    return f"{sum(of):.0f}" if of else ""
 
 
 def from_nothing(crate, times):
@@ -121,24 +116,26 @@ def longest_chain(times):
     return max(ends, key=lambda end: end[0])
 
 
+def wrapped(text):
+    """A paragraph, in lines that documents.py lets pass."""
+    return textwrap.fill(text, 115, break_on_hyphens=False)
+
+
 def chain_text(times):
     seconds, chain, end = longest_chain(times)
     names = ", ".join(f"`{it}`" for it in chain)
-    return textwrap.fill(
-        f"The longest chain of crates takes {seconds / 60:.0f} minutes of a processor: {names}{end}.", 115,
-        break_on_hyphens=False)
+    return wrapped(f"The longest chain of crates takes {seconds / 60:.0f} minutes of a processor: {names}{end}.")
 
 
 def written(write):
-    """The two tables and the sentences on times, as SIZES has them; with `write` they are written."""
+    """The table and the sentences on times, as SIZES has them; with `write` they are written."""
     how, times = measured()
     text = SIZES.read_text()
-    made = text
-    for heading, body in (("Sizes", size_table()), ("Times", time_table(times))):
-        at = made.index(f"\n## {heading}\n")
-        old = re.compile(r"^\| crate .*\n(?:\|.*\n)+", re.M).search(made, at).group(0)
-        made = made.replace(old, body)
-    made = re.sub(r"(?<=\n\nMeasured: ).*", lambda _: how, made)
+    old = re.compile(r"^\| crate .*\n(?:\|.*\n)+", re.M).search(text).group(0)
+    made = text.replace(old, size_table(times))
+    made = re.sub(r"(?<=\n\n)Measured: (.+\n)*", lambda _: wrapped(f"Measured: {how}") + "\n", made)
+    whole = "The whole run took {:,.0f} seconds on the clock and {:,.0f} of the processor".format(*times["all", "clock"])
+    made = re.sub(r"The whole run took [\d,]+ seconds on the clock and [\d,]+ of the processor", whole, made)
     chain = r"(?<=\n\n)The longest chain of crates takes(.+\n)*.+"
     made, count = re.subn(chain, lambda _: chain_text(times), made)
     if count != 1:

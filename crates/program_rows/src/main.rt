@@ -2,8 +2,9 @@
 //! they find with what they expect.
 //!
 //! The arguments are the names of files of rows. The program prints the rows that fail or can't be
-//! read, and at the end how many hold, fail and can't be read. The exit status is 0 if the files
-//! could be read. `docs/ROWS.md` has the notation and the words.
+//! read, and at the end how many hold, fail and can't be read. The exit status is 1 if a row of
+//! another file than `wrong.rows` fails or can't be read. `docs/ROWS.md` has the notation and the
+//! words.
 #![tactic(auto)]
 
 mod program;
@@ -12,7 +13,8 @@ mod word;
 use crate::word::Word;
 use row_notation::run_rows;
 use std::io;
+use std::process::ExitCode;
 
-fn main(rt: HostRuntime) -> io::Result<()> {
+fn main(rt: HostRuntime) -> io::Result<ExitCode> {
     run_rows::<Word>(&rt)
 }

@@ -3,7 +3,11 @@
 use crate::answer::Answer;
 use crate::row::{Row, rows_of};
 use std::alloc::{AllocError, Global};
+use std::process::ExitCode;
 use std::{env, fs, io};
+
+/// The end of the name of a file whose rows don't hold, so that a comparison is seen to fail.
+const WRONG_ROWS: &str = "wrong.rows";
 
 /// A word that rows begin with: what they do.
 pub trait RowWord: Copy {
@@ -37,6 +41,15 @@ struct Counts {
     hold: u64,
     fail: u64,
     unreadable: u64,
+    /// Whether a row fails or can't be read that should hold.
+    is_missed: bool,
+}
+
+/// Notes that a row of a file doesn't hold.
+fn note_missed(path: &str, counts: &mut Counts) {
+    if !path.ends_with(WRONG_ROWS) {
+        counts.is_missed = true;
+    }
 }
 
 /// Returns what a row expects.
@@ -110,10 +123,12 @@ fn report(
         Outcome::Holds => counts.hold = counts.hold.saturating_add(1),
         Outcome::Fails { expected, found } => {
             counts.fail = counts.fail.saturating_add(1);
+            note_missed(path, counts);
             println!(rt; "{path}:{line}: fails\n  expected: {expected}\n  found:    {found}")?;
         }
         Outcome::Unreadable => {
             counts.unreadable = counts.unreadable.saturating_add(1);
+            note_missed(path, counts);
             println!(rt; "{path}:{line}: can't be read")?;
         }
     }
@@ -132,16 +147,18 @@ fn run_file<W: RowWord>(rt: &HostRuntime, path: &str, counts: &mut Counts) -> io
 }
 
 /// Runs the rows of the files that the program's arguments name. Prints those that fail or can't be
-/// read, and at the end how many hold, fail and can't be read.
+/// read, and at the end how many hold, fail and can't be read. Returns the exit status 1 if one that
+/// doesn't hold is in a file other than `wrong.rows`, else 0.
 ///
 /// # Errors
 ///
 /// A file can't be read, a line can't be printed, or memory ran out.
-pub fn run_rows<W: RowWord>(rt: &HostRuntime) -> io::Result<()> {
+pub fn run_rows<W: RowWord>(rt: &HostRuntime) -> io::Result<ExitCode> {
     let mut counts = Counts {
         hold: 0,
         fail: 0,
         unreadable: 0,
+        is_missed: false,
     };
     for path in env::args(rt)?.skip(1) {
         run_file::<W>(rt, path.as_str(), &mut counts)?;
@@ -150,6 +167,12 @@ pub fn run_rows<W: RowWord>(rt: &HostRuntime) -> io::Result<()> {
         hold,
         fail,
         unreadable,
+        is_missed,
     } = counts;
-    println!(rt; "{hold} rows hold, {fail} fail, {unreadable} can't be read")
+    println!(rt; "{hold} rows hold, {fail} fail, {unreadable} can't be read")?;
+    Ok(if is_missed {
+        ExitCode::FAILURE
+    } else {
+        ExitCode::SUCCESS
+    })
 }

@@ -1,0 +1,36 @@
+#!/bin/sh
+# Builds the programs from this checkout without proving them, and installs them in PREFIX/bin: install.sh [PREFIX]
+#
+# PREFIX is ~/.local if none is given. The programs are justfmt, justfiles, and justfile_server if crates.txt has it.
+# They are compiled as proved programs are (build_unproved.sh), from the sources that `rt ci` proves.
+set -eu
+prefix=${1:-$HOME/.local}
+top=$(cd "$(dirname "$0")/.." && pwd)
+command -v rt >/dev/null || { echo 'install.sh: rt is not on PATH: add bin of the kit to it' >&2; exit 2; }
+command -v python3 >/dev/null || { echo 'install.sh: python3 is not on PATH' >&2; exit 2; }
+work=$(mktemp -d)
+trap 'rm -rf "$work"' EXIT
+trap 'exit 1' HUP INT TERM
+
+programs=
+running=
+for program in justfmt justfiles justfile_server; do
+    grep -q "^$program:" "$top/crates.txt" || continue
+    echo "building $program with $(rt version), in a minute or two"
+    programs="$programs $program"
+    "$top/tools/build_unproved.sh" "$program" "$work/$program" &
+    if [ "$(nproc)" -gt 2 ]; then running="$running $!"; else wait $!; fi
+done
+for one in $running; do wait "$one"; done
+
+[ "$(printf 'a:=b' | "$work/justfmt")" = 'a := b' ] || { echo 'install.sh: justfmt does not format' >&2; exit 1; }
+for program in $programs; do
+    mkdir -p "$prefix/bin"
+    install -m 755 "$work/$program" "$prefix/bin/$program"
+    echo "installed $prefix/bin/$program"
+done
+commit=$(git -C "$top" log -1 --format='commit %h' 2>/dev/null || echo 'no commit')
+[ -z "$(git -C "$top" status --porcelain 2>/dev/null)" ] || commit="$commit, changed since"
+echo "Compiled, and not proved again: the sources are those of $commit."
+echo 'To prove them: rt ci, or rt run in crates/justfmt and crates/justfiles (README.md, "Check it").'
+case ":$PATH:" in *":$prefix/bin:"*) ;; *) echo "$prefix/bin is not on your PATH" ;; esac
