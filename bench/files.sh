@@ -4,14 +4,14 @@
 #
 # Each row is what is tried and how it ended. Ends with 1 if something ended otherwise than it should.
 # What needs another user or a small file system is tried only by root, system calls that fail only where
-# there is strace, access lists where there is setfacl, and the function for Vim where there is Vim. Needs
-# git and patch.
+# there is strace, access lists where there is setfacl, and examples/justfmt.vim where there are Vim and
+# tmux. Needs git and patch.
 set -u
 top=$(cd "$(dirname "$0")/.." && pwd)
 program=${1:-$top/crates/justfiles/out/justfiles}
 [ -x "$program" ] || { echo "files.sh: no program $program: rt run in crates/justfiles builds it" >&2; exit 2; }
 work=$(mktemp -d) || exit 2
-trap 'umount "$work/small" "$work/files/mounted.just" 2> /dev/null; chmod -R u+w "$work"; rm -rf "$work"' EXIT
+trap 'tmux -L "justfmt$$" kill-server 2> /dev/null; umount "$work/small" "$work/files/mounted.just" 2> /dev/null; chmod -R u+w "$work"; rm -rf "$work"' EXIT
 mkdir "$work/bin" && cp "$program" "$work/bin/justfiles" && cd "$work" && mkdir files && cd files || exit 2
 PATH=$work/bin:$PATH
 unformatted='name:="x"
@@ -253,11 +253,12 @@ if [ "$(id -u)" = 0 ] && command -v setpriv > /dev/null; then
     row 'the owner stays' "$? $(stat -c '%u %g %a' other/readonly.just)" '0 65534 65534 640'
 fi
 
-# the function for Vim, as README has it
+# examples/justfmt.vim, in Vim without a terminal
+command -v vim > /dev/null || echo 'files.sh: no vim, so examples/justfmt.vim was not tried' >&2
 if command -v vim > /dev/null; then
-    sed -n '/^```vim$/,/^```$/p' "$top/README.md" | sed '1d;$d' > ../vimrc
+    printf 'source %s\n' "$top/examples/justfmt.vim" > ../vimrc
     edit() {
-        vim -Nu ../vimrc -n -es "$@" -c 'qa!' justfile < /dev/null > /dev/null 2>&1
+        vim -i NONE -Nu ../vimrc -n -es "$@" -c 'qa!' justfile < /dev/null > /dev/null 2>&1
     }
     put justfile "$broken"; edit -c 'redir! > ../messages' -c write -c 'redir END'
     row 'Vim saves a rejected file' "$(text justfile)" "$broken."
@@ -282,7 +283,60 @@ d := "4"
     printf 'name:="x"\r\n' > justfile; edit -c write; row 'Vim saves CRLF as LF' "$(text justfile)" "$formatted."
     put justfile "$unformatted"; PATH=$(echo "$PATH" | cut -d: -f2-) edit -c 'redir! > ../messages' -c write -c 'redir END'
     row 'Vim tells that there is no program' "$(text justfile) $(grep -c 'justfiles.*not found' ../messages)" "$unformatted. 1"
+    edit -c 'source ../vimrc' -c 'redir! > ../messages' -c 'autocmd justfmt BufWritePre *.just' -c 'redir END'
+    row 'sourced twice it runs once' "$(grep -c 'Format()' ../messages)" 1
     rm justfile
+fi
+
+# the same in a terminal of 80 columns
+vim_in() {
+    rm -f ../state
+    tmux -L "justfmt$$" -f /dev/null new-session -d -x 80 -y 24 "env PATH='$PATH' TERM=screen vim -i NONE -Nu ../vimrc -n '$1'; echo ended > ../state"
+    sleep 1
+}
+keys() {
+    tmux -L "justfmt$$" send-keys "$@"; sleep 0.5
+}
+screen() {
+    tmux -L "justfmt$$" capture-pane -p
+}
+state() {
+    keys ":call writefile([join([$1])], '../state')" Enter; cat ../state
+    keys ':qa!' Enter
+}
+two_windows="line('.'), line(\"'b\"), line(\"'c\"), line('.', win_getid(1)), col('.', win_getid(1))"
+if command -v vim > /dev/null && command -v tmux > /dev/null; then
+    put two.just 'a:="1"
+
+
+
+b := "2"
+c:="3"
+d := "4"
+'
+    vim_in two.just; keys ':split' Enter; keys '7G$'; keys ':wincmd w' Enter; keys '5Gmb6Gmc'; keys ':w' Enter
+    row 'two windows: lines go, and cursors and marks stay' "$(state "$two_windows")" '4 3 4 5 8'
+    put two.just 'a := "1"
+[private, no-cd, linux]
+b:
+    echo 1
+d := "4"
+'
+    vim_in two.just; keys ':split' Enter; keys '5G$'; keys ':wincmd w' Enter; keys '3Gmb4Gmc'; keys ':w' Enter
+    row 'two windows: lines come' "$(state "$two_windows")" '6 5 6 7 8'
+    put broken.just "$broken"; vim_in broken.just; keys ':wq' Enter
+    row ':wq of a rejected file tells it' "$(screen | grep '^1:16 error: ') $(cat ../state 2> /dev/null)" \
+        "1:16 error: expected '*', identifier, or '(', but found end of line (ENTER) "
+    keys Enter; row 'and ends with ENTER' "$(cat ../state)" ended
+    vim_in broken.just; keys ':w' Enter; keys ':q' Enter; row 'later it ends at once' "$(cat ../state)" ended
+    put long.just 'set a-name-that-is-so-long-that-no-screen-of-eighty-columns-has-a-place-for-it := true
+'
+    vim_in long.just; keys ':w' Enter
+    row 'a long message is cut off, and asks for no key' "$(screen | grep '^1:5 ') $(state "line('.')")" \
+        '1:5 error: unknown setting `a-name-that-is-so-long-that-no-screen-of 1'
+    rm two.just broken.just long.just
+elif command -v vim > /dev/null; then
+    echo 'files.sh: no tmux, so examples/justfmt.vim was not tried in a terminal' >&2
 fi
 
 # the hook
