@@ -32,6 +32,12 @@ static CASES: &[&str] = &[
     "-- -n",
     "bytes a",
     "a a",
+    "--list",
+    "--list a b c",
+    "--list bad a missing a",
+    "--list -- -n bytes b",
+    "--check --list a b",
+    "--list --check b a",
 ];
 
 /// How many calls of each kind fail in turn.

@@ -3,6 +3,7 @@ pub mod Formatter
 pub mod Failure
 pub mod FileResult
 pub mod Outcome
+pub mod Output
 pub mod Question
 pub mod Request
 pub mod Stream

@@ -7,7 +7,7 @@ mod file;
 pub mod folder;
 pub mod formatter;
 pub mod messages;
-mod output;
+pub mod output;
 pub mod question;
 mod report;
 pub mod request;

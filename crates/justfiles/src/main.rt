@@ -48,7 +48,7 @@ fn run_on<D: Folder>(rt: &HostRuntime, arguments: &[String], folder: &mut D) -> 
 fn arguments_for(rt: &HostRuntime, task: Task, name: &str) -> Result<Vec<String>, AllocError> {
     let mut arguments = Vec::new(rt.alloc());
     match task {
-        Task::Format => {}
+        Task::Format | Task::FormatAndName => {}
         Task::Check => arguments.push("--check".to_string(rt.alloc())?)?,
         Task::Diff => arguments.push("--diff".to_string(rt.alloc())?)?,
     }
