@@ -40,6 +40,7 @@ static CASES: &[&str] = &[
     "--list -- -n bytes b",
     "--check --list a b",
     "--list --check b a",
+    "--list no\x1b bytes",
 ];
 
 /// How many calls of each kind fail in turn.
@@ -86,7 +87,7 @@ fn run_case(rt: &HostRuntime, case: &str, what: &str, faults: Faults) -> io::Res
     );
     let files = folder.text(alloc)?;
     println!(rt;
-        "[{case}] {what} {status} {files} {:?} {:?}",
+        "{case:?} {what} {status} {files} {:?} {:?}",
         output.text(),
         errors.text()
     )

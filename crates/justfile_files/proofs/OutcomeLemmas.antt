@@ -1,20 +1,18 @@
 -- What becomes of files, one after the other.
-use Rattle.std.proofs.Common.{lit<, zero, suc, ◌≡◌, ◌≢◌, ◌⊎◌, inl, inr, ℕ, ◌+◌, ◌<◌, ◌≤◌, max, All, Contains, List, [], ◌∷◌, ◌++◌, length, map, take, drop, get_or, Bool, true, false, true≢false, Result, Ok, Err, IsErr, IsErrAnd, Option, None, Some, IfOk, IfSome, String, string_bytes, if◌then◌else◌, refl, sym, ap, subst, ◌∙◌, arith, append-nil, append_assoc}
+use Rattle.std.proofs.Common.{lit<, zero, suc, ◌≡◌, ◌≢◌, ◌⊎◌, inl, inr, ℕ, ◌+◌, ◌<◌, ◌≤◌, max, All, Contains, List, [], ◌∷◌, ◌++◌, length, map, take, drop, get_or, Bool, true, false, true≢false, Result, Ok, Err, Option, None, Some, IfOk, IfSome, String, string_bytes, if◌then◌else◌, refl, sym, ap, subst, ◌∙◌, arith, append-nil, append_assoc}
 use Rattle.std.specs.List.{AllZip, FoldsTo, flat_map}
 use Rattle.std.proofs.lemmas.Grind.{flat_map-append}
 use Rattle.std.proofs.lemmas.List.{get_or-map, length-map, map-append, take_all, take_more, take-append-drop}
 use Rattle.std.proofs.lemmas.List.Elements.{All-append, All-cons, All-nil, Contains-append_cases, Contains-append_left, Contains-append_right}
 use Rattle.std.proofs.lemmas.Option.{same_Some}
-use Rattle.justfile_files.specs.Formatter.{IfRejected}
-use Rattle.justfile_files.specs.declared.formatter.Refusal.{Refusal}
-use Rattle.justfile_files.specs.declared.formatter.Refusal.TheVariants as refusals
-use Rattle.justfile_files.specs.Failure.{IsMessage, TellFailure, failure_of, failure_status, message_of}
-use Rattle.justfile_files.specs.FileResult.{AppliesResult, HandlesFile, HasResult, HasStatus, IsDone, TellResult, report_in, reported_status, result_status, unless_lost}
+use Rattle.justfile_files.specs.Failure.{IsMessage, TellFailure, failure_status, message_of}
+use Rattle.justfile_files.specs.FileResult.{AppliesResult, HandlesFile, HasResult, HasStatus, IsDone, IsRefused, TellResult, report_in, reported_status, result_status, unless_lost}
 use Rattle.justfile_files.specs.Folder.{Files, KeepsFiles, Replaces}
 use Rattle.justfile_files.specs.declared.failure.Failure.{Failure}
 use Rattle.justfile_files.specs.declared.failure.Failure.TheVariants as failures
-use Rattle.justfile_files.specs.Outcome.{BecomesFormatted, ChangesFiles, HasOutcome, HasOutcomes, HasReport, IsLost, IsReport, IsReported, IsUnformatted, Outcome, Report, Takes, changed, changed_name, changed_names, differs, failed, formatted, greatest, lost, lost_messages, messages_of, none, rejected, report_of, status_of, with_report, written}
+use Rattle.justfile_files.specs.Outcome.{BecomesFormatted, ChangesFiles, HasOutcome, HasOutcomes, HasReport, IsLost, IsReported, Outcome, Report, Takes, changed, changed_name, changed_names, differs, failed, formatted, greatest, lost, lost_messages, messages_of, none, rejected, report_of, status_of, with_report, written}
 use Rattle.justfile_files.specs.Request.{is_in_place, texts}
+use Rattle.justfile_files.specs.Visible.{visible_name}
 use Rattle.justfile_files.specs.declared.request.Task.{Task}
 use Rattle.justfile_files.specs.declared.request.Task.TheVariants.{Check, Diff, Format, FormatAndName}
 use Rattle.std.proofs.Common.{Global}
@@ -89,7 +87,7 @@ pub other_failure : (name message : List ℕ) (failure : Failure) → ((lines : 
 other_failure name message (failures.Rejected lines) r w m = absurd (r lines refl)
 other_failure name message (failures.Writing error) r w m = absurd (w error refl)
 other_failure name message (failures.Reading error) r w m = (refl, (message, m, refl))
-other_failure name message failures.NotUtf8 r w m = (refl, (message, m, refl))
+other_failure name message (failures.NotUtf8 place) r w m = (refl, (message, m, refl))
 other_failure name message (failures.Exhausted what) r w m = (refl, (message, m, refl))
 other_failure name message (failures.Replacing error) r w m = (refl, (message, m, refl))
 
@@ -295,7 +293,7 @@ module _ (formats : List ℕ → List ℕ → Type 0) (rejects : List ℕ → Li
         (h.0, h.1, h.2, is_known h.1 new (b.is ∙ ap Some again), h.4, h.5)
     stays old mid new (differs report) (inr b) h = absurd (true≢false (sym b.in_place ∙ h.4))
     stays old mid new (rejected lines) (inr b) h =
-        absurd (never_both name b.source lines b.text (subst (λ s. rejects name s lines) (same_known h.0 b.source mid b.was h.1) h.2) b.formatted)
+        absurd (never_both (visible_name name) b.source lines b.text (subst (λ s. rejects (visible_name name) s lines) (same_known h.0 b.source mid b.was h.1) h.2) b.formatted)
     stays old mid new (failed message) (inr b) h = h
 
     -- a file that is changed wasn't changed before
@@ -469,7 +467,7 @@ module _ (formats : List ℕ → List ℕ → Type 0) (rejects : List ℕ → Li
         told (failures.Rejected lines) e t = cc
         told (failures.Writing error) e t = cc
         told (failures.Reading error) e t = one_told (failures.Reading error) e t
-        told failures.NotUtf8 e t = one_told failures.NotUtf8 e t
+        told (failures.NotUtf8 place) e t = one_told (failures.NotUtf8 place) e t
         told (failures.Exhausted what) e t = one_told (failures.Exhausted what) e t
         told (failures.Replacing error) e t = one_told (failures.Replacing error) e t
 
@@ -482,7 +480,7 @@ module _ (formats : List ℕ → List ℕ → Type 0) (rejects : List ℕ → Li
       refl,
     )
 
-    pub result_rejected : (source : List ℕ) (lines : String Global) → IfSome (old name) (λ x. source ≡ x) → rejects name source (string_bytes lines) → KeepsFiles old new
+    pub result_rejected : (source : List ℕ) (lines : String Global) → IfSome (old name) (λ x. source ≡ x) → rejects (visible_name name) source (string_bytes lines) → KeepsFiles old new
         → b ≡ a → HasResult formats rejects task writes loses name old new a b (Err (failures.Rejected lines))
     result_rejected source lines is r kept same messages t = (
       rejected (string_bytes lines),
@@ -492,14 +490,14 @@ module _ (formats : List ℕ → List ℕ → Type 0) (rejects : List ℕ → Li
     )
 
     -- what the formatter refuses
-    pub result_refused : (refusal : Refusal) (r : Result Bool Failure) → IsErr r × IsErrAnd r (λ e. e ≡ failure_of refusal) → (source : List ℕ)
-        → IfSome (old name) (λ x. source ≡ x) → IfRejected (rejects name source) refusal → KeepsFiles old new → b ≡ a
-        → HasResult formats rejects task writes loses name old new a b r
-    result_refused refusal (Ok is) h source known refused kept same = absurd h.1
-    result_refused (refusals.Rejected lines) (Err failure) h source known refused kept same =
-        subst (λ f. HasResult formats rejects task writes loses name old new a b (Err f)) (sym h.1) (result_rejected source lines known refused kept same)
-    result_refused (refusals.Exhausted what) (Err failure) h source known refused kept same =
-        result_nothing failure (ap failure_status h.1) kept same
+    pub result_refused : (failure : Failure) (source : List ℕ) → IfSome (old name) (λ x. source ≡ x) → IsRefused (rejects (visible_name name) source) failure
+        → KeepsFiles old new → b ≡ a → HasResult formats rejects task writes loses name old new a b (Err failure)
+    result_refused (failures.Rejected lines) source known refused kept same = result_rejected source lines known refused kept same
+    result_refused (failures.Writing error) source known refused kept same = cc
+    result_refused (failures.Reading error) source known refused kept same = result_nothing (failures.Reading error) refused kept same
+    result_refused (failures.NotUtf8 place) source known refused kept same = result_nothing (failures.NotUtf8 place) refused kept same
+    result_refused (failures.Exhausted what) source known refused kept same = result_nothing (failures.Exhausted what) refused kept same
+    result_refused (failures.Replacing error) source known refused kept same = result_nothing (failures.Replacing error) refused kept same
 
     -- the status of a report
     same_status : (report : Report) (status : ℕ) → unless_lost report (with_report report status) ≡ unless_lost report status
@@ -578,6 +576,6 @@ module _ (formats : List ℕ → List ℕ → Type 0) (rejects : List ℕ → Li
       result_applied (Err (failures.Writing error)) h messages t = becomes_handled (lost h.0 messages) task refl h.2 (h.1, t) h.3
       result_applied (Err (failures.Rejected lines)) h messages t = result_nothing (failures.Rejected lines) h.0 (λ n. h.1 n ∙ read n) h.2 messages t
       result_applied (Err (failures.Reading error)) h messages t = result_nothing (failures.Reading error) h.0 (λ n. h.1 n ∙ read n) h.2 messages t
-      result_applied (Err failures.NotUtf8) h messages t = result_nothing failures.NotUtf8 h.0 (λ n. h.1 n ∙ read n) h.2 messages t
+      result_applied (Err (failures.NotUtf8 place)) h messages t = result_nothing (failures.NotUtf8 place) h.0 (λ n. h.1 n ∙ read n) h.2 messages t
       result_applied (Err (failures.Exhausted what)) h messages t = result_nothing (failures.Exhausted what) h.0 (λ n. h.1 n ∙ read n) h.2 messages t
       result_applied (Err (failures.Replacing error)) h messages t = result_nothing (failures.Replacing error) h.0 (λ n. h.1 n ∙ read n) h.2 messages t

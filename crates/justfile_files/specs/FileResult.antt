@@ -1,9 +1,9 @@
 -- What was done with one file, before any failure is told.
-use Rattle.std.specs.Prelude.{◌≡◌, ℕ, Bool, true, false, All, List, [], ◌∷◌, Option, IfSome, None, Some, Result, Ok, Err, if◌then◌else◌}
+use Rattle.std.specs.Prelude.{◌≡◌, ℕ, Bool, List, [], Option, IfSome, None, Some, Result, Ok, Err, string_bytes, if◌then◌else◌}
 use Rattle.std.specs.List.{FoldsTo}
-use Rattle.justfile_files.specs.Failure.{IsMessage, TellFailure, failure_status}
+use Rattle.justfile_files.specs.Failure.{TellFailure, failure_status}
 use Rattle.justfile_files.specs.Folder.{Files, KeepsFiles, Replaces}
-use Rattle.justfile_files.specs.Outcome.{ChangesFiles, HasOutcome, HasReport, IsLost, IsReport, Outcome, Report, Takes, changed_name, lost, messages_of, none, report_of, status_of, written}
+use Rattle.justfile_files.specs.Outcome.{ChangesFiles, HasOutcome, HasReport, IsReport, Outcome, Report, Takes, changed_name, lost, messages_of, none, report_of, status_of, written}
 use Rattle.justfile_files.specs.Request.{is_in_place}
 use Rattle.justfile_files.specs.declared.failure.Failure.{Failure}
 use Rattle.justfile_files.specs.declared.failure.Failure.TheVariants as failures
@@ -27,6 +27,11 @@ result_status (Err failure) = failure_status failure
 abbrev pub TellResult : (name : List ℕ) → Result Bool Failure → (messages : List (List ℕ)) → Type 0
 TellResult name (Ok is) messages = messages ≡ []
 TellResult name (Err failure) messages = TellFailure name failure messages
+
+-- If the failure is that the text is rejected, `Holds` applies to the lines that tell why. It isn't one of writing.
+abbrev pub IsRefused : (Holds : List ℕ → Type 0) → Failure → Type 0
+IsRefused Holds (failures.Rejected lines) = Holds (string_bytes lines)
+IsRefused Holds failure = failure_status failure ≡ Some 3
 
 -- the text of a report, if there is one
 abbrev pub report_in : Option (List ℕ) → Report

@@ -7,3 +7,4 @@ pub mod Output
 pub mod Question
 pub mod Request
 pub mod Stream
+pub mod Visible

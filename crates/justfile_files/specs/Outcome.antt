@@ -1,10 +1,11 @@
 -- What becomes of files.
-use Rattle.std.specs.Prelude.{◌≡◌, ◌≢◌, ◌⊎◌, ℕ, max, Bool, true, false, All, Contains, List, [], ◌∷◌, ◌++◌, map, codes, Option, IfSome, None, Some}
+use Rattle.std.specs.Prelude.{◌≡◌, ◌≢◌, ◌⊎◌, ℕ, max, true, false, All, Contains, List, [], ◌∷◌, ◌++◌, map, codes, Option, IfSome, Some}
 use Rattle.std.specs.List.{AllZip, FoldsTo, flat_map}
 use Rattle.line_diff.specs.Unified.{IsUnified}
 use Rattle.justfile_files.specs.Failure.{IsMessage}
 use Rattle.justfile_files.specs.Folder.{Files}
 use Rattle.justfile_files.specs.Request.{is_in_place}
+use Rattle.justfile_files.specs.Visible.{visible_name}
 use Rattle.justfile_files.specs.declared.request.Task.{Task}
 use Rattle.justfile_files.specs.declared.request.Task.TheVariants.{Check, Diff, Format, FormatAndName}
 
@@ -100,8 +101,8 @@ greatest (status ∷ statuses) = max status (greatest statuses)
 -- the report of a file that isn't formatted, or wasn't: its name on a line, or a diff that leads to its formatted text
 abbrev pub IsReport : Task → (name source text report : List ℕ) → Type 0
 IsReport Format name source text report = ⊥
-IsReport FormatAndName name source text report = report ≡ name ++ codes "\n"
-IsReport Check name source text report = report ≡ name ++ codes "\n"
+IsReport FormatAndName name source text report = report ≡ visible_name name ++ codes "\n"
+IsReport Check name source text report = report ≡ visible_name name ++ codes "\n"
 IsReport Diff name source text report = IsUnified name source text report
 
 -- There is a report of it, unless files are formatted without their names.
@@ -150,7 +151,7 @@ module _ (formats : List ℕ → List ℕ → Type 0) (rejects : List ℕ → Li
       × IsUnformatted name source text report × (is_in_place task ≡ true)
   HasOutcome name old new (differs report) =
       (source : List ℕ) × (text : List ℕ) × IfSome new (λ b. source ≡ b) × IsUnformatted name source text report × (is_in_place task ≡ false)
-  HasOutcome name old new (rejected lines) = (source : List ℕ) × IfSome new (λ b. source ≡ b) × rejects name source lines
+  HasOutcome name old new (rejected lines) = (source : List ℕ) × IfSome new (λ b. source ≡ b) × rejects (visible_name name) source lines
   HasOutcome name old new (failed message) = IsMessage name message
 
   module _ {O E : Type 0} (writes loses : O → List ℕ → O → Type 0) (tells : E → List ℕ → E → Type 0) where

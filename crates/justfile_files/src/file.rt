@@ -1,14 +1,17 @@
 //! What is done with one file.
-ghost use Rattle.std.specs.Prelude.{◌≡◌, ◌≤◌, IfSome};
-ghost use Rattle.justfile_files.specs.FileResult.{AppliesResult, HasResult, HasStatus, ReplaceResult};
+ghost use Rattle.std.specs.Prelude.{◌≡◌, ◌≤◌, IfErr, IfOk, IfSome, string_bytes};
+ghost use Rattle.justfile_files.specs.FileResult.{AppliesResult, HasResult, HasStatus, IsRefused, ReplaceResult};
+ghost use Rattle.justfile_files.specs.Visible.{visible_name};
 
 use crate::failure::{Failure, report};
 use crate::folder::Folder;
 use crate::formatter::Formatter;
 use crate::messages::Messages;
 use crate::output::Output;
+use crate::place::place_after;
 use crate::report::{report_text, write_report};
 use crate::request::Task;
+use crate::visible::visible_name;
 use std::alloc::Global;
 use std::str;
 
@@ -51,14 +54,38 @@ fn format_file<F: Formatter, D: Folder, O: Output>(
         Ok(bytes) => bytes,
         Err(error) => return Err(Failure::Reading(error)),
     };
-    let Ok(source) = str::from_utf8(&bytes) else {
-        return Err(Failure::NotUtf8);
+    let source = match str::from_utf8(&bytes) {
+        Ok(source) => source,
+        Err(error) => return Err(Failure::NotUtf8(place_after(&bytes, error.valid_up_to()))),
     };
-    let text = formatter.format(alloc, name, source)?;
+    let text = match formatted_text(alloc, formatter, name, source) {
+        Ok(text) => text,
+        Err(failure) => return Err(failure),
+    };
     if text.as_str() == source {
         return Ok(true);
     }
     apply(alloc, task, folder, name, source, text.as_str(), output)
+}
+
+/// Returns the formatted text of the text of the file with this name.
+#[tactic(auto, using(crate::proofs::FormatLemmas::refused))]
+fn formatted_text<F: Formatter>(
+    alloc: Global,
+    formatter: &F,
+    name: &str,
+    source: &str,
+) -> Result<String, Failure>
+    ensures ok { IfOk result (λ text. F.formats source.now (string_bytes text)) }
+    ensures err { IfErr result (IsRefused (F.rejects (visible_name name.now) source.now)) }
+{
+    let Ok(visible) = visible_name(alloc, name) else {
+        return Err(Failure::Exhausted("out of memory"));
+    };
+    match formatter.format(alloc, visible.as_str(), source) {
+        Ok(text) => Ok(text),
+        Err(refusal) => Err(Failure::from(refusal)),
+    }
 }
 
 /// Replaces a file with this name and text by its formatted text, which is another, if the task

@@ -1,11 +1,13 @@
 //! What is written about a file that isn't formatted, or wasn't.
-ghost use Rattle.std.specs.Prelude.{◌≡◌, IfOk, OnErr, OnOk, string_bytes};
+ghost use Rattle.std.specs.Prelude.{◌≡◌, ◌++◌, IfOk, OnErr, OnOk, codes, string_bytes};
 ghost use Rattle.std.specs.Option.{option_map};
 ghost use Rattle.justfile_files.specs.FileResult.{LosesText, report_in};
 ghost use Rattle.justfile_files.specs.Outcome.{HasReport, Takes};
+ghost use Rattle.justfile_files.specs.Visible.{visible_name};
 
 use crate::output::Output;
 use crate::request::Task;
+use crate::visible::visible_name;
 use line_diff::unified_diff;
 use std::alloc::{AllocError, Global};
 use std::io;
@@ -26,9 +28,18 @@ pub(crate) fn report_text(
     match task {
         Task::Format => Ok(None),
         Task::Diff => Ok(Some(unified_diff(alloc, name, source, text)?)),
-        Task::FormatAndName => Ok(Some(format!(in alloc; "{name}\n")?)),
-        Task::Check => Ok(Some(format!(in alloc; "{name}\n")?)),
+        Task::FormatAndName => Ok(Some(name_line(alloc, name)?)),
+        Task::Check => Ok(Some(name_line(alloc, name)?)),
     }
+}
+
+/// Returns a name on a line.
+fn name_line(alloc: Global, name: &str) -> Result<String, AllocError>
+    ensures { IfOk result (λ line. string_bytes line ≡ visible_name name.now ++ codes "\n") }
+{
+    let mut line = visible_name(alloc, name)?;
+    line.push_str("\n")?;
+    Ok(line)
 }
 
 /// Writes a report, if there is one.
