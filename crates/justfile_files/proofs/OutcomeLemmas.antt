@@ -1,8 +1,8 @@
 -- What becomes of files, one after the other.
-use Rattle.std.proofs.Common.{lit<, zero, suc, ◌≡◌, ◌≢◌, ◌⊎◌, inl, inr, ℕ, ◌+◌, ◌<◌, ◌≤◌, max, All, Contains, List, [], ◌∷◌, ◌++◌, length, map, take, drop, get_or, Bool, true, false, true≢false, Result, Ok, Err, Option, None, Some, IfOk, IfSome, String, string_bytes, if◌then◌else◌, refl, sym, ap, subst, ◌∙◌, arith, append-nil, append_assoc}
+use Rattle.std.proofs.Common.{lit<, ◌≡◌, ◌≢◌, ◌⊎◌, inl, inr, ℕ, ◌+◌, ◌<◌, ◌≤◌, max, All, Contains, List, [], ◌∷◌, ◌++◌, length, map, take, drop, get_or, Bool, true, false, true≢false, Result, Ok, Err, Option, None, Some, IfOk, IfSome, String, string_bytes, if◌then◌else◌, refl, sym, ap, subst, ◌∙◌, arith, append-nil, append_assoc}
 use Rattle.std.specs.List.{AllZip, FoldsTo, flat_map}
 use Rattle.std.proofs.lemmas.Grind.{flat_map-append}
-use Rattle.std.proofs.lemmas.List.{get_or-map, length-map, map-append, take_all, take_more, take-append-drop}
+use Rattle.std.proofs.lemmas.List.{map-append, take_all, take_more, take-append-drop}
 use Rattle.std.proofs.lemmas.List.Elements.{All-append, All-cons, All-nil, Contains-append_cases, Contains-append_left, Contains-append_right}
 use Rattle.std.proofs.lemmas.Option.{same_Some}
 use Rattle.justfile_files.specs.Failure.{IsMessage, TellFailure, failure_status, message_of}
@@ -44,13 +44,6 @@ folds_both R p q r (x ∷ xs) ys h k = (h.0, h.1, folds_both R h.0 q r xs ys h.2
 flat_map-push : {A B : Type 0} (f : A → List B) (xs : List A) (x : A) → flat_map f (xs ++ x ∷ []) ≡ flat_map f xs ++ f x
 flat_map-push f xs x = flat_map-append f xs (x ∷ []) ∙ ap (λ l. flat_map f xs ++ l) (append-nil (f x))
 
-only_one : (name other : List ℕ) → Contains (name ∷ []) other → name ≡ other
-only_one name other h = at h.0 h.1 h.2
-  where
-    at : (k : ℕ) → k < 1 → get_or (name ∷ []) k other ≡ other → name ≡ other
-    at zero l e = e
-    at (suc k) l e = absurd (omega arith)
-
 -- ---- failures
 
 pub is_told : (r : Result (String Global) AllocError) (name reason : List ℕ) → IfOk r (λ m. string_bytes m ≡ message_of name reason)
@@ -63,12 +56,6 @@ pub one_message : {E : Type 0} (tells : E → List ℕ → E → Type 0) (name :
 one_message tells name old new m = (m.0 ∷ [], All-cons (IsMessage name) m.0 [] m.1 (All-nil (IsMessage name)), (new, m.2, refl))
 
 -- ---- the words that are names
-
-pub given_text : (words : List (String Global)) (i : ℕ) (word : String Global) (name : List ℕ) → i < length words → word ≡ get_or words i word → name ≡ string_bytes word
-    → Contains (texts words) name
-given_text words i word name l e n =
-    let text : String Global → List ℕ = λ s. string_bytes s in
-    (i, rw (length-map words text) l, get_or-map text words i word name l ∙ ap text (sym e) ∙ sym n)
 
 pub texts_split : (words : List (String Global)) (i : ℕ) (word : String Global) (name : List ℕ) → i < length words → word ≡ get_or words i word → name ≡ string_bytes word
     → texts words ≡ (texts (take i words) ++ name ∷ []) ++ texts (drop (i + 1) words)

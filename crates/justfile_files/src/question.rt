@@ -19,9 +19,9 @@ without an option  formats the files in place
 --name FILE        the name of standard input in messages
 --help, --version  write this text, and the version of the language
 
-Without a FILE it takes the justfile that `just` would find, and for - standard input, whose formatted
-text it writes to standard output. With --check, --list changes nothing. The status is 0 if all files
-are formatted, 1 if one isn't, 2 if one is no justfile, and 3 if anything else fails.
+Without a FILE it takes the justfile that `just` would find, and for - standard input, whose
+formatted text it writes to standard output. With --check, --list changes nothing. The status is 0
+if all files are formatted, 1 if one isn't, 2 if one is no justfile, and 3 if anything else fails.
 ";
 
 /// What `--version` writes.

@@ -14,10 +14,10 @@ use std::alloc::Global;
 /// The form of the arguments.
 pub const USAGE: &str = "usage: justfiles [--check | --diff | --list] [FILE..]\n";
 
-/// Does what the arguments ask for with the files of a folder: formats them in place, with the name
-/// of each that it changes (`--list`) or without, or writes the name of each that isn't formatted
-/// (`--check`), or a diff to its formatted text (`--diff`). If it fails for a file, it tells why and
-/// goes on with the next one. If a report can't be written, it stops.
+/// Does what the arguments ask for with the files of a folder: formats them in place, and writes the
+/// name of each that it changes (`--list`) or nothing; or writes the name of each that isn't
+/// formatted (`--check`), or a diff to its formatted text (`--diff`). If it fails for a file, it
+/// tells why and goes on with the next one. If a report can't be written, it stops.
 ///
 /// Returns the greatest status of a file: 0 if it is formatted, or is now; 1 if it isn't; 2 if its
 /// text can't be formatted; 3 for any other failure, or if the arguments have another form.
