@@ -155,9 +155,9 @@ module _ (formats : List ℕ → List ℕ → Type 0) (rejects : List ℕ → Li
   HasOutcome name old new (failed message) = IsMessage name message
 
   module _ {O E : Type 0} (writes loses : O → List ℕ → O → Type 0) (tells : E → List ℕ → E → Type 0) where
-    -- What became of each of the files, in their order, up to the first one of whose report writing failed. Only files that were changed have
-    -- other bytes, and names that held the same; so the rest is as it was. The status is the greatest of theirs. Each report was written, but
-    -- for that one, and nothing else. What there is to tell was told, and nothing else.
+    -- What became of each of the files, in their order, up to the first one whose report was lost. Only files that were changed have other
+    -- bytes, and names that held the same; so the rest is as it was. The status is the greatest of theirs. Each report was written, or writing
+    -- it failed, and nothing else was. What there is to tell was told, and nothing else.
     pub record HasOutcomes (names : List (List ℕ)) (old new : Files) (output_old output_new : O) (errors_old errors_new : E) (status : ℕ) : Type 0 where
       pub outcomes : List Outcome
       pub seen : List (List ℕ)
