@@ -4,14 +4,14 @@
 #
 # Each row is what is tried and how it ended. Ends with 1 if something ended otherwise than it should.
 # What needs another user or a small file system is tried only by root, system calls that fail only where
-# there is strace, access lists where there is setfacl, and the function for Vim where there is Vim. Needs
-# git and patch.
+# there is strace, access lists where there is setfacl, examples/justfmt.vim where there are Vim and tmux,
+# and .pre-commit-hooks.yaml where there is pre-commit. Needs git and patch.
 set -u
 top=$(cd "$(dirname "$0")/.." && pwd)
 program=${1:-$top/crates/justfiles/out/justfiles}
 [ -x "$program" ] || { echo "files.sh: no program $program: rt run in crates/justfiles builds it" >&2; exit 2; }
 work=$(mktemp -d) || exit 2
-trap 'umount "$work/small" "$work/files/mounted.just" 2> /dev/null; chmod -R u+w "$work"; rm -rf "$work"' EXIT
+trap 'tmux -L "justfmt$$" kill-server 2> /dev/null; umount "$work/small" "$work/files/mounted.just" 2> /dev/null; chmod -R u+w "$work"; rm -rf "$work"' EXIT
 mkdir "$work/bin" && cp "$program" "$work/bin/justfiles" && cd "$work" && mkdir files && cd files || exit 2
 PATH=$work/bin:$PATH
 unformatted='name:="x"
@@ -33,6 +33,11 @@ row() {
     fi
 }
 
+# A name as it is shown: with `\u{..}` for a tab and a line feed.
+shown() {
+    printf %s "$1" | awk '{ gsub(/\t/, "\\u{9}"); printf "%s%s", (NR > 1 ? "\\u{a}" : ""), $0 }'
+}
+
 # Makes a file with a text: put NAME TEXT
 put() {
     printf '%s' "$2" > "$1"
@@ -52,8 +57,9 @@ text() {
 for name in 'plain.just' 'with blank.just' "quote's.just" 'double"quote.just' 'back\slash.just' 'new
 line.just' 'tab	.just' ' blanks ' 'üñí.just'; do
     put "$name" "$unformatted"
+    shown=$(shown "$name")
     run --check -- "$name"
-    row "--check names $name" "$status $(text ../output)" "1 $name
+    row "--check names $name" "$status $(text ../output)" "1 $shown
 ."
     run --diff -- "$name"
     row "--diff of $name has status 1" "$status" 1
@@ -69,7 +75,7 @@ line.just' 'tab	.just' ' blanks ' 'üñí.just'; do
 done
 
 put -- "$formatted"; put -n.just "$unformatted"; put - "$unformatted"
-run -n.just; row 'a name with - is no name without --' "$status $(cat ../errors)" '3 usage: justfiles [--check | --diff] [FILE..]'
+run -n.just; row 'a name with - is no name without --' "$status $(cat ../errors)" '3 usage: justfiles [--check | --diff | --list] [FILE..]'
 run - < /dev/null; row '- is no file without --' "$status $(text -)" "0 $unformatted."
 run -- - -n.just; row 'after -- both are files' "$status $(text -)$(text -n.just)" "0 $formatted.$formatted."
 run --check --diff x; row 'two options' "$status" 3
@@ -95,6 +101,62 @@ justfiles - < ../input > /dev/full 2> ../errors; row 'a stream that cannot be wr
 run --help; row '--help' "$status $(grep -c '^usage: justfiles ' ../output) $(cat ../errors)" '0 1 '
 run --version; row '--version' "$status $(grep -c '^justfiles' ../output) $(cat ../errors)" '0 1 '
 
+put a.just "$unformatted"; put b.just "$formatted"; put c.just "$unformatted"; ln -s a.just also.just
+run --list a.just b.just c.just also.just
+row '--list names what it changed' "$status $(text ../output)$(text a.just)$(text c.just)$(cat ../errors)" "0 a.just
+c.just
+.$formatted.$formatted."
+run --list a.just b.just; row 'and nothing that was formatted' "$status $(cat ../output ../errors)" '0 '
+run a.just; row 'without it nothing is written' "$status $(cat ../output ../errors)" '0 '
+put a.just "$unformatted"; put c.just "$broken"; run --list a.just missing.just c.just
+row '--list, and files that fail' "$status $(text ../output)$(grep -c '^error: ' ../errors)" '3 a.just
+.2'
+for options in '--check --list' '--list --check'; do
+    put a.just "$unformatted"; run $options a.just b.just
+    row "$options: what would change" "$status $(text ../output)$(text a.just)" "1 a.just
+.$unformatted."
+done
+put d.just "$unformatted"; justfiles --list a.just d.just > /dev/full 2> ../errors
+row 'a list that cannot be written: it stops' "$? $(text a.just)$(text d.just)$(grep -c '^error: a.just: ' ../errors)" "3 $formatted.$unformatted.1"
+stream "$unformatted" --list -; row '--list of a stream is refused' "$status $(cat ../output)" '3 '
+stream "$unformatted" --check --list --name x.just -; row '--check --list of a stream' "$status $(cat ../output)" '1 x.just'
+rm also.just
+
+# names that are not UTF-8, and control characters
+garbled=$(printf 'b\377d.just'); put a.just "$unformatted"; put c.just "$unformatted"; put "$garbled" "$unformatted"
+run a.just "$garbled" c.just
+row 'a name that is not UTF-8 is named, and the others are done' "$status $(text a.just)$(text c.just)$(text "$garbled")$(cat ../errors)" \
+    "3 $formatted.$formatted.$unformatted.error: b�d.just: can't be read: its name isn't UTF-8"
+run "$garbled"; row 'alone it is named too' "$status $(cat ../errors)" "3 error: b�d.just: can't be read: its name isn't UTF-8"
+stream "$unformatted" --check --name "$garbled" -; row 'for a stream it is a name in messages' "$status $(cat ../output)" '1 b�d.just'
+rm "$garbled"
+escape=$(printf 'e\033[31m.just'); put "$escape" "$unformatted"; run --check "$escape"
+row 'control characters of a name are shown' "$status $(cat ../output)" '1 e\u{1b}[31m.just'
+run --diff "$escape"; row 'and in a diff' "$status $(head -n 1 ../output)" '1 --- "e\033[31m.just"'
+patch -s -p0 < ../output > ../patched 2>&1; row 'which patch takes' "$(text "$escape")" "$formatted."
+printf 'a: \033[31m\n' > "$escape"; run "$escape"
+row 'and in errors, those of the text too' "$status $(grep -c "$(printf '\033')" ../errors) $(grep -c 'u{1b}' ../errors)" '2 0 3'
+rm "$escape"
+high=$(printf 'c\302\233d.just'); put "$high" "$unformatted"; run --diff "$high"
+row 'control characters after ASCII in a diff' "$status $(head -n 1 ../output)" '1 --- "c\302\233d.just"'
+patch -s -p0 < ../output > ../patched 2>&1; row 'which patch takes' "$(text "$high")" "$formatted."
+run --list "$high"; put "$high" "$unformatted"; run --list "$high"; row 'and in a list' "$status $(cat ../output)" '0 c\u{9b}d.just'
+rm "$high"
+mkdir dots; put dots/x.just "$unformatted"; run --diff ./dots/x.just
+row 'a diff has no ./' "$status $(head -n 1 ../output)" '1 --- dots/x.just'
+git init -q; git apply -p0 < ../output; row 'so git apply takes it' "$? $(text dots/x.just)" "0 $formatted."
+run --diff ./dots/x.just; row 'a diff of a formatted file is empty' "$status $(cat ../output)" '0 '
+put dots/x.just "$unformatted"; run --diff .//dots/x.just; row 'a name stays relative' "$status $(head -n 1 ../output)" '1 --- .//dots/x.just'
+rm -rf dots .git
+
+# a long file
+i=0; while [ $i -lt 2100 ]; do echo "name$i := 'x'"; i=$((i + 1)); done > ../middle
+{ echo 'a:=1'; cat ../middle; echo 'b:=2'; } | sed "s/\([12]\)$/'\1'/" > long.just; cp long.just ../kept
+run --diff long.just; cp ../output ../ours; run long.just
+row 'two far changes: the diff is as short as that of GNU diff' "$(wc -l < ../ours)" "$(diff -u ../kept long.just | wc -l)"
+cp ../kept long.just; patch -s -p0 < ../ours; run --check long.just; row 'and patch takes it' "$status" 0
+rm long.just
+
 put a.just "$unformatted"; put b.just "$broken"; put c.just "$formatted"; put d.just "$unformatted"
 run a.just b.just missing.just c.just d.just
 row 'bad files keep no others from being done' "$status $(text a.just)$(text b.just)$(text d.just)" "3 $formatted.$broken.$formatted."
@@ -115,7 +177,10 @@ row 'a diff that adds the last line end' "$(text end.just)" "$formatted."
 printf 'a:\n\techo {{"x\r"}}\r{{b}}\n\techo\r\r\n' > return.just; run return.just
 row 'a body line that ends in a carriage return has a place' "$status $(grep -c 'return.just:3:2$' ../errors)" '2 1'
 printf '\377\n' > bytes.just; run bytes.just
-row 'a file that is not UTF-8' "$status $(cat ../errors)" '3 error: bytes.just: not UTF-8'
+row 'a file that is not UTF-8' "$status $(cat ../errors)" '3 error: bytes.just: not UTF-8
+ ——▶ bytes.just:1:1'
+printf 'a := "\303\274"\nb := "\303\274\303"\n' > bytes.just; run bytes.just
+row 'its line and column' "$status $(tail -n 1 ../errors)" '3  ——▶ bytes.just:2:9'
 mkdir folder.just; run folder.just; row 'a folder' "$status" 3
 mkfifo pipe.just; { printf '%s' "$unformatted" > pipe.just & }; run pipe.just
 row 'a pipe is not replaced' "$status $(test -p pipe.just && echo pipe)" '3 pipe'
@@ -253,11 +318,12 @@ if [ "$(id -u)" = 0 ] && command -v setpriv > /dev/null; then
     row 'the owner stays' "$? $(stat -c '%u %g %a' other/readonly.just)" '0 65534 65534 640'
 fi
 
-# the function for Vim, as README has it
+# examples/justfmt.vim, in Vim without a terminal
+command -v vim > /dev/null || echo 'files.sh: no vim, so examples/justfmt.vim was not tried' >&2
 if command -v vim > /dev/null; then
-    sed -n '/^```vim$/,/^```$/p' "$top/README.md" | sed '1d;$d' > ../vimrc
+    printf 'source %s\n' "$top/examples/justfmt.vim" > ../vimrc
     edit() {
-        vim -Nu ../vimrc -n -es "$@" -c 'qa!' justfile < /dev/null > /dev/null 2>&1
+        vim -i NONE -Nu ../vimrc -n -es "$@" -c 'qa!' justfile < /dev/null > /dev/null 2>&1
     }
     put justfile "$broken"; edit -c 'redir! > ../messages' -c write -c 'redir END'
     row 'Vim saves a rejected file' "$(text justfile)" "$broken."
@@ -282,7 +348,60 @@ d := "4"
     printf 'name:="x"\r\n' > justfile; edit -c write; row 'Vim saves CRLF as LF' "$(text justfile)" "$formatted."
     put justfile "$unformatted"; PATH=$(echo "$PATH" | cut -d: -f2-) edit -c 'redir! > ../messages' -c write -c 'redir END'
     row 'Vim tells that there is no program' "$(text justfile) $(grep -c 'justfiles.*not found' ../messages)" "$unformatted. 1"
+    edit -c 'source ../vimrc' -c 'redir! > ../messages' -c 'autocmd justfmt BufWritePre *.just' -c 'redir END'
+    row 'sourced twice it runs once' "$(grep -c 'Format()' ../messages)" 1
     rm justfile
+fi
+
+# the same in a terminal of 80 columns
+vim_in() {
+    rm -f ../state
+    tmux -L "justfmt$$" -f /dev/null new-session -d -x 80 -y 24 "env PATH='$PATH' TERM=screen vim -i NONE -Nu ../vimrc -n '$1'; echo ended > ../state"
+    sleep 1
+}
+keys() {
+    tmux -L "justfmt$$" send-keys "$@"; sleep 0.5
+}
+screen() {
+    tmux -L "justfmt$$" capture-pane -p
+}
+state() {
+    keys ":call writefile([join([$1])], '../state')" Enter; cat ../state
+    keys ':qa!' Enter
+}
+two_windows="line('.'), line(\"'b\"), line(\"'c\"), line('.', win_getid(1)), col('.', win_getid(1))"
+if command -v vim > /dev/null && command -v tmux > /dev/null; then
+    put two.just 'a:="1"
+
+
+
+b := "2"
+c:="3"
+d := "4"
+'
+    vim_in two.just; keys ':split' Enter; keys '7G$'; keys ':wincmd w' Enter; keys '5Gmb6Gmc'; keys ':w' Enter
+    row 'two windows: lines go, and cursors and marks stay' "$(state "$two_windows")" '4 3 4 5 8'
+    put two.just 'a := "1"
+[private, no-cd, linux]
+b:
+    echo 1
+d := "4"
+'
+    vim_in two.just; keys ':split' Enter; keys '5G$'; keys ':wincmd w' Enter; keys '3Gmb4Gmc'; keys ':w' Enter
+    row 'two windows: lines come' "$(state "$two_windows")" '6 5 6 7 8'
+    put broken.just "$broken"; vim_in broken.just; keys ':wq' Enter
+    row ':wq of a rejected file tells it' "$(screen | grep '^1:16 error: ') $(cat ../state 2> /dev/null)" \
+        "1:16 error: expected '*', identifier, or '(', but found end of line (ENTER) "
+    keys Enter; row 'and ends with ENTER' "$(cat ../state)" ended
+    vim_in broken.just; keys ':w' Enter; keys ':q' Enter; row 'later it ends at once' "$(cat ../state)" ended
+    put long.just 'set a-name-that-is-so-long-that-no-screen-of-eighty-columns-has-a-place-for-it := true
+'
+    vim_in long.just; keys ':w' Enter
+    row 'a long message is cut off, and asks for no key' "$(screen | grep '^1:5 ') $(state "line('.')")" \
+        '1:5 error: unknown setting `a-name-that-is-so-long-that-no-screen-of 1'
+    rm two.just broken.just long.just
+elif command -v vim > /dev/null; then
+    echo 'files.sh: no tmux, so examples/justfmt.vim was not tried in a terminal' >&2
 fi
 
 # the hook
@@ -314,9 +433,13 @@ row 'a formatted file that git converts' "$status" 0
 git rm -qf .gitattributes crlf.just; commit
 mkdir ../relative; (TMPDIR=../relative; export TMPDIR; put justfile "$formatted
 "; git add justfile; commit); row 'nothing stays in a relative TMPDIR' "$(ls ../relative)" ''
-git reset -q --hard; put "$(printf 'b\377d.just')" "$formatted"; git add .; commit
-row 'a name that is not UTF-8 is told' "$status $(LC_ALL=C grep -ac "$(printf 'rejected: b\377d.just')" ../errors)" '1 1'
-git reset -q; rm -f b*d.just
+git reset -q --hard; put "$garbled" "$unformatted"; git add .; commit
+row 'a name that is not UTF-8 is told' "$status $(LC_ALL=C grep -ac "$(printf 'not formatted: b\377d.just')" ../errors)" '1 1'
+put "$garbled" "$formatted"; git add .; commit; row 'and passes it formatted' "$status" 0
+git rm -q "$garbled"; commit
+put "$escape" "$unformatted"; git add .; commit
+row 'a name with a control character is told without it' "$status $(grep -c '^not formatted: e?\[31m.just' ../errors)" '1 1'
+rm "$escape"; git add .
 git reset -q --hard; git rm -q 'with blank.just'; commit; row 'a file that is deleted' "$status" 0
 git mv "quote's.just" renamed.just; commit; row 'a file that is renamed' "$status" 0
 git mv renamed.just again.just; put again.just "$unformatted"; git add .; commit
@@ -332,6 +455,15 @@ row 'and shows the diff of another' "$? $(grep -c '^+name := ' ../output)" '1 1'
 put justfile "$broken"; sh -c "$step" > ../output 2> ../errors
 row 'and the error of one that is rejected' "$? $(grep -c 'justfile:1:16$' ../errors)" '2 1'
 git reset -q --hard
+if command -v pre-commit > /dev/null && git -C "$top" status > /dev/null 2>&1; then
+    put justfile "$unformatted"; git add .
+    PRE_COMMIT_HOME=$work/pre-commit pre-commit try-repo "$top" justfiles --all-files > ../output 2>&1
+    row 'pre-commit formats, and names what it changed' "$? $(text justfile) $(grep -cx justfile ../output)" "1 $formatted. 1"
+    git add .; PRE_COMMIT_HOME=$work/pre-commit pre-commit try-repo "$top" justfiles-check --all-files > ../output 2>&1
+    row 'and passes what is formatted' "$?" 0
+else
+    echo 'files.sh: no pre-commit, or the repository is of another user: .pre-commit-hooks.yaml was not tried' >&2
+fi
 put justfile "$formatted
 "; git add .
 rm ../bin/justfiles; commit

@@ -1,13 +1,15 @@
 //! Runs what `justfiles` does over a folder in memory, with each of the first three reads, of the
 //! first three replacements and of the first three writes of a report failing in turn. Writes a
 //! line for each run: the arguments, what fails, the status, the texts of the files, and what was
-//! written to the output and as errors.
+//! written to the output and as errors. Then it writes a diff of two changes that are far apart.
 #![tactic(auto)]
 
+mod far;
 mod folder;
 mod formatter;
 mod writer;
 
+use far::far_diff;
 use folder::MemoryFolder;
 use formatter::Constant;
 use justfile_files::run::run;
@@ -32,6 +34,13 @@ static CASES: &[&str] = &[
     "-- -n",
     "bytes a",
     "a a",
+    "--list",
+    "--list a b c",
+    "--list bad a missing a",
+    "--list -- -n bytes b",
+    "--check --list a b",
+    "--list --check b a",
+    "--list no\x1b bytes",
 ];
 
 /// How many calls of each kind fail in turn.
@@ -78,7 +87,7 @@ fn run_case(rt: &HostRuntime, case: &str, what: &str, faults: Faults) -> io::Res
     );
     let files = folder.text(alloc)?;
     println!(rt;
-        "[{case}] {what} {status} {files} {:?} {:?}",
+        "{case:?} {what} {status} {files} {:?} {:?}",
         output.text(),
         errors.text()
     )
@@ -109,5 +118,6 @@ fn main(rt: HostRuntime) -> io::Result<()> {
             )?;
         }
     }
-    Ok(())
+    let diff = far_diff(rt.alloc())?;
+    print!(rt; "{diff}")
 }

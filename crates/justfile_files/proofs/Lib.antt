@@ -1,3 +1,4 @@
+pub mod FormatLemmas
 pub mod OutcomeLemmas
 pub mod OutputLemmas
 pub mod RequestLemmas

@@ -1,25 +1,23 @@
 -- What becomes of files, one after the other.
-use Rattle.std.proofs.Common.{lit<, zero, suc, ◌≡◌, ◌≢◌, ◌⊎◌, inl, inr, ℕ, ◌+◌, ◌<◌, ◌≤◌, max, All, Contains, List, [], ◌∷◌, ◌++◌, length, map, take, drop, get_or, Bool, true, false, true≢false, Result, Ok, Err, Option, None, Some, IfOk, IfSome, String, string_bytes, refl, sym, ap, subst, ◌∙◌, arith, append-nil}
+use Rattle.std.proofs.Common.{lit<, ◌≡◌, ◌≢◌, ◌⊎◌, inl, inr, ℕ, ◌+◌, ◌<◌, ◌≤◌, max, All, Contains, List, [], ◌∷◌, ◌++◌, length, map, take, drop, get_or, Bool, true, false, true≢false, Result, Ok, Err, Option, None, Some, IfOk, IfSome, String, string_bytes, if◌then◌else◌, refl, sym, ap, subst, ◌∙◌, arith, append-nil, append_assoc}
 use Rattle.std.specs.List.{AllZip, FoldsTo, flat_map}
-use Rattle.std.specs.Io.KnownBytes.{Appends}
-use Rattle.std.proofs.KnownBytes.{Appends-nil, Appends-trans}
 use Rattle.std.proofs.lemmas.Grind.{flat_map-append}
-use Rattle.std.proofs.lemmas.List.{get_or-map, length-map, map-append, take_all, take_more, take-append-drop}
-use Rattle.std.proofs.lemmas.List.Elements.{All-append, All-cons, All-head, All-nil, All-tail}
+use Rattle.std.proofs.lemmas.List.{map-append, take_all, take_more, take-append-drop}
+use Rattle.std.proofs.lemmas.List.Elements.{All-append, All-cons, All-nil, Contains-append_cases, Contains-append_left, Contains-append_right}
 use Rattle.std.proofs.lemmas.Option.{same_Some}
 use Rattle.justfile_files.specs.Failure.{IsMessage, TellFailure, failure_status, message_of}
-use Rattle.justfile_files.specs.FileResult.{HasResult, Reports}
+use Rattle.justfile_files.specs.FileResult.{AppliesResult, HandlesFile, HasResult, HasStatus, IsDone, IsRefused, TellResult, report_in, reported_status, result_status, unless_lost}
 use Rattle.justfile_files.specs.Folder.{Files, KeepsFiles, Replaces}
 use Rattle.justfile_files.specs.declared.failure.Failure.{Failure}
 use Rattle.justfile_files.specs.declared.failure.Failure.TheVariants as failures
-use Rattle.justfile_files.specs.Outcome.{AppendsBeginning, BecomesFormatted, ChangesFiles, IsUnformatted, HasOutcome, HasOutcomes, HasStatus, IsReported, Means, Outcome, differs, failed, formatted, greatest, messages_of, rejected, report_of, reported_status, status_of, unreported}
-use Rattle.justfile_files.specs.Request.{texts}
+use Rattle.justfile_files.specs.Outcome.{BecomesFormatted, ChangesFiles, HasOutcome, HasOutcomes, HasReport, IsLost, IsReported, Outcome, Report, Takes, changed, changed_name, changed_names, differs, failed, formatted, greatest, lost, lost_messages, messages_of, none, rejected, report_of, status_of, with_report, written}
+use Rattle.justfile_files.specs.Request.{is_in_place, texts}
+use Rattle.justfile_files.specs.Visible.{visible_name}
 use Rattle.justfile_files.specs.declared.request.Task.{Task}
-use Rattle.justfile_files.specs.declared.request.Task.TheVariants.{Format}
+use Rattle.justfile_files.specs.declared.request.Task.TheVariants.{Check, Diff, Format, FormatAndName}
 use Rattle.std.proofs.Common.{Global}
 use Rattle.std.specs.declared.alloc.AllocError.{AllocError}
 use Rattle.std.specs.declared.io.Error.{Error}
-use Rattle.justfile_files.proofs.OutputLemmas.{none, then_beginning, whole}
 
 greatest-push : (xs : List ℕ) (y : ℕ) → greatest (xs ++ y ∷ []) ≡ max (greatest xs) y
 greatest-push [] y = omega arith
@@ -38,16 +36,6 @@ texts_more {A} words i word name l e n =
     ap (λ x. texts (take i words) ++ x ∷ []) (n ∙ ap (λ (s : String A). string_bytes s) e)
     ∙ sym (ap (λ (ws : List (String A)). texts ws) (take_more words i word l) ∙ map-append (λ (s : String A). string_bytes s) (take i words) (get_or words i word ∷ []))
 
-same_bytes : (bytes source : List ℕ) (old : Option (List ℕ)) → IfSome old (λ b. bytes ≡ b) → source ≡ bytes → IfSome old (λ b. source ≡ b)
-same_bytes bytes source None h e = tt
-same_bytes bytes source (Some b) h e = e ∙ h
-
--- the text of the bytes that were read is what the file holds
-pub text_read : (old new : Files) (name bytes source : List ℕ) → KeepsFiles old new → IfSome (old name) (λ b. bytes ≡ b) → source ≡ bytes
-    → IfSome (new name) (λ b. source ≡ b)
-text_read old new name bytes source kept read e =
-    subst (λ (o : Option (List ℕ)). IfSome o (λ b. source ≡ b)) (sym (kept name)) (same_bytes bytes source (old name) read e)
-
 -- steps, one after the other
 folds_both : {P A : Type 0} (R : P → A → P → Type 0) (p q r : P) (xs ys : List A) → FoldsTo R p xs q → FoldsTo R q ys r → FoldsTo R p (xs ++ ys) r
 folds_both R p q r [] ys h k = subst (λ x. FoldsTo R x ys r) (sym h) k
@@ -55,21 +43,6 @@ folds_both R p q r (x ∷ xs) ys h k = (h.0, h.1, folds_both R h.0 q r xs ys h.2
 
 flat_map-push : {A B : Type 0} (f : A → List B) (xs : List A) (x : A) → flat_map f (xs ++ x ∷ []) ≡ flat_map f xs ++ f x
 flat_map-push f xs x = flat_map-append f xs (x ∷ []) ∙ ap (λ l. flat_map f xs ++ l) (append-nil (f x))
-
--- some text is that of a file, if the file's is known
-some_text : (bytes : Option (List ℕ)) → (source : List ℕ) × IfSome bytes (λ b. source ≡ b)
-some_text None = ([], tt)
-some_text (Some b) = (b, refl)
-
-only_one : (name other : List ℕ) → Contains (name ∷ []) other → name ≡ other
-only_one name other h = at h.0 h.1 h.2
-  where
-    at : (k : ℕ) → k < 1 → get_or (name ∷ []) k other ≡ other → name ≡ other
-    at zero l e = e
-    at (suc k) l e = absurd (omega arith)
-
-two_not_three : (◌≡◌ {A = ℕ} 2 3) → ⊥
-two_not_three e = omega arith
 
 -- ---- failures
 
@@ -82,20 +55,7 @@ pub one_message : {E : Type 0} (tells : E → List ℕ → E → Type 0) (name :
     → (messages : List (List ℕ)) × All (IsMessage name) messages × FoldsTo tells old messages new
 one_message tells name old new m = (m.0 ∷ [], All-cons (IsMessage name) m.0 [] m.1 (All-nil (IsMessage name)), (new, m.2, refl))
 
-pub small_status : (o : Outcome) (status : ℕ) → Some status ≡ reported_status o → status ≤ 3
-small_status formatted status e = omega (arith, same_Some status 0 e)
-small_status (differs report) status e = omega (arith, same_Some status 1 e)
-small_status (unreported report messages) status e = cc
-small_status (rejected lines) status e = omega (arith, same_Some status 2 e)
-small_status (failed message) status e = omega (arith, same_Some status 3 e)
-
 -- ---- the words that are names
-
-pub given_text : (words : List (String Global)) (i : ℕ) (word : String Global) (name : List ℕ) → i < length words → word ≡ get_or words i word → name ≡ string_bytes word
-    → Contains (texts words) name
-given_text words i word name l e n =
-    let text : String Global → List ℕ = λ s. string_bytes s in
-    (i, rw (length-map words text) l, get_or-map text words i word name l ∙ ap text (sym e) ∙ sym n)
 
 pub texts_split : (words : List (String Global)) (i : ℕ) (word : String Global) (name : List ℕ) → i < length words → word ≡ get_or words i word → name ≡ string_bytes word
     → texts words ≡ (texts (take i words) ++ name ∷ []) ++ texts (drop (i + 1) words)
@@ -114,26 +74,94 @@ pub other_failure : (name message : List ℕ) (failure : Failure) → ((lines : 
 other_failure name message (failures.Rejected lines) r w m = absurd (r lines refl)
 other_failure name message (failures.Writing error) r w m = absurd (w error refl)
 other_failure name message (failures.Reading error) r w m = (refl, (message, m, refl))
-other_failure name message failures.NotUtf8 r w m = (refl, (message, m, refl))
+other_failure name message (failures.NotUtf8 place) r w m = (refl, (message, m, refl))
 other_failure name message (failures.Exhausted what) r w m = (refl, (message, m, refl))
 other_failure name message (failures.Replacing error) r w m = (refl, (message, m, refl))
 
-all_last : (xs : List Outcome) (y : Outcome) → All IsReported (xs ++ y ∷ []) → All IsReported (y ∷ [])
-all_last [] y h = h
-all_last (x ∷ xs) y h = all_last xs y (All-tail IsReported x (xs ++ y ∷ []) h)
+-- ---- names of files that were changed
 
+changed-push : (P : List ℕ → Outcome → Type 0) (names : List (List ℕ)) (outcomes : List Outcome) (name : List ℕ) (o : Outcome) → AllZip P names outcomes
+    → changed_names (names ++ name ∷ []) (outcomes ++ o ∷ []) ≡ changed_names names outcomes ++ changed_name name o
+changed-push P [] [] name o z = append-nil (changed_name name o)
+changed-push P [] (p ∷ outcomes) name o z = absurd z
+changed-push P (n ∷ names) [] name o z = absurd z
+changed-push P (n ∷ names) (p ∷ outcomes) name o z =
+    ap (λ l. changed_name n p ++ l) (changed-push P names outcomes name o z.1) ∙ sym (append_assoc (changed_name n p) (changed_names names outcomes) (changed_name name o))
+
+own_name : (name : List ℕ) (o : Outcome) (other : List ℕ) → Contains (changed_name name o) other → Contains (name ∷ []) other
+own_name name formatted other h = absurd (omega (arith, h.1))
+own_name name (changed report) other h = h
+own_name name (differs report) other h = absurd (omega (arith, h.1))
+own_name name (rejected lines) other h = absurd (omega (arith, h.1))
+own_name name (failed message) other h = absurd (omega (arith, h.1))
+
+own_part : (name : List ℕ) (names mine theirs : List (List ℕ)) (other : List ℕ) → (Contains mine other → Contains (name ∷ []) other)
+    → (Contains theirs other → Contains names other) → Contains mine other ⊎ Contains theirs other → Contains (name ∷ names) other
+own_part name names mine theirs other f g (inl c) = Contains-append_left (name ∷ []) names other (f c)
+own_part name names mine theirs other f g (inr c) = Contains-append_right (name ∷ []) names other (g c)
+
+-- they are given
+own_names : (names : List (List ℕ)) (outcomes : List Outcome) (other : List ℕ) → Contains (changed_names names outcomes) other → Contains names other
+own_names [] outcomes other h = h
+own_names (name ∷ names) [] other h = absurd (omega (arith, h.1))
+own_names (name ∷ names) (o ∷ outcomes) other h =
+    own_part name names (changed_name name o) (changed_names names outcomes) other (own_name name o other) (own_names names outcomes other)
+    (Contains-append_cases (changed_name name o) (changed_names names outcomes) other h)
+
+-- ---- statuses
+
+reported_is : (o : Outcome) (status : ℕ) → Some status ≡ reported_status o → (status ≡ status_of o) × IsReported o
+reported_is formatted status e = (same_Some status 0 e, λ h. h)
+reported_is (changed none) status e = (same_Some status 0 e, λ h. h)
+reported_is (changed (written text)) status e = (same_Some status 0 e, λ h. h)
+reported_is (changed (lost text messages)) status e = cc
+reported_is (differs none) status e = (same_Some status 1 e, λ h. h)
+reported_is (differs (written text)) status e = (same_Some status 1 e, λ h. h)
+reported_is (differs (lost text messages)) status e = cc
+reported_is (rejected lines) status e = (same_Some status 2 e, λ h. h)
+reported_is (failed message) status e = (same_Some status 3 e, λ h. h)
+
+lost_is : (o : Outcome) → None ≡ reported_status o → (status_of o ≡ 3) × IsLost (report_of o)
+lost_is formatted e = cc
+lost_is (changed none) e = cc
+lost_is (changed (written text)) e = cc
+lost_is (changed (lost text messages)) e = (refl, tt)
+lost_is (differs none) e = cc
+lost_is (differs (written text)) e = cc
+lost_is (differs (lost text messages)) e = (refl, tt)
+lost_is (rejected lines) e = cc
+lost_is (failed message) e = cc
+
+small_of : (o : Outcome) → status_of o ≤ 3
+small_of formatted = omega arith
+small_of (changed none) = omega arith
+small_of (changed (written text)) = omega arith
+small_of (changed (lost text messages)) = omega arith
+small_of (differs none) = omega arith
+small_of (differs (written text)) = omega arith
+small_of (differs (lost text messages)) = omega arith
+small_of (rejected lines) = omega arith
+small_of (failed message) = omega arith
+
+pub small_status : (o : Outcome) (status : ℕ) → Some status ≡ reported_status o → status ≤ 3
+small_status o status e = subst (λ s. s ≤ 3) (sym (reported_is o status e).0) (small_of o)
+
+-- ---- bytes that are known
+
+-- the text of a file whose bytes are known
 same_known : (source bytes : List ℕ) (o : Option (List ℕ)) → o ≡ Some bytes → IfSome o (λ b. source ≡ b) → source ≡ bytes
 same_known source bytes o e h = subst (λ (x : Option (List ℕ)). IfSome x (λ b. source ≡ b)) e h
 
-module _ (formats : List ℕ → List ℕ → Type 0) (rejects : List ℕ → List ℕ → List ℕ → Type 0) (task : Task) {E : Type 0} (tells : E → List ℕ → E → Type 0) where
-  -- All reports so far were written.
-  pub record AllReported (names : List (List ℕ)) (files : Files) (output_old output_new : Option (List ℕ)) (errors_old errors_new : E) (status : ℕ) : Type 0 where
-    pub outcomes : List Outcome
-    pub each : AllZip (λ name outcome. HasOutcome formats rejects task name (files name) outcome) names outcomes
-    pub status_is : status ≡ greatest (map status_of outcomes)
-    pub all : All IsReported outcomes
-    pub written : Appends output_old output_new (flat_map report_of outcomes)
-    pub told : FoldsTo tells errors_old (flat_map messages_of outcomes) errors_new
+is_known : (text : List ℕ) (o : Option (List ℕ)) → o ≡ Some text → IfSome o (λ b. text ≡ b)
+is_known text o e = subst (λ (x : Option (List ℕ)). IfSome x (λ b. text ≡ b)) (sym e) refl
+
+known_as : (text : List ℕ) (o p : Option (List ℕ)) → p ≡ o → IfSome o (λ b. text ≡ b) → IfSome p (λ b. text ≡ b)
+known_as text o p e h = subst (λ (x : Option (List ℕ)). IfSome x (λ b. text ≡ b)) (sym e) h
+
+-- the text of the bytes that were read is what the file holds
+pub text_read : (old : Option (List ℕ)) (bytes source : List ℕ) → IfSome old (λ b. bytes ≡ b) → source ≡ bytes → IfSome old (λ b. source ≡ b)
+text_read None bytes source h e = tt
+text_read (Some b) bytes source h e = e ∙ h
 
 module _ (formats : List ℕ → List ℕ → Type 0) (rejects : List ℕ → List ℕ → List ℕ → Type 0)
     (one : (source text other : List ℕ) → formats source text → formats source other → text ≡ other)
@@ -196,28 +224,29 @@ module _ (formats : List ℕ → List ℕ → Type 0) (rejects : List ℕ → Li
     pub changes-trans : (a b c : Files) → ChangesFiles formats task names a b → ChangesFiles formats task names b c → ChangesFiles formats task names a c
     changes-trans a b c f g = λ name. kept-trans a b (a name) (b name) (c name) f (f name) (g name)
 
-    -- one of the names is enough
-    pub changes-widened : (name : List ℕ) (a b : Files) → Contains names name → ChangesFiles formats task (name ∷ []) a b → ChangesFiles formats task names a b
-    changes-widened name a b given f = λ other. widened (a other) (b other) (f other)
-      where
-        widened : (old new : Option (List ℕ)) → (new ≡ old) ⊎ BecomesFormatted formats task (name ∷ []) a old new → (new ≡ old) ⊎ BecomesFormatted formats task names a old new
-        widened old new (inl e) = inl e
-        widened old new (inr r) = inr (record {
-          in_place = r.in_place;
-          source = r.source;
-          text = r.text;
-          was = r.was;
-          is = r.is;
-          formatted = r.formatted;
-          named = name;
-          is_given = given;
-          had = ap a (only_one name r.named r.is_given) ∙ r.had;
-        })
+  -- fewer names
+  pub changes-widened : (few names : List (List ℕ)) (a b : Files) → ((name : List ℕ) → Contains few name → Contains names name) → ChangesFiles formats task few a b
+      → ChangesFiles formats task names a b
+  changes-widened few names a b given f = λ other. widened (a other) (b other) (f other)
+    where
+      widened : (old new : Option (List ℕ)) → (new ≡ old) ⊎ BecomesFormatted formats task few a old new → (new ≡ old) ⊎ BecomesFormatted formats task names a old new
+      widened old new (inl e) = inl e
+      widened old new (inr r) = inr (record {
+        in_place = r.in_place;
+        source = r.source;
+        text = r.text;
+        was = r.was;
+        is = r.is;
+        formatted = r.formatted;
+        named = r.named;
+        is_given = given r.named r.is_given;
+        had = r.had;
+      })
 
-    pub changes-none : (a b : Files) → KeepsFiles a b → ChangesFiles formats task names a b
-    changes-none a b h = λ name. inl (h name)
+  changes_none : (names : List (List ℕ)) (a b : Files) → KeepsFiles a b → ChangesFiles formats task names a b
+  changes_none names a b h = λ name. inl (h name)
 
-  becomes : (name source text : List ℕ) (files : Files) (old new : Option (List ℕ)) → IfSome (files name) (λ b. source ≡ b) → formats source text → task ≡ Format
+  becomes : (name source text : List ℕ) (files : Files) (old new : Option (List ℕ)) → IfSome (files name) (λ b. source ≡ b) → formats source text → is_in_place task ≡ true
       → (new ≡ old) ⊎ ((bytes : List ℕ) × (files name ≡ Some bytes) × (old ≡ Some bytes) × (new ≡ Some text))
       → (new ≡ old) ⊎ BecomesFormatted formats task (name ∷ []) files old new
   becomes name source text files old new is f in_place (inl e) = inl e
@@ -233,259 +262,307 @@ module _ (formats : List ℕ → List ℕ → Type 0) (rejects : List ℕ → Li
     had = h.1;
   })
 
-  pub changes_replaced : (name source text : List ℕ) (old new : Files) → Replaces old new name text → IfSome (old name) (λ b. source ≡ b) → formats source text
-      → task ≡ Format → ChangesFiles formats task (name ∷ []) old new
+  changes_replaced : (name source text : List ℕ) (old new : Files) → Replaces old new name text → IfSome (old name) (λ b. source ≡ b) → formats source text
+      → is_in_place task ≡ true → ChangesFiles formats task (name ∷ []) old new
   changes_replaced name source text old new r is f in_place = λ other. becomes name source text old (old other) (new other) is f in_place (r.others other)
 
-  -- ---- outcomes, one after the other
+  -- ---- outcomes, while others become formatted
 
-  -- what an outcome means is true of the formatted text too
-  still : (name source text : List ℕ) (o : Outcome) → formats source text → (IsUnformatted o → ⊥) → Means formats rejects task name o source
-      → Means formats rejects task name o text
-  still name source text formatted f apart h = settled source text f
-  still name source text (differs report) f apart h = absurd (apart tt)
-  still name source text (unreported report messages) f apart h = absurd (apart tt)
-  still name source text (rejected lines) f apart h = absurd (never_both name source lines text h f)
-  still name source text (failed message) f apart h = h
+  module _ (names : List (List ℕ)) (name : List ℕ) (files : Files) where
+    -- what an outcome means stays true after a later change
+    stays : (old mid new : Option (List ℕ)) (o : Outcome) → (new ≡ mid) ⊎ BecomesFormatted formats task names files mid new
+        → HasOutcome formats rejects task name old mid o → HasOutcome formats rejects task name old new o
+    stays old mid new o (inl e) h = subst (λ b. HasOutcome formats rejects task name old b o) (sym e) h
+    stays old mid new formatted (inr b) h = (b.text, is_known b.text new b.is, settled b.source b.text b.formatted)
+    stays old mid new (changed report) (inr b) h =
+        let text_is : h.1 ≡ b.source = same_known h.1 b.source mid b.was h.3 in
+        let again : b.text ≡ h.1 = one h.1 b.text h.1 (subst (λ s. formats s b.text) (sym text_is) b.formatted) (settled h.0 h.1 h.4.formatted) in
+        (h.0, h.1, h.2, is_known h.1 new (b.is ∙ ap Some again), h.4, h.5)
+    stays old mid new (differs report) (inr b) h = absurd (true≢false (sym b.in_place ∙ h.4))
+    stays old mid new (rejected lines) (inr b) h =
+        absurd (never_both (visible_name name) b.source lines b.text (subst (λ s. rejects (visible_name name) s lines) (same_known h.0 b.source mid b.was h.1) h.2) b.formatted)
+    stays old mid new (failed message) (inr b) h = h
 
-  stays : (names : List (List ℕ)) (name : List ℕ) (files : Files) (old new : Option (List ℕ)) (o : Outcome)
-      → (new ≡ old) ⊎ BecomesFormatted formats task names files old new → HasOutcome formats rejects task name old o → HasOutcome formats rejects task name new o
-  stays names name files old new o (inl e) h = subst (λ b. HasOutcome formats rejects task name b o) (sym e) h
-  stays names name files old new o (inr b) h = record {
-    source = b.text;
-    known = subst (λ (x : Option (List ℕ)). IfSome x (λ y. b.text ≡ y)) (sym b.is) refl;
-    means =
-        still name b.source b.text o b.formatted (h.in_place b.in_place)
-        (subst (Means formats rejects task name o) (same_known h.source b.source old b.was h.known) h.means);
-    in_place = h.in_place;
-  }
+    -- a file that is changed wasn't changed before
+    lifts : (old mid new : Option (List ℕ)) (o : Outcome) → (mid ≡ old) ⊎ BecomesFormatted formats task names files old mid
+        → HasOutcome formats rejects task name mid new o → HasOutcome formats rejects task name old new o
+    lifts old mid new o (inl e) h = subst (λ b. HasOutcome formats rejects task name b new o) e h
+    lifts old mid new formatted (inr b) h = h
+    lifts old mid new (changed report) (inr b) h =
+        let source_is : h.0 ≡ b.text = same_known h.0 b.text mid b.is h.2 in
+        let again : h.1 ≡ h.0 = one h.0 h.1 h.0 h.4.formatted (subst (λ s. formats s s) (sym source_is) (settled b.source b.text b.formatted)) in
+        absurd (h.4.differs again)
+    lifts old mid new (differs report) (inr b) h = h
+    lifts old mid new (rejected lines) (inr b) h = h
+    lifts old mid new (failed message) (inr b) h = h
 
-  module _ {E : Type 0} (tells : E → List ℕ → E → Type 0) where
-    pub none_yet : (files : Files) (output : Option (List ℕ)) (errors : E) → AllReported formats rejects task tells [] files output output errors errors 0
-    none_yet files output errors = record { outcomes = []; each = tt; status_is = refl; all = All-nil IsReported; written = Appends-nil output; told = refl }
+  module _ {O : Type 0} (writes loses : O → List ℕ → O → Type 0) {E : Type 0} (tells : E → List ℕ → E → Type 0) where
+    -- All reports so far were written.
+    pub record AllReported (names : List (List ℕ)) (old new : Files) (output_old output_new : O) (errors_old errors_new : E) (status : ℕ) : Type 0 where
+      pub outcomes : List Outcome
+      pub each : AllZip (λ name outcome. HasOutcome formats rejects task name (old name) (new name) outcome) names outcomes
+      pub all : All IsReported outcomes
+      pub files : ChangesFiles formats task (changed_names names outcomes) old new
+      pub status_is : status ≡ greatest (map status_of outcomes)
+      pub reported : FoldsTo (Takes writes loses) output_old (map report_of outcomes) output_new
+      pub told : FoldsTo tells errors_old (flat_map messages_of outcomes) errors_new
 
-    pub all_reported : {names : List (List ℕ)} {files : Files} {a b : Option (List ℕ)} {errors_old errors_new : E} {status : ℕ}
-        → AllReported formats rejects task tells names files a b errors_old errors_new status → HasOutcomes formats rejects task tells names files a b errors_old errors_new status
-    all_reported {names} {files} {a} {b} h = record {
+    pub none_yet : (files : Files) (output : O) (errors : E) → AllReported [] files files output output errors errors 0
+    none_yet files output errors = record { outcomes = []; each = tt; all = All-nil IsReported; files = λ name. inl refl; status_is = refl; reported = refl; told = refl }
+
+    all_reported : {names : List (List ℕ)} {old new : Files} {a b : O} {errors_old errors_new : E} {status : ℕ}
+        → AllReported names old new a b errors_old errors_new status → HasOutcomes formats rejects task writes loses tells names old new a b errors_old errors_new status
+    all_reported {names} h = record {
       outcomes = h.outcomes;
       seen = names;
       rest = [];
       names_are = sym (append-nil names);
       each = h.each;
+      ends = inl (h.all, refl);
+      files = h.files;
       status_is = h.status_is;
-      reported = λ _. (refl, h.written);
-      beginning = whole a b (flat_map report_of h.outcomes) h.written;
+      reported = h.reported;
       told = h.told;
     }
 
-    reported_is : (o : Outcome) (status : ℕ) → Some status ≡ reported_status o → (status ≡ status_of o) × IsReported o
-    reported_is formatted status e = (same_Some status 0 e, tt)
-    reported_is (differs report) status e = (same_Some status 1 e, tt)
-    reported_is (unreported report messages) status e = cc
-    reported_is (rejected lines) status e = (same_Some status 2 e, tt)
-    reported_is (failed message) status e = (same_Some status 3 e, tt)
-
-    unreported_is : (o : Outcome) → None ≡ reported_status o → (status_of o ≡ 3) × (IsReported o → ⊥)
-    unreported_is formatted e = cc
-    unreported_is (differs report) e = cc
-    unreported_is (unreported report messages) e = (refl, λ h. h)
-    unreported_is (rejected lines) e = cc
-    unreported_is (failed message) e = cc
+    -- only files that are named are changed
+    pub given_alone : {names : List (List ℕ)} {old new : Files} {a b : O} {errors_old errors_new : E} {status : ℕ}
+        → HasOutcomes formats rejects task writes loses tells names old new a b errors_old errors_new status → ChangesFiles formats task names old new
+    given_alone {names} {old} {new} h =
+        changes-widened (changed_names h.seen h.outcomes) names old new
+        (λ name c. subst (λ ns. Contains ns name) (sym h.names_are) (Contains-append_left h.seen h.rest name (own_names h.seen h.outcomes name c))) h.files
 
     -- one file more
-    module _ (names : List (List ℕ)) (name : List ℕ) (old new : Files) (a b c : Option (List ℕ)) (e f g : E) (status : ℕ)
-        (given : List (List ℕ)) (so_far : AllReported formats rejects task tells names old a b e f status) (changes : ChangesFiles formats task given old new) where
-      each_with : (o : Outcome) → HasOutcome formats rejects task name (new name) o
-          → AllZip (λ n p. HasOutcome formats rejects task n (new n) p) (names ++ name ∷ []) (so_far.outcomes ++ o ∷ [])
-      each_with o h =
-          each_push (λ n p. HasOutcome formats rejects task n (old n) p) (λ n p. HasOutcome formats rejects task n (new n) p) names so_far.outcomes name o
-          (λ n p. stays given n old (old n) (new n) p (changes n)) so_far.each h
+    module _ (names : List (List ℕ)) (name : List ℕ) (old mid new : Files) (a b c : O) (e f g : E) (status : ℕ) (result : Option ℕ)
+        (so_far : AllReported names old mid a b e f status) (s : HasStatus formats rejects task writes loses tells name mid new b c f g result) where
+      abbrev o : Outcome
+      o = s.outcome
 
-      status_with : (o : Outcome) (total : ℕ) → total ≡ max status (status_of o) → total ≡ greatest (map status_of (so_far.outcomes ++ o ∷ []))
-      status_with o total t =
+      each_with : AllZip (λ n p. HasOutcome formats rejects task n (old n) (new n) p) (names ++ name ∷ []) (so_far.outcomes ++ o ∷ [])
+      each_with =
+          each_push (λ n p. HasOutcome formats rejects task n (old n) (mid n) p) (λ n p. HasOutcome formats rejects task n (old n) (new n) p) names so_far.outcomes name o
+          (λ n p. stays (changed_name name o) n mid (old n) (mid n) (new n) p (s.done.files n)) so_far.each
+          (lifts (changed_names names so_far.outcomes) name old (old name) (mid name) (new name) o (so_far.files name) s.done.is)
+
+      files_with : ChangesFiles formats task (changed_names (names ++ name ∷ []) (so_far.outcomes ++ o ∷ [])) old new
+      files_with =
+          let before = changed_names names so_far.outcomes in
+          let all = before ++ changed_name name o in
+          subst (λ ns. ChangesFiles formats task ns old new) (sym (changed-push _ names so_far.outcomes name o so_far.each))
+          (changes-trans all old mid new (changes-widened before all old mid (λ n h. Contains-append_left before (changed_name name o) n h) so_far.files)
+          (changes-widened (changed_name name o) all mid new (λ n h. Contains-append_right before (changed_name name o) n h) s.done.files))
+
+      status_with : (total : ℕ) → total ≡ max status (status_of o) → total ≡ greatest (map status_of (so_far.outcomes ++ o ∷ []))
+      status_with total t =
           t ∙ ap (λ x. max x (status_of o)) so_far.status_is ∙ sym (greatest-push (map status_of so_far.outcomes) (status_of o))
           ∙ ap greatest (sym (map-append status_of so_far.outcomes (o ∷ [])))
 
-      told_with : (o : Outcome) → FoldsTo tells f (messages_of o) g → FoldsTo tells e (flat_map messages_of (so_far.outcomes ++ o ∷ [])) g
-      told_with o h =
-          subst (λ l. FoldsTo tells e l g) (sym (flat_map-push messages_of so_far.outcomes o))
-          (folds_both tells e f g (flat_map messages_of so_far.outcomes) (messages_of o) so_far.told h)
+      reported_with : FoldsTo (Takes writes loses) a (map report_of (so_far.outcomes ++ o ∷ [])) c
+      reported_with =
+          subst (λ l. FoldsTo (Takes writes loses) a l c) (sym (map-append report_of so_far.outcomes (o ∷ [])))
+          (folds_both (Takes writes loses) a b c (map report_of so_far.outcomes) (report_of o ∷ []) so_far.reported (c, s.done.reported, refl))
 
-      pub one_more : (more total : ℕ) → HasStatus formats rejects task tells name new b c f g (Some more) → total ≡ max status more
-          → AllReported formats rejects task tells (names ++ name ∷ []) new a c e g total
-      one_more more total s t =
-          let o = s.outcome in
-          let is = reported_is o more s.status_is in
+      told_with : FoldsTo tells e (flat_map messages_of (so_far.outcomes ++ o ∷ [])) g
+      told_with =
+          subst (λ l. FoldsTo tells e l g) (sym (flat_map-push messages_of so_far.outcomes o))
+          (folds_both tells e f g (flat_map messages_of so_far.outcomes) (messages_of o) so_far.told s.told)
+
+      one_more : (more total : ℕ) → result ≡ Some more → total ≡ max status more → AllReported (names ++ name ∷ []) old new a c e g total
+      one_more more total r t =
+          let is = reported_is o more (sym r ∙ s.status_is) in
           record {
             outcomes = so_far.outcomes ++ o ∷ [];
-            each = each_with o s.is;
-            status_is = status_with o total (t ∙ ap (max status) is.0);
+            each = each_with;
             all = All-append IsReported so_far.outcomes (o ∷ []) so_far.all (All-cons IsReported o [] is.1 (All-nil IsReported));
-            written =
-                subst (Appends a c) (sym (flat_map-push report_of so_far.outcomes o))
-                (Appends-trans a b c (flat_map report_of so_far.outcomes) (report_of o) so_far.written (s.reported is.1));
-            told = told_with o s.told;
+            files = files_with;
+            status_is = status_with total (t ∙ ap (max status) is.0);
+            reported = reported_with;
+            told = told_with;
           }
 
-      -- its report couldn't be written
-      pub last_one : (all rest : List (List ℕ)) → all ≡ (names ++ name ∷ []) ++ rest → HasStatus formats rejects task tells name new b c f g None
-          → max status 3 ≡ 3 → HasOutcomes formats rejects task tells all new a c e g 3
-      last_one all rest split s t =
-          let o = s.outcome in
-          let is = unreported_is o s.status_is in
+      -- writing its report failed
+      last_one : (all rest : List (List ℕ)) → all ≡ (names ++ name ∷ []) ++ rest → result ≡ None → max status 3 ≡ 3
+          → HasOutcomes formats rejects task writes loses tells all old new a c e g 3
+      last_one all rest split r t =
+          let is = lost_is o (sym r ∙ s.status_is) in
           record {
             outcomes = so_far.outcomes ++ o ∷ [];
             seen = names ++ name ∷ [];
             rest = rest;
             names_are = split;
-            each = each_with o s.is;
-            status_is = status_with o 3 (sym t ∙ ap (max status) (sym is.0));
-            reported = λ h. absurd (is.1 (All-head IsReported o [] (all_last so_far.outcomes o h)));
-            beginning =
-                subst (AppendsBeginning a c) (sym (flat_map-push report_of so_far.outcomes o))
-                (then_beginning a b c (flat_map report_of so_far.outcomes) (report_of o) so_far.written s.beginning);
-            told = told_with o s.told;
+            each = each_with;
+            ends = inr (so_far.outcomes, o, refl, so_far.all, is.1);
+            files = files_with;
+            status_is = status_with 3 (sym t ∙ ap (max status) (sym is.0));
+            reported = reported_with;
+            told = told_with;
           }
 
     -- one word more
     module _ (words : List (String Global)) (i : ℕ) (word : String Global) (name : List ℕ) (l : i < length words) (e : word ≡ get_or words i word) (n : name ≡ string_bytes word) where
-      pub word_more : {old new : Files} {a b c : Option (List ℕ)} {errors mid last : E} {status more total : ℕ} {given : List (List ℕ)}
-          → AllReported formats rejects task tells (texts (take i words)) old a b errors mid status → ChangesFiles formats task given old new
-          → HasStatus formats rejects task tells name new b c mid last (Some more) → total ≡ max status more
-          → AllReported formats rejects task tells (texts (take (i + 1) words)) new a c errors last total
-      word_more {old} {new} {a} {b} {c} {errors} {mid} {last} {status} {more} {total} {given} so_far changes s t =
-          subst (λ (ns : List (List ℕ)). AllReported formats rejects task tells ns new a c errors last total) (texts_more words i word name l e n)
-          (one_more (texts (take i words)) name old new a b c errors mid last status given so_far changes more total s t)
+      pub word_more : {old mid new : Files} {a b c : O} {errors now last : E} {status more total : ℕ}
+          → AllReported (texts (take i words)) old mid a b errors now status → HasStatus formats rejects task writes loses tells name mid new b c now last (Some more)
+          → total ≡ max status more → AllReported (texts (take (i + 1) words)) old new a c errors last total
+      word_more {old} {mid} {new} {a} {b} {c} {errors} {now} {last} {status} {more} {total} so_far s t =
+          subst (λ (ns : List (List ℕ)). AllReported ns old new a c errors last total) (texts_more words i word name l e n)
+          (one_more (texts (take i words)) name old mid new a b c errors now last status (Some more) so_far s more total refl t)
 
-      pub word_last : {old new : Files} {a b c : Option (List ℕ)} {errors mid last : E} {status : ℕ} {given : List (List ℕ)} {result : Option ℕ}
-          → AllReported formats rejects task tells (texts (take i words)) old a b errors mid status → ChangesFiles formats task given old new
-          → HasStatus formats rejects task tells name new b c mid last result → result ≡ None → status ≤ 3
-          → HasOutcomes formats rejects task tells (texts words) new a c errors last 3
-      word_last {old} {new} {a} {b} {c} {errors} {mid} {last} {status} {given} {result} so_far changes s none small =
-          last_one (texts (take i words)) name old new a b c errors mid last status given so_far changes (texts words) (texts (drop (i + 1) words))
-          (texts_split words i word name l e n) (subst (HasStatus formats rejects task tells name new b c mid last) none s) (omega arith)
+      pub word_last : {old mid new : Files} {a b c : O} {errors now last : E} {status : ℕ} {result : Option ℕ}
+          → AllReported (texts (take i words)) old mid a b errors now status → HasStatus formats rejects task writes loses tells name mid new b c now last result
+          → result ≡ None → status ≤ 3 → HasOutcomes formats rejects task writes loses tells (texts words) old new a c errors last 3
+      word_last {old} {mid} {new} {a} {b} {c} {errors} {now} {last} {status} {result} so_far s gone small =
+          last_one (texts (take i words)) name old mid new a b c errors now last status result so_far s (texts words) (texts (drop (i + 1) words))
+          (texts_split words i word name l e n) gone (omega arith)
 
-    pub words_done : (words : List (String Global)) (i : ℕ) {files : Files} {a b : Option (List ℕ)} {errors last : E} {status : ℕ} → length words ≤ i
-        → AllReported formats rejects task tells (texts (take i words)) files a b errors last status
-        → HasOutcomes formats rejects task tells (texts words) files a b errors last status
-    words_done words i {files} {a} {b} {errors} {last} {status} l h =
-        subst (λ (ns : List (List ℕ)). HasOutcomes formats rejects task tells ns files a b errors last status) (texts_all words i l) (all_reported h)
+    pub words_done : (words : List (String Global)) (i : ℕ) {old new : Files} {a b : O} {errors last : E} {status : ℕ} → length words ≤ i
+        → AllReported (texts (take i words)) old new a b errors last status
+        → HasOutcomes formats rejects task writes loses tells (texts words) old new a b errors last status
+    words_done words i {old} {new} {a} {b} {errors} {last} {status} l h =
+        subst (λ (ns : List (List ℕ)). HasOutcomes formats rejects task writes loses tells ns old new a b errors last status) (texts_all words i l) (all_reported h)
 
-    -- ---- one file
-
-    pub status_formatted : (name : List ℕ) (files : Files) (a b : Option (List ℕ)) (errors : E)
-        → HasResult formats rejects task name (files name) a b (Ok true) → HasStatus formats rejects task tells name files a b errors errors (Some 0)
-    status_formatted name files a b errors h = record {
-      outcome = formatted;
-      is = record { source = h.source; known = h.known; means = h.found.0; in_place = λ _ h. h };
-      status_is = refl;
-      reported = λ _. h.found.1;
-      beginning = whole a b [] h.found.1;
-      told = refl;
-    }
-
-    pub status_differs : (name : List ℕ) (files : Files) (a b : Option (List ℕ)) (errors : E)
-        → HasResult formats rejects task name (files name) a b (Ok false) → HasStatus formats rejects task tells name files a b errors errors (Some 1)
-    status_differs name files a b errors h =
-        let report = h.found.1.0 in
+    -- a result after it was told
+    pub result_told : {name : List ℕ} {old new : Files} {a b : O} {errors_old errors_new : E} (result : Result Bool Failure) (messages : List (List ℕ)) (status : Option ℕ)
+        → HasResult formats rejects task writes loses name old new a b result → TellResult name result messages → FoldsTo tells errors_old messages errors_new
+        → status ≡ result_status result → HasStatus formats rejects task writes loses tells name old new a b errors_old errors_new status
+    result_told {name} {old} {new} {a} {b} {errors_old} {errors_new} result messages status h t told e =
+        let r = h messages t in
         record {
-          outcome = differs report;
-          is = record { source = h.source; known = h.known; means = h.found.1.1; in_place = λ e _. h.found.0 e };
-          status_is = refl;
-          reported = λ _. h.found.1.2;
-          beginning = whole a b report h.found.1.2;
-          told = refl;
+          outcome = r.0;
+          done = r.1;
+          status_is = e ∙ sym r.3;
+          told = subst (λ l. FoldsTo tells errors_old l errors_new) (sym r.2) told;
         }
-
-    -- a failure that leaves nothing known of the file
-    status_failed : (name message : List ℕ) (files : Files) (a b : Option (List ℕ)) (errors_old errors_new : E)
-        → Appends a b [] → IsMessage name message → FoldsTo tells errors_old (message ∷ []) errors_new
-        → HasStatus formats rejects task tells name files a b errors_old errors_new (Some 3)
-    status_failed name message files a b errors_old errors_new written m told =
-        let source = some_text (files name) in
-        record {
-          outcome = failed message;
-          is = record { source = source.0; known = source.1; means = m; in_place = λ _ h. h };
-          status_is = refl;
-          reported = λ _. written;
-          beginning = whole a b [] written;
-          told = told;
-        }
-
-    -- a failure after it was told
-    module _ (name : List ℕ) (files : Files) (a b : Option (List ℕ)) (errors_old errors_new : E) where
-      other_told : (messages : List (List ℕ)) → Appends a b [] → (message : List ℕ) × IsMessage name message × (messages ≡ message ∷ [])
-          → FoldsTo tells errors_old messages errors_new → HasStatus formats rejects task tells name files a b errors_old errors_new (Some 3)
-      other_told messages written m told =
-          status_failed name m.0 files a b errors_old errors_new written m.1 (subst (λ l. FoldsTo tells errors_old l errors_new) m.2 told)
-
-      pub status_told : (failure : Failure) (messages : List (List ℕ)) (status : Option ℕ)
-          → HasResult formats rejects task name (files name) a b (Err failure) → TellFailure name failure messages → FoldsTo tells errors_old messages errors_new
-          → status ≡ failure_status failure → HasStatus formats rejects task tells name files a b errors_old errors_new status
-      status_told (failures.Rejected lines) messages status h m told e = record {
-        outcome = rejected (string_bytes lines);
-        is = record { source = h.source; known = h.known; means = h.found.0; in_place = λ _ h. h };
-        status_is = e;
-        reported = λ _. h.found.1;
-        beginning = whole a b [] h.found.1;
-        told = subst (λ l. FoldsTo tells errors_old l errors_new) m told;
-      }
-      status_told (failures.Writing error) messages status h m told e = record {
-        outcome = unreported h.found.1.0 messages;
-        is = record { source = h.source; known = h.known; means = (h.found.1.1, m); in_place = λ i _. h.found.0 i };
-        status_is = e;
-        reported = λ x. absurd x;
-        beginning = h.found.1.2;
-        told = told;
-      }
-      status_told (failures.Reading error) messages status h m told e =
-          subst (HasStatus formats rejects task tells name files a b errors_old errors_new) (sym e) (other_told messages h.found m told)
-      status_told failures.NotUtf8 messages status h m told e =
-          subst (HasStatus formats rejects task tells name files a b errors_old errors_new) (sym e) (other_told messages h.found m told)
-      status_told (failures.Exhausted what) messages status h m told e =
-          subst (HasStatus formats rejects task tells name files a b errors_old errors_new) (sym e) (other_told messages h.found m told)
-      status_told (failures.Replacing error) messages status h m told e =
-          subst (HasStatus formats rejects task tells name files a b errors_old errors_new) (sym e) (other_told messages h.found m told)
 
   -- ---- results
+  module _ {O : Type 0} (writes loses : O → List ℕ → O → Type 0) (name : List ℕ) (old new : Files) (a b : O) where
+    -- a failure that leaves nothing known of the file
+    pub result_nothing : (failure : Failure) → failure_status failure ≡ Some 3 → KeepsFiles old new → b ≡ a
+        → HasResult formats rejects task writes loses name old new a b (Err failure)
+    result_nothing failure e kept same messages t = told failure e t
+      where
+        one_told : (f : Failure) → failure_status f ≡ Some 3 → (message : List ℕ) × IsMessage name message × (messages ≡ message ∷ [])
+            → (outcome : Outcome) × IsDone formats rejects task writes loses name old new a b outcome × (messages_of outcome ≡ messages) × (reported_status outcome ≡ failure_status f)
+        one_told f e m = (
+          failed m.0,
+          record { is = m.1; files = changes_none [] old new kept; reported = same },
+          sym m.2,
+          sym e,
+        )
 
-  pub result_nothing : (name : List ℕ) (bytes : Option (List ℕ)) (a : Option (List ℕ)) (failure : Failure) → failure_status failure ≡ Some 3
-      → HasResult formats rejects task name bytes a a (Err failure)
-  result_nothing name bytes a (failures.Rejected lines) e = cc
-  result_nothing name bytes a (failures.Writing error) e = cc
-  result_nothing name bytes a (failures.Reading error) e = let s = some_text bytes in record { source = s.0; known = s.1; found = Appends-nil a }
-  result_nothing name bytes a failures.NotUtf8 e = let s = some_text bytes in record { source = s.0; known = s.1; found = Appends-nil a }
-  result_nothing name bytes a (failures.Exhausted what) e = let s = some_text bytes in record { source = s.0; known = s.1; found = Appends-nil a }
-  result_nothing name bytes a (failures.Replacing error) e = let s = some_text bytes in record { source = s.0; known = s.1; found = Appends-nil a }
+        told : (f : Failure) → failure_status f ≡ Some 3 → TellFailure name f messages
+            → (outcome : Outcome) × IsDone formats rejects task writes loses name old new a b outcome × (messages_of outcome ≡ messages) × (reported_status outcome ≡ failure_status f)
+        told (failures.Rejected lines) e t = cc
+        told (failures.Writing error) e t = cc
+        told (failures.Reading error) e t = one_told (failures.Reading error) e t
+        told (failures.NotUtf8 place) e t = one_told (failures.NotUtf8 place) e t
+        told (failures.Exhausted what) e t = one_told (failures.Exhausted what) e t
+        told (failures.Replacing error) e t = one_told (failures.Replacing error) e t
 
-  pub result_formatted : (name source : List ℕ) (bytes a : Option (List ℕ)) → IfSome bytes (λ b. source ≡ b) → formats source source
-      → HasResult formats rejects task name bytes a a (Ok true)
-  result_formatted name source bytes a is f = record { source = source; known = is; found = (f, Appends-nil a) }
+    pub result_formatted : (source : List ℕ) → IfSome (old name) (λ x. source ≡ x) → formats source source → KeepsFiles old new → b ≡ a
+        → HasResult formats rejects task writes loses name old new a b (Ok true)
+    result_formatted source is f kept same messages t = (
+      formatted,
+      record { is = (source, known_as source (old name) (new name) (kept name) is, f); files = changes_none [] old new kept; reported = same },
+      sym t,
+      refl,
+    )
 
-  pub result_reported : (name source text : List ℕ) (bytes a b : Option (List ℕ)) (result : Result Bool Failure) → IfSome bytes (λ x. source ≡ x)
-      → formats source text → text ≢ source → task ≢ Format → Reports task name source text a b result → HasResult formats rejects task name bytes a b result
-  result_reported name source text bytes a b (Ok true) is f apart option r = absurd (true≢false r.0)
-  result_reported name source text bytes a b (Ok false) is f apart option r =
-      record { source = source; known = is; found = (option, (r.1.0, record { text = text; formatted = f; differs = apart; is = r.1.1 }, r.1.2)) }
-  result_reported name source text bytes a b (Err (failures.Writing error)) is f apart option r =
-      record { source = source; known = is; found = (option, (r.0, record { text = text; formatted = f; differs = apart; is = r.1 }, r.2)) }
-  result_reported name source text bytes a b (Err (failures.Rejected lines)) is f apart option r = absurd (two_not_three (same_Some 2 3 r.0))
-  result_reported name source text bytes a b (Err (failures.Reading error)) is f apart option r = record { source = source; known = is; found = r.1 }
-  result_reported name source text bytes a b (Err failures.NotUtf8) is f apart option r = record { source = source; known = is; found = r.1 }
-  result_reported name source text bytes a b (Err (failures.Exhausted what)) is f apart option r = record { source = source; known = is; found = r.1 }
-  result_reported name source text bytes a b (Err (failures.Replacing error)) is f apart option r = record { source = source; known = is; found = r.1 }
+    pub result_rejected : (source : List ℕ) (lines : String Global) → IfSome (old name) (λ x. source ≡ x) → rejects (visible_name name) source (string_bytes lines) → KeepsFiles old new
+        → b ≡ a → HasResult formats rejects task writes loses name old new a b (Err (failures.Rejected lines))
+    result_rejected source lines is r kept same messages t = (
+      rejected (string_bytes lines),
+      record { is = (source, known_as source (old name) (new name) (kept name) is, r); files = changes_none [] old new kept; reported = same },
+      sym t,
+      refl,
+    )
 
-  replaced_known : (text : List ℕ) (old new : Option (List ℕ))
-      → (new ≡ old) ⊎ ((bytes : List ℕ) × (old ≡ Some bytes) × (old ≡ Some bytes) × (new ≡ Some text))
-      → IfSome old (λ b. new ≡ Some text) → IfSome new (λ b. text ≡ b)
-  replaced_known text old new (inr h) r = subst (λ (x : Option (List ℕ)). IfSome x (λ b. text ≡ b)) (sym h.3) refl
-  replaced_known text None new (inl e) r = subst (λ (x : Option (List ℕ)). IfSome x (λ b. text ≡ b)) (sym e) tt
-  replaced_known text (Some b) new (inl e) r = subst (λ (x : Option (List ℕ)). IfSome x (λ b. text ≡ b)) (sym r) refl
+    -- what the formatter refuses
+    pub result_refused : (failure : Failure) (source : List ℕ) → IfSome (old name) (λ x. source ≡ x) → IsRefused (rejects (visible_name name) source) failure
+        → KeepsFiles old new → b ≡ a → HasResult formats rejects task writes loses name old new a b (Err failure)
+    result_refused (failures.Rejected lines) source known refused kept same = result_rejected source lines known refused kept same
+    result_refused (failures.Writing error) source known refused kept same = cc
+    result_refused (failures.Reading error) source known refused kept same = result_nothing (failures.Reading error) refused kept same
+    result_refused (failures.NotUtf8 place) source known refused kept same = result_nothing (failures.NotUtf8 place) refused kept same
+    result_refused (failures.Exhausted what) source known refused kept same = result_nothing (failures.Exhausted what) refused kept same
+    result_refused (failures.Replacing error) source known refused kept same = result_nothing (failures.Replacing error) refused kept same
 
-  pub result_replaced : (name source text : List ℕ) (old new : Files) (a : Option (List ℕ)) → Replaces old new name text → formats source text
-      → HasResult formats rejects task name (new name) a a (Ok true)
-  result_replaced name source text old new a r f = record {
-    source = text;
-    known = replaced_known text (old name) (new name) (r.others name) r.replaced;
-    found = (settled source text f, Appends-nil a);
-  }
+    -- the status of a report
+    same_status : (report : Report) (status : ℕ) → unless_lost report (with_report report status) ≡ unless_lost report status
+    same_status none status = refl
+    same_status (written text) status = refl
+    same_status (lost text messages) status = refl
+
+    in_status : (report : Option (List ℕ)) (status : ℕ) → unless_lost (report_in report) status ≡ Some status
+    in_status None status = refl
+    in_status (Some text) status = refl
+
+    in_messages : (report : Option (List ℕ)) → lost_messages (report_in report) ≡ []
+    in_messages None = refl
+    in_messages (Some text) = refl
+
+    replaced_known : (text : List ℕ) (mid now : Option (List ℕ))
+        → (now ≡ mid) ⊎ ((bytes : List ℕ) × (mid ≡ Some bytes) × (mid ≡ Some bytes) × (now ≡ Some text))
+        → IfSome mid (λ b. now ≡ Some text) → IfSome now (λ b. text ≡ b)
+    replaced_known text mid now (inr h) r = is_known text now h.3
+    replaced_known text None now (inl e) r = subst (λ (x : Option (List ℕ)). IfSome x (λ b. text ≡ b)) (sym e) tt
+    replaced_known text (Some b) now (inl e) r = is_known text now r
+
+    -- a file that isn't formatted
+    module _ (mid : Files) (source text : List ℕ) (read : KeepsFiles old mid) (is : IfSome (old name) (λ x. source ≡ x)) (f : formats source text)
+        (apart : text ≢ source) where
+      -- what became of it, with this report and this status
+      abbrev Becomes : Report → ℕ → Type 0
+      Becomes report status =
+          (outcome : Outcome) × IsDone formats rejects task writes loses name old new a b outcome × (messages_of outcome ≡ lost_messages report)
+          × (reported_status outcome ≡ unless_lost report status)
+
+      becomes_changed : (report : Report) → is_in_place task ≡ true → Replaces mid new name text → IfSome (mid name) (λ x. source ≡ x) → HasReport task name source text report
+          → Takes writes loses a report b → Becomes report 0
+      becomes_changed report place r known reported taken = (
+        changed report,
+        record {
+          is = (source, text, is, replaced_known text (mid name) (new name) (r.others name) r.replaced, record { formatted = f; differs = apart; reported = reported }, place);
+          files =
+              changes-trans (name ∷ []) old mid new (changes_none (name ∷ []) old mid read)
+              (changes_replaced name source text mid new r known f place);
+          reported = taken;
+        },
+        refl,
+        same_status report 0,
+      )
+
+      becomes_different : (report : Report) → is_in_place task ≡ false → KeepsFiles mid new → HasReport task name source text report → Takes writes loses a report b
+          → Becomes report 1
+      becomes_different report place kept reported taken = (
+        differs report,
+        record {
+          is = (source, text, known_as source (old name) (new name) (kept name ∙ read name) is, record { formatted = f; differs = apart; reported = reported }, place);
+          files = changes_none [] old new (λ n. kept n ∙ read n);
+          reported = taken;
+        },
+        refl,
+        same_status report 1,
+      )
+
+      becomes_handled : (report : Report) (t : Task) → task ≡ t → HandlesFile t name source text mid new → HasReport task name source text report
+          → Takes writes loses a report b → Becomes report (if is_in_place task then 0 else 1)
+      becomes_handled report Format e h reported taken = subst (λ (p : Bool). Becomes report (if p then 0 else 1)) (sym (ap is_in_place e)) (becomes_changed report (ap is_in_place e) h.0 h.1 reported taken)
+      becomes_handled report FormatAndName e h reported taken = subst (λ (p : Bool). Becomes report (if p then 0 else 1)) (sym (ap is_in_place e)) (becomes_changed report (ap is_in_place e) h.0 h.1 reported taken)
+      becomes_handled report Check e h reported taken = subst (λ (p : Bool). Becomes report (if p then 0 else 1)) (sym (ap is_in_place e)) (becomes_different report (ap is_in_place e) h reported taken)
+      becomes_handled report Diff e h reported taken = subst (λ (p : Bool). Becomes report (if p then 0 else 1)) (sym (ap is_in_place e)) (becomes_different report (ap is_in_place e) h reported taken)
+
+      pub result_applied : (result : Result Bool Failure) → AppliesResult writes loses task name source text mid new a b result
+          → HasResult formats rejects task writes loses name old new a b result
+      result_applied (Ok place) h messages t =
+          let done = becomes_handled (report_in h.1.0) task refl h.1.2 h.1.1 h.1.3 in (
+            done.0,
+            done.1,
+            done.2 ∙ in_messages h.1.0 ∙ sym t,
+            done.3 ∙ in_status h.1.0 (if is_in_place task then 0 else 1) ∙ ap (λ x. Some (if x then 0 else 1)) (sym h.0),
+          )
+      result_applied (Err (failures.Writing error)) h messages t = becomes_handled (lost h.0 messages) task refl h.2 (h.1, t) h.3
+      result_applied (Err (failures.Rejected lines)) h messages t = result_nothing (failures.Rejected lines) h.0 (λ n. h.1 n ∙ read n) h.2 messages t
+      result_applied (Err (failures.Reading error)) h messages t = result_nothing (failures.Reading error) h.0 (λ n. h.1 n ∙ read n) h.2 messages t
+      result_applied (Err (failures.NotUtf8 place)) h messages t = result_nothing (failures.NotUtf8 place) h.0 (λ n. h.1 n ∙ read n) h.2 messages t
+      result_applied (Err (failures.Exhausted what)) h messages t = result_nothing (failures.Exhausted what) h.0 (λ n. h.1 n ∙ read n) h.2 messages t
+      result_applied (Err (failures.Replacing error)) h messages t = result_nothing (failures.Replacing error) h.0 (λ n. h.1 n ∙ read n) h.2 messages t

@@ -1,9 +1,9 @@
 -- Texts that are written, or a beginning of them.
-use Rattle.std.proofs.Common.{◌≡◌, ◌≤◌, ℕ, List, [], ◌++◌, length, take, drop, append-nil, append_assoc, Option, ap, refl, sym, subst, ◌∙◌, take-append-drop}
+use Rattle.std.proofs.Common.{◌≡◌, ◌≤◌, ℕ, List, [], length, take, drop, append-nil, Option, refl, sym, subst, take-append-drop}
 use Rattle.std.specs.Io.KnownBytes.{Appends, Keeps}
 use Rattle.std.proofs.KnownBytes.{Appends-kept, Appends-nil, Appends-trans}
 use Rattle.std.proofs.lemmas.List.{take_all}
-use Rattle.justfile_files.specs.Outcome.{AppendsBeginning}
+use Rattle.justfile_files.specs.Output.{AppendsBeginning}
 
 pub whole : (old new : Option (List ℕ)) (text : List ℕ) → Appends old new text → AppendsBeginning old new text
 whole old new text h = record { written = text; rest = []; is = sym (append-nil text); appended = h }
@@ -24,15 +24,6 @@ flushed old mid new text a kept = Appends-kept old mid new text a kept
 
 pub flushed_beginning : (old mid new : Option (List ℕ)) (text : List ℕ) → AppendsBeginning old mid text → Keeps mid new → AppendsBeginning old new text
 flushed_beginning old mid new text a kept = record { written = a.written; rest = a.rest; is = a.is; appended = Appends-kept old mid new a.written a.appended kept }
-
--- a text, and the beginning of another one
-pub then_beginning : (a b c : Option (List ℕ)) (first second : List ℕ) → Appends a b first → AppendsBeginning b c second → AppendsBeginning a c (first ++ second)
-then_beginning a b c first second h k = record {
-  written = first ++ k.written;
-  rest = k.rest;
-  is = ap (λ l. first ++ l) k.is ∙ sym (append_assoc first k.written k.rest);
-  appended = Appends-trans a b c first k.written h k.appended;
-}
 
 -- some bytes were written, and then none
 pub front_alone : (a b c : Option (List ℕ)) (text rest : List ℕ) (count more : ℕ) → more ≡ 0 → Appends a b (take count text) → Appends b c (take more rest) → AppendsBeginning a c text

@@ -1,5 +1,6 @@
 -- Why the task failed for a file, and what is told of it.
 use Rattle.std.specs.Prelude.{◌≡◌, ◌⊎◌, ℕ, All, List, [], ◌∷◌, ◌++◌, Option, None, Some, codes, string_bytes}
+use Rattle.justfile_files.specs.Visible.{visible_lines, visible_name}
 use Rattle.justfile_files.specs.declared.failure.Failure.{Failure}
 use Rattle.justfile_files.specs.declared.failure.Failure.TheVariants as failures
 use Rattle.justfile_files.specs.declared.formatter.Refusal.{Refusal}
@@ -11,7 +12,7 @@ failure_of (faults.Exhausted what) = failures.Exhausted what
 
 -- the message with this reason
 abbrev pub message_of : (name reason : List ℕ) → List ℕ
-message_of name reason = codes "error: " ++ name ++ codes ": " ++ reason ++ codes "\n"
+message_of name reason = codes "error: " ++ visible_name name ++ codes ": " ++ visible_lines reason ++ codes "\n"
 
 -- The message names the file and has a reason, or tells that there was no memory for that.
 abbrev pub IsMessage : (name message : List ℕ) → Type 0
@@ -22,7 +23,7 @@ abbrev pub failure_status : Failure → Option ℕ
 failure_status (failures.Rejected lines) = Some 2
 failure_status (failures.Writing error) = None
 failure_status (failures.Reading error) = Some 3
-failure_status failures.NotUtf8 = Some 3
+failure_status (failures.NotUtf8 place) = Some 3
 failure_status (failures.Exhausted what) = Some 3
 failure_status (failures.Replacing error) = Some 3
 

@@ -3,6 +3,8 @@ pub mod Formatter
 pub mod Failure
 pub mod FileResult
 pub mod Outcome
+pub mod Output
 pub mod Question
 pub mod Request
 pub mod Stream
+pub mod Visible

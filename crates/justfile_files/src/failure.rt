@@ -6,6 +6,8 @@ ghost use Rattle.justfile_files.specs.Failure.{IsMessage, TellFailure, failure_s
 use crate::folder::ReplaceError;
 use crate::formatter::Refusal;
 use crate::messages::Messages;
+use crate::place::Place;
+use crate::visible::{visible_lines, visible_name};
 use std::alloc::{AllocError, Global};
 use std::io::{self, ErrorKind};
 
@@ -14,8 +16,8 @@ use std::io::{self, ErrorKind};
 pub(crate) enum Failure {
     /// The file can't be read.
     Reading(io::Error),
-    /// The file isn't UTF-8.
-    NotUtf8,
+    /// The file isn't UTF-8 from this place on.
+    NotUtf8(Place),
     /// The text can't be formatted. The lines tell why, and where in which file.
     Rejected(String),
     /// Something ran out that formatting needs, such as memory.
@@ -99,7 +101,7 @@ fn tell_reason<E: Messages>(alloc: Global, name: &str, failure: &Failure, errors
 fn message(alloc: Global, name: &str, failure: &Failure) -> Result<String, AllocError>
     ensures { IfOk result (λ message. IsMessage name.now (string_bytes message)) }
 {
-    let reason = reason(alloc, failure)?;
+    let reason = reason(alloc, name, failure)?;
     with_reason(alloc, name, reason.as_str())
 }
 
@@ -107,24 +109,32 @@ fn message(alloc: Global, name: &str, failure: &Failure) -> Result<String, Alloc
 fn with_reason(alloc: Global, name: &str, reason: &str) -> Result<String, AllocError>
     ensures { IfOk result (λ message. string_bytes message ≡ message_of name.now reason.now) }
 {
+    let name = visible_name(alloc, name)?;
+    let reason = visible_lines(alloc, reason)?;
     let mut message = "error: ".to_string(alloc)?;
-    message.push_str(name)?;
+    message.push_str(name.as_str())?;
     message.push_str(": ")?;
-    message.push_str(reason)?;
+    message.push_str(reason.as_str())?;
     message.push_str("\n")?;
     Ok(message)
 }
 
 /// Returns the reason of a failure in words.
-fn reason(alloc: Global, failure: &Failure) -> Result<String, AllocError> {
+fn reason(alloc: Global, name: &str, failure: &Failure) -> Result<String, AllocError> {
     match failure {
         Failure::Reading(error) => format!(in alloc; "can't be read: {error}"),
-        Failure::NotUtf8 => "not UTF-8".to_string(alloc),
+        Failure::NotUtf8(place) => not_utf8_reason(alloc, name, *place),
         Failure::Rejected(lines) => lines.as_str().to_string(alloc),
         Failure::Exhausted(what) => what.to_string(alloc),
         Failure::Replacing(error) => replace_reason(alloc, error),
         Failure::Writing(error) => format!(in alloc; "can't be reported: {error}"),
     }
+}
+
+/// Returns the reason that a file isn't UTF-8, with the place as it stands in other errors.
+fn not_utf8_reason(alloc: Global, name: &str, place: Place) -> Result<String, AllocError> {
+    let name = visible_name(alloc, name)?;
+    format!(in alloc; "not UTF-8\n ——▶ {name}:{}:{}", place.line, place.column)
 }
 
 /// Returns the reason why a file wasn't replaced in words.

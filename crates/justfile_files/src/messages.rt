@@ -1,6 +1,6 @@
 //! Where messages of failures go.
 ghost use Rattle.std.specs.Prelude.{ℕ, List};
-ghost use Rattle.justfile_files.specs.Outcome.{AppendsBeginning};
+ghost use Rattle.justfile_files.specs.Output.{AppendsBeginning};
 
 use crate::output::write_text;
 use std::io::Write;

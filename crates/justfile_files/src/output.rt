@@ -1,9 +1,37 @@
-//! Writing texts.
-ghost use Rattle.std.specs.Prelude.{◌≡◌, OnOk};
+//! Where reports go, and writing texts.
+ghost use Rattle.std.specs.Prelude.{◌≡◌, ℕ, List, OnErr, OnOk};
 ghost use Rattle.std.specs.Io.KnownBytes.{Appends};
-ghost use Rattle.justfile_files.specs.Outcome.{AppendsBeginning};
+ghost use Rattle.justfile_files.specs.Output.{AppendsBeginning};
 
 use std::io::{self, Error, ErrorKind, Write};
+
+/// Takes the reports of files: for the program standard output, for a test a text in memory.
+pub trait Output {
+    /// A report was written between two states, all of it.
+    ghost writes: { Self → List ℕ → Self → Type 0 };
+
+    /// Writing a report failed between two states.
+    ghost loses: { Self → List ℕ → Self → Type 0 };
+
+    /// Writes a report.
+    ///
+    /// # Errors
+    ///
+    /// It couldn't be written to its end.
+    fn take(&mut self, report: &str) -> io::Result<()>
+        ensures written { OnOk result (writes self.old report.now self.new) }
+        ensures lost { OnErr result (loses self.old report.now self.new) };
+}
+
+impl<W: Write> Output for W {
+    ghost writes = { λ s report t. Appends (W.contents s) (W.contents t) report };
+
+    ghost loses = { λ s report t. AppendsBeginning (W.contents s) (W.contents t) report };
+
+    fn take(&mut self, report: &str) -> io::Result<()> {
+        write_text(report, self)
+    }
+}
 
 /// Writes a text up to the first write that fails, and flushes the writer.
 ///

@@ -1,54 +1,56 @@
-//! What is written about a file that isn't formatted.
-ghost use Rattle.std.specs.Prelude.{◌≡◌, ◌≢◌, IfOk, string_bytes};
-ghost use Rattle.justfile_files.specs.declared.request.Task.TheVariants as tasks;
-ghost use Rattle.justfile_files.specs.Outcome.{IsReport};
-ghost use Rattle.justfile_files.specs.FileResult.{Reports};
+//! What is written about a file that isn't formatted, or wasn't.
+ghost use Rattle.std.specs.Prelude.{◌≡◌, ◌++◌, IfOk, OnErr, OnOk, codes, string_bytes};
+ghost use Rattle.std.specs.Option.{option_map};
+ghost use Rattle.justfile_files.specs.FileResult.{LosesText, report_in};
+ghost use Rattle.justfile_files.specs.Outcome.{HasReport, Takes};
+ghost use Rattle.justfile_files.specs.Visible.{visible_name};
 
-use crate::failure::Failure;
-use crate::output::write_text;
+use crate::output::Output;
 use crate::request::Task;
+use crate::visible::visible_name;
 use line_diff::unified_diff;
 use std::alloc::{AllocError, Global};
-use std::io::Write;
+use std::io;
 
-/// Writes the report of a file with this name and text, whose formatted text is another. Returns
-/// whether the file is formatted: it isn't.
-pub(crate) fn write_report<O: Write>(
+/// Returns the report of a file with this name and text, whose formatted text is another: its name
+/// on a line, or the diff from the text to the formatted text. There is none if the task is to
+/// format without names.
+pub(crate) fn report_text(
     alloc: Global,
     task: Task,
     name: &str,
     source: &str,
     text: &str,
-    output: &mut O,
-) -> Result<bool, Failure>
-    requires { task ≢ tasks.Format }
-    ensures { Reports task name.now source.now text.now
-        (O.contents output.old) (O.contents output.new) result }
+) -> Result<Option<String>, AllocError>
+    ensures { IfOk result (λ report. HasReport task name.now source.now text.now
+        (report_in (option_map string_bytes report))) }
 {
-    let report = match report_text(alloc, task, name, source, text) {
-        Ok(report) => report,
-        Err(_) => return Err(Failure::Exhausted("out of memory")),
-    };
-    match write_text(report.as_str(), output) {
-        Ok(()) => Ok(false),
-        Err(error) => Err(Failure::Writing(error)),
+    match task {
+        Task::Format => Ok(None),
+        Task::Diff => Ok(Some(unified_diff(alloc, name, source, text)?)),
+        Task::FormatAndName => Ok(Some(name_line(alloc, name)?)),
+        Task::Check => Ok(Some(name_line(alloc, name)?)),
     }
 }
 
-/// Returns the report: the name on a line, or the diff from the text to the formatted text.
-fn report_text(
-    alloc: Global,
-    task: Task,
-    name: &str,
-    source: &str,
-    text: &str,
-) -> Result<String, AllocError>
-    requires { task ≢ tasks.Format }
-    ensures { IfOk result
-        (λ report. IsReport task name.now source.now text.now (string_bytes report)) }
+/// Returns a name on a line.
+fn name_line(alloc: Global, name: &str) -> Result<String, AllocError>
+    ensures { IfOk result (λ line. string_bytes line ≡ visible_name name.now ++ codes "\n") }
 {
-    match task {
-        Task::Diff => unified_diff(alloc, name, source, text),
-        _ => format!(in alloc; "{name}\n"),
+    let mut line = visible_name(alloc, name)?;
+    line.push_str("\n")?;
+    Ok(line)
+}
+
+/// Writes a report, if there is one.
+pub(crate) fn write_report<O: Output>(report: &Option<String>, output: &mut O) -> io::Result<()>
+    ensures ok { OnOk result (Takes O.writes O.loses output.old
+        (report_in (option_map string_bytes report.now)) output.new) }
+    ensures err { OnErr result (LosesText O.loses output.old
+        (option_map string_bytes report.now) output.new) }
+{
+    match report {
+        Some(text) => output.take(text.as_str()),
+        None => Ok(()),
     }
 }

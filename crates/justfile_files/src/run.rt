@@ -7,21 +7,21 @@ use crate::file::handle_file;
 use crate::folder::Folder;
 use crate::formatter::Formatter;
 use crate::messages::Messages;
+use crate::output::Output;
 use crate::request::{Task, request_in};
 use std::alloc::Global;
-use std::io::Write;
 
 /// The form of the arguments.
-pub const USAGE: &str = "usage: justfiles [--check | --diff] [FILE..]\n";
+pub const USAGE: &str = "usage: justfiles [--check | --diff | --list] [FILE..]\n";
 
-/// Does what the arguments ask for with the files of a folder: formats them in place, or writes the
-/// name of each that isn't formatted (`--check`), or a diff to its formatted text (`--diff`). If it
-/// fails for a file, it tells why and goes on with the next one. If a report can't be written, it
-/// stops.
+/// Does what the arguments ask for with the files of a folder: formats them in place, and writes the
+/// name of each that it changes (`--list`) or nothing; or writes the name of each that isn't
+/// formatted (`--check`), or a diff to its formatted text (`--diff`). If it fails for a file, it
+/// tells why and goes on with the next one. If a report can't be written, it stops.
 ///
 /// Returns the greatest status of a file: 0 if it is formatted, or is now; 1 if it isn't; 2 if its
 /// text can't be formatted; 3 for any other failure, or if the arguments have another form.
-pub fn run<F: Formatter, D: Folder, O: Write, E: Messages>(
+pub fn run<F: Formatter, D: Folder, O: Output, E: Messages>(
     alloc: Global,
     arguments: &[String],
     formatter: &F,
@@ -36,8 +36,9 @@ pub fn run<F: Formatter, D: Folder, O: Write, E: Messages>(
         ChangesFiles F.formats request.0 request.1
         (D.contents folder.old) (D.contents folder.new)) }
     ensures outcomes { IfSome (request_of (texts arguments.now)) (λ request.
-        HasOutcomes F.formats F.rejects request.0 E.tells request.1 (D.contents folder.new)
-        (O.contents output.old) (O.contents output.new) errors.old errors.new result) }
+        HasOutcomes F.formats F.rejects request.0 O.writes O.loses E.tells request.1
+        (D.contents folder.old) (D.contents folder.new) output.old output.new
+        errors.old errors.new result) }
     ensures silent { result ≤ 1 → errors.new ≡ errors.old }
 {
     match request_in(arguments) {
@@ -51,7 +52,7 @@ pub fn run<F: Formatter, D: Folder, O: Write, E: Messages>(
 
 /// Does the task with each of the files, up to the first one whose report can't be written, and
 /// returns the greatest status.
-fn handle_files<F: Formatter, D: Folder, O: Write, E: Messages>(
+fn handle_files<F: Formatter, D: Folder, O: Output, E: Messages>(
     alloc: Global,
     task: Task,
     formatter: &F,
@@ -62,9 +63,9 @@ fn handle_files<F: Formatter, D: Folder, O: Write, E: Messages>(
 ) -> u8
     ensures files { ChangesFiles F.formats task (texts names.now)
         (D.contents folder.old) (D.contents folder.new) }
-    ensures outcomes { HasOutcomes F.formats F.rejects task E.tells (texts names.now)
-        (D.contents folder.new) (O.contents output.old) (O.contents output.new)
-        errors.old errors.new result }
+    ensures outcomes { HasOutcomes F.formats F.rejects task O.writes O.loses E.tells
+        (texts names.now) (D.contents folder.old) (D.contents folder.new)
+        output.old output.new errors.old errors.new result }
     ensures silent { result ≤ 1 → errors.new ≡ errors.old }
 {
     let mut status: u8 = 0;

@@ -3,7 +3,7 @@ ghost use Rattle.std.specs.Prelude.{◌≡◌};
 ghost use Rattle.justfile_files.specs.Request.{texts};
 ghost use Rattle.justfile_files.specs.Stream.{shown_name, shown_stream, stream_name, stream_of};
 
-use crate::request::Task;
+use crate::request::{Task, task_in};
 
 /// The name of standard input in messages, if the arguments give it none.
 pub const NAME: &str = "justfile";
@@ -13,16 +13,11 @@ pub const NAME: &str = "justfile";
 pub fn stream_in(arguments: &[String]) -> Option<(Task, &str)>
     ensures { shown_stream result ≡ stream_of (texts arguments.now) }
 {
-    let [first, rest @ ..] = arguments else {
+    let (task, words) = task_in(arguments);
+    if task == Task::FormatAndName {
         return None;
-    };
-    if first.as_str() == "--check" {
-        return Some((Task::Check, name_in(rest)?));
     }
-    if first.as_str() == "--diff" {
-        return Some((Task::Diff, name_in(rest)?));
-    }
-    Some((Task::Format, name_in(arguments)?))
+    Some((task, name_in(words)?))
 }
 
 /// Returns the name that the words `[--name FILE] -` give.

@@ -1,7 +1,6 @@
 -- Refusals of justfiles.
-use Rattle.std.proofs.Common.{ℕ, List, string_bytes, subst, sym}
+use Rattle.std.proofs.Common.{ℕ, List, string_bytes}
 use Rattle.justfile_canonical.specs.Fault.{IsFormatFaultOf}
-use Rattle.justfile_canonical.specs.Formatting.{IsRejection}
 use Rattle.justfile_canonical.specs.declared.fault.FormatFault.{FormatFault}
 use Rattle.justfile_canonical.specs.declared.fault.FormatFault.TheVariants as faults
 use Rattle.justfile_files.specs.Formatter.{IfRejected}
@@ -11,7 +10,7 @@ use Rattle.justfiles.specs.Justfile.{IsRefusalOf, IsRejected, rejected, unprinta
 
 pub refused : (name source : List ℕ) (fault : FormatFault) (refusal : Refusal) → IsFormatFaultOf name source fault → IsRefusalOf fault refusal
     → IfRejected (IsRejected name source) refusal
-refused name source (faults.Rejected rejection) (Rejected told) f r = rejected (subst (λ l. IsRejection name source (string_bytes l)) (sym r) f.told)
+refused name source (faults.Rejected rejection) (Rejected told) f r = rejected (record { message = string_bytes rejection.lines; rejection = f.told; is = r })
 refused name source faults.NotPrintable (Rejected told) f r = unprintable f r
 refused name source faults.Memory (Rejected told) f r = absurd r
 refused name source faults.Numbers (Rejected told) f r = absurd r

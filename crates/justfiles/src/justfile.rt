@@ -3,11 +3,12 @@ ghost use Rattle.std.specs.Prelude.{IfOk, string_bytes};
 ghost use Rattle.justfile_canonical.specs.declared.fault.FormatFault.TheVariants as faults;
 ghost use Rattle.justfile_canonical.specs.Formatting.{IsFormatted};
 ghost use Rattle.justfile_canonical.proofs.Formatted as formatted;
-ghost use Rattle.justfiles.specs.Justfile.{IsRefusalOf, IsRejected, TellsReturn};
+ghost use Rattle.justfiles.specs.Justfile.{IsRefusalOf, IsRejected, IsShownRefusal, TellsReturn};
 ghost use Rattle.justfiles.specs.Laws.{never_both};
 
 use crate::returned::returned_excerpt;
 use justfile_files::formatter::{Formatter, Refusal};
+use justfile_files::visible::visible_lines;
 use justfile_syntax::format::{FormatFault, format_text};
 use std::alloc::{AllocError, Global};
 
@@ -39,10 +40,20 @@ fn refusal(alloc: Global, name: &str, source: &str, fault: FormatFault) -> Refus
     ensures { IsRefusalOf fault result }
 {
     match fault {
-        FormatFault::Rejected(rejection) => Refusal::Rejected(rejection.lines),
+        FormatFault::Rejected(told) => rejection(alloc, told.lines.as_str()),
         FormatFault::NotPrintable => unprintable(alloc, name, source),
         FormatFault::Memory => Refusal::Exhausted("out of memory"),
         FormatFault::Numbers => Refusal::Exhausted("out of numbers"),
+    }
+}
+
+/// Makes the refusal of a text that is no justfile, which these lines tell.
+fn rejection(alloc: Global, lines: &str) -> Refusal
+    ensures { IsShownRefusal lines.now result }
+{
+    match visible_lines(alloc, lines) {
+        Ok(lines) => Refusal::Rejected(lines),
+        Err(_) => Refusal::Exhausted("out of memory"),
     }
 }
 
@@ -63,6 +74,6 @@ fn unprintable_lines(alloc: Global, name: &str, source: &str) -> Result<String, 
 {
     let excerpt = returned_excerpt(alloc, name, source)?;
     let mut lines = "error: a body line ends in a carriage return\n".to_string(alloc)?;
-    lines.push_str(excerpt.as_str())?;
+    lines.push_str(visible_lines(alloc, excerpt.as_str())?.as_str())?;
     Ok(lines)
 }

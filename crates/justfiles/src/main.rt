@@ -11,24 +11,12 @@ use justfile_files::request::Task;
 use justfile_files::run::run;
 use justfile_files::stream::stream_in;
 use std::alloc::AllocError;
+use std::io;
 use std::process::ExitCode;
-use std::{env, io};
+use system_folder::arguments::{Arguments, read_arguments};
 use system_folder::file_system::FileSystem;
 use system_folder::find_justfile;
 use system_folder::stream::Stream;
-
-/// Returns the arguments after the program's name. If they name no file, the justfile that `just`
-/// would find is added.
-fn arguments(rt: &HostRuntime) -> io::Result<Vec<String>> {
-    let mut arguments = Vec::new(rt.alloc());
-    for argument in env::args(rt)?.skip(1) {
-        arguments.push(argument)?;
-    }
-    if lacks_names(&arguments) {
-        arguments.push(find_justfile(rt, rt.alloc())?)?;
-    }
-    Ok(arguments)
-}
 
 /// Does what the arguments ask for with the files of a folder, and returns the status.
 fn run_on<D: Folder>(rt: &HostRuntime, arguments: &[String], folder: &mut D) -> u8 {
@@ -48,7 +36,7 @@ fn run_on<D: Folder>(rt: &HostRuntime, arguments: &[String], folder: &mut D) -> 
 fn arguments_for(rt: &HostRuntime, task: Task, name: &str) -> Result<Vec<String>, AllocError> {
     let mut arguments = Vec::new(rt.alloc());
     match task {
-        Task::Format => {}
+        Task::Format | Task::FormatAndName => {}
         Task::Check => arguments.push("--check".to_string(rt.alloc())?)?,
         Task::Diff => arguments.push("--diff".to_string(rt.alloc())?)?,
     }
@@ -70,15 +58,18 @@ fn run_on_stream(rt: &HostRuntime, task: Task, name: &str) -> io::Result<u8> {
 
 /// Does what the arguments ask for, and returns the status.
 fn run_all(rt: &HostRuntime) -> io::Result<u8> {
-    let arguments = arguments(rt)?;
-    if let Some(answer) = answer_to(&arguments) {
+    let Arguments { mut words, garbled } = read_arguments(rt)?;
+    if lacks_names(&words) {
+        words.push(find_justfile(rt, rt.alloc())?)?;
+    }
+    if let Some(answer) = answer_to(&words) {
         print!(rt; "{answer}")?;
         return Ok(0);
     }
-    if let Some((task, name)) = stream_in(&arguments) {
+    if let Some((task, name)) = stream_in(&words) {
         return run_on_stream(rt, task, name);
     }
-    Ok(run_on(rt, &arguments, &mut FileSystem::new(rt)))
+    Ok(run_on(rt, &words, &mut FileSystem::new(rt, &garbled)))
 }
 
 fn main(rt: HostRuntime) -> ExitCode {

@@ -4,8 +4,8 @@
 mod edits;
 mod hunks;
 mod label;
-mod lengths;
 mod lines;
+mod plan;
 mod shared;
 mod unified;
 

@@ -4,19 +4,33 @@ ghost use Rattle.std.specs.Prelude.{None};
 use crate::replace::replace_file;
 use justfile_files::folder::{Folder, ReplaceError};
 use std::alloc::Global;
-use std::{fs, io};
+use std::fs;
+use std::io::{self, Error, ErrorKind};
 
 /// The files of the system, by their paths.
 #[derive(Drop)]
 pub struct FileSystem<'a> {
     rt: &'a HostRuntime,
+    /// Names that stand for others, which aren't UTF-8.
+    garbled: &'a [String],
 }
 
 impl<'a> FileSystem<'a> {
-    /// Returns the file system that the runtime gives access to.
-    pub fn new(rt: &'a HostRuntime) -> Self {
-        FileSystem { rt }
+    /// Returns the file system that the runtime gives access to. Files with garbled names can't be
+    /// read.
+    pub fn new(rt: &'a HostRuntime, garbled: &'a [String]) -> Self {
+        FileSystem { rt, garbled }
     }
+}
+
+/// Whether a name is one of these.
+fn contains(names: &[String], name: &str) -> bool {
+    for other in names {
+        if other.as_str() == name {
+            return true;
+        }
+    }
+    false
 }
 
 impl Folder for FileSystem<'_> {
@@ -24,6 +38,9 @@ impl Folder for FileSystem<'_> {
     ghost contents = { λ _ _. None };
 
     fn read(&mut self, _alloc: Global, name: &str) -> io::Result<Vec<u8>> {
+        if contains(self.garbled, name) {
+            return Err(Error::new(ErrorKind::InvalidInput, "its name isn't UTF-8"));
+        }
         fs::read(self.rt, name)
     }
 

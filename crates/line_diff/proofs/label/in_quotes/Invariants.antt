@@ -1,7 +1,7 @@
 use Rattle.std.proofs.Common.{◌≡◌, ◌++◌, codes, string_bytes}
 use Rattle.std.specs.List.{flat_map}
 use Rattle.line_diff.specs.Label.{escaped}
-use Rattle.line_diff.proofs.label.file_label.Given as goal
+use Rattle.line_diff.proofs.label.in_quotes.Given as goal
 
 -- the characters so far are in the label
 abbrev pub invariant-loop-character : goal.invariant-loop-character

@@ -3,7 +3,7 @@ use Rattle.std.proofs.lemmas.Iterator.{YieldsList-from_chars}
 use Rattle.std.proofs.lemmas.Iterator.Consumers.{YieldsList-end}
 use Rattle.std.proofs.lemmas.List.{map-id}
 use Rattle.line_diff.proofs.LabelLemmas.{quoted_label}
-use Rattle.line_diff.proofs.label.file_label.Goals as goal
+use Rattle.line_diff.proofs.label.in_quotes.Goals as goal
 
 pub returns : goal.returns
 returns c =
