@@ -1,7 +1,6 @@
 -- What is read of a table, and what that implies for its tokens.
 use Rattle.std.proofs.Common.{IfSome, ◌≡◌, ◌⊎◌, ℕ, ◌+◌, ◌<◌, ◌≤◌, Bool, true, false, ◌&&◌, cond, IsTrue, rules, List, [], ◌∷◌, ◌++◌, map, length, All, Contains, Option, Some, None, Result, Ok, Err, inl, inr, refl, sym, ap, ◌∙◌, subst, arith}
 use Rattle.std.specs.Prelude.{◌-◌, ◌^◌, IfOk, codes, get_or, nat_eq, reverse, string_bytes}
-use Rattle.std.specs.Global.{Box}
 use Rattle.std.specs.List.{list_all, flat_map, starts_with}
 use Rattle.std.specs.Option.{option_map}
 use Rattle.std.proofs.lemmas.Bool.Decides.{nat_tests}
@@ -29,7 +28,7 @@ use Rattle.justfile_round_trip.specs.RoundTrip.{TextDerives}
 use Rattle.justfile_round_trip.proofs.LiteralTexts.Quoted.{AreFramed, AreQuoted, IsFramed, IsQuoted, lexed_framed, lexed_quoted}
 use Rattle.justfile_line.specs.Body.{fragment_of, fragment_cooked, body_line_of, line_cooked}
 use Rattle.justfile_item.specs.Item.{header_cooked, header_of, item_of, item_cooked, priors_of, subsequents_of}
-use Rattle.justfile_recipe_header.specs.Header.{argument_cooked, boxed_of, dependency_argument_of, dependency_cooked, dependency_of, default_cooked, parameter_cooked, parameter_of}
+use Rattle.justfile_recipe_header.specs.Header.{argument_cooked, dependency_argument_of, dependency_cooked, dependency_of, default_cooked, parameter_cooked, parameter_of}
 use Rattle.justfile_recipe_header.specs.declared.parameter.Parameter.{Parameter}
 use Rattle.justfile_recipe_header.specs.declared.unresolved_dependency.DependencyArgument.{DependencyArgument}
 use Rattle.justfile_recipe_header.specs.declared.unresolved_dependency.UnresolvedDependency.{UnresolvedDependency}
@@ -64,7 +63,7 @@ use Rattle.justfile_model.proofs.Sound.Agreement.{complete, due, refused}
 use Rattle.justfile_model.proofs.Derivations.Needs.{deep_at, only_deep, raised}
 use Rattle.justfile_model.proofs.Sound.FileObeys.{sound}
 use Rattle.justfile_model.proofs.Meanings.Ordered.{ordered_bindings, ordered_recipes}
-use Rattle.justfile_parse_item.specs.Filled.{AreFilledExpressions, AreFilledParts, IsFilledArgument, IsFilledBoxed, IsFilledDependency, IsFilledName, IsFilledParameter, IsFilledRecipe, IsFilledFragment, IsFilledOptional, IsFilledItem, IsFilledExpression, IsFilledLine, IsFilledPart, IsInTable, first_part, later_part}
+use Rattle.justfile_parse_item.specs.Filled.{AreFilledExpressions, AreFilledParts, IsFilledArgument, IsFilledDependency, IsFilledName, IsFilledParameter, IsFilledRecipe, IsFilledFragment, IsFilledOptional, IsFilledItem, IsFilledExpression, IsFilledLine, IsFilledPart, IsInTable, first_part, later_part}
 use Rattle.justfile_literal.specs.Literal.{IsPartOf, is_framed, is_quoted}
 use Rattle.justfile_parse_file.specs.Errors.{IsErrorOf, IsTooDeepError}
 use Rattle.justfile_parse_expression.specs.Literal.{is_delimited, is_sound}
@@ -188,9 +187,9 @@ module _ (expander : Expansions) (P Q : Token → Type 0) (weaker : (t : Token) 
   given_line : (l : Line) → IsFilledLine expander P l → IsFilledLine expander Q l
   given_line l = All-weaker (IsFilledFragment expander P) (IsFilledFragment expander Q) given_fragment l.fragments.items
 
-  given_default : (o : Option (Box Expression)) → IfSome o (IsFilledBoxed expander P) → IfSome o (IsFilledBoxed expander Q)
+  given_default : (o : Option Expression) → IfSome o (IsFilledExpression expander P) → IfSome o (IsFilledExpression expander Q)
   given_default None h = tt
-  given_default (Some e) h = given_expression e.value h
+  given_default (Some e) h = given_expression e h
 
   given_parameter : (p : Parameter) → IsFilledParameter expander P p → IsFilledParameter expander Q p
   given_parameter p h = (weaker p.name.token h.0, given_default p.default h.1)
@@ -348,9 +347,9 @@ module _ (expander : Expansions) (P : Token → Type 0) where
       joined_cook expander (fragments_literals (map fragment_of l.fragments.items)) _ (line_cooked l) _ (fragments_cook l.fragments.items (All-head (IsFilledLine expander P) l ls all))
       (lines_cook ls (All-tail (IsFilledLine expander P) l ls all))
 
-  default_cooks : (o : Option (Box Expression)) → IfSome o (IsFilledBoxed expander P) → AreCookedTexts expander (lexemes (optional_literals expr_literals (option_map boxed_of o))) (default_cooked o)
+  default_cooks : (o : Option Expression) → IfSome o (IsFilledExpression expander P) → AreCookedTexts expander (lexemes (optional_literals expr_literals (option_map expr_of o))) (default_cooked o)
   default_cooks None h = tt
-  default_cooks (Some e) h = expression_cooks e.value h
+  default_cooks (Some e) h = expression_cooks e h
 
   parameters_cook : (ps : List Parameter) → All (IsFilledParameter expander P) ps → AreCookedTexts expander (lexemes (flat_map parameter_literals (map parameter_of ps))) (flat_map parameter_cooked ps)
   parameters_cook [] all = tt

@@ -1,5 +1,5 @@
 -- The parameters and dependencies of the code correspond to those that the definitions read.
-use Rattle.std.proofs.Common.{◌≡◌, ℕ, ◌+◌, Bool, true, false, List, [], ◌∷◌, ◌++◌, map, take, drop, All, Option, Some, None, refl, sym, ap, subst}
+use Rattle.std.proofs.Common.{◌≡◌, ℕ, ◌+◌, Bool, true, false, List, [], ◌∷◌, ◌++◌, map, take, drop, All, IfSome, Option, Some, None, refl, sym, ap, subst}
 use Rattle.std.specs.Option.{option_map}
 use Rattle.std.proofs.lemmas.List.{take-append-drop}
 use Rattle.std.proofs.lemmas.List.Elements.{All-append, All-cons, All-nil}
@@ -19,16 +19,18 @@ use Rattle.justfile_model.specs.Readers.HeaderReader.{with_bindings}
 use Rattle.justfile_model.specs.Readers.ReaderState.{Counters}
 use Rattle.justfile_model.specs.Lexing.Tok.{Tok}
 use Rattle.justfile_model.specs.Trees.Tree as tree
-use Rattle.justfile_model.specs.Trees.Tree.{starless_argument, starless_dependency}
+use Rattle.justfile_model.specs.Trees.Tree.{Expr, starless_argument, starless_dependency}
 use Rattle.justfile_model.proofs.Readers.Counters.{after_parameters}
 use Rattle.justfile_model.proofs.Relations.Related as a
-use Rattle.justfile_model.proofs.Relations.Related.{AlikeDependency, AlikeDependencyArgument, AlikeOption, AlikeParameter, AlikeParameters, Each, absent, present}
-use Rattle.justfile_parse_item.specs.Filled.{IsFilledArgument, IsFilledDependency, IsFilledName, IsFilledParameter}
+use Rattle.justfile_model.proofs.Relations.Related.{Alike, AlikeDependency, AlikeDependencyArgument, AlikeOption, AlikeParameter, AlikeParameters, Each, absent, present}
+use Rattle.justfile_parse_item.specs.Filled.{IsFilledArgument, IsFilledDependency, IsFilledExpression, IsFilledName, IsFilledParameter}
 use Rattle.justfile_parse_expression.proofs.Seen as table
 use Rattle.justfile_parse_expression.proofs.Seen.{Relates}
 use Rattle.justfile_parse_header.specs.Tree.{argument_tree, dependency_tree, parameter_name, parameter_tree}
 use Rattle.justfile_parse_base.specs.Trees.{name_tree}
-use Rattle.justfile_expression.specs.LeafTree.{Leaf, Named}
+use Rattle.justfile_expression.specs.Expression.{expr_of}
+use Rattle.justfile_expression.specs.LeafTree.{Leaf, Named, leaf_tree_of}
+use Rattle.justfile_expression.specs.declared.expression.Expression.{Expression}
 use Rattle.justfile_parse_item.proofs.Seen as seeing
 use Rattle.justfile_parse_item.proofs.SeenAttributes as attributes
 
@@ -100,10 +102,16 @@ module _ (conditions : Conditions) (bound : ℕ) (IsToken : Token → Type 0) (f
     given : IsFilledParameter conditions.expander IsToken p
     numbered : p.number.0 ≡ number
 
+  value_seen : (e : Expression) (t : Expr Tok Tok) → Alike seen (leaf_tree_of e) t → (t ≡ expr_of e) × IsFilledExpression conditions.expander IsToken e
+  value_seen e t h = let x = seeing.seen_expression conditions bound IsToken file_depth import_offsets e h in (x.same, x.given)
+
+  default_seen : (o : Option Expression) {ot : Option (Expr Tok Tok)} → AlikeOption (Alike seen) (option_map leaf_tree_of o) ot → (ot ≡ option_map expr_of o) × IfSome o (IsFilledExpression conditions.expander IsToken)
+  default_seen o h = attributes.if_seen conditions bound IsToken file_depth import_offsets leaf_tree_of expr_of (IsFilledExpression conditions.expander IsToken) value_seen o h
+
   parameter_seen : (number : ℕ) (p : Parameter) (t : tree.Parameter Tok Tok) → AlikeParameter seen number (parameter_tree p) t → SeenParameter number p t
   parameter_seen number p t h =
       let n = seeing.name_seen conditions bound IsToken file_depth import_offsets (λ token. Named token (Some (number_of number))) p.name.token (parameter_name p) t.name (λ token. refl) refl h.name in
-      let d = attributes.optional_seen conditions bound IsToken file_depth import_offsets p.default h.default in
+      let d = default_seen p.default h.default in
       record {
         same = λ i. record { kind = sym h.kind i; export = sym h.export i; name = n.1 i; default = d.0 i };
         given = (n.0, d.1);

@@ -11,5 +11,6 @@ pub mod SameOptions
 pub mod ArgAttributes
 pub mod Stars
 pub mod Texts
+pub mod Unboxed
 pub mod Undefined
 pub mod Variadics

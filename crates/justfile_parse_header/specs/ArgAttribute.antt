@@ -12,6 +12,7 @@ use Rattle.justfile_parse_header.specs.Options.{called, character_of, of_rules}
 use Rattle.justfile_parse_header.specs.declared.arg_attribute.ArgAttribute.{ArgAttribute}
 use Rattle.justfile_parse_header.specs.HeaderTable.{LeafParameter, Rules}
 use Rattle.justfile_parse_header.specs.Tree.{parameter_name, parameter_tree, value_tree}
+use Rattle.justfile_expression.specs.LeafTree.{leaf_tree_of}
 use Rattle.justfile_expression.specs.LeafViews.{views_leaves}
 
 -- the name of the long option
@@ -34,7 +35,7 @@ pub record HasArgAttribute (rules : Option Rules) (p : Parameter) : Type 0 where
   pub min : p.min ≡ of_rules None (λ r. bound_number r.min) rules
   pub multiple : p.multiple ≡ of_rules false (λ r. is_some r.multiple) rules
   pub short : p.short ≡ of_rules None short_character rules
-  pub value : value_tree p.value ≡ of_rules None (λ r. r.value) rules
+  pub value : option_map leaf_tree_of p.value ≡ of_rules None (λ r. r.value) rules
 
 -- The value is what the `arg` attribute sets.
 pub record IsArgAttribute (rules : Option Rules) (s : ArgAttribute) : Type 0 where

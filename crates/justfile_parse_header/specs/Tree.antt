@@ -21,7 +21,7 @@ use Rattle.justfile_parse_header.specs.declared.header.Header.{Header}
 use Rattle.justfile_expression.specs.LeafTree.{Leaf, Named, leaf_tree_of}
 use Rattle.justfile_expression.specs.declared.expression.Expression.{Expression}
 
--- an expression that may be absent
+-- an expression in a box, which may be absent
 abbrev pub value_tree : Option (Box Expression) → Option (Expr Leaf Token)
 value_tree value = option_map (λ (e : Box Expression). leaf_tree_of e.value) value
 
@@ -44,7 +44,7 @@ abbrev pub parameter_name : header_parameters.Parameter → Leaf
 parameter_name p = Named p.name.token (Some p.number)
 
 abbrev pub parameter_tree : header_parameters.Parameter → reader.LeafParameter
-parameter_tree p = record { kind = p.kind; export = p.export; name = parameter_name p; default = value_tree p.default }
+parameter_tree p = record { kind = p.kind; export = p.export; name = parameter_name p; default = option_map leaf_tree_of p.default }
 
 -- what a construct's `arg` attributes set for parameters
 abbrev pub rules_of : AttributeSet → List reader.Rules

@@ -1,5 +1,6 @@
 //! The parameters of a recipe.
-ghost use Rattle.std.specs.Prelude.{◌≡◌, []};
+ghost use Rattle.std.specs.Prelude.{◌≡◌, [], Option, Some};
+ghost use Rattle.justfile_expression.specs.LeafTree.{Named};
 ghost use Rattle.justfile_attribute_rules.specs.Made.{IsFaultOfRule};
 ghost use Rattle.justfile_attribute_set.specs.AttributeSet.{attributes_of};
 ghost use Rattle.justfile_model.specs.Readers.NewAttribute as new;
@@ -9,22 +10,25 @@ ghost use Rattle.justfile_parse_expression.specs.ParsedResults.{Parses};
 ghost use Rattle.justfile_parse_expression.specs.View.{state_of};
 ghost use Rattle.justfile_parse_header.specs.Arguments.{HaveBoundKeys, rules_by, OptionHasBoundKeys};
 ghost use Rattle.justfile_parse_header.specs.HeaderTable as reader;
-ghost use Rattle.justfile_parse_header.specs.ArgAttribute.{arg_attribute_broken};
+ghost use Rattle.justfile_parse_header.specs.HeaderTable.{Rules};
+ghost use Rattle.justfile_parse_header.specs.ArgAttribute.{HasArgAttribute, IsArgAttribute, arg_attribute_broken};
 ghost use Rattle.justfile_parse_header.specs.ArgNames.{AreFirsts};
 ghost use Rattle.justfile_parse_header.specs.ParameterResults.{ParsesParameters};
-ghost use Rattle.justfile_parse_header.specs.Tree.{rules_of, value_tree};
+ghost use Rattle.justfile_parse_header.specs.Tree.{parameter_tree, rules_of, value_tree};
 
-use crate::arg_attribute::{copy_arg_attribute, find_bound_key, is_flag, is_multiple};
+use crate::arg_attribute::{
+    ArgAttribute, copy_arg_attribute, find_bound_key, is_flag, is_multiple,
+};
 use crate::arg_names::{ArgAttributes, find_firsts};
 use crate::arguments::find_arg;
 use crate::read_parameters::ReadParameters;
 use justfile_attribute::Attribute;
 use justfile_attribute_set::AttributeSet;
 use justfile_expression::Expression;
-use justfile_numbers::Numerator;
+use justfile_numbers::{Number, Numerator};
 use justfile_parse_base::{ParseError, next_binding_number, rule_error};
 use justfile_parse_expression::{ExpressionError, TokenCursor};
-use justfile_recipe_header::{Parameter, ParameterKind};
+use justfile_recipe_header::{Parameter, ParameterKind, unboxed};
 use justfile_token::{CompileErrorKind, Expander, Fault, Name, Token};
 use justfile_vocabulary::TokenKind;
 use std::alloc::Global;
@@ -198,22 +202,61 @@ fn parse_named<'src, X: Expander>(
     check_arg_attribute(arg, parser.alloc, name.0, default.is_some(), kind)?;
     let arg_attribute = copy_arg_attribute(parser.alloc, arg)?;
     let number = next_binding_number(numerator)?;
-    parameters.push(Parameter {
-        default,
+    parameters.push(make_parameter(
+        Name::from_identifier(name.0),
+        number,
+        kind,
         export,
-        flag: arg_attribute.flag,
+        default,
+        arg_attribute,
+    ))?;
+    Ok(())
+}
+
+/// Makes a parameter of its parts and of what its `arg` attribute sets for it.
+#[tactic(auto, using(crate::proofs::Unboxed::unboxed_tree))]
+fn make_parameter<'src>(
+    name: Name<'src>,
+    number: Number,
+    kind: ParameterKind,
+    export: bool,
+    default: Option<Box<Expression<'src>>>,
+    arg_attribute: ArgAttribute<'src>,
+) -> Parameter<'src>
+    ensures name { result.name ≡ name.entry }
+    ensures tree { parameter_tree result ≡ record {
+      kind = kind;
+      export = export;
+      name = Named result.name.token (Some number);
+      default = value_tree default.entry;
+    } }
+    ensures fields { (rules : Option Rules) → IsArgAttribute rules arg_attribute.entry
+        → HasArgAttribute rules result }
+{
+    let ArgAttribute {
+        flag,
+        long,
+        max,
+        min,
+        multiple,
+        short,
+        value,
+    } = arg_attribute;
+    Parameter {
+        default: unboxed(default),
+        export,
+        flag,
         help: None,
         kind,
-        long: arg_attribute.long,
-        max: arg_attribute.max,
-        min: arg_attribute.min,
-        multiple: arg_attribute.multiple,
-        name: Name::from_identifier(name.0),
+        long,
+        max,
+        min,
+        multiple,
+        name,
         number,
-        short: arg_attribute.short,
-        value: arg_attribute.value,
-    })?;
-    Ok(())
+        short,
+        value: unboxed(value),
+    }
 }
 
 /// Parses the default value of a parameter, if `=` comes next.

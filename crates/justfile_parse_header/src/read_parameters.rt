@@ -51,11 +51,12 @@ impl<'src> ReadParameters<'src> {
         }
     }
 
-    /// Returns the parameters.
+    /// Returns the parameters, in a list with exact room.
     pub(crate) fn into_list(self) -> Vec<Parameter<'src>>
         ensures { result.items ≡ self.entry.list.items }
     {
-        let ReadParameters { list, names: _ } = self;
+        let ReadParameters { mut list, names: _ } = self;
+        list.shrink_to_fit();
         list
     }
 }

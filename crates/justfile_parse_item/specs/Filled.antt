@@ -194,7 +194,7 @@ module _ (expander : Expansions) (IsToken : Token → Type 0) where
 
   -- The parameter's name is a token that `IsToken` allows, and its default has its derived values.
   abbrev pub IsFilledParameter : Parameter → Type 0
-  IsFilledParameter p = IsFilledName p.name × IfSome p.default IsFilledBoxed
+  IsFilledParameter p = IsFilledName p.name × IfSome p.default (IsFilledExpression expander IsToken)
 
   abbrev pub IsFilledArgument : DependencyArgument → Type 0
   IsFilledArgument a = IsFilledExpression expander IsToken a.expression

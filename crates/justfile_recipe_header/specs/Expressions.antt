@@ -1,7 +1,6 @@
 -- The expressions of parameters and dependencies.
-use Rattle.std.specs.Prelude.{List, [], ◌∷◌}
+use Rattle.std.specs.Prelude.{List, [], ◌∷◌, option_to_list}
 use Rattle.std.specs.List.{flat_map}
-use Rattle.justfile_inner_expressions.specs.Pushed.{optional_expressions}
 use Rattle.justfile_expression.specs.declared.expression.Expression.{Expression}
 use Rattle.justfile_recipe_header.specs.declared.parameter.Parameter.{Parameter}
 use Rattle.justfile_recipe_header.specs.declared.unresolved_dependency.DependencyArgument.{DependencyArgument}
@@ -9,7 +8,7 @@ use Rattle.justfile_recipe_header.specs.declared.unresolved_dependency.Unresolve
 
 -- the default of a parameter; its `value` is that of an attribute
 abbrev pub parameter_expressions : Parameter → List Expression
-parameter_expressions p = optional_expressions p.default
+parameter_expressions p = option_to_list p.default
 
 abbrev pub argument_expressions : DependencyArgument → List Expression
 argument_expressions a = a.expression ∷ []

@@ -1,6 +1,5 @@
 -- The trees of parameters and dependencies, and their texts.
 use Rattle.std.specs.Prelude.{ℕ, Bool, true, false, List, [], ◌++◌, map, codes, Option, None, Some}
-use Rattle.std.specs.Global.{Box}
 use Rattle.std.specs.List.{flat_map, list_any}
 use Rattle.std.specs.Option.{option_map}
 use Rattle.justfile_token.specs.Name.{name_text}
@@ -11,7 +10,7 @@ use Rattle.justfile_model.specs.Printed.Printing as printing
 use Rattle.justfile_model.specs.Printed.Printing.{fixed_text, if_some}
 use Rattle.justfile_model.specs.Lexing.Tok.{Tok, tok_of}
 use Rattle.justfile_model.specs.Trees.Tree as tree
-use Rattle.justfile_model.specs.Trees.Tree.{Expr, over_dependency, over_parameter, lexeme, nothing}
+use Rattle.justfile_model.specs.Trees.Tree.{over_dependency, over_parameter, lexeme, nothing}
 use Rattle.justfile_expression.specs.Expression.{expr_of, expr_cooked}
 use Rattle.justfile_expression.specs.Text.{text_of}
 use Rattle.justfile_expression.specs.declared.expression.Expression.{Expression}
@@ -19,13 +18,9 @@ use Rattle.justfile_recipe_header.specs.declared.parameter.Parameter.{Parameter}
 use Rattle.justfile_recipe_header.specs.declared.unresolved_dependency.DependencyArgument.{DependencyArgument}
 use Rattle.justfile_recipe_header.specs.declared.unresolved_dependency.UnresolvedDependency.{UnresolvedDependency}
 
--- the tree of an expression in a box
-abbrev pub boxed_of : Box Expression → Expr Tok Tok
-boxed_of e = expr_of e.value
-
 -- the tree of a parameter
 abbrev pub parameter_of : Parameter → tree.Parameter Tok Tok
-parameter_of p = record { kind = p.kind; export = p.export; name = tok_of p.name.token; default = option_map boxed_of p.default }
+parameter_of p = record { kind = p.kind; export = p.export; name = tok_of p.name.token; default = option_map expr_of p.default }
 
 -- an optional star in a tree, from whether there is one
 abbrev pub star_of : (starred : Bool) → Option (Unit {0})
@@ -65,8 +60,8 @@ abbrev pub dependency_shapes : List UnresolvedDependency → List (tree.Dependen
 dependency_shapes dependencies = map (over_dependency lexeme nothing (λ star. star)) (map dependency_of dependencies)
 
 -- the default of a parameter with `=` before it, or nothing if there is none
-abbrev pub default_text : Option (Box Expression) → List ℕ
-default_text default = if_some (λ e. fixed_text (codes "=") ++ printing.expr_text e) (option_map (tree.over_expr lexeme nothing) (option_map boxed_of default))
+abbrev pub default_text : Option Expression → List ℕ
+default_text default = if_some (λ e. fixed_text (codes "=") ++ printing.expr_text e) (option_map (tree.over_expr lexeme nothing) (option_map expr_of default))
 
 -- the text of a parameter
 abbrev pub parameter_text_of : Parameter → List ℕ
@@ -107,9 +102,9 @@ abbrev pub subsequents_text_of : List UnresolvedDependency → List ℕ
 subsequents_text_of subsequents = printing.subsequents_text (dependency_shapes subsequents)
 
 -- the texts of the literals of an optional expression, in order
-abbrev pub default_cooked : Option (Box Expression) → List (List ℕ)
+abbrev pub default_cooked : Option Expression → List (List ℕ)
 default_cooked None = []
-default_cooked (Some e) = expr_cooked e.value
+default_cooked (Some e) = expr_cooked e
 
 -- the texts of a parameter's literals, in order
 abbrev pub parameter_cooked : Parameter → List (List ℕ)

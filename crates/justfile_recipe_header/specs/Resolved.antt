@@ -2,7 +2,8 @@
 use Rattle.std.specs.Prelude.{◌≡◌, ℕ, List, Option}
 use Rattle.std.specs.List.{AllZip}
 use Rattle.justfile_numbers.specs.declared.number.Number.{Number}
-use Rattle.justfile_expression.specs.Resolved.{IsResolved, IsResolvedOption}
+use Rattle.justfile_token.specs.Copies.{IsSameIfPresent}
+use Rattle.justfile_expression.specs.Resolved.{IsResolved}
 use Rattle.justfile_recipe_header.specs.declared.parameter.Parameter.{Parameter}
 use Rattle.justfile_recipe_header.specs.declared.unresolved_dependency.DependencyArgument.{DependencyArgument}
 use Rattle.justfile_recipe_header.specs.declared.unresolved_dependency.UnresolvedDependency.{UnresolvedDependency}
@@ -11,8 +12,8 @@ module _ (numbers : (name : List ℕ) → Option Number) where
   -- a parameter: its default and its value are resolved, and all else is the same
   pub record IsResolvedParameter (resolved original : Parameter) : Type 0 where
     pub others : resolved ≡ record original { default = resolved.default; value = resolved.value }
-    pub default : IsResolvedOption numbers resolved.default original.default
-    pub value : IsResolvedOption numbers resolved.value original.value
+    pub default : IsSameIfPresent (IsResolved numbers) resolved.default original.default
+    pub value : IsSameIfPresent (IsResolved numbers) resolved.value original.value
 
   -- an argument: its expression is resolved, and it is starred as before
   pub record IsResolvedArgument (resolved original : DependencyArgument) : Type 0 where

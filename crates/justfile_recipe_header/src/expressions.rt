@@ -1,11 +1,11 @@
 //! The expressions of parameters and dependencies: how they are collected and resolved.
 
+use crate::optional::{push_present, resolve_present};
 use crate::parameter::Parameter;
 use crate::unresolved_dependency::{DependencyArgument, UnresolvedDependency};
 use justfile_expression::Expression;
 use justfile_inner_expressions::{
-    HasExpressions, HasVariables, push_each, push_expression, push_optional, resolve_each,
-    resolve_optional,
+    HasExpressions, HasVariables, push_each, push_expression, resolve_each,
 };
 use justfile_numbers::Number;
 use std::alloc::AllocError;
@@ -20,7 +20,7 @@ impl<'src> HasExpressions<'src> for Parameter<'src> {
         &'a self,
         found: &mut Vec<&'a Expression<'src>>,
     ) -> Result<(), AllocError> {
-        push_optional(&self.default, found)
+        push_present(&self.default, found)
     }
 }
 
@@ -60,8 +60,8 @@ impl<'src> HasVariables<'src> for Parameter<'src> {
         context: Option<&HashMap<&'src str, Number>>,
         bindings: &HashMap<&'src str, Number>,
     ) {
-        resolve_optional(&mut self.default, context, bindings);
-        resolve_optional(&mut self.value, context, bindings);
+        resolve_present(&mut self.default, context, bindings);
+        resolve_present(&mut self.value, context, bindings);
     }
 }
 

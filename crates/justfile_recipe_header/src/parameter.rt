@@ -4,9 +4,10 @@ ghost use Rattle.justfile_token.specs.Sink.{Puts};
 ghost use Rattle.justfile_recipe_header.specs.Header.{default_text, parameter_text_of, parameters_text};
 ghost use Rattle.justfile_recipe_header.specs.Parameter.{is_positive};
 
+use crate::optional::{copy_in_box, unboxed};
 use crate::parameter_kind::prefix;
 use crate::write_to::{WriteTo, write_each};
-use justfile_expression::{Expression, copy_optional};
+use justfile_expression::Expression;
 use justfile_inner_expressions::write_expression;
 use justfile_leaves::{put_piece, put_piece_if};
 use justfile_model::ParameterKind;
@@ -19,7 +20,7 @@ use std::fmt;
 #[derive(Drop, PartialEq)]
 pub struct Parameter<'src> {
     /// The value if no argument is given.
-    pub default: Option<Box<Expression<'src>>>,
+    pub default: Option<Expression<'src>>,
     /// Whether the parameter is also exported as an environment variable, with `$` before its name.
     pub export: bool,
     /// Whether the parameter is an option without a value.
@@ -43,35 +44,54 @@ pub struct Parameter<'src> {
     /// The name as a short option.
     pub short: Option<char>,
     /// The value if the option is given without one.
-    pub value: Option<Box<Expression<'src>>>,
+    pub value: Option<Expression<'src>>,
 }
 
 impl<'src> Parameter<'src> {
-    ghost use Rattle.justfile_recipe_header.specs.Copies.{IsSameParameter};
+    ghost use Rattle.justfile_token.specs.Copies.{IsSameIfPresent, IsSameText};
+    ghost use Rattle.justfile_recipe_header.specs.Copies.{IsCopyInBox, IsSameParameter};
     ghost use Rattle.justfile_recipe_header.specs.Parameter.{is_option, is_required};
 
     /// Returns a copy of the parameter, or an error if out of memory.
     pub fn clone(&self, alloc: Global) -> Result<Self, AllocError>
         ensures { IfOk result (λ copy. IsSameParameter copy self.now) }
     {
-        let default = copy_optional(alloc, &self.default)?;
-        let value = copy_optional(alloc, &self.value)?;
         let help = copy_optional_text(alloc, &self.help)?;
-        Ok(Parameter {
-            default,
+        let long = copy_optional_text(alloc, &self.long)?;
+        let default = copy_in_box(alloc, &self.default)?;
+        let value = copy_in_box(alloc, &self.value)?;
+        Ok(self.with_copies(help, long, default, value))
+    }
+
+    /// Makes a copy of the parameter, of copies of those of its parts that take memory.
+    fn with_copies(
+        &self,
+        help: Option<String>,
+        long: Option<String>,
+        default: Option<Box<Expression<'src>>>,
+        value: Option<Box<Expression<'src>>>,
+    ) -> Self
+        requires help { IsSameIfPresent IsSameText help self.now.help }
+        requires long { IsSameIfPresent IsSameText long self.now.long }
+        requires default { IsCopyInBox default self.now.default }
+        requires value { IsCopyInBox value self.now.value }
+        ensures { IsSameParameter result self.now }
+    {
+        Parameter {
+            default: unboxed(default),
             export: self.export,
             flag: self.flag,
             help,
             kind: self.kind,
-            long: copy_optional_text(alloc, &self.long)?,
+            long,
             max: self.max,
             min: self.min,
             multiple: self.multiple,
             name: self.name,
             number: self.number,
             short: self.short,
-            value,
-        })
+            value: unboxed(value),
+        }
     }
 
     /// Whether the parameter is an option: it has a long or a short option name.
@@ -148,10 +168,7 @@ pub fn write_parameter<S: Sink>(parameter: &Parameter<'_>, sink: &mut S) -> Resu
 }
 
 /// Writes the default of a parameter with `=` before it, or nothing if there is none.
-fn write_default<S: Sink>(
-    default: &Option<Box<Expression<'_>>>,
-    sink: &mut S,
-) -> Result<(), S::Fault>
+fn write_default<S: Sink>(default: &Option<Expression<'_>>, sink: &mut S) -> Result<(), S::Fault>
     ensures { Puts S.took S.failed sink.old result (default_text default.now) sink.new }
 {
     match default {

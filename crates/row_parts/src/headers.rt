@@ -62,7 +62,7 @@ fn put_kind(parameter: &Parameter<'_>, shown: &mut Text) {
 }
 
 /// Writes a word and an expression in (), if there is one.
-fn put_value(value: &Option<Box<Expression<'_>>>, shown: &mut Text, word: &str) {
+fn put_value(value: &Option<Expression<'_>>, shown: &mut Text, word: &str) {
     if let Some(expression) = value {
         shown.put(word);
         shown.put(" (");

@@ -1,5 +1,6 @@
-use Rattle.std.proofs.Common.{ℕ, ◌≤◌, map, refl, arith}
+use Rattle.std.proofs.Common.{ℕ, ◌≤◌, ◌∙◌, ap, map, arith}
 use Rattle.std.proofs.lemmas.Result.{err_from_is_err_and}
+use Rattle.justfile_token.specs.declared.name.Name.{Name}
 use Rattle.justfile_vocabulary.specs.declared.token_kind.TokenKind.TheVariants as kinds
 use Rattle.justfile_model.specs.Readers.HeaderReader.{obeying}
 use Rattle.justfile_model.specs.Readers.ReaderState.{NoNumber}
@@ -109,15 +110,15 @@ returns g c =
     let s2 = state_of g.X.Expander.answer c.parse_default.new.parser in
     let rules = rules_of c.args.arg_attributes.now.attributes.now in
     let before = c.args.parameters.now.list.items in
-    let h = c.in_ok-arg_attribute.ensures in
+    let token = ap (λ (n : Name). n.token) c.make_parameter.ensures.name ∙ c.from_identifier.ensures in
     record {
       reads =
           parameter_read rules c.args.kind c.args.export before c.args.numerator.now (state_of g.X.Expander.answer c.args.parser.now) c.in_ok-name.ensures.reads c.in_ok-default.default
           c.in_ok-default.ensures c.is_some.ensures c.find_arg-arg.ensures.rules (c.in_ok-check_arg_attribute.ensures s2) _ c.next_binding_number.new.numerator
-          (c.in_ok-number.ensures.reads s2) c.push.new.self.list.items _ c.in_ok-push.ensures c.from_identifier.ensures refl;
+          (c.in_ok-number.ensures.reads s2) c.push.new.self.list.items _ c.in_ok-push.ensures token c.make_parameter.ensures.tree;
       fields =
           pushed_fields rules before c.push.new.self.list.items _ c.in_ok-push.ensures
-          (named_fields rules (map parameter_tree before) _ (rules_by c.find_arg-arg.result) c.in_ok-name.name.now.0 c.find_arg-arg.ensures.rules c.from_identifier.ensures
-          (record { flag = h.flag; help = refl; long = h.long; max = h.max; min = h.min; multiple = h.multiple; short = h.short; value = h.value }));
+          (named_fields rules (map parameter_tree before) _ (rules_by c.find_arg-arg.result) c.in_ok-name.name.now.0 c.find_arg-arg.ensures.rules token
+          (c.make_parameter.ensures.fields (rules_by c.find_arg-arg.result) c.in_ok-arg_attribute.ensures));
       numbers = took_number g (goal.at.returns g c).In_ok-number (identifiers_left s2) (omega arith);
     }
