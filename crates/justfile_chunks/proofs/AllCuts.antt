@@ -1,23 +1,25 @@
 -- A text derives a shape exactly if its chunks derive it: by the law of one cut, all cuts.
 use Rattle.std.proofs.Common.{◌≡◌, ◌∙◌, ℕ, ◌<◌, Bool, true, false, cond, List, [], ◌∷◌, ◌++◌, ◌⊎◌, inl, inr, length, drop, Option, Some, None, refl, sym, ap, subst, arith, append-nil}
 use Rattle.std.specs.Prelude.{◌↔◌, reverse}
-use Rattle.std.specs.List.{flat_map}
+use Rattle.std.specs.List.{AllZip, flat_map}
 use Rattle.justfile_vocabulary.specs.declared.token_kind.TokenKind.{TokenKind}
 use Rattle.justfile_vocabulary.specs.declared.token_kind.TokenKind.TheVariants as kinds
 use Rattle.justfile_model.specs.Grammars.Conditions.{Conditions}
-use Rattle.justfile_model.specs.Grammars.Files.{ShapeDerives}
+use Rattle.justfile_model.specs.Grammars.Files.{ShapeDerives, to_lexemes}
 use Rattle.justfile_model.specs.Lexing.Modes.{Mode, mode, mode_after, start_mode, tail_of}
 use Rattle.justfile_model.specs.Lexing.SignificantTokens.{is_whitespace, significant_from, significant_tokens}
 use Rattle.justfile_model.specs.Lexing.Tok.{Tok}
+use Rattle.justfile_model.specs.Trees.LeafView.{views_lexemes}
 use Rattle.justfile_model.specs.Trees.Tree as tree
 use Rattle.justfile_model.specs.Trees.Tree.{Shape}
 use Rattle.justfile_model.proofs.Derivations.CarryExpressions.{Pairs, Same, cons, nil}
 use Rattle.justfile_model.proofs.Derivations.Leaves.{elsewhere}
 use Rattle.justfile_model.proofs.Lexing.UnclosedLaws.{reverse_more}
 use Rattle.justfile_round_trip.proofs.LiteralTexts.LexedModes.{Mark, mark}
-use Rattle.justfile_chunks_grammar.specs.Chunks.{AreParts, ChunksShape, HaveShapes, IsCut, Parts, ShapeFeatures, ShapeLaw, chunk_texts, ends_line, first_or, is_ignored, joined, line_kind}
-use Rattle.justfile_chunks_grammar.proofs.OneCut.{colons_law, feed_law, one_cut}
-use Rattle.justfile_chunks.proofs.ChunkTokens.{AllLex, Borders, Split, chunks_by, chunks_lex, closed, first_part, onto, plain, tokens_by}
+use Rattle.justfile_chunks_grammar.specs.Chunks.{AreParts, ChunksHave, Each, HasShape, IsCut, Parts, ShapeFeatures, ShapeLaw, chunk_texts, ends_line, first_or, is_ignored, joined, line_kind}
+use Rattle.justfile_chunks_grammar.proofs.Colons.{IndentsHaveColons}
+use Rattle.justfile_chunks_grammar.proofs.OneCut.{CutLaw, FeedLaw, TokensDeriveShape, colons_law, cut_law, feed_law, shape_from, shape_to}
+use Rattle.justfile_chunks.proofs.ChunkTokens.{Borders, ChunkLexes, Split, chunks_by, chunks_lex, closed, first_part, onto, plain, tokens_by}
 use Rattle.justfile_chunks.proofs.SameModes.{marks, same_marks}
 
 -- ---- tokens with the same kinds and lexemes
@@ -39,21 +41,6 @@ pairs_of (t ∷ ts) (u ∷ us) e g =
     subst (λ k. Pairs Same (significant_from g (t ∷ ts)) (cond (is_whitespace k) (significant_from false us)
     (record { tok = u; glued = g } ∷ significant_from true us))) kind
     (pairs_by (is_whitespace t.kind) t u g ts us kind (ap (λ (m : Mark). m.lexeme) h.0) (pairs_of ts us h.1))
-
--- such tokens derive the same shapes
-pub shape_elsewhere : (conditions : Conditions) (ts us : List Tok) (shape : Shape) (features : ShapeFeatures) → marks ts ≡ marks us
-    → ShapeDerives conditions (significant_tokens ts) shape features
-    → ShapeDerives conditions (significant_tokens us) shape features
-shape_elsewhere conditions ts us shape features e h = record {
-  written = h.written;
-  by_construct = h.by_construct;
-  derives = elsewhere conditions.limit h.derives (pairs_of ts us e false);
-  features_are = h.features_are;
-  cooked = h.cooked;
-  cooks = h.cooks;
-  unbroken = h.unbroken;
-  ordered_is = h.ordered_is;
-}
 
 -- ---- cuts, by what is before them
 
@@ -99,48 +86,17 @@ fresh (t ∷ e) rest c = record { levels = c.outside; line = not_ignored t.kind 
 -- ---- all cuts, of tokens that derive items with features
 
 module _ {X F : Type 0} (newline : X) (Derives : List Tok → List X → List F → Type 0) where
-  -- the tokens before a cut and those after it derive these items
-  pub record Sides (before after : List Tok) (feed eof : Tok) (all : List X) (features : List F) : Type 0 where
-    pub left : List X
-    pub right : List X
-    pub left_features : List F
-    pub right_features : List F
-    pub left_derives : Derives (before ++ (eof ∷ [])) left left_features
-    pub right_derives : Derives (feed ∷ after) (newline ∷ right) right_features
-    pub all_is : all ≡ left ++ right
-    pub features_are : features ≡ left_features ++ right_features
-
-  abbrev pub CutLaw : Type 0
-  CutLaw = (before after : List Tok) (feed eof : Tok) → feed.kind ≡ kinds.Eol → eof.kind ≡ kinds.Eof → IsCut (reverse before) after
-      → (all : List X) (features : List F)
-      → Derives (before ++ after) all features ↔ Sides before after feed eof all features
-
-  -- tokens that begin with a line end derive items that begin with it
-  abbrev pub FeedLaw : Type 0
-  FeedLaw = (feed : Tok) (tokens : List Tok) (all : List X) (features : List F) → feed.kind ≡ kinds.Eol → Derives (feed ∷ tokens) all features
-      → (right : List X) × (all ≡ newline ∷ right)
-
-  abbrev pub AllDerive : List (List Tok) → List (List X) → List (List F) → Type 0
-  AllDerive [] [] [] = Unit {0}
-  AllDerive (tokens ∷ others) (all ∷ alls) (fs ∷ features) = Derives tokens all fs × AllDerive others alls features
-  AllDerive _ _ _ = ⊥
-
-  -- the chunks derive items, which are these, joined
-  pub record ChunksDerive (chunks : List (List Tok)) (all : List X) (features : List F) : Type 0 where
-    pub alls : List (List X)
-    pub noted : List (List F)
-    pub have : AllDerive chunks alls noted
-    pub all_is : all ≡ joined alls
-    pub features_are : features ≡ flat_map (λ fs. fs) noted
+  abbrev ChunksDerive : List (List Tok) → List X → List F → Type 0
+  ChunksDerive = ChunksHave Derives
 
   -- one chunk
   alone : (tokens : List Tok) (all : List X) (features : List F) → Derives tokens all features ↔ ChunksDerive (tokens ∷ []) all features
-  alone tokens all features = (to, λ h. from h.alls h.noted h.have h.all_is h.features_are)
+  alone tokens all features = (to, λ h. from h.each_items h.each_features h.have h.items_are h.features_are)
     where
       to : Derives tokens all features → ChunksDerive (tokens ∷ []) all features
-      to d = record { alls = all ∷ []; noted = features ∷ []; have = (d, tt); all_is = sym (append-nil all); features_are = sym (append-nil features) }
+      to d = record { each_items = all ∷ []; each_features = features ∷ []; have = (d, tt); items_are = sym (append-nil all); features_are = sym (append-nil features) }
 
-      from : (alls : List (List X)) (noted : List (List F)) → AllDerive (tokens ∷ []) alls noted → all ≡ joined alls → features ≡ flat_map (λ fs. fs) noted
+      from : (alls : List (List X)) (noted : List (List F)) → Each Derives (tokens ∷ []) alls noted → all ≡ joined alls → features ≡ flat_map (λ fs. fs) noted
           → Derives tokens all features
       from (s ∷ []) (fs ∷ []) h e f = subst (λ x. Derives tokens x features) (sym (e ∙ append-nil s))
           (subst (λ x. Derives tokens s x) (sym (f ∙ append-nil fs)) h.0)
@@ -150,7 +106,7 @@ module _ {X F : Type 0} (newline : X) (Derives : List Tok → List X → List F 
       from (s ∷ r ∷ alls) [] h e f = absurd h
       from [] noted h e f = absurd h
 
-  module _ (cut_law : CutLaw) (feed_law : FeedLaw) where
+  module _ (cut_law : CutLaw newline Derives) (feed_law : FeedLaw newline Derives) where
     -- the first chunk, and the others
     module _ (front rest : List Tok) (feed eof : Tok) (feed_is : feed.kind ≡ kinds.Eol) (eof_is : eof.kind ≡ kinds.Eof) (x : List Tok) (xs : List (List Tok))
         (cut : IsCut (reverse front) rest)
@@ -160,14 +116,14 @@ module _ {X F : Type 0} (newline : X) (Derives : List Tok → List X → List F 
           let s = (cut_law front rest feed eof feed_is eof_is cut all features).0 d in
           let t = (law (newline ∷ s.right) s.right_features).0 s.right_derives in
           record {
-            alls = s.left ∷ t.alls;
-            noted = s.left_features ∷ t.noted;
+            each_items = s.left ∷ t.each_items;
+            each_features = s.left_features ∷ t.each_features;
             have = (s.left_derives, t.have);
-            all_is = s.all_is ∙ ap (λ y. s.left ++ y) (without t.alls t.noted s.right t.have t.all_is);
+            items_are = s.all_is ∙ ap (λ y. s.left ++ y) (without t.each_items t.each_features s.right t.have t.items_are);
             features_are = s.features_are ∙ ap (λ y. s.left_features ++ y) t.features_are;
           }
         where
-          without : (alls : List (List X)) (noted : List (List F)) (right : List X) → AllDerive ((feed ∷ x) ∷ xs) alls noted → newline ∷ right ≡ joined alls
+          without : (alls : List (List X)) (noted : List (List F)) (right : List X) → Each Derives ((feed ∷ x) ∷ xs) alls noted → newline ∷ right ≡ joined alls
               → right ≡ flat_map (drop 1) alls
           without [] noted right h e = absurd h
           without (s ∷ alls) [] right h e = absurd h
@@ -177,9 +133,9 @@ module _ {X F : Type 0} (newline : X) (Derives : List Tok → List X → List F 
 
       from_more : (all : List X) (features : List F) → ChunksDerive ((front ++ (eof ∷ [])) ∷ (feed ∷ x) ∷ xs) all features
           → Derives (front ++ rest) all features
-      from_more all features h = by h.alls h.noted h.have h.all_is h.features_are
+      from_more all features h = by h.each_items h.each_features h.have h.items_are h.features_are
         where
-          by : (alls : List (List X)) (noted : List (List F)) → AllDerive ((front ++ (eof ∷ [])) ∷ (feed ∷ x) ∷ xs) alls noted → all ≡ joined alls
+          by : (alls : List (List X)) (noted : List (List F)) → Each Derives ((front ++ (eof ∷ [])) ∷ (feed ∷ x) ∷ xs) alls noted → all ≡ joined alls
               → features ≡ flat_map (λ fs. fs) noted
               → Derives (front ++ rest) all features
           by [] noted d e g = absurd d
@@ -198,7 +154,7 @@ module _ {X F : Type 0} (newline : X) (Derives : List Tok → List X → List F 
                 right_features = flat_map (λ fs. fs) (gs ∷ noted);
                 left_derives = d.0;
                 right_derives = (law (newline ∷ right) (flat_map (λ fs. fs) (gs ∷ noted))).1
-                    (record { alls = r ∷ alls; noted = gs ∷ noted; have = d.1; all_is = sym whole; features_are = refl });
+                    (record { each_items = r ∷ alls; each_features = gs ∷ noted; have = d.1; items_are = sym whole; features_are = refl });
                 all_is = e ∙ ap (λ y. s ++ y) tail;
                 features_are = g;
               })
@@ -277,92 +233,97 @@ module _ {X F : Type 0} (newline : X) (Derives : List Tok → List X → List F 
               more_cuts part q (closed b false q) (chunks_by b false (r ∷ parts)) (r ∷ parts) earlier later f s first
               (more (onto earlier part) s.rest (fresh (onto earlier part) s.rest s.cut) s.others false) all features
 
+-- ---- chunks that have the same
+
+module _ {I J X F : Type 0} (P : I → X → F → Type 0) (Q : J → X → F → Type 0) where
+  pub each_same : (is : List I) (js : List J) → AllZip (λ i j. (x : X) (f : F) → P i x f ↔ Q j x f) is js → (xs : List X) (fs : List F)
+      → Each P is xs fs ↔ Each Q js xs fs
+  each_same [] [] e [] [] = (λ h. h, λ h. h)
+  each_same (i ∷ is) (j ∷ js) e (x ∷ xs) (f ∷ fs) =
+      let m = each_same is js e.1 xs fs in
+      (λ h. ((e.0 x f).0 h.0, m.0 h.1), λ h. ((e.0 x f).1 h.0, m.1 h.1))
+  each_same [] (j ∷ js) e xs fs = absurd e
+  each_same (i ∷ is) [] e xs fs = absurd e
+  each_same [] [] e (x ∷ xs) fs = (λ h. absurd h, λ h. absurd h)
+  each_same [] [] e [] (f ∷ fs) = (λ h. absurd h, λ h. absurd h)
+  each_same (i ∷ is) (j ∷ js) e [] fs = (λ h. absurd h, λ h. absurd h)
+  each_same (i ∷ is) (j ∷ js) e (x ∷ xs) [] = (λ h. absurd h, λ h. absurd h)
+
+pub have_same : {I J X F : Type 0} (P : I → List X → List F → Type 0) (Q : J → List X → List F → Type 0) (is : List I) (js : List J)
+    → AllZip (λ i j. (xs : List X) (fs : List F) → P i xs fs ↔ Q j xs fs) is js → (items : List X) (features : List F)
+    → ChunksHave P is items features ↔ ChunksHave Q js items features
+have_same P Q is js e items features = (
+  λ h. record {
+    each_items = h.each_items;
+    each_features = h.each_features;
+    have = (each_same P Q is js e h.each_items h.each_features).0 h.have;
+    items_are = h.items_are;
+    features_are = h.features_are;
+  },
+  λ h. record {
+    each_items = h.each_items;
+    each_features = h.each_features;
+    have = (each_same P Q is js e h.each_items h.each_features).1 h.have;
+    items_are = h.items_are;
+    features_are = h.features_are;
+  },
+)
+
+-- what follows of each two
+pub zip_over : {I J : Type 0} {R S : I → J → Type 0} → ((i : I) (j : J) → R i j → S i j) → (is : List I) (js : List J) → AllZip R is js → AllZip S is js
+zip_over f [] [] h = tt
+zip_over f [] (j ∷ js) h = absurd h
+zip_over f (i ∷ is) [] h = absurd h
+zip_over f (i ∷ is) (j ∷ js) h = (f i j h.0, zip_over f is js h.1)
+
 -- ---- shapes
 
 module _ (conditions : Conditions) where
-  abbrev DerivesShape : List Tok → Shape → ShapeFeatures → Type 0
-  DerivesShape tokens shape features = ShapeDerives conditions (significant_tokens tokens) shape features
+  -- tokens with the same kinds and lexemes derive the same shapes
+  elsewhere_too : (ts us : List Tok) {shape : Shape} {features : ShapeFeatures} → marks ts ≡ marks us → TokensDeriveShape conditions ts shape features
+      → TokensDeriveShape conditions us shape features
+  elsewhere_too ts us e h = record {
+    written = h.written;
+    by_construct = h.by_construct;
+    derives = elsewhere conditions.limit h.derives (pairs_of ts us e false);
+    features_are = h.features_are;
+    cooked = h.cooked;
+    cooks = h.cooks;
+    unbroken = h.unbroken;
+    ordered_is = h.ordered_is;
+  }
 
-  shape_cut : CutLaw tree.Newline DerivesShape
-  shape_cut before after feed eof feed_is eof_is cut shape features =
-      let law = one_cut conditions before after feed eof feed_is eof_is cut shape features in (
-        λ d. let s = law.0 d in
-            record {
-              left = s.left;
-              right = s.right;
-              left_features = s.left_features;
-              right_features = s.right_features;
-              left_derives = s.left_derives;
-              right_derives = s.right_derives;
-              all_is = s.shape_is;
-              features_are = s.features_are;
-            },
-        λ s. law.1 (record {
-          left = s.left;
-          right = s.right;
-          left_features = s.left_features;
-          right_features = s.right_features;
-          left_derives = s.left_derives;
-          right_derives = s.right_derives;
-          shape_is = s.all_is;
-          features_are = s.features_are;
-        }),
-      )
+  has_shape : (text : List ℕ) (tokens : List Tok) → ChunkLexes text tokens → (shape : Shape) (features : ShapeFeatures)
+      → HasShape conditions text shape features ↔ TokensDeriveShape conditions tokens shape features
+  has_shape text tokens l shape features = (to, from)
+    where
+      colons : (ts : List Tok) → TokensDeriveShape conditions ts shape features → IndentsHaveColons false ts
+      colons ts d = colons_law to_lexemes conditions (views_lexemes conditions.expander) (λ ls. ls) (λ ls ms. refl) ts shape features d
 
-  texts_have : (texts : List (List ℕ)) (chunks : List (List Tok)) (shapes : List Shape) (noted : List ShapeFeatures) → AllLex texts chunks
-      → AllDerive tree.Newline DerivesShape chunks shapes noted → HaveShapes conditions texts shapes noted
-  texts_have [] [] [] [] a h = tt
-  texts_have (x ∷ xs) (c ∷ cs) (s ∷ ss) (fs ∷ noted) a h =
-      let l = a.0.lexes (colons_law conditions c s fs h.0) in
-      (record { tokens = l.0; lexed = l.1; derives = shape_elsewhere conditions c l.0 s fs (sym l.2) h.0 }, texts_have xs cs ss noted a.1 h.1)
-  texts_have [] (c ∷ cs) ss noted a h = absurd a
-  texts_have (x ∷ xs) [] ss noted a h = absurd a
-  texts_have [] [] (s ∷ ss) noted a h = absurd h
-  texts_have [] [] [] (fs ∷ noted) a h = absurd h
-  texts_have (x ∷ xs) (c ∷ cs) [] noted a h = absurd h
-  texts_have (x ∷ xs) (c ∷ cs) (s ∷ ss) [] a h = absurd h
+      to : HasShape conditions text shape features → TokensDeriveShape conditions tokens shape features
+      to h =
+          let d = shape_to conditions h.tokens h.derives in
+          elsewhere_too h.tokens tokens (l.has h.tokens h.lexed (colons h.tokens d)) d
 
-  tokens_have : (texts : List (List ℕ)) (chunks : List (List Tok)) (shapes : List Shape) (noted : List ShapeFeatures) → AllLex texts chunks
-      → HaveShapes conditions texts shapes noted → AllDerive tree.Newline DerivesShape chunks shapes noted
-  tokens_have [] [] [] [] a h = tt
-  tokens_have (x ∷ xs) (c ∷ cs) (s ∷ ss) (fs ∷ noted) a h = (
-    shape_elsewhere conditions h.0.tokens c s fs (a.0.has h.0.tokens h.0.lexed (colons_law conditions h.0.tokens s fs h.0.derives)) h.0.derives,
-    tokens_have xs cs ss noted a.1 h.1,
-  )
-  tokens_have [] (c ∷ cs) ss noted a h = absurd a
-  tokens_have (x ∷ xs) [] ss noted a h = absurd a
-  tokens_have [] [] (s ∷ ss) noted a h = absurd h
-  tokens_have [] [] [] (fs ∷ noted) a h = absurd h
-  tokens_have (x ∷ xs) (c ∷ cs) [] noted a h = absurd h
-  tokens_have (x ∷ xs) (c ∷ cs) (s ∷ ss) [] a h = absurd h
+      from : TokensDeriveShape conditions tokens shape features → HasShape conditions text shape features
+      from d =
+          let x = l.lexes (colons tokens d) in
+          record { tokens = x.0; lexed = x.1; derives = shape_from conditions x.0 (elsewhere_too tokens x.0 (sym x.2) d) }
 
--- A text derives a shape exactly if its chunks derive it.
+-- A text derives a shape exactly if its chunks have it.
 pub chunks_derive : ShapeLaw
-chunks_derive conditions text tokens parts utf8 lexed are shape features =
-    by parts are
+chunks_derive conditions text tokens parts utf8 lexed are shape features = by parts are
   where
     by : (parts : List (List Tok)) → AreParts tokens parts → ShapeDerives conditions (significant_tokens tokens) shape features
-        ↔ ChunksShape conditions parts shape features
+        ↔ ChunksHave (HasShape conditions) (chunk_texts parts) shape features
     by [] are = absurd (first_part are)
     by (part ∷ parts) are =
-        let all = all_cuts tree.Newline (DerivesShape conditions) (shape_cut conditions)
-        (λ feed ts s fs e d. feed_law conditions feed ts s fs e d) plain part parts [] tokens
+        let cuts =
+        all_cuts tree.Newline (TokensDeriveShape conditions) (cut_law to_lexemes conditions (views_lexemes conditions.expander) (λ ls. ls) (λ ls ms. refl))
+        (feed_law to_lexemes conditions (views_lexemes conditions.expander) (λ ls. ls) (λ ls ms. refl)) plain part parts [] tokens
         (record { levels = refl; line = refl }) are true shape features in
-        let lex = chunks_lex text tokens utf8 lexed plain (part ∷ parts) are in
-        let chunks = chunks_by plain true (part ∷ parts) in (
-          λ d. let t = all.0 d in
-              record {
-                shapes = t.alls;
-                noted = t.noted;
-                have = texts_have conditions (chunk_texts (part ∷ parts)) chunks t.alls t.noted lex t.have;
-                shape_is = t.all_is;
-                features_are = t.features_are;
-              },
-          λ c. all.1 (record {
-            alls = c.shapes;
-            noted = c.noted;
-            have = tokens_have conditions (chunk_texts (part ∷ parts)) chunks c.shapes c.noted lex c.have;
-            all_is = c.shape_is;
-            features_are = c.features_are;
-          }),
-        )
+        let have =
+        have_same (HasShape conditions) (TokensDeriveShape conditions) (chunk_texts (part ∷ parts)) (chunks_by plain true (part ∷ parts))
+        (zip_over (has_shape conditions) (chunk_texts (part ∷ parts)) (chunks_by plain true (part ∷ parts))
+        (chunks_lex text tokens utf8 lexed plain (part ∷ parts) are)) shape features in
+        (λ d. have.1 (cuts.0 (shape_to conditions tokens d)), λ c. shape_from conditions tokens (cuts.1 (have.0 c)))

@@ -1,6 +1,7 @@
 -- The chunks of a text are lexed by themselves to their tokens in the text.
 use Rattle.std.proofs.Common.{◌≡◌, ◌≢◌, ◌∙◌, ℕ, ◌+◌, ◌<◌, Bool, true, false, cond, List, [], ◌∷◌, ◌++◌, ◌⊎◌, inl, inr, length, map, Some, None, Ok, refl, sym, ap, subst, arith, append_assoc, length-append, ⊎_elim}
 use Rattle.std.specs.Prelude.{reverse}
+use Rattle.std.specs.List.{AllZip}
 use Rattle.std.specs.Str.{IsUtf8}
 use Rattle.std.proofs.lemmas.List.{map-append}
 use Rattle.std.proofs.lemmas.List.Concat.{flat_map-append}
@@ -279,9 +280,7 @@ pub record ChunkLexes (text : List ℕ) (tokens : List Tok) : Type 0 where
   pub has : (us : List Tok) → Lexed text us → IndentsHaveColons false us → marks us ≡ marks tokens
 
 abbrev pub AllLex : List (List ℕ) → List (List Tok) → Type 0
-AllLex [] [] = Unit {0}
-AllLex (text ∷ texts) (tokens ∷ others) = ChunkLexes text tokens × AllLex texts others
-AllLex _ _ = ⊥
+AllLex texts chunks = AllZip ChunkLexes texts chunks
 
 marks_toks : (text : List ℕ) (offset : ℕ) (ms : List Mark) → marks (toks text offset ms) ≡ ms ++ (mark kinds.Eof [] ∷ [])
 marks_toks text offset [] = refl

@@ -1,5 +1,6 @@
 pub mod AllCuts
 pub mod ChunkTokens
+pub mod ChunkTrees
 pub mod CutModes
 pub mod FeedTexts
 pub mod MovedChunks
@@ -11,4 +12,3 @@ pub mod SameModes
 pub mod SameNext
 pub mod SplitRuns
 pub mod TidyModes
-pub mod TreeCuts

@@ -1,54 +1,147 @@
--- The tokens of each chunk are those of its part of the text, moved.
-use Rattle.std.proofs.Common.{◌≡◌, ◌≢◌, ◌∙◌, ℕ, ◌+◌, ◌-◌, ◌<◌, List, [], ◌∷◌, ◌++◌, ◌⊎◌, inl, inr, length, map, Some, sym, ap, subst, arith, append_assoc, append-nil, length-append}
-use Rattle.std.specs.List.{count_by}
+-- The tokens of each chunk, moved to their places in the text, are those that the text has there, except that dedents can be elsewhere.
+use Rattle.std.proofs.Common.{◌≡◌, ◌≢◌, ◌∙◌, ℕ, ◌+◌, ◌-◌, ◌<◌, Bool, true, false, List, [], ◌∷◌, ◌++◌, ◌⊎◌, inl, inr, length, map, Some, refl, sym, ap, subst, arith, append_assoc, append-nil, length-append}
+use Rattle.std.specs.List.{AllByRecursion, AllZip, count_by}
 use Rattle.std.specs.Str.{IsUtf8}
+use Rattle.std.proofs.lemmas.List.{map-append}
 use Rattle.std.proofs.lemmas.List.Concat.{flat_map-append}
 use Rattle.justfile_vocabulary.specs.declared.token_kind.TokenKind.TheVariants as kinds
-use Rattle.justfile_model.specs.Lexing.Lexed.{Lexed}
-use Rattle.justfile_model.specs.Lexing.Modes.{mode}
-use Rattle.justfile_model.specs.Lexing.Places.{is_line_feed, line_of_offset}
+use Rattle.justfile_model.specs.Lexing.Lexed.{Lexed, StandsAt}
+use Rattle.justfile_model.specs.Lexing.Modes.{Mode, mode, mode_after}
+use Rattle.justfile_model.specs.Lexing.Places.{column_at, is_line_feed, line_of_offset}
 use Rattle.justfile_model.specs.Lexing.Tok.{Tok}
 use Rattle.justfile_model.specs.Trees.Tree.{lexeme}
-use Rattle.justfile_round_trip.proofs.LiteralTexts.LexedModes.{Mark, mark}
+use Rattle.justfile_model.proofs.Lexing.LexedLaws.{one_list}
+use Rattle.justfile_model.proofs.Lexing.NextLaws as next_law
+use Rattle.justfile_model.proofs.Lexing.NextLaws.{EndsAt, token_cut}
+use Rattle.justfile_round_trip.proofs.LiteralTexts.LexedModes.{Mark, mark, tok_at}
 use Rattle.justfile_round_trip.proofs.Values.TokenFacts.{Runs}
-use Rattle.justfile_chunks_grammar.specs.Chunks.{AreParts, Parts, after_feed, moved, next_kind, text_of}
-use Rattle.justfile_chunks.proofs.ChunkTokens.{Later, NextPart, Split, first_bytes, first_part, from_start, next_part, onto, parts_some, some_text, whole_is}
-use Rattle.justfile_chunks.proofs.MovedPlaces.{AreMoved, Moves, Placed, after_text, all_moved, at_start, inside, last_moved, placed, placed_after, placed_front}
+use Rattle.justfile_chunks_grammar.specs.Chunks.{AreParts, Chunk, Parts, after_feed, chunks_of, first_chunk, later_chunk, moved, next_kind, text_of}
+use Rattle.justfile_chunks_grammar.proofs.OtherDedents.{IsEmptyDedent, NearToken}
+use Rattle.justfile_chunks.proofs.ChunkTokens.{Borders, Later, NextPart, Split, chunks_by, closed, first_bytes, first_part, from_start, next_part, onto, parts_some, some_text, whole_is}
+use Rattle.justfile_chunks.proofs.MovedPlaces.{AreMoved, IsMoved, Moves, Placed, after_text, all_moved, at_start, inside, last_moved, placed, placed_after, placed_front}
 use Rattle.justfile_chunks.proofs.SameModes.{NoneIsEof, marks, same_marks}
+use Rattle.justfile_chunks.proofs.SplitRuns.{rest_utf8}
 use Rattle.justfile_chunks.proofs.TidyModes.{EndsInFeed, Fed, fed_more}
 
--- the tokens of the first chunk are those of its part
-pub record MovesFirst (part : List Tok) : Type 0 where
-  pub moves : (us : List Tok) (ms : List Mark) → Lexed (text_of part) us → marks us ≡ marks part ++ ms → AreMoved 0 0 part us
+-- ---- the line feeds before chunks and the ends after them, where they are in the chunks, moved
 
--- The tokens of another chunk, after its line feed, are those of its part, moved.
-pub record MovesLater (t : Tok) (part : List Tok) : Type 0 where
-  pub moves : (u : Tok) (us : List Tok) (ms : List Mark) → Lexed (after_feed (t ∷ part)) (u ∷ us)
-      → marks (u ∷ us) ≡ mark kinds.Eol (10 ∷ []) ∷ marks (t ∷ part) ++ ms
-      → AreMoved (t.offset - 1) (t.line - 1) (t ∷ part) us
+abbrev pub in_text : Chunk → Tok → Tok
+in_text chunk = moved chunk.offset chunk.line
 
--- All tokens of the last chunk are those of its part, moved.
-pub record MovesLast (t : Tok) (part : List Tok) : Type 0 where
-  pub moves : (u : Tok) (us : List Tok) → Lexed (after_feed (t ∷ part)) (u ∷ us) → marks (u ∷ us) ≡ mark kinds.Eol (10 ∷ []) ∷ marks (t ∷ part)
-      → t ∷ part ≡ map (moved (t.offset - 1) (t.line - 1)) us
+abbrev end_of_chunk : Chunk → Tok
+end_of_chunk chunk = in_text chunk (tok_at chunk.text (length chunk.text) (mark kinds.Eof []))
 
-abbrev pub AllMove : List (List Tok) → Type 0
-AllMove [] = Unit {0}
-AllMove ([] ∷ parts) = ⊥
-AllMove ((t ∷ part) ∷ []) = MovesLater t part × MovesLast t part
-AllMove ((t ∷ part) ∷ q ∷ parts) = MovesLater t part × AllMove (q ∷ parts)
+abbrev chunk_by : Bool → List Tok → Chunk
+chunk_by true part = first_chunk part
+chunk_by false part = later_chunk part
 
-abbrev pub ChunksMove : List (List Tok) → Type 0
-ChunksMove [] = ⊥
-ChunksMove (part ∷ parts) = MovesFirst part × AllMove parts
+abbrev feed_mark : Mark
+feed_mark = mark kinds.Eol (10 ∷ [])
 
-first_moves : (text rest : List ℕ) (part : List Tok) → text ≡ text_of part ++ rest → Placed text 0 part → MovesFirst part
-first_moves text rest part is h = record {
-  moves = λ us ms l e.
+pub borders : Borders
+borders = record {
+  feed = λ part. in_text (later_chunk part) (tok_at (after_feed part) 0 feed_mark);
+  eof = λ first part. end_of_chunk (chunk_by first part);
+  feed_kind = λ part. refl;
+  feed_text = λ part. refl;
+  eof_kind = λ first part. refl;
+  eof_text = λ first part. refl;
+}
+
+-- The tokens of the chunk, moved, are these, except for dedents.
+pub record NearChunk (chunk : Chunk) (tokens : List Tok) : Type 0 where
+  pub near : (us : List Tok) → Lexed chunk.text us → marks us ≡ marks tokens → AllZip NearToken tokens (map (in_text chunk) us)
+
+-- ---- tokens with bytes, and dedents
+
+abbrev HasBytes : Tok → Type 0
+HasBytes t = (0 < length t.lexeme) ⊎ IsEmptyDedent t
+
+no_bytes : (xs : List ℕ) → length xs ≡ 0 → xs ≡ []
+no_bytes [] e = refl
+no_bytes (x ∷ xs) e = cc
+
+abbrev NextMoves : Mode → Tok → Type 0
+NextMoves m t = next_law.Moves m t.kind (length t.lexeme)
+
+bytes_of : (ts us : List Tok) (m : Mode) (x : List ℕ) → IsUtf8 x → Runs m x (ts ++ us) → NoneIsEof ts → AllByRecursion HasBytes ts
+bytes_of [] us m x u r n = tt
+bytes_of (t ∷ ts) us m x u r n =
+    let cut = token_cut m x u t.kind (length t.lexeme) r.2 in
+    (by cut.1 cut.2, bytes_of ts us (mode_after t.kind t m) r.0 (rest_utf8 t (ts ++ us) m x u r) r.3 n.1)
+  where
+    by : NextMoves m t → EndsAt x t.kind (length t.lexeme) → HasBytes t
+    by (inl some) e = inl some
+    by (inr (inl end)) e = absurd (n.0 end)
+    by (inr (inr d)) e = inr (d.0, no_bytes t.lexeme (subst (λ k. EndsAt x k (length t.lexeme)) d.0 e))
+
+near_one : (offset line : ℕ) {t u : Tok} → IsMoved offset line t u → HasBytes t → NearToken t (moved offset line u)
+near_one offset line m (inl some) = inl (m.place some)
+near_one offset line m (inr d) = inr (d, (sym m.kind ∙ d.0, sym m.lexeme ∙ d.1))
+
+near_itself : (ts us : List Tok) → ts ≡ us → AllZip NearToken ts us
+near_itself ts us e = subst (AllZip NearToken ts) e (by ts)
+  where
+    by : (ts : List Tok) → AllZip NearToken ts ts
+    by [] = tt
+    by (t ∷ ts) = (inl refl, by ts)
+
+-- the token that stands at an offset, and is this one
+stands : (text : List ℕ) (k : ℕ) (u : Tok) (m : Mark) → StandsAt text k u → mark u.kind u.lexeme ≡ m → u ≡ tok_at text k m
+stands text k u m s e = place ∙ ap (tok_at text k) e
+  where
+    place : u ≡ tok_at text k (mark u.kind u.lexeme)
+    place = λ i. record {
+      kind = u.kind;
+      lexeme = u.lexeme;
+      offset = s.offset_is i;
+      line = (s.line_is ∙ ap (line_of_offset text) s.offset_is) i;
+      column = (s.column_is ∙ ap (column_at text) s.offset_is) i;
+    }
+
+-- a part and the end of its chunk
+module _ (c : Chunk) where
+  abbrev end_at : ℕ → Tok
+  end_at n = in_text c (tok_at c.text n (mark kinds.Eof []))
+
+  near_end : (us : List Tok) (k : ℕ) → Placed c.text k us → marks us ≡ mark kinds.Eof [] ∷ [] → AllZip NearToken (end_at k ∷ []) (map (in_text c) us)
+  near_end [] k p e = cc
+  near_end (u ∷ us) k p e =
+      let h = same_marks (mark u.kind u.lexeme) (mark kinds.Eof []) (marks us) [] e in
+      (inl (sym (ap (in_text c) (stands c.text k u (mark kinds.Eof []) p.0 h.0))), none us h.1)
+    where
+      none : (us : List Tok) → marks us ≡ [] → AllZip NearToken [] (map (in_text c) us)
+      none [] e = tt
+      none (w ∷ us) e = cc
+
+  near_part : (part us : List Tok) (k : ℕ) → AreMoved c.offset c.line part us → AllByRecursion HasBytes part → Placed c.text k us
+      → marks us ≡ marks part ++ (mark kinds.Eof [] ∷ [])
+      → AllZip NearToken (part ++ (end_at (k + length (text_of part)) ∷ [])) (map (in_text c) us)
+  near_part [] us k m b p e = subst (λ n. AllZip NearToken (end_at n ∷ []) (map (in_text c) us)) (omega arith) (near_end us k p e)
+  near_part (t ∷ part) [] k m b p e = absurd m
+  near_part (t ∷ part) (u ∷ us) k m b p e =
+      let h = same_marks (mark u.kind u.lexeme) (mark t.kind t.lexeme) (marks us) (marks part ++ (mark kinds.Eof [] ∷ [])) e in (
+        near_one c.offset c.line m.0 b.0,
+        subst (λ n. AllZip NearToken (part ++ (end_at n ∷ [])) (map (in_text c) us))
+            (omega (arith, ap length m.0.lexeme, length-append t.lexeme (text_of part)))
+            (near_part part us (k + length u.lexeme) m.1 b.1 p.1 h.1),
+      )
+
+marks_closed : (part : List Tok) (t : Tok) → marks (part ++ (t ∷ [])) ≡ marks part ++ (mark t.kind t.lexeme ∷ [])
+marks_closed part t = map-append (λ (t : Tok). mark t.kind t.lexeme) part (t ∷ [])
+
+-- ---- chunks
+
+first_near : (text rest : List ℕ) (part : List Tok) → text ≡ text_of part ++ rest → Placed text 0 part → AllByRecursion HasBytes part
+    → NearChunk (first_chunk part) (closed borders true part)
+first_near text rest part is h bytes = record {
+  near = λ us l e.
       let p = text_of part in
+      let marked : marks us ≡ marks part ++ (mark kinds.Eof [] ∷ []) = e ∙ marks_closed part (end_of_chunk (first_chunk part)) in
       let whole : Placed (p ++ rest) 0 part = subst (λ x. Placed x 0 part) is h in
       let chunk : Placed (p ++ []) 0 us = subst (λ x. Placed x 0 us) (sym (append-nil p)) (placed p us l) in
-      all_moved [] [] p rest [] 0 0 at_start part us ms 0 whole chunk e (omega arith);
+      near_part (first_chunk part) part us 0 (all_moved [] [] p rest [] 0 0 at_start part us (mark kinds.Eof [] ∷ []) 0 whole chunk marked (omega arith)) bytes
+      (placed p us l) marked;
 }
 
 module _ (text before rest : List ℕ) (t : Tok) (part : List Tok) (feed : EndsInFeed before) (is : text ≡ before ++ (text_of (t ∷ part) ++ rest))
@@ -66,30 +159,46 @@ module _ (text before rest : List ℕ) (t : Tok) (part : List Tok) (feed : EndsI
       subst (λ n. Moves before (10 ∷ []) n (t.line - 1)) (ap (λ n. n - 1) (sym h.0.offset_is))
       (subst (λ n. Moves before (10 ∷ []) (length before - 1) (n - 1)) (sym line_is) moves)
 
-  in_text : Placed (before ++ (text_of (t ∷ part) ++ rest)) (length before + 0) (t ∷ part)
-  in_text = subst (λ n. Placed (before ++ (text_of (t ∷ part) ++ rest)) n (t ∷ part)) (omega arith) (subst (λ x. Placed x (length before) (t ∷ part)) is h)
+  in_whole : Placed (before ++ (text_of (t ∷ part) ++ rest)) (length before + 0) (t ∷ part)
+  in_whole = subst (λ n. Placed (before ++ (text_of (t ∷ part) ++ rest)) n (t ∷ part)) (omega arith) (subst (λ x. Placed x (length before) (t ∷ part)) is h)
 
   in_chunk : (u : Tok) (us : List Tok) → Lexed (after_feed (t ∷ part)) (u ∷ us) → length u.lexeme ≡ 1 → Placed (10 ∷ (text_of (t ∷ part) ++ [])) (1 + 0) us
   in_chunk u us l one =
       let p = text_of (t ∷ part) in
       subst (λ x. Placed (10 ∷ x) (1 + 0) us) (sym (append-nil p)) (subst (λ n. Placed (10 ∷ p) n us) (omega (arith, one)) (placed (10 ∷ p) (u ∷ us) l).1)
 
-  later_moves : MovesLater t part
-  later_moves = record {
-    moves = λ u us ms l e.
-        let first = same_marks (mark u.kind u.lexeme) (mark kinds.Eol (10 ∷ [])) (marks us) (marks (t ∷ part) ++ ms) e in
-        all_moved before (10 ∷ []) (text_of (t ∷ part)) rest [] (t.offset - 1) (t.line - 1) by_first (t ∷ part) us ms 0 in_text
-        (in_chunk u us l (ap (λ (m : Mark). length m.lexeme) first.0)) first.1 (omega arith);
+  -- the line feed before the part, and the other tokens of the chunk
+  near_feed : (us tokens : List Tok) → Lexed (after_feed (t ∷ part)) us → marks us ≡ feed_mark ∷ marks tokens
+      → ((u : Tok) (others : List Tok) → Lexed (after_feed (t ∷ part)) (u ∷ others) → length u.lexeme ≡ 1 → marks others ≡ marks tokens
+      → AllZip NearToken tokens (map (in_text (later_chunk (t ∷ part))) others))
+      → AllZip NearToken (borders.feed (t ∷ part) ∷ tokens) (map (in_text (later_chunk (t ∷ part))) us)
+  near_feed [] tokens l e more = cc
+  near_feed (u ∷ us) tokens l e more =
+      let h = same_marks (mark u.kind u.lexeme) feed_mark (marks us) (marks tokens) e in (
+        inl (sym (ap (in_text (later_chunk (t ∷ part)))
+            (stands (after_feed (t ∷ part)) 0 u feed_mark (placed (after_feed (t ∷ part)) (u ∷ us) l).0 h.0))),
+        more u us l (ap (λ (m : Mark). length m.lexeme) h.0) h.1,
+      )
+
+  later_near : AllByRecursion HasBytes (t ∷ part) → NearChunk (later_chunk (t ∷ part)) (borders.feed (t ∷ part) ∷ closed borders false (t ∷ part))
+  later_near bytes = record {
+    near = λ us l e. near_feed us (closed borders false (t ∷ part)) l e (λ u others l one marked.
+        let p = text_of (t ∷ part) in
+        let end : marks others ≡ marks (t ∷ part) ++ (mark kinds.Eof [] ∷ []) = marked ∙ marks_closed (t ∷ part) (end_of_chunk (later_chunk (t ∷ part))) in
+        near_part (later_chunk (t ∷ part)) (t ∷ part) others 1
+        (all_moved before (10 ∷ []) p rest [] (t.offset - 1) (t.line - 1) by_first (t ∷ part) others (mark kinds.Eof [] ∷ []) 0 in_whole
+        (in_chunk u others l one) end (omega arith))
+        bytes (subst (λ n. Placed (10 ∷ p) n others) (omega (arith, one)) (placed (10 ∷ p) (u ∷ others) l).1) end);
   }
 
-last_moves : (text before : List ℕ) (t : Tok) (part : List Tok) (feed : EndsInFeed before) (is : text ≡ before ++ (text_of (t ∷ part) ++ []))
-    → (h : Placed text (length before) (t ∷ part)) (some : 0 < length (text_of (t ∷ part))) → MovesLast t part
-last_moves text before t part feed is h some = record {
-  moves = λ u us l e.
-      let first = same_marks (mark u.kind u.lexeme) (mark kinds.Eol (10 ∷ [])) (marks us) (marks (t ∷ part)) e in
-      last_moved before (10 ∷ []) (text_of (t ∷ part)) (t.offset - 1) (t.line - 1) (by_first text before [] t part feed is h some) some (t ∷ part) us 0
-      (in_text text before [] t part feed is h some)
-      (in_chunk text before [] t part feed is h some u us l (ap (λ (m : Mark). length m.lexeme) first.0)) first.1 (omega arith);
+last_near : (text before : List ℕ) (t : Tok) (part : List Tok) (feed : EndsInFeed before) (is : text ≡ before ++ (text_of (t ∷ part) ++ []))
+    → (h : Placed text (length before) (t ∷ part)) (some : 0 < length (text_of (t ∷ part)))
+    → NearChunk (later_chunk (t ∷ part)) (borders.feed (t ∷ part) ∷ t ∷ part)
+last_near text before t part feed is h some = record {
+  near = λ us l e. near_feed text before [] t part feed is h some us (t ∷ part) l e (λ u others l one marked.
+      near_itself (t ∷ part) (map (moved (t.offset - 1) (t.line - 1)) others)
+      (last_moved before (10 ∷ []) (text_of (t ∷ part)) (t.offset - 1) (t.line - 1) (by_first text before [] t part feed is h some) some (t ∷ part) others 0
+      (in_whole text before [] t part feed is h some) (in_chunk text before [] t part feed is h some u others l one) marked (omega arith)));
 }
 
 module _ (text : List ℕ) where
@@ -129,64 +238,83 @@ module _ (text : List ℕ) where
             let run = subst (λ x. Runs (mode earlier) (text_of later) x) e h.run in
             omega (arith, first_bytes t (p ++ s.rest) (mode earlier) (text_of later) ne.0 h.same.levels h.utf8 run, length-append t.lexeme (text_of p))
 
-  all_move : (parts : List (List Tok)) (earlier later : List Tok) (before : List ℕ) → Later earlier later → Parts earlier later parts
+    bytes : AllByRecursion HasBytes part
+    bytes = bytes_of part s.rest (mode earlier) (text_of part ++ text_of s.rest) next.is_part.utf8 next.is_part.run next.is_part.no_eof
+
+  all_near : (parts : List (List Tok)) (earlier later : List Tok) (before : List ℕ) → Later earlier later → Parts earlier later parts
       → next_kind later ≢ Some kinds.Eof → text ≡ before ++ text_of later
-      → Placed text (length before) later → EndsInFeed before → AllMove parts
-  all_move [] earlier later before h p ne is pl f = tt
-  all_move (part ∷ parts) earlier later before h p ne is pl f = by (first_part p) (all_move parts)
+      → Placed text (length before) later → EndsInFeed before → AllZip NearChunk (map later_chunk parts) (chunks_by borders false parts)
+  all_near [] earlier later before h p ne is pl f = absurd (first_part p)
+  all_near (part ∷ []) earlier later before h p ne is pl f = by (first_part p)
     where
-      last : (p : List Tok) → text ≡ before ++ (text_of p ++ []) → Placed text (length before) p → 0 < length (text_of p) → AllMove (p ∷ [])
+      last : (p : List Tok) → text ≡ before ++ (text_of p ++ []) → Placed text (length before) p → 0 < length (text_of p)
+          → NearChunk (later_chunk p) (borders.feed p ∷ p)
       last [] is pl l = absurd (omega arith)
-      last (t ∷ p) is pl l = (later_moves text before [] t p f is pl l, last_moves text before t p f is pl l)
+      last (t ∷ p) is pl l = last_near text before t p f is pl l
 
-      inner : (p : List Tok) (ps : List (List Tok)) (rest : List ℕ) → 0 < length ps → text ≡ before ++ (text_of p ++ rest) → Placed text (length before) p
-          → 0 < length (text_of p) → AllMove ps → AllMove (p ∷ ps)
-      inner p [] rest some is pl l more = absurd (omega arith)
-      inner [] (q ∷ ps) rest some is pl l more = absurd (omega arith)
-      inner (t ∷ p) (q ∷ ps) rest some is pl l more = (later_moves text before rest t p f is pl l, more)
+      by : ((later ≡ part) × (◌≡◌ {A = List (List Tok)} [] [])) ⊎ Split earlier later part []
+          → AllZip NearChunk (later_chunk part ∷ []) ((borders.feed part ∷ part) ∷ [])
+      by (inl e) =
+          let bytes = some_text later (mode earlier) (text_of later) h.ends ne h.same.levels h.utf8 h.run in (
+            last part (is ∙ ap (λ x. before ++ x) (ap text_of e.0 ∙ sym (append-nil (text_of part)))) (subst (Placed text (length before)) e.0 pl)
+                (subst (λ x. 0 < length (text_of x)) e.0 bytes),
+            tt,
+          )
+      by (inr s) = absurd (first_part s.others)
+  all_near (part ∷ q ∷ parts) earlier later before h p ne is pl f = by (first_part p) (all_near (q ∷ parts))
+    where
+      inner : (p : List Tok) (rest : List ℕ) → text ≡ before ++ (text_of p ++ rest) → Placed text (length before) p → 0 < length (text_of p)
+          → AllByRecursion HasBytes p → NearChunk (later_chunk p) (borders.feed p ∷ closed borders false p)
+      inner [] rest is pl l b = absurd (omega arith)
+      inner (t ∷ p) rest is pl l b = later_near text before rest t p f is pl l b
 
-      there : (ps : List (List Tok)) {e x : List Tok} → Parts e x ps → 0 < length ps
-      there [] p = absurd (first_part p)
-      there (q ∷ ps) p = omega arith
-
-      by : ((later ≡ part) × (parts ≡ [])) ⊎ Split earlier later part parts
-          → ((earlier later : List Tok) (before : List ℕ) → Later earlier later → Parts earlier later parts → next_kind later ≢ Some kinds.Eof
-          → text ≡ before ++ text_of later → Placed text (length before) later → EndsInFeed before → AllMove parts)
-          → AllMove (part ∷ parts)
-      by (inl e) more =
-          let bytes = some_text later (mode earlier) (text_of later) h.ends ne h.same.levels h.utf8 h.run in
-          subst (λ ps. AllMove (part ∷ ps)) (sym e.1)
-          (last part (is ∙ ap (λ x. before ++ x) (ap text_of e.0 ∙ sym (append-nil (text_of part)))) (subst (Placed text (length before)) e.0 pl)
-          (subst (λ x. 0 < length (text_of x)) e.0 bytes))
+      by : ((later ≡ part) × (q ∷ parts ≡ [])) ⊎ Split earlier later part (q ∷ parts)
+          → ((earlier later : List Tok) (before : List ℕ) → Later earlier later → Parts earlier later (q ∷ parts) → next_kind later ≢ Some kinds.Eof
+          → text ≡ before ++ text_of later → Placed text (length before) later → EndsInFeed before
+          → AllZip NearChunk (map later_chunk (q ∷ parts)) (chunks_by borders false (q ∷ parts)))
+          → AllZip NearChunk (map later_chunk (part ∷ q ∷ parts)) (chunks_by borders false (part ∷ q ∷ parts))
+      by (inl e) more = cc (e.1)
       by (inr s) more =
-          let n = next before earlier later part parts h s is in
-          inner part parts (text_of s.rest) (there parts s.others) (text_is before earlier later part parts h s is)
-          (placed_part before earlier later part parts h s is pl)
-          (part_bytes before earlier later part parts h s is)
-          (more (onto earlier part) s.rest (before ++ text_of part) n.later s.others n.goes_on (text_after before earlier later part parts h s is)
-          (placed_rest before earlier later part parts h s is pl) (feed_after before earlier later part parts h s is f))
+          let n = next before earlier later part (q ∷ parts) h s is in (
+            inner part (text_of s.rest) (text_is before earlier later part (q ∷ parts) h s is) (placed_part before earlier later part (q ∷ parts) h s is pl)
+                (part_bytes before earlier later part (q ∷ parts) h s is) (bytes before earlier later part (q ∷ parts) h s is),
+            more (onto earlier part) s.rest (before ++ text_of part) n.later s.others n.goes_on (text_after before earlier later part (q ∷ parts) h s is)
+                (placed_rest before earlier later part (q ∷ parts) h s is pl) (feed_after before earlier later part (q ∷ parts) h s is f),
+          )
+
+unmoved : (ts : List Tok) → map (moved 0 0) ts ≡ ts
+unmoved [] = refl
+unmoved (t ∷ ts) = ap (λ l. t ∷ l) (unmoved ts)
 
 -- the tokens of the chunks of a text are its tokens, moved
-pub chunks_move : (text : List ℕ) (tokens : List Tok) (parts : List (List Tok)) → IsUtf8 text → Lexed text tokens → AreParts tokens parts → ChunksMove parts
-chunks_move text tokens [] u l p = absurd (first_part p)
-chunks_move text tokens (part ∷ parts) u l p = by (first_part p)
+pub chunks_near : (text : List ℕ) (tokens : List Tok) (parts : List (List Tok)) → IsUtf8 text → Lexed text tokens → AreParts tokens parts
+    → AllZip NearChunk (chunks_of parts) (chunks_by borders true parts)
+chunks_near text tokens [] u l p = absurd (first_part p)
+chunks_near text tokens (part ∷ []) u l p = by (first_part p)
+  where
+    by : ((tokens ≡ part) × (◌≡◌ {A = List (List Tok)} [] [])) ⊎ Split [] tokens part [] → AllZip NearChunk (first_chunk part ∷ []) (part ∷ [])
+    by (inl e) =
+        let here : Lexed (text_of part) part = subst (λ x. Lexed (text_of x) x) e.0 (subst (λ x. Lexed x tokens) (sym (whole_is text tokens u l)) l) in
+        (record { near = λ us k m. near_itself part (map (moved 0 0) us) (one_list (text_of part) part us here k ∙ sym (unmoved us)) }, tt)
+    by (inr s) = absurd (first_part s.others)
+chunks_near text tokens (part ∷ q ∷ parts) u l p = by (first_part p)
   where
     whole : text ≡ [] ++ text_of tokens
     whole = sym (whole_is text tokens u l)
 
-    by : ((tokens ≡ part) × (parts ≡ [])) ⊎ Split [] tokens part parts → MovesFirst part × AllMove parts
-    by (inl e) = (
-      first_moves text [] part (whole ∙ ap text_of e.0 ∙ sym (append-nil (text_of part))) (subst (Placed text 0) e.0 (placed text tokens l)),
-      subst AllMove (sym e.1) tt,
-    )
+    by : ((tokens ≡ part) × (q ∷ parts ≡ [])) ⊎ Split [] tokens part (q ∷ parts)
+        → AllZip NearChunk (chunks_of (part ∷ q ∷ parts)) (chunks_by borders true (part ∷ q ∷ parts))
+    by (inl e) = cc (e.1)
     by (inr s) =
         let h = from_start text tokens u l in
-        let n = next text [] [] tokens part parts h s whole in (
-          first_moves text (text_of s.rest) part (text_is text [] [] tokens part parts h s whole)
-              (placed_part text [] [] tokens part parts h s whole (placed text tokens l)),
-          all_move text parts (onto [] part) s.rest (text_of part) n.later s.others n.goes_on (text_after text [] [] tokens part parts h s whole)
-              (placed_rest text [] [] tokens part parts h s whole (placed text tokens l))
-              (ends (text_of part) (part_bytes text [] [] tokens part parts h s whole) n.is_part.fed),
+        let n = next text [] [] tokens part (q ∷ parts) h s whole in (
+          first_near text (text_of s.rest) part (text_is text [] [] tokens part (q ∷ parts) h s whole)
+              (placed_part text [] [] tokens part (q ∷ parts) h s whole (placed text tokens l))
+              (bytes text [] [] tokens part (q ∷ parts) h s whole),
+          all_near text (q ∷ parts) (onto [] part) s.rest (text_of part) n.later s.others n.goes_on
+              (text_after text [] [] tokens part (q ∷ parts) h s whole)
+              (placed_rest text [] [] tokens part (q ∷ parts) h s whole (placed text tokens l))
+              (ends (text_of part) (part_bytes text [] [] tokens part (q ∷ parts) h s whole) n.is_part.fed),
         )
       where
         ends : (x : List ℕ) → 0 < length x → Fed x → EndsInFeed x

@@ -1,14 +1,24 @@
-//! The law of chunks: what a text derives is what its chunks derive, joined. It is about the
+//! The laws of chunks: what a text derives is what its chunks derive, joined. They are about the
 //! definitions alone.
 #![tactic(auto)]
 
 pub mod examples;
 
-ghost use Rattle.justfile_chunks_grammar.specs.Chunks.{ShapeLaw};
+ghost use Rattle.justfile_chunks_grammar.specs.Chunks.{NumberLaw, ShapeLaw, TokenLaw, TreeLaw};
 
 /// A text derives a shape exactly if its chunks derive it. The chunks are the text cut at its items,
 /// each after the line feed before it. The shape is theirs, joined, without the items of these line
 /// feeds.
 pub fn chunks_derive()
     ensures law { ShapeLaw }
+{}
+
+/// The same for trees, which hold tokens with their places. A chunk's tokens and its tree are moved
+/// by the offset and the line of the line feed before it. The tokens of each chunk that derives a
+/// tree are those of the text, except that a dedent or the end can be elsewhere. The numbers of
+/// bindings and of recipes in a text follow on from chunk to chunk.
+pub fn chunks_derive_trees()
+    ensures trees { TreeLaw }
+    ensures tokens { TokenLaw }
+    ensures numbers { NumberLaw }
 {}

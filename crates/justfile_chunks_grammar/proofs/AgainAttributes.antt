@@ -1,5 +1,5 @@
 -- Attributes are derived again before other tokens that look the same.
-use Rattle.std.proofs.Common.{◌≡◌, ℕ, Bool, true, false, List, [], ◌∷◌, Option, refl, ap}
+use Rattle.std.proofs.Common.{◌≡◌, ℕ, Bool, true, false, List, [], ◌∷◌, Option, ap}
 use Rattle.justfile_vocabulary.specs.declared.token_kind.TokenKind.TheVariants as kinds
 use Rattle.justfile_model.specs.Grammars.AttributeLines as g
 use Rattle.justfile_model.specs.Grammars.AttributeLines.{IsKey, ArgumentOf, Arguments, AttributeOf, Bracketed, AttributesEnd, AttributeLines}
@@ -10,7 +10,7 @@ use Rattle.justfile_model.specs.Lexing.Tok.{Tok}
 use Rattle.justfile_model.specs.Trees.Tree as tree
 use Rattle.justfile_model.specs.Trees.Tree.{Argument, Expr, WrittenAttribute, bare_attribute}
 use Rattle.justfile_chunks_grammar.proofs.AgainExpressions as expressions
-use Rattle.justfile_chunks_grammar.proofs.Over.{Again, Ahead, Over, again, any_of, is_any, is_key, is_quiet, key_before, more, next, not_name, one, past, same, step, two}
+use Rattle.justfile_chunks_grammar.proofs.Over.{Again, Ahead, Over, again, is_inside, is_key, is_quiet, key_before, more, next, not_name, one, past, quiet_inside, same, step, two, widened}
 
 key_kind : (t : SignificantToken) (ts : Tokens) → IsKey (t ∷ ts) → IsKind kinds.Identifier t
 key_kind t [] k = k
@@ -81,17 +81,23 @@ module _ {A B : Type 0} (leaf : Tok → A) (position : Tok → B) (MayEnter : �
       again (g.more r.derives kind s.derives) (past r.over (step (ap is_quiet kind) s.over)) h
 
   pub attributes_end : {comment : Option (List ℕ)} {ts x : Tokens} → AttributesEnd leaf position MayEnter comment ts x → (y : Tokens)
-      → Again is_any x y (λ r. AttributesEnd leaf position MayEnter comment r y) ts
-  attributes_end (g.bare {newline = t} kind) y = record { after = _; derives = g.bare kind; over = step refl same; ahead = one (not_name t (ap is_quiet kind)) }
+      → Again is_inside x y (λ r. AttributesEnd leaf position MayEnter comment r y) ts
+  attributes_end (g.bare {newline = t} kind) y =
+      record { after = _; derives = g.bare kind; over = step (ap is_inside kind) same; ahead = one (not_name t (ap is_quiet kind)) }
   attributes_end (g.commented {comment = t} kind kind2) y =
-      record { after = _; derives = g.commented kind kind2; over = step refl (step refl same); ahead = one (not_name t (ap is_quiet kind)) }
+      record {
+        after = _;
+        derives = g.commented kind kind2;
+        over = step (ap is_inside kind) (step (ap is_inside kind2) same);
+        ahead = one (not_name t (ap is_quiet kind));
+      }
 
   pub attribute_lines : {ws : List (WrittenAttribute A B)} {fs : List (Noted B)} {ts x y : Tokens} → AttributeLines leaf position MayEnter ws fs ts x
       → Ahead x y
-      → Again is_any x y (λ r. AttributeLines leaf position MayEnter ws fs r y) ts
+      → Again is_inside x y (λ r. AttributeLines leaf position MayEnter ws fs r y) ts
   attribute_lines (g.none n) h = again (g.none (next _ h n)) same h
   attribute_lines (g.line kind b e others) h =
       let o = attribute_lines others h in
       let end = attributes_end e o.after in
       let r = bracketed b end.ahead in
-      again (g.line kind r.derives end.derives o.derives) (step refl (past (any_of r.over) (past end.over o.over))) h
+      again (g.line kind r.derives end.derives o.derives) (step (ap is_inside kind) (past (widened quiet_inside r.over) (past end.over o.over))) h

@@ -1,6 +1,5 @@
 -- A construct is derived again before other tokens: one on a line before those that look the same, a recipe with a body before any.
-use Rattle.std.proofs.Common.{◌≡◌, ℕ, true, false, List, ◌∷◌, ◌++◌, Option, refl, ap}
-use Rattle.justfile_vocabulary.specs.declared.token_kind.TokenKind.{TokenKind}
+use Rattle.std.proofs.Common.{ℕ, false, List, ◌∷◌, ◌++◌, Option, refl, ap}
 use Rattle.justfile_vocabulary.specs.declared.token_kind.TokenKind.TheVariants as kinds
 use Rattle.justfile_model.specs.Grammars.Expressions.{Tokens, IsKind, Expression}
 use Rattle.justfile_model.specs.Grammars.Features.{Noted}
@@ -14,13 +13,7 @@ use Rattle.justfile_model.specs.Lexing.Tok.{Tok}
 use Rattle.justfile_model.specs.Trees.Tree.{BodyLine, Content, Expr, Fragment, Line, Quoted, SettingValue}
 use Rattle.justfile_chunks_grammar.proofs.AgainExpressions as expressions
 use Rattle.justfile_chunks_grammar.proofs.AgainHeaders as headers
-use Rattle.justfile_chunks_grammar.proofs.Over.{Again, Ahead, Over, again, any_of, ends_line, is_any, is_inside, is_quiet, more, no_path, not_name, one, past, same, step, two, widened}
-
-quiet_inside : (k : TokenKind) → is_quiet k ≡ true → is_inside k ≡ true
-quiet_inside kinds.Dedent q = q
-quiet_inside kinds.Eof q = q
-quiet_inside kinds.Indent q = q
-quiet_inside _ q = refl
+use Rattle.justfile_chunks_grammar.proofs.Over.{Again, Ahead, Over, again, any_of, ends_line, is_any, is_inside, is_quiet, more, no_path, not_name, one, past, quiet_inside, same, step, two, widened}
 
 module _ {A : Type 0} (leaf : Tok → A) where
   file_path : {p : Quoted A} {ts x y : Tokens} → FilePath leaf p ts x → Ahead x y → Again is_quiet x y (λ r. FilePath leaf p r y) ts

@@ -65,14 +65,14 @@ module _ {A B C S : Type 0} (projection : TokenProjection A B C S) (MayEnter : �
             let x = rest_joined r p.earlier p.unended p.at in
             let y = again_items.on_line projection MayEnter o x.ahead in
             let z = again_attributes.attribute_lines projection.leaf projection.position MayEnter a y.ahead in
-            record { whole = z.after; derives = g.on_line z.derives y.derives x.joined.derives; over = past z.over (past (any_of y.over) x.joined.over) }
+            record { whole = z.after; derives = g.on_line z.derives y.derives x.joined.derives; over = past (any_of z.over) (past (any_of y.over) x.joined.over) }
         items_joined (g.block a b more) earlier at s =
             let l = later_of at (ap is_quiet is_eof) (first_attributes projection MayEnter a (first_block projection MayEnter b)) in
             let p = past_recipe us eof [] no_indent projection MayEnter a b earlier s at l in
             let x = items_joined more p.earlier p.at p.start in
             let y = again_items.block projection MayEnter b x.whole in
             let z = again_attributes.attribute_lines projection.leaf projection.position MayEnter a y.ahead in
-            record { whole = z.after; derives = g.block z.derives y.derives x.derives; over = past z.over (past y.over x.over) }
+            record { whole = z.after; derives = g.block z.derives y.derives x.derives; over = past (any_of z.over) (past y.over x.over) }
 
         rest_joined : {items : ManyItems} {fs : ManyFeatures} {part : Tokens} → ItemRest projection MayEnter items fs part → (earlier : Tokens)
             → LastOpen earlier
@@ -200,31 +200,29 @@ module _ {A B C S : Type 0} (projection : TokenProjection A B C S) (MayEnter : �
         rest_apart : {items : ManyItems} {fs : ManyFeatures} {part : Tokens} → ItemRest projection MayEnter items fs part → (earlier : Tokens)
             → LastOpen earlier
             → Before' earlier part → AreApart Other items js
-        rest_apart (g.trailing kind e) earlier o (here k) = absurd (no_cut us earlier o k)
-        rest_apart (g.trailing {token = t} kind (g.line_end kind2 more)) earlier o (later (here k)) = absurd (no_cut us (t ∷ earlier) (ap ends_line kind) k)
-        rest_apart (g.trailing {token = t} kind (g.line_end {items = items} {token = u} kind2 more)) earlier o (later (later at)) =
-            comment_apart Other (trim_end t.tok.lexeme) items
-            (items_apart more (u ∷ t ∷ earlier) at (starts u (t ∷ earlier) (ap ends_line kind2)) LineEnd) (λ e. tt)
-        rest_apart (g.trailing {token = t} kind (g.file_end kind2)) earlier o (later (here k)) = absurd (no_cut us (t ∷ earlier) (ap ends_line kind) k)
-        rest_apart (g.trailing kind (g.file_end kind2)) earlier o (later (later at)) = elim at [ ]
+        rest_apart (g.trailing kind e) earlier o at = trailing_apart kind e earlier o at
         rest_apart (g.bare (g.line_end kind more)) earlier o (here k) = absurd (no_cut us earlier o k)
         rest_apart (g.bare (g.line_end {token = t} kind more)) earlier o (later at) =
             items_apart more (t ∷ earlier) at (starts t earlier (ap ends_line kind)) LineEnd
         rest_apart (g.bare (g.file_end kind)) earlier o (here k) = absurd (no_cut us earlier o k)
         rest_apart (g.bare (g.file_end kind)) earlier o (later at) = elim at [ ]
 
+        -- a comment at the end of a line
+        trailing_apart : {items : ManyItems} {fs : ManyFeatures} {t : SignificantToken} {part : Tokens} → IsKind kinds.Comment t
+            → g.LineEnd projection MayEnter items fs part → (earlier : Tokens) → LastOpen earlier → Before' earlier (t ∷ part)
+            → AreApart Other (tree.Comment (trim_end t.tok.lexeme) ∷ items) js
+        trailing_apart kind e earlier o (here k) = absurd (no_cut us earlier o k)
+        trailing_apart {t = t} kind (g.line_end kind2 more) earlier o (later (here k)) = absurd (no_cut us (t ∷ earlier) (ap ends_line kind) k)
+        trailing_apart {t = t} kind (g.line_end {items = items} {token = u} kind2 more) earlier o (later (later at)) =
+            comment_apart Other (trim_end t.tok.lexeme) items
+            (items_apart more (u ∷ t ∷ earlier) at (starts u (t ∷ earlier) (ap ends_line kind2)) LineEnd) (λ e. tt)
+        trailing_apart {t = t} kind (g.file_end kind2) earlier o (later (here k)) = absurd (no_cut us (t ∷ earlier) (ap ends_line kind) k)
+        trailing_apart kind (g.file_end kind2) earlier o (later (later at)) = elim at [ ]
+
         -- the rest of a line after a comment that begins it
         comment_rest : {items : ManyItems} {fs : ManyFeatures} {part : Tokens} → ItemRest projection MayEnter items fs part → (before : Before) (text : List ℕ)
             (earlier : Tokens) → LastOpen earlier → Before' earlier part → line_kind (bare earlier) ≡ Some kinds.Comment → AreApart before (tree.Comment text ∷ items) js
-        comment_rest (g.trailing kind e) before text earlier o (here k) line = absurd (no_cut us earlier o k)
-        comment_rest (g.trailing {token = t} kind (g.line_end kind2 more)) before text earlier o (later (here k)) line =
-            absurd (no_cut us (t ∷ earlier) (ap ends_line kind) k)
-        comment_rest (g.trailing {token = t} kind (g.line_end {items = items} {token = u} kind2 more)) before text earlier o (later (later at)) line =
-            comment_apart Other (trim_end t.tok.lexeme) items
-            (items_apart more (u ∷ t ∷ earlier) at (starts u (t ∷ earlier) (ap ends_line kind2)) LineEnd) (λ e. tt)
-        comment_rest (g.trailing {token = t} kind (g.file_end kind2)) before text earlier o (later (here k)) line =
-            absurd (no_cut us (t ∷ earlier) (ap ends_line kind) k)
-        comment_rest (g.trailing kind (g.file_end kind2)) before text earlier o (later (later at)) line = elim at [ ]
+        comment_rest (g.trailing kind e) before text earlier o at line = trailing_apart kind e earlier o at
         comment_rest (g.bare (g.line_end kind more)) before text earlier o (here k) line = absurd (no_cut us earlier o k)
         comment_rest (g.bare (g.line_end {items = items} {token = t} kind more)) before text earlier o (later at) line =
             comment_apart before text items (items_apart more (t ∷ earlier) at (starts t earlier (ap ends_line kind)) LineEnd)
@@ -321,7 +319,7 @@ module _ {A B C S : Type 0} (projection : TokenProjection A B C S) (MayEnter : �
             features_are = ap (λ l. record { attributes = gs; content = cs } ∷ l) y.split.features_are;
             part = w.after;
             first_derives = g.on_line w.derives z.derives y.split.first_derives;
-            over = past w.over (past (any_of z.over) y.split.over);
+            over = past (any_of w.over) (past (any_of z.over) y.split.over);
             second_derives = y.split.second_derives;
           }
       items_split (g.block {ws = ws} {c = c} {gs = gs} {cs = cs} a b more) earlier (later at) s =
@@ -338,7 +336,7 @@ module _ {A B C S : Type 0} (projection : TokenProjection A B C S) (MayEnter : �
             features_are = ap (λ l. record { attributes = gs; content = cs } ∷ l) y.features_are;
             part = w.after;
             first_derives = g.block w.derives z.derives y.first_derives;
-            over = past w.over (past z.over y.over);
+            over = past (any_of w.over) (past z.over y.over);
             second_derives = y.second_derives;
           }
 

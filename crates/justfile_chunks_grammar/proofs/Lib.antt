@@ -13,6 +13,7 @@ pub mod Joins
 pub mod Moved
 pub mod MovedKeys
 pub mod OneCut
+pub mod OtherDedents
 pub mod Over
 pub mod OverItems
 pub mod Passes

@@ -1,4 +1,4 @@
--- The grammar's part of the law of chunks: the law for one cut, that tokens that derive a shape have their colons, and that a line end before
+-- The grammar's part of the laws of chunks: the law for one cut, that tokens that derive items have their colons, and that a line end before
 -- tokens is derived as one.
 use Rattle.std.proofs.Common.{◌≡◌, ◌∙◌, ℕ, Bool, true, false, cond, List, [], ◌∷◌, ◌++◌, Option, refl, sym, ap, subst, append_assoc, append-nil}
 use Rattle.std.proofs.lemmas.List.{map-append, reverse-append, reverse-reverse}
@@ -18,7 +18,7 @@ use Rattle.justfile_model.specs.LiteralTexts.Literals.{Literal, over_literal}
 use Rattle.justfile_model.specs.Trees.LeafView.{LeafView, views_lexemes, views_tokens}
 use Rattle.justfile_model.specs.Trees.Tree as tree
 use Rattle.justfile_model.specs.Trees.Tree.{OrderedItem, Shape, Tree, WrittenItem, lexeme}
-use Rattle.justfile_chunks_grammar.specs.Chunks.{IsCut, IsCutAfter, OneCutLaw, ShapeFeatures, SidesShape, ends_line}
+use Rattle.justfile_chunks_grammar.specs.Chunks.{IsCut, IsCutAfter, ShapeFeatures, ends_line}
 use Rattle.justfile_chunks_grammar.proofs.AgainAttributes as again_attributes
 use Rattle.justfile_chunks_grammar.proofs.AgainItems as again_items
 use Rattle.justfile_chunks_grammar.proofs.Colons.{IndentsHaveColons, file_colons, with_whitespace}
@@ -86,27 +86,30 @@ not_cut : (later earlier : Tokens) → CutHere later earlier → FirstIs kinds.E
 not_cut later [] k e = k
 not_cut later (t ∷ earlier) k e = clash (ap ends_line e) k.ends
 
--- ---- tokens that derive a shape
+-- ---- tokens that derive items with features, before a cut and after it
 
--- Each indent comes after a colon, with no dedent between them.
-pub colons_law : (conditions : Conditions) (tokens : List Tok) (shape : Shape) (features : ShapeFeatures)
-    → ShapeDerives conditions (significant_tokens tokens) shape features
-    → IndentsHaveColons false tokens
-colons_law conditions tokens shape features d =
-    let c = file_colons to_lexemes (BelowLimit conditions.limit) d.derives false in
-    with_whitespace tokens false false c.are
+module _ {X F : Type 0} (newline : X) (Derives : List Tok → List X → List F → Type 0) where
+  -- The tokens before a cut and those after it derive these items: with the end of a text after the first ones, and a line end before the others.
+  pub record CutSides (before after : List Tok) (feed eof : Tok) (all : List X) (features : List F) : Type 0 where
+    pub left : List X
+    pub right : List X
+    pub left_features : List F
+    pub right_features : List F
+    pub left_derives : Derives (before ++ (eof ∷ [])) left left_features
+    pub right_derives : Derives (feed ∷ after) (newline ∷ right) right_features
+    pub all_is : all ≡ left ++ right
+    pub features_are : features ≡ left_features ++ right_features
 
--- A line end before tokens is derived as one.
-pub feed_law : (conditions : Conditions) (feed : Tok) (tokens : List Tok) (shape : Shape) (features : ShapeFeatures) → feed.kind ≡ kinds.Eol
-    → ShapeDerives conditions (significant_tokens (feed ∷ tokens)) shape features → (right : Shape) × (shape ≡ tree.Newline ∷ right)
-feed_law conditions feed tokens shape features e d =
-    let first : significant_tokens (feed ∷ tokens) ≡ significant feed false ∷ significant_from true tokens =
-    ap (λ k. cond (is_whitespace k) (significant_from false tokens) (significant feed false ∷ significant_from true tokens)) e in
-    let derives = subst (File to_lexemes (BelowLimit conditions.limit) d.written d.by_construct) first d.derives in
-    let a = after_end to_lexemes (BelowLimit conditions.limit) derives e in
-    let p = past_end to_lexemes conditions (views_lexemes conditions.expander) (λ ls. ls) (λ ls ms. refl) a.others shape
-    (sym (ap (ordered (views_lexemes conditions.expander)) a.items_are) ∙ d.ordered_is) in
-    (documented sets_doc LineEnd p.items, p.all_is)
+  -- What tokens with a cut derive is what those before it and those after it derive, joined.
+  abbrev pub CutLaw : Type 0
+  CutLaw = (before after : List Tok) (feed eof : Tok) → feed.kind ≡ kinds.Eol → eof.kind ≡ kinds.Eof → IsCut (reverse before) after
+      → (all : List X) (features : List F)
+      → Derives (before ++ after) all features ↔ CutSides before after feed eof all features
+
+  -- A line end before tokens is derived as one.
+  abbrev pub FeedLaw : Type 0
+  FeedLaw = (feed : Tok) (tokens : List Tok) (all : List X) (features : List F) → feed.kind ≡ kinds.Eol → Derives (feed ∷ tokens) all features
+      → (right : List X) × (all ≡ newline ∷ right)
 
 -- ---- one cut
 
@@ -138,16 +141,12 @@ module _ {A B C : Type 0} (projection : TokenProjection A B C B) (conditions : C
   abbrev Derived : Tokens → Ordered → List (Noted B) → Type 0
   Derived = Derives projection conditions view texts texts_append
 
-  -- The tokens before a cut and those after it derive these items: with the end of a text after the first ones, and a line end before the others.
-  pub record CutSides (before after : List Tok) (feed eof : Tok) (all : Ordered) (features : List (Noted B)) : Type 0 where
-    pub left : Ordered
-    pub right : Ordered
-    pub left_features : List (Noted B)
-    pub right_features : List (Noted B)
-    pub left_derives : Derived (significant_tokens (before ++ (eof ∷ []))) left left_features
-    pub right_derives : Derived (significant_tokens (feed ∷ after)) (tree.Newline ∷ right) right_features
-    pub all_is : all ≡ left ++ right
-    pub features_are : features ≡ left_features ++ right_features
+  -- the tokens of a text derive these items
+  abbrev pub TokensDerive : List Tok → Ordered → List (Noted B) → Type 0
+  TokensDerive tokens = Derived (significant_tokens tokens)
+
+  abbrev SidesDerive : (before after : List Tok) (feed eof : Tok) → Ordered → List (Noted B) → Type 0
+  SidesDerive = CutSides tree.Newline TokensDerive
 
   module _ (before after : List Tok) (feed eof : Tok) (is_feed : feed.kind ≡ kinds.Eol) (is_eof : eof.kind ≡ kinds.Eof) (l : LastToken before after) where
     ts : Tokens
@@ -177,7 +176,7 @@ module _ {A B C : Type 0} (projection : TokenProjection A B C B) (conditions : C
     unfolding ts us
     cut = cut_here l.front l.last after l.cut
 
-    join : (all : Ordered) (features : List (Noted B)) → CutSides before after feed eof all features
+    join : (all : Ordered) (features : List (Noted B)) → SidesDerive before after feed eof all features
         → Derived (significant_tokens (before ++ after)) all features
     join all features s =
         let left = subst (λ t. Derived t s.left s.left_features) left_is s.left_derives in
@@ -200,7 +199,7 @@ module _ {A B C : Type 0} (projection : TokenProjection A B C B) (conditions : C
         (subst (λ v. Derived (ts ++ v) all features) e d))
 
     split : (all : Ordered) (features : List (Noted B)) → Derived (significant_tokens (before ++ after)) all features
-        → CutSides before after feed eof all features
+        → SidesDerive before after feed eof all features
     split all features d =
         let s = split_by us refl all features (subst (λ t. Derived t all features) whole_is d) in
         record {
@@ -216,21 +215,33 @@ module _ {A B C : Type 0} (projection : TokenProjection A B C B) (conditions : C
           features_are = s.features_are;
         }
 
-  -- What tokens with a cut derive is what those before it and those after it derive, joined.
-  pub cut_law : (before after : List Tok) (feed eof : Tok) → feed.kind ≡ kinds.Eol → eof.kind ≡ kinds.Eof → IsCut (reverse before) after
-      → (all : Ordered) (features : List (Noted B)) → Derived (significant_tokens (before ++ after)) all features ↔ CutSides before after feed eof all features
+  pub cut_law : CutLaw tree.Newline TokensDerive
   cut_law before after feed eof is_feed is_eof c all features =
       let l = last_token before after c in
       (split before after feed eof is_feed is_eof l all features, join before after feed eof is_feed is_eof l all features)
 
--- ---- shapes
+  pub feed_law : FeedLaw tree.Newline TokensDerive
+  feed_law feed tokens all features e d =
+      let first : significant_tokens (feed ∷ tokens) ≡ significant feed false ∷ significant_from true tokens =
+      ap (λ k. cond (is_whitespace k) (significant_from false tokens) (significant feed false ∷ significant_from true tokens)) e in
+      let derives = subst (File projection (BelowLimit conditions.limit) d.written d.by_construct) first d.derives in
+      let a = after_end projection (BelowLimit conditions.limit) derives e in
+      let p = past_end projection conditions view texts texts_append a.others all (sym (ap (ordered view) a.items_are) ∙ d.ordered_is) in
+      (documented sets_doc LineEnd p.items, p.all_is)
+
+  -- Each indent comes after a colon, with no dedent between them.
+  pub colons_law : (tokens : List Tok) (all : Ordered) (features : List (Noted B)) → TokensDerive tokens all features → IndentsHaveColons false tokens
+  colons_law tokens all features d = with_whitespace tokens false false (file_colons projection (BelowLimit conditions.limit) d.derives false).are
 
 module _ (conditions : Conditions) where
-  abbrev DerivesShape : Tokens → Shape → ShapeFeatures → Type 0
-  DerivesShape = Derives to_lexemes conditions (views_lexemes conditions.expander) (λ ls. ls) (λ ls ms. refl)
+  -- ---- shapes
 
-  shape_from : {ts : Tokens} {shape : Shape} {features : ShapeFeatures} → DerivesShape ts shape features → ShapeDerives conditions ts shape features
-  shape_from d = record {
+  abbrev pub TokensDeriveShape : List Tok → Shape → ShapeFeatures → Type 0
+  TokensDeriveShape = TokensDerive to_lexemes conditions (views_lexemes conditions.expander) (λ ls. ls) (λ ls ms. refl)
+
+  pub shape_from : (ts : List Tok) {shape : Shape} {features : ShapeFeatures} → TokensDeriveShape ts shape features
+      → ShapeDerives conditions (significant_tokens ts) shape features
+  shape_from ts d = record {
     written = d.written;
     by_construct = d.by_construct;
     derives = d.derives;
@@ -241,8 +252,9 @@ module _ (conditions : Conditions) where
     ordered_is = d.ordered_is;
   }
 
-  shape_to : {ts : Tokens} {shape : Shape} {features : ShapeFeatures} → ShapeDerives conditions ts shape features → DerivesShape ts shape features
-  shape_to d = record {
+  pub shape_to : (ts : List Tok) {shape : Shape} {features : ShapeFeatures} → ShapeDerives conditions (significant_tokens ts) shape features
+      → TokensDeriveShape ts shape features
+  shape_to ts d = record {
     written = d.written;
     by_construct = d.by_construct;
     derives = d.derives;
@@ -253,50 +265,15 @@ module _ (conditions : Conditions) where
     ordered_is = d.ordered_is;
   }
 
-pub one_cut : OneCutLaw
-one_cut conditions before after feed eof is_feed is_eof c shape features = (to, from)
-  where
-    law : DerivesShape conditions (significant_tokens (before ++ after)) shape features
-        ↔ CutSides to_lexemes conditions (views_lexemes conditions.expander) (λ ls. ls) (λ ls ms. refl) before after feed eof shape features
-    law = cut_law to_lexemes conditions (views_lexemes conditions.expander) (λ ls. ls) (λ ls ms. refl) before after feed eof is_feed is_eof c shape features
+  -- ---- trees
 
-    to : ShapeDerives conditions (significant_tokens (before ++ after)) shape features → SidesShape conditions before after feed eof shape features
-    to d =
-        let s = law.0 (shape_to conditions d) in
-        record {
-          left = s.left;
-          right = s.right;
-          left_features = s.left_features;
-          right_features = s.right_features;
-          left_derives = shape_from conditions s.left_derives;
-          right_derives = shape_from conditions s.right_derives;
-          shape_is = s.all_is;
-          features_are = s.features_are;
-        }
+  abbrev pub TokensDeriveTree : List Tok → Tree → List (Noted Tok) → Type 0
+  TokensDeriveTree =
+      TokensDerive to_tokens conditions (views_tokens conditions.expander) (map (over_literal lexeme)) (map-append (over_literal lexeme))
 
-    from : SidesShape conditions before after feed eof shape features → ShapeDerives conditions (significant_tokens (before ++ after)) shape features
-    from s = shape_from conditions (law.1 (record {
-      left = s.left;
-      right = s.right;
-      left_features = s.left_features;
-      right_features = s.right_features;
-      left_derives = shape_to conditions s.left_derives;
-      right_derives = shape_to conditions s.right_derives;
-      all_is = s.shape_is;
-      features_are = s.features_are;
-    }))
-
--- ---- trees
-
-module _ (conditions : Conditions) where
-  abbrev cooked_lexemes : List (Literal Tok) → List (Literal (List ℕ))
-  cooked_lexemes = map (over_literal lexeme)
-
-  abbrev DerivesTree : Tokens → Tree → List (Noted Tok) → Type 0
-  DerivesTree = Derives to_tokens conditions (views_tokens conditions.expander) cooked_lexemes (map-append (over_literal lexeme))
-
-  pub tree_from : {ts : Tokens} {all : Tree} {features : List (Noted Tok)} → DerivesTree ts all features → FileDerives conditions ts all features
-  tree_from d = record {
+  pub tree_from : (ts : List Tok) {all : Tree} {features : List (Noted Tok)} → TokensDeriveTree ts all features
+      → FileDerives conditions (significant_tokens ts) all features
+  tree_from ts d = record {
     written = d.written;
     by_construct = d.by_construct;
     derives = d.derives;
@@ -305,8 +282,9 @@ module _ (conditions : Conditions) where
     ordered_is = d.ordered_is;
   }
 
-  pub tree_to : {ts : Tokens} {all : Tree} {features : List (Noted Tok)} → FileDerives conditions ts all features → DerivesTree ts all features
-  tree_to d = record {
+  pub tree_to : (ts : List Tok) {all : Tree} {features : List (Noted Tok)} → FileDerives conditions (significant_tokens ts) all features
+      → TokensDeriveTree ts all features
+  tree_to ts d = record {
     written = d.written;
     by_construct = d.by_construct;
     derives = d.derives;
@@ -316,52 +294,3 @@ module _ (conditions : Conditions) where
     unbroken = d.obeys.unbroken;
     ordered_is = d.ordered_is;
   }
-
--- the tokens before a cut and those after it derive these trees
-pub record SidesTree (conditions : Conditions) (before after : List Tok) (feed eof : Tok) (all : Tree) (features : List (Noted Tok)) : Type 0 where
-  pub left : Tree
-  pub right : Tree
-  pub left_features : List (Noted Tok)
-  pub right_features : List (Noted Tok)
-  pub left_derives : FileDerives conditions (significant_tokens (before ++ (eof ∷ []))) left left_features
-  pub right_derives : FileDerives conditions (significant_tokens (feed ∷ after)) (tree.Newline ∷ right) right_features
-  pub tree_is : all ≡ left ++ right
-  pub features_are : features ≡ left_features ++ right_features
-
-pub tree_cut : (conditions : Conditions) (before after : List Tok) (feed eof : Tok) → feed.kind ≡ kinds.Eol → eof.kind ≡ kinds.Eof
-    → IsCut (reverse before) after
-    → (all : Tree) (features : List (Noted Tok))
-    → FileDerives conditions (significant_tokens (before ++ after)) all features ↔ SidesTree conditions before after feed eof all features
-tree_cut conditions before after feed eof is_feed is_eof c all features = (to, from)
-  where
-    law : DerivesTree conditions (significant_tokens (before ++ after)) all features
-        ↔ CutSides to_tokens conditions (views_tokens conditions.expander) (cooked_lexemes conditions) (map-append (over_literal lexeme)) before after feed eof all features
-    law =
-        cut_law to_tokens conditions (views_tokens conditions.expander) (cooked_lexemes conditions) (map-append (over_literal lexeme)) before after feed eof is_feed is_eof c
-        all features
-
-    to : FileDerives conditions (significant_tokens (before ++ after)) all features → SidesTree conditions before after feed eof all features
-    to d =
-        let s = law.0 (tree_to conditions d) in
-        record {
-          left = s.left;
-          right = s.right;
-          left_features = s.left_features;
-          right_features = s.right_features;
-          left_derives = tree_from conditions s.left_derives;
-          right_derives = tree_from conditions s.right_derives;
-          tree_is = s.all_is;
-          features_are = s.features_are;
-        }
-
-    from : SidesTree conditions before after feed eof all features → FileDerives conditions (significant_tokens (before ++ after)) all features
-    from s = tree_from conditions (law.1 (record {
-      left = s.left;
-      right = s.right;
-      left_features = s.left_features;
-      right_features = s.right_features;
-      left_derives = tree_to conditions s.left_derives;
-      right_derives = tree_to conditions s.right_derives;
-      all_is = s.tree_is;
-      features_are = s.features_are;
-    }))

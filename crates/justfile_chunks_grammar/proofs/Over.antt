@@ -1,5 +1,6 @@
 -- Lists of tokens that begin alike and go on differently.
-use Rattle.std.proofs.Common.{◌≡◌, ℕ, Bool, true, false, List, [], ◌∷◌, Option, refl, sym, ap, ◌∙◌}
+use Rattle.std.proofs.Common.{◌≡◌, ℕ, Bool, true, false, List, [], ◌∷◌, ◌++◌, Option, refl, sym, ap, ◌∙◌}
+use Rattle.std.proofs.lemmas.List.{append_cancel_right}
 use Rattle.justfile_vocabulary.specs.declared.token_kind.TokenKind.{TokenKind}
 use Rattle.justfile_vocabulary.specs.declared.token_kind.TokenKind.TheVariants as kinds
 use Rattle.justfile_model.specs.Grammars.AttributeLines.{IsKey}
@@ -25,6 +26,12 @@ is_inside kinds.Eof = false
 is_inside kinds.Indent = false
 is_inside _ = true
 
+pub quiet_inside : (k : TokenKind) → is_quiet k ≡ true → is_inside k ≡ true
+quiet_inside kinds.Dedent q = q
+quiet_inside kinds.Eof q = q
+quiet_inside kinds.Indent q = q
+quiet_inside _ q = refl
+
 abbrev pub is_any : TokenKind → Bool
 is_any kind = true
 
@@ -44,6 +51,23 @@ widened w (step {t = t} q o) = step (w t.tok.kind q) (widened w o)
 
 pub any_of : {ok : TokenKind → Bool} {x y a b : Tokens} → Over ok x y a b → Over is_any x y a b
 any_of o = widened (λ k q. refl) o
+
+-- what both lists begin with
+pub record Front (x y a b : Tokens) : Type 0 where
+  pub front : Tokens
+  pub first_is : a ≡ front ++ x
+  pub second_is : b ≡ front ++ y
+
+front_of : {ok : TokenKind → Bool} {x y a b : Tokens} → Over ok x y a b → Front x y a b
+front_of same = record { front = []; first_is = refl; second_is = refl }
+front_of (step {t = t} q o) =
+    let f = front_of o in
+    record { front = t ∷ f.front; first_is = ap (λ l. t ∷ l) f.first_is; second_is = ap (λ l. t ∷ l) f.second_is }
+
+pub other_end : {ok : TokenKind → Bool} (ts x y b : Tokens) → Over ok x y (ts ++ x) b → b ≡ ts ++ y
+other_end ts x y b o =
+    let f = front_of o in
+    f.second_is ∙ ap (λ l. l ++ y) (append_cancel_right f.front ts x (sym f.first_is))
 
 -- Two lists that look the same from their first token: a name is followed by the same token.
 pub data Ahead : Tokens → Tokens → Type 0 where

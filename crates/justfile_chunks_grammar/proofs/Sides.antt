@@ -1,6 +1,5 @@
 -- The tokens of a file derive what those before a cut and those after it derive, joined.
 use Rattle.std.proofs.Common.{◌≡◌, ◌⊎◌, ◌∙◌, ℕ, true, false, cond, List, [], ◌∷◌, ◌++◌, Option, Some, refl, sym, ap, subst, ⊎_elim}
-use Rattle.std.proofs.lemmas.List.{append_cancel_right}
 use Rattle.std.specs.Option.{option_map}
 use Rattle.justfile_vocabulary.specs.declared.token_kind.TokenKind.{TokenKind}
 use Rattle.justfile_vocabulary.specs.declared.token_kind.TokenKind.TheVariants as kinds
@@ -26,7 +25,7 @@ use Rattle.justfile_chunks_grammar.proofs.DocsAppend.{before_next, documented_ap
 use Rattle.justfile_chunks_grammar.proofs.ItemsAppend.{cooked_apart, cooked_append, features_append, unbroken_apart, unbroken_append, undocumented_apart, undocumented_append}
 use Rattle.justfile_chunks_grammar.proofs.ItemsFeatures.{file_features}
 use Rattle.justfile_chunks_grammar.proofs.Joins.{after_end, begins_none, file_apart, file_end, file_joined, file_split}
-use Rattle.justfile_chunks_grammar.proofs.Over.{Over, is_any, is_quiet, same, step}
+use Rattle.justfile_chunks_grammar.proofs.Over.{is_quiet, other_end}
 use Rattle.justfile_chunks_grammar.proofs.Passes.{At, CutHere, FirstQuiet, bare, clash, here, later}
 
 -- ---- tokens before others
@@ -39,23 +38,6 @@ behind earlier (t ∷ ts) = behind (t ∷ earlier) ts
 pub at_of : (K : Tokens → Type 0) (ts earlier : Tokens) (u : SignificantToken) (x : Tokens) → K (behind earlier ts) → At K u x earlier (ts ++ (u ∷ x))
 at_of K [] earlier u x k = here k
 at_of K (t ∷ ts) earlier u x k = later (at_of K ts (t ∷ earlier) u x k)
-
--- what both lists begin with
-record Front (x y a b : Tokens) : Type 0 where
-  front : Tokens
-  first_is : a ≡ front ++ x
-  second_is : b ≡ front ++ y
-
-front_of : {x y a b : Tokens} → Over is_any x y a b → Front x y a b
-front_of same = record { front = []; first_is = refl; second_is = refl }
-front_of (step {t = t} q o) =
-    let f = front_of o in
-    record { front = t ∷ f.front; first_is = ap (λ l. t ∷ l) f.first_is; second_is = ap (λ l. t ∷ l) f.second_is }
-
-other_end : (ts x y b : Tokens) → Over is_any x y (ts ++ x) b → b ≡ ts ++ y
-other_end ts x y b o =
-    let f = front_of o in
-    f.second_is ∙ ap (λ l. l ++ y) (append_cancel_right f.front ts x (sym f.first_is))
 
 quiet_next : (k : TokenKind) (o : Option TokenKind) → is_quiet k ≡ true → cond (is_whitespace k) o (Some k) ≡ Some k
 quiet_next kinds.Whitespace o q = cc

@@ -1,20 +1,19 @@
 -- The chunks of a text: the lines of an item with its doc, its attributes and its body, or a line without an item. What the text derives is
 -- what its chunks derive, joined.
-use Rattle.std.specs.Prelude.{◌≡◌, ◌≢◌, ◌⊎◌, ◌↔◌, ℕ, ◌+◌, ◌-◌, Bool, true, false, cond, List, [], ◌∷◌, ◌++◌, map, drop, reverse, Option, Some, None}
-use Rattle.std.specs.List.{flat_map}
+use Rattle.std.specs.Prelude.{◌≡◌, ◌≢◌, ◌⊎◌, ◌↔◌, ℕ, ◌+◌, ◌-◌, Bool, true, false, cond, List, [], ◌∷◌, ◌++◌, map, drop, length, filter, not, Option, Some, None}
+use Rattle.std.specs.List.{AllByRecursion, flat_map}
 use Rattle.std.specs.Str.{IsUtf8}
 use Rattle.justfile_vocabulary.specs.ByteNames as byte
 use Rattle.justfile_vocabulary.specs.declared.token_kind.TokenKind.{TokenKind}
 use Rattle.justfile_vocabulary.specs.declared.token_kind.TokenKind.TheVariants.{BracketL, ByteOrderMark, Comment, Dedent, Eof, Eol, Indent, Whitespace}
 use Rattle.justfile_model.specs.Grammars.Conditions.{Conditions}
-use Rattle.justfile_model.specs.Grammars.Features.{Noted}
-use Rattle.justfile_model.specs.Grammars.Files.{ShapeDerives}
+use Rattle.justfile_model.specs.Grammars.Features.{Noted, over_noted}
+use Rattle.justfile_model.specs.Grammars.Files.{FileDerives, NumbersFrom, ShapeDerives, bindings, recipes}
 use Rattle.justfile_model.specs.Lexing.Lexed.{Lexed}
-use Rattle.justfile_model.specs.Lexing.Modes.{mode}
+use Rattle.justfile_model.specs.Lexing.Modes.{is_empty, mode}
 use Rattle.justfile_model.specs.Lexing.SignificantTokens.{is_whitespace, significant_tokens}
 use Rattle.justfile_model.specs.Lexing.Tok.{Tok, tok}
-use Rattle.justfile_model.specs.Trees.Tree as tree
-use Rattle.justfile_model.specs.Trees.Tree.{OrderedItem, Shape, lexeme, over_entry, over_item}
+use Rattle.justfile_model.specs.Trees.Tree.{OrderedItem, Shape, Tree, lexeme, over_entry, over_item}
 
 -- ---- cuts, by the tokens before them, the last one first, and the tokens after them
 
@@ -89,10 +88,24 @@ abbrev pub chunk_texts : List (List Tok) → List (List ℕ)
 chunk_texts [] = []
 chunk_texts (part ∷ parts) = text_of part ∷ map after_feed parts
 
--- what chunks derive, joined, without the line ends for the line feeds before them
+-- what chunks have, joined, without the line ends for the line feeds before them
 abbrev pub joined : {X : Type 0} → List (List X) → List X
 joined [] = []
 joined (xs ∷ others) = xs ++ flat_map (drop 1) others
+
+-- each of these has its items and its features
+abbrev pub Each : {I X F : Type 0} → (I → X → F → Type 0) → List I → List X → List F → Type 0
+Each Has [] [] [] = Unit {0}
+Each Has (i ∷ is) (x ∷ xs) (f ∷ fs) = Has i x f × Each Has is xs fs
+Each Has _ _ _ = ⊥
+
+-- the chunks have items and features, which are these, joined
+pub record ChunksHave {I X F : Type 0} (Has : I → List X → List F → Type 0) (chunks : List I) (items : List X) (features : List F) : Type 0 where
+  pub each_items : List (List X)
+  pub each_features : List (List F)
+  pub have : Each Has chunks each_items each_features
+  pub items_are : items ≡ joined each_items
+  pub features_are : features ≡ flat_map (λ fs. fs) each_features
 
 -- ---- the law for shapes
 
@@ -105,44 +118,13 @@ pub record HasShape (conditions : Conditions) (text : List ℕ) (shape : Shape) 
   pub lexed : Lexed text tokens
   pub derives : ShapeDerives conditions (significant_tokens tokens) shape features
 
--- each text has its shape and its features
-abbrev pub HaveShapes : Conditions → List (List ℕ) → List Shape → List ShapeFeatures → Type 0
-HaveShapes conditions [] [] [] = Unit {0}
-HaveShapes conditions (text ∷ texts) (shape ∷ shapes) (fs ∷ features) = HasShape conditions text shape fs × HaveShapes conditions texts shapes features
-HaveShapes conditions _ _ _ = ⊥
-
--- the chunks derive shapes and features, which are these, joined
-pub record ChunksShape (conditions : Conditions) (parts : List (List Tok)) (shape : Shape) (features : ShapeFeatures) : Type 0 where
-  pub shapes : List Shape
-  pub noted : List ShapeFeatures
-  pub have : HaveShapes conditions (chunk_texts parts) shapes noted
-  pub shape_is : shape ≡ joined shapes
-  pub features_are : features ≡ flat_map (λ fs. fs) noted
-
--- A text derives a shape exactly if its chunks derive it.
+-- A text derives a shape exactly if its chunks have it.
 abbrev pub ShapeLaw : Type 0
 ShapeLaw = (conditions : Conditions) (text : List ℕ) (tokens : List Tok) (parts : List (List Tok)) → IsUtf8 text → Lexed text tokens → AreParts tokens parts
-    → (shape : Shape) (features : ShapeFeatures) → ShapeDerives conditions (significant_tokens tokens) shape features ↔ ChunksShape conditions parts shape features
-
--- ---- the law for one cut, of tokens, from which that for all follows
-
--- The tokens before a cut and those after it derive these shapes: with the end of a text after the first ones, and a line end before the others.
-pub record SidesShape (conditions : Conditions) (before after : List Tok) (feed eof : Tok) (shape : Shape) (features : ShapeFeatures) : Type 0 where
-  pub left : Shape
-  pub right : Shape
-  pub left_features : ShapeFeatures
-  pub right_features : ShapeFeatures
-  pub left_derives : ShapeDerives conditions (significant_tokens (before ++ (eof ∷ []))) left left_features
-  pub right_derives : ShapeDerives conditions (significant_tokens (feed ∷ after)) (tree.Newline ∷ right) right_features
-  pub shape_is : shape ≡ left ++ right
-  pub features_are : features ≡ left_features ++ right_features
-
-abbrev pub OneCutLaw : Type 0
-OneCutLaw = (conditions : Conditions) (before after : List Tok) (feed eof : Tok) → feed.kind ≡ Eol → eof.kind ≡ Eof → IsCut (reverse before) after
     → (shape : Shape) (features : ShapeFeatures)
-    → ShapeDerives conditions (significant_tokens (before ++ after)) shape features ↔ SidesShape conditions before after feed eof shape features
+    → ShapeDerives conditions (significant_tokens tokens) shape features ↔ ChunksHave (HasShape conditions) (chunk_texts parts) shape features
 
--- ---- tokens that are moved, as those of a chunk are to their places in the text
+-- ---- the law for trees: chunks are moved to their places in the text
 
 -- the token with this much added to its offset and its line
 abbrev pub moved : (offset line : ℕ) → Tok → Tok
@@ -150,3 +132,82 @@ moved offset line t = tok t.kind t.lexeme (offset + t.offset) (line + t.line) t.
 
 abbrev pub moved_item : (offset line : ℕ) → OrderedItem Tok Tok ℕ → OrderedItem Tok Tok ℕ
 moved_item offset line = over_item (moved offset line) (moved offset line) (λ n. line + n) (λ star. star) (map (over_entry (moved offset line) (moved offset line)))
+
+-- a text of its own, which begins at this offset and on this line of another one
+pub record Chunk : Type 0 where
+  pub text : List ℕ
+  pub offset : ℕ
+  pub line : ℕ
+
+abbrev pub first_chunk : List Tok → Chunk
+first_chunk part = record { text = text_of part; offset = 0; line = 0 }
+
+-- where a part begins
+abbrev pub first_offset : List Tok → ℕ
+first_offset [] = 0
+first_offset (t ∷ part) = t.offset
+
+abbrev pub first_line : List Tok → ℕ
+first_line [] = 0
+first_line (t ∷ part) = t.line
+
+-- The line feed before a part is one byte before it, and on the line before.
+abbrev pub later_chunk : List Tok → Chunk
+later_chunk part = record { text = after_feed part; offset = first_offset part - 1; line = first_line part - 1 }
+
+abbrev pub chunks_of : List (List Tok) → List Chunk
+chunks_of [] = []
+chunks_of (part ∷ parts) = first_chunk part ∷ map later_chunk parts
+
+-- The chunk has tokens, which derive a tree with its features; moved, they are these.
+pub record HasTree (conditions : Conditions) (chunk : Chunk) (tree : Tree) (features : List (Noted Tok)) : Type 0 where
+  pub tokens : List Tok
+  pub lexed : Lexed chunk.text tokens
+  pub own_tree : Tree
+  pub own_features : List (Noted Tok)
+  pub derives : FileDerives conditions (significant_tokens tokens) own_tree own_features
+  pub tree_is : tree ≡ map (moved_item chunk.offset chunk.line) own_tree
+  pub features_are : features ≡ map (over_noted (moved chunk.offset chunk.line)) own_features
+
+-- A text derives a tree exactly if its chunks have it.
+abbrev pub TreeLaw : Type 0
+TreeLaw = (conditions : Conditions) (text : List ℕ) (tokens : List Tok) (parts : List (List Tok)) → IsUtf8 text → Lexed text tokens → AreParts tokens parts
+    → (tree : Tree) (features : List (Noted Tok))
+    → FileDerives conditions (significant_tokens tokens) tree features ↔ ChunksHave (HasTree conditions) (chunks_of parts) tree features
+
+-- ---- the law for tokens
+
+-- the tokens with bytes: all but the dedents and the end of a text
+abbrev pub with_bytes : List Tok → List Tok
+with_bytes tokens = filter (λ t. not (is_empty t.lexeme)) tokens
+
+-- If the chunk derives a tree, its tokens with bytes, moved, are those of the part, after this many others.
+abbrev pub HasTokens : Conditions → (others : ℕ) (part : List Tok) → Chunk → Type 0
+HasTokens conditions others part chunk =
+    (tokens : List Tok) (tree : Tree) (features : List (Noted Tok)) → Lexed chunk.text tokens → FileDerives conditions (significant_tokens tokens) tree features
+    → with_bytes part ≡ drop others (map (moved chunk.offset chunk.line) (with_bytes tokens))
+
+-- The tokens of each chunk that derives a tree are those of the text, whatever the other chunks are. Its line feed isn't among them.
+abbrev pub TokenLaw : Type 0
+TokenLaw = (conditions : Conditions) (text : List ℕ) (tokens first : List Tok) (others : List (List Tok)) → IsUtf8 text → Lexed text tokens
+    → AreParts tokens (first ∷ others)
+    → HasTokens conditions 0 first (first_chunk first) × AllByRecursion (λ part. HasTokens conditions 1 part (later_chunk part)) others
+
+-- ---- the law for numbers
+
+-- Each row of numbers counts up from where the one before it ends, and has as many as the items.
+abbrev pub FollowOn : {X : Type 0} → (count : List X → ℕ) → (first : ℕ) → List (List X) → List (List ℕ) → Type 0
+FollowOn count first [] [] = Unit {0}
+FollowOn count first (items ∷ others) (ns ∷ numbers) = NumbersFrom first ns × (length ns ≡ count items) × FollowOn count (first + count items) others numbers
+FollowOn count first _ _ = ⊥
+
+-- If the numbers of chunks follow on, they are those of the text.
+abbrev pub NumbersOf : (count : Tree → ℕ) → Type 0
+NumbersOf count = (conditions : Conditions) (text : List ℕ) (tokens : List Tok) (parts : List (List Tok)) → IsUtf8 text → Lexed text tokens → AreParts tokens parts
+    → (tree : Tree) (features : List (Noted Tok)) (chunks : ChunksHave (HasTree conditions) (chunks_of parts) tree features) (first : ℕ) (numbers : List (List ℕ))
+    → FollowOn count first chunks.each_items numbers
+    → NumbersFrom first (flat_map (λ ns. ns) numbers) × (length (flat_map (λ ns. ns) numbers) ≡ count tree)
+
+-- of bindings and of recipes
+abbrev pub NumberLaw : Type 0
+NumberLaw = NumbersOf bindings × NumbersOf recipes
