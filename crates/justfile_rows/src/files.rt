@@ -94,6 +94,7 @@ fn items_part(word: Word, fields: &[String]) -> ItemsPart {
         Word::Expands | Word::Value => ItemsPart::Value,
         Word::Orders => ItemsPart::Orders,
         Word::Parts => ItemsPart::Parts,
+        Word::References => ItemsPart::References,
         Word::Sets => ItemsPart::Sets,
         Word::Settings => ItemsPart::Settings,
         _ => ItemsPart::Recipe(recipe_part(word, fields)),

@@ -1,5 +1,5 @@
 -- The spelling of keywords.
-use Rattle.std.specs.Prelude.{ℕ, List, [], ◌∷◌, codes, Option}
+use Rattle.std.specs.Prelude.{ℕ, Bool, true, false, List, [], ◌∷◌, codes, Option}
 use Rattle.std.specs.List.{find}
 use Rattle.std.specs.Str.{bytes_eq}
 use Rattle.justfile_vocabulary.specs.declared.keyword.Keyword.{Keyword}
@@ -56,3 +56,36 @@ keywords = Alias ∷ AllowDuplicateRecipes ∷ AllowDuplicateVariables ∷ Asser
 -- the keyword with this spelling
 unfoldable pub keyword_named : List ℕ → Option Keyword
 keyword_named text = find (λ keyword. bytes_eq (keyword_text keyword) text) keywords
+
+-- the parser takes the keyword as the name of a setting
+abbrev pub is_setting_name : Keyword → Bool
+is_setting_name AllowDuplicateRecipes = true
+is_setting_name AllowDuplicateVariables = true
+is_setting_name DefaultList = true
+is_setting_name DefaultScript = true
+is_setting_name DotenvCommand = true
+is_setting_name DotenvFilename = true
+is_setting_name DotenvLoad = true
+is_setting_name DotenvOverride = true
+is_setting_name DotenvPath = true
+is_setting_name DotenvRequired = true
+is_setting_name Export = true
+is_setting_name Fallback = true
+is_setting_name Guards = true
+is_setting_name IgnoreComments = true
+is_setting_name Indentation = true
+is_setting_name Lazy = true
+is_setting_name Lists = true
+is_setting_name MinimumVersion = true
+is_setting_name NoCd = true
+is_setting_name NoExitMessage = true
+is_setting_name PositionalArguments = true
+is_setting_name Quiet = true
+is_setting_name ScriptInterpreter = true
+is_setting_name Shell = true
+is_setting_name Tempdir = true
+is_setting_name Unstable = true
+is_setting_name WindowsPowershell = true
+is_setting_name WindowsShell = true
+is_setting_name WorkingDirectory = true
+is_setting_name _ = false

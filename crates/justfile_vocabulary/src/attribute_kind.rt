@@ -36,42 +36,45 @@ pub enum AttributeKind {
     WorkingDirectory,
 }
 
-/// All kinds, in declaration order.
-static KINDS: [AttributeKind; 30] = [
-    AttributeKind::Android,
-    AttributeKind::Arg,
-    AttributeKind::Cache,
-    AttributeKind::Confirm,
-    AttributeKind::Continue,
-    AttributeKind::Default,
-    AttributeKind::Doc,
-    AttributeKind::Dragonfly,
-    AttributeKind::Env,
-    AttributeKind::ExitMessage,
-    AttributeKind::Extension,
-    AttributeKind::Freebsd,
-    AttributeKind::Group,
-    AttributeKind::Linux,
-    AttributeKind::Macos,
-    AttributeKind::Metadata,
-    AttributeKind::Netbsd,
-    AttributeKind::NoCd,
-    AttributeKind::NoExitMessage,
-    AttributeKind::NoQuiet,
-    AttributeKind::Openbsd,
-    AttributeKind::Parallel,
-    AttributeKind::PositionalArguments,
-    AttributeKind::Private,
-    AttributeKind::Script,
-    AttributeKind::Shell,
-    AttributeKind::Timestamp,
-    AttributeKind::Unix,
-    AttributeKind::Windows,
-    AttributeKind::WorkingDirectory,
-];
+/// The table that `from_name` searches.
+static KINDS: [AttributeKind; 30] = AttributeKind::ALL;
 
 impl AttributeKind {
     ghost use Rattle.justfile_vocabulary.specs.AttributeKind.{attribute_name, is_enabler_kind, kind_named, takes_keys};
+
+    /// All kinds, in declaration order.
+    pub const ALL: [AttributeKind; 30] = [
+        AttributeKind::Android,
+        AttributeKind::Arg,
+        AttributeKind::Cache,
+        AttributeKind::Confirm,
+        AttributeKind::Continue,
+        AttributeKind::Default,
+        AttributeKind::Doc,
+        AttributeKind::Dragonfly,
+        AttributeKind::Env,
+        AttributeKind::ExitMessage,
+        AttributeKind::Extension,
+        AttributeKind::Freebsd,
+        AttributeKind::Group,
+        AttributeKind::Linux,
+        AttributeKind::Macos,
+        AttributeKind::Metadata,
+        AttributeKind::Netbsd,
+        AttributeKind::NoCd,
+        AttributeKind::NoExitMessage,
+        AttributeKind::NoQuiet,
+        AttributeKind::Openbsd,
+        AttributeKind::Parallel,
+        AttributeKind::PositionalArguments,
+        AttributeKind::Private,
+        AttributeKind::Script,
+        AttributeKind::Shell,
+        AttributeKind::Timestamp,
+        AttributeKind::Unix,
+        AttributeKind::Windows,
+        AttributeKind::WorkingDirectory,
+    ];
 
     /// Returns the kind with this name, or `None` if no kind has it. Compares lengths first: few
     /// kinds have names of one length.

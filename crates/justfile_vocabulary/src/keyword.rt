@@ -50,54 +50,57 @@ pub enum Keyword {
     X,
 }
 
-/// All keywords.
-static KEYWORDS: [Keyword; 42] = [
-    Keyword::Alias,
-    Keyword::AllowDuplicateRecipes,
-    Keyword::AllowDuplicateVariables,
-    Keyword::Assert,
-    Keyword::DefaultList,
-    Keyword::DefaultScript,
-    Keyword::DotenvCommand,
-    Keyword::DotenvFilename,
-    Keyword::DotenvLoad,
-    Keyword::DotenvOverride,
-    Keyword::DotenvPath,
-    Keyword::DotenvRequired,
-    Keyword::Eager,
-    Keyword::Else,
-    Keyword::Export,
-    Keyword::F,
-    Keyword::Fallback,
-    Keyword::False,
-    Keyword::Guards,
-    Keyword::If,
-    Keyword::IgnoreComments,
-    Keyword::Import,
-    Keyword::Indentation,
-    Keyword::Lazy,
-    Keyword::Lists,
-    Keyword::MinimumVersion,
-    Keyword::Mod,
-    Keyword::NoCd,
-    Keyword::NoExitMessage,
-    Keyword::PositionalArguments,
-    Keyword::Quiet,
-    Keyword::ScriptInterpreter,
-    Keyword::Set,
-    Keyword::Shell,
-    Keyword::Tempdir,
-    Keyword::True,
-    Keyword::Unexport,
-    Keyword::Unstable,
-    Keyword::WindowsPowershell,
-    Keyword::WindowsShell,
-    Keyword::WorkingDirectory,
-    Keyword::X,
-];
+/// The table that `from_lexeme` searches.
+static KEYWORDS: [Keyword; 42] = Keyword::ALL;
 
 impl Keyword {
-    ghost use Rattle.justfile_vocabulary.specs.Keyword.{keyword_text};
+    ghost use Rattle.justfile_vocabulary.specs.Keyword.{is_setting_name, keyword_text};
+
+    /// All keywords, in declaration order.
+    pub const ALL: [Keyword; 42] = [
+        Keyword::Alias,
+        Keyword::AllowDuplicateRecipes,
+        Keyword::AllowDuplicateVariables,
+        Keyword::Assert,
+        Keyword::DefaultList,
+        Keyword::DefaultScript,
+        Keyword::DotenvCommand,
+        Keyword::DotenvFilename,
+        Keyword::DotenvLoad,
+        Keyword::DotenvOverride,
+        Keyword::DotenvPath,
+        Keyword::DotenvRequired,
+        Keyword::Eager,
+        Keyword::Else,
+        Keyword::Export,
+        Keyword::F,
+        Keyword::Fallback,
+        Keyword::False,
+        Keyword::Guards,
+        Keyword::If,
+        Keyword::IgnoreComments,
+        Keyword::Import,
+        Keyword::Indentation,
+        Keyword::Lazy,
+        Keyword::Lists,
+        Keyword::MinimumVersion,
+        Keyword::Mod,
+        Keyword::NoCd,
+        Keyword::NoExitMessage,
+        Keyword::PositionalArguments,
+        Keyword::Quiet,
+        Keyword::ScriptInterpreter,
+        Keyword::Set,
+        Keyword::Shell,
+        Keyword::Tempdir,
+        Keyword::True,
+        Keyword::Unexport,
+        Keyword::Unstable,
+        Keyword::WindowsPowershell,
+        Keyword::WindowsShell,
+        Keyword::WorkingDirectory,
+        Keyword::X,
+    ];
 
     /// Returns the keyword with this spelling.
     pub fn from_lexeme(lexeme: &str) -> Option<Self>
@@ -158,6 +161,44 @@ impl Keyword {
             Keyword::WorkingDirectory => "working-directory",
             Keyword::X => "x",
         }
+    }
+
+    /// Whether the keyword is the name of a setting: whether the parser takes it after `set`.
+    pub fn is_setting(self) -> bool
+        ensures { result ≡ is_setting_name self }
+    {
+        matches!(
+            self,
+            Keyword::AllowDuplicateRecipes
+                | Keyword::AllowDuplicateVariables
+                | Keyword::DefaultList
+                | Keyword::DefaultScript
+                | Keyword::DotenvCommand
+                | Keyword::DotenvFilename
+                | Keyword::DotenvLoad
+                | Keyword::DotenvOverride
+                | Keyword::DotenvPath
+                | Keyword::DotenvRequired
+                | Keyword::Export
+                | Keyword::Fallback
+                | Keyword::Guards
+                | Keyword::IgnoreComments
+                | Keyword::Indentation
+                | Keyword::Lazy
+                | Keyword::Lists
+                | Keyword::MinimumVersion
+                | Keyword::NoCd
+                | Keyword::NoExitMessage
+                | Keyword::PositionalArguments
+                | Keyword::Quiet
+                | Keyword::ScriptInterpreter
+                | Keyword::Shell
+                | Keyword::Tempdir
+                | Keyword::Unstable
+                | Keyword::WindowsPowershell
+                | Keyword::WindowsShell
+                | Keyword::WorkingDirectory
+        )
     }
 
     /// Whether this is the spelling of the keyword.

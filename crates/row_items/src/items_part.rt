@@ -5,6 +5,7 @@ use crate::names::{attributes, docs, enabled, keys, sets, settings};
 use crate::orders::orders;
 use crate::parts::parts;
 use crate::recipes::{RecipePart, push_of_recipe};
+use crate::references::push_references;
 use crate::values::push_of_value;
 use justfile_item::Item;
 use row_notation::Answer;
@@ -31,6 +32,8 @@ pub enum ItemsPart {
     Parts,
     /// A part of the first recipe.
     Recipe(RecipePart),
+    /// The names that each item defines and uses.
+    References,
     /// The set that is made from the attributes of the first recipe.
     Sets,
     /// The properties of each setting.
@@ -51,6 +54,7 @@ pub fn push_of_items(items: &[Item<'_>], answer: &mut Answer, part: ItemsPart) {
         ItemsPart::Orders => orders(items, answer),
         ItemsPart::Parts => parts(items, answer),
         ItemsPart::Recipe(part) => push_of_recipe(items, answer, part),
+        ItemsPart::References => push_references(items, answer),
         ItemsPart::Sets => sets(items, answer),
         ItemsPart::Settings => settings(items, answer),
         ItemsPart::Value => push_of_value(items, answer, ValueForm::Parts),

@@ -10,6 +10,7 @@ mod orders;
 mod parts;
 pub mod printing;
 pub mod recipes;
+mod references;
 pub mod resolution;
 pub mod symbols;
 mod values;

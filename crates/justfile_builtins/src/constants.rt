@@ -1,0 +1,45 @@
+//! The built-in constants.
+ghost use Rattle.std.specs.Prelude.{◌≡◌};
+ghost use Rattle.justfile_builtins.specs.Constants.{is_constant};
+
+use crate::names::is_among;
+
+/// The names of all built-in constants, in order.
+pub static CONSTANTS: [&str; 29] = [
+    "BG_BLACK",
+    "BG_BLUE",
+    "BG_CYAN",
+    "BG_GREEN",
+    "BG_MAGENTA",
+    "BG_RED",
+    "BG_WHITE",
+    "BG_YELLOW",
+    "BLACK",
+    "BLUE",
+    "BOLD",
+    "CLEAR",
+    "CYAN",
+    "GREEN",
+    "HEX",
+    "HEXLOWER",
+    "HEXUPPER",
+    "HIDE",
+    "INVERT",
+    "ITALIC",
+    "MAGENTA",
+    "NORMAL",
+    "PATH_SEP",
+    "PATH_VAR_SEP",
+    "RED",
+    "STRIKETHROUGH",
+    "UNDERLINE",
+    "WHITE",
+    "YELLOW",
+];
+
+/// Whether this is the name of a built-in constant.
+pub fn is_constant(name: &str) -> bool
+    ensures { result ≡ is_constant name.now }
+{
+    is_among(name, &CONSTANTS)
+}

@@ -1,0 +1,24 @@
+//! Spans and lines.
+ghost use Rattle.std.specs.Prelude.{◌≡◌, ◌≤◌, count_by, length};
+ghost use Rattle.justfile_recovery.specs.Places.{LiesIn};
+
+use justfile_spans::Span;
+
+/// Returns the span from one offset up to another one, or as much of it as lies in a text of this
+/// length.
+pub fn span_in(length: usize, start: usize, end: usize) -> Span
+    ensures { LiesIn length result }
+{
+    let end = end.min(length);
+    Span {
+        start: start.min(end),
+        end,
+    }
+}
+
+/// Returns the number of line feeds.
+pub fn line_feeds(bytes: &[u8]) -> usize
+    ensures { result ≤ length bytes.now }
+{
+    bytes.iter().filter(|byte| **byte == b'\n').count()
+}
