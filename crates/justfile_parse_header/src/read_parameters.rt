@@ -109,7 +109,9 @@ fn push_named<'src>(
     }
 }
 
-/// Appends a parameter to a list.
+/// Appends a parameter to a list. The first room is for two, since most recipes have no more. Room is
+/// reserved first: a push that can fail would return the parameter on failure, which costs one more
+/// copy.
 ///
 /// # Errors
 ///
@@ -121,6 +123,10 @@ fn push_parameter<'src>(
     ensures pushed { OnOk result (list.new.items ≡ list.old.items ++ parameter.entry ∷ []) }
     ensures kept { OnErr result (list.new.items ≡ list.old.items) }
 {
-    list.push(parameter)?;
+    if list.is_empty() {
+        list.reserve_exact(2)?;
+    }
+    list.reserve(1)?;
+    list.push_reserved(parameter);
     Ok(())
 }
