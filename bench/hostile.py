@@ -49,6 +49,8 @@ PARTS = {
     "aliases": "alias a := b\n",
     "functions": "a(b) := b\n",
     "blank lines": "\n",
+    "docs": "# a\nb:\n\n",
+    "options of recipes": "[arg('b', long)]\na b:\n",
 }
 
 # Texts of one construct with many parts: the text before them, the part, and the text after them.
@@ -63,6 +65,14 @@ LONG = {
 REJECTED = {
     "blanks before an error": ("a := ", " ", "]\n"),
     "digits of a number": ("[arg('b', max='", "1", "')]\na *b:\n"),
+    "tabs before an error": ("a := ", "\t", "]\n"),
+    "tabs after an error": ("] #", "\t", "\n"),
+    "characters after a tab and an error": ("]\t#", "é", "\n"),
+}
+
+# The same, of tokens: each takes memory.
+REJECTED_TOKENS = {
+    "byte order marks": ("", "\ufeff", ""),
 }
 
 
@@ -89,13 +99,25 @@ def shuffled(count):
     return numbers
 
 
-def attribute_texts():
-    """Attributes of one recipe, whose names are of one length and stand in their order or in none."""
+def named_texts():
+    """Attributes and parameters of one recipe, whose names are of one length and stand in their order or in none."""
     for place, order in (("in order", range), ("in no order", shuffled)):
         yield f"groups, {place}", ATTRIBUTES, lambda n: "".join(f"[group('g{i:05}')]\n" for i in order(n)) + "foo:\n"
         yield f"options, {place}", ATTRIBUTES, lambda n: "".join(
             f"[arg('p{i:05}', long)]\n" for i in order(n)
-        ) + "foo " + " ".join(f"p{i:05}" for i in range(n)) + ":\n"
+        ) + "foo " + parameters(range(n)) + ":\n"
+        yield f"parameters, {place}", ATTRIBUTES, lambda n: "foo " + parameters(order(n)) + ":\n"
+        yield f"parameters and one option, {place}", ATTRIBUTES, lambda n: (
+            "[arg('p00001', long)]\nfoo " + parameters(order(n)) + ":\n"
+        )
+    yield "groups in one line", ATTRIBUTES, lambda n: (
+        "[" + ", ".join(f"group('g{i:05}')" for i in range(n)) + "]\nfoo:\n"
+    )
+
+
+def parameters(numbers):
+    """The names of parameters with these numbers."""
+    return " ".join(f"p{number:05}" for number in numbers)
 
 
 def part_texts():
@@ -105,6 +127,8 @@ def part_texts():
         yield name, BYTES // len(part), lambda n: before + part * n + after
     for name, (before, part, after) in REJECTED.items():
         yield name, 10 * BYTES, lambda n: before + part * n + after
+    for name, (before, part, after) in REJECTED_TOKENS.items():
+        yield name, BYTES, lambda n: before + part * n + after
 
 
 def run(program, path):
@@ -121,7 +145,7 @@ def run(program, path):
 
 def measured(program, path, text, count):
     """The bytes of a text, the status, the least seconds and the least peak of so many runs."""
-    with open(path, "w", newline="") as file:
+    with open(path, "w", newline="", encoding="utf-8") as file:
         file.write(text)
     runs = [run(program, path) for _ in range(count)]
     size = os.path.getsize(path)
@@ -135,7 +159,7 @@ def main():
     path = os.path.join(folder, "text")
     print("| text | parts | bytes | status | seconds | MB | seconds of twice as many | MB |")
     print("|---|---:|---:|---:|---:|---:|---:|---:|")
-    for texts, count in ((row_texts(), 1), (compared_texts(), 1), (attribute_texts(), 3), (part_texts(), 3)):
+    for texts, count in ((row_texts(), 1), (compared_texts(), 1), (named_texts(), 3), (part_texts(), 3)):
         for name, parts, text in texts:
             size, status, seconds, peak = measured(program, path, text(parts), count)
             _, twice_status, twice, twice_peak = measured(program, path, text(2 * parts), count)

@@ -32,4 +32,4 @@ python3 "$top/bench/table.py" "$lexer" "$out/inputs"
 echo
 echo "Formatting"
 echo
-python3 "$top/bench/ratio.py" "$lexer" "$formatter" "$out/justfiles"
+python3 "$top/bench/lexing_ratio.py" "$lexer" "$formatter" "$out/justfiles"

@@ -50,7 +50,7 @@ impl<'run, 'src, X: Expander> TokenCursor<'run, 'src, X> {
     }
 
     /// Makes the expression for a string.
-    #[tactic(auto, using(crate::proofs::Cooked::quoted_string, crate::proofs::Rules::string_is))]
+    #[tactic(auto, using(crate::proofs::Cooked::quoted_string))]
     fn cook_string(
         &self,
         entry: &'run SignificantToken<'src>,
@@ -65,6 +65,22 @@ impl<'run, 'src, X: Expander> TokenCursor<'run, 'src, X> {
                 return self.box_verbatim(entry, text);
             }
         }
+        self.box_cooked(entry, expand)
+    }
+
+    /// Makes the expression for a string whose text has to be cooked or expanded. It isn't inlined,
+    /// since most strings need neither.
+    #[inline(never)]
+    #[tactic(auto, using(crate::proofs::Rules::string_is))]
+    fn box_cooked(
+        &self,
+        entry: &'run SignificantToken<'src>,
+        expand: bool,
+    ) -> Result<Box<Expression<'src>>, ExpressionError<'src>>
+        requires { IsOf kinds.StringToken entry.now }
+        ensures reads { Parses X.answer (λ e. leaf_tree_of e.value) result self.now self.now
+            (λ s. reader.literal_string expand (entry.now, s)) }
+    {
         let string_literal = self.cook_literal(entry, expand)?;
         self.box_expression(Expression::StringLiteral { string_literal })
     }

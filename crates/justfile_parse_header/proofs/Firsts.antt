@@ -4,7 +4,6 @@ use Rattle.std.proofs.lemmas.List.Elements.{All-head}
 use Rattle.std.proofs.lemmas.Map.Text.{btree_map_updates_str}
 use Rattle.std.proofs.lemmas.Slice.Eq.{bytes_eq-Decides}
 use Rattle.std.specs.BTreeMap.{UpdatesBy, is_at}
-use Rattle.std.specs.BTreeSet.{BTreeSet}
 use Rattle.std.specs.Cmp.Lexicographic.{slice_cmp}
 use Rattle.std.specs.List.{list_any}
 use Rattle.std.specs.Map.{lookup}
@@ -21,12 +20,10 @@ use Rattle.justfile_recipe_header.specs.declared.parameter.Parameter.{Parameter}
 use Rattle.justfile_model.specs.Meanings.AttributeRules.{arg_rules, rules_in}
 use Rattle.justfile_model.specs.Meanings.RecipeRules.{rules_for}
 use Rattle.justfile_attribute.specs.KeyedBounds.{HaveBoundKeys, HasBoundKeys}
-use Rattle.justfile_parse_base.specs.TextSets.{texts_in}
-use Rattle.justfile_parse_header.specs.Arguments.{AreNames, OptionHasBoundKeys, is_of, rules_by, rules_named}
+use Rattle.justfile_parse_header.specs.Arguments.{OptionHasBoundKeys, is_named, is_of, rules_by, rules_named}
 use Rattle.justfile_parse_header.specs.HeaderTable.{Rules}
 use Rattle.justfile_parse_header.specs.ArgNames.{AreFirsts, Firsts, IsPut, IsPutAt, attribute_at, first_at}
 use Rattle.justfile_parse_header.specs.Tree.{parameter_tree}
-use Rattle.justfile_parse_header.proofs.ReadNames.{among_names}
 use Rattle.justfile_parse_header.proofs.ArgAttributes.{keyed_rest, rules_left, rules_named_begin, rules_named_here, rules_named_later}
 use Rattle.justfile_expression.specs.LeafViews.{views_leaves}
 use Rattle.justfile_expression.specs.LeafTree.{Named}
@@ -167,20 +164,30 @@ module _ (rules : List Rules) (found : Firsts) (are : AreFirsts found rules) whe
   unfolding AreFirsts
   first_is_keyed name = (are name).1
 
-  module _ (ps : List Parameter) (names : BTreeSet (Bor (List ℕ))) (named : AreNames (map parameter_tree ps) names) (name : Token) (text : List ℕ) (e : text ≡ lexeme_of name) where
-    abbrev among : Bool
-    among = list_any (bytes_eq text) (texts_in names)
+  module _ (ps : List Parameter) (name : Token) where
+    abbrev rules_of_name : Option Rules
+    rules_of_name = rules_for views_leaves rules (map parameter_tree ps) (Named name None)
 
-    rules_are : (is : Bool) → among ≡ is → cond is None (rules_named rules (lexeme_of name)) ≡ rules_for views_leaves rules (map parameter_tree ps) (Named name None)
-    rules_are is h = ap (λ b. cond b None (rules_named rules (lexeme_of name))) (sym (among_names ps names text name is named e h))
+    -- a name that no attribute has has no rules
+    pub named_nowhere : (text : List ℕ) → text ≡ lexeme_of name → None ≡ first_at found text → None ≡ rules_of_name
+    unfolding AreFirsts
+    named_nowhere text e none = go (is_named (map parameter_tree ps) (lexeme_of name))
+      where
+        absent : None ≡ rules_named rules (lexeme_of name)
+        absent = ap rules_by none ∙ (are text).0 ∙ ap (rules_named rules) e
 
-    -- a name that was there before has no rules
-    pub named_before : among ≡ true → None ≡ rules_for views_leaves rules (map parameter_tree ps) (Named name None)
-    named_before = rules_are true
+        go : (b : Bool) → None ≡ cond b None (rules_named rules (lexeme_of name))
+        go true = refl
+        go false = absent
+
+    -- nor has one that was there before
+    pub named_before : (text : List ℕ) → text ≡ lexeme_of name → is_named (map parameter_tree ps) text ≡ true → None ≡ rules_of_name
+    named_before text e h = ap (λ b. cond b None (rules_named rules (lexeme_of name))) (sym (ap (is_named (map parameter_tree ps)) (sym e) ∙ h))
 
     -- any other name has the rules of the first attribute that has it
-    pub named_first : among ≡ false → (other : List ℕ) → other ≡ lexeme_of name → (result : Option (Bor Attribute)) → result ≡ first_at found other
-        → rules_by result ≡ rules_for views_leaves rules (map parameter_tree ps) (Named name None)
+    pub named_first : (text : List ℕ) → text ≡ lexeme_of name → is_named (map parameter_tree ps) text ≡ false → (other : List ℕ) → other ≡ lexeme_of name
+        → (result : Option (Bor Attribute)) → result ≡ first_at found other → rules_by result ≡ rules_of_name
     unfolding AreFirsts
-    named_first h other same result is =
-        ap rules_by is ∙ (are other).0 ∙ ap (rules_named rules) same ∙ rules_are false h
+    named_first text e h other same result is =
+        ap rules_by is ∙ (are other).0 ∙ ap (rules_named rules) same
+        ∙ ap (λ b. cond b None (rules_named rules (lexeme_of name))) (sym (ap (is_named (map parameter_tree ps)) (sym e) ∙ h))

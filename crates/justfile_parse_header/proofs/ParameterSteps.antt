@@ -1,6 +1,5 @@
 -- What parsing parameters returns and writes, one step after another.
 use Rattle.std.proofs.Common.{◌≡◌, List, [], map, Result, Some, None, Ok, Err, refl, sym, subst, arith}
-use Rattle.std.specs.Global.{Vec}
 use Rattle.justfile_numbers.specs.declared.numerator.Numerator.{Numerator}
 use Rattle.justfile_vocabulary.specs.declared.token_kind.TokenKind.{TokenKind}
 use Rattle.justfile_vocabulary.specs.declared.token_kind.TokenKind.TheVariants as kinds
@@ -21,6 +20,7 @@ use Rattle.justfile_parse_header.specs.HeaderTable as reader
 use Rattle.justfile_parse_header.specs.HeaderTable.{Rules}
 use Rattle.justfile_parse_header.specs.ParameterResults.{ParameterReader, ReadsParameters}
 use Rattle.justfile_parse_header.specs.Tree.{parameter_tree}
+use Rattle.justfile_parse_header.specs.declared.read_parameters.ReadParameters.{ReadParameters}
 use Rattle.justfile_parse_base.proofs.BindingNumbers.{took_after_token, took_before_token, took_both, took_none, within}
 use Rattle.justfile_parse_base.proofs.HeaderErrors.{failed, stopped}
 use Rattle.justfile_parse_header.proofs.Parameters.{both_fields, same_fields}
@@ -96,9 +96,9 @@ module _ (rules : List Rules) (kind : ParameterKind) (before after : List Parame
 abbrev pub all_parameters : ParameterReader
 all_parameters rules x = reader.parameters rules x.0.1 x.1
 
--- the parameters of a list
-abbrev pub All : Result (Vec Parameter) ParseError → (rules : List Rules) → (old new : Numerator) → (first last : State) → Type 0
-All result rules old new first last = ReadsParameters rules (λ (list : Vec Parameter). list.items) result [] old new first last all_parameters
+-- the parameters that were read
+abbrev pub All : Result ReadParameters ParseError → (rules : List Rules) → (old new : Numerator) → (first last : State) → Type 0
+All result rules old new first last = ReadsParameters rules (λ (read : ReadParameters). read.list.items) result [] old new first last all_parameters
 
 module _ (rules : List Rules) (first : Numerator) (s : State) where
   abbrev Found : Read reader.Parameters
@@ -145,9 +145,9 @@ module _ (rules : List Rules) (first : Numerator) (s : State) where
         numbers = within first then (identifiers_left s) (identifiers_left s2) (identifiers_left s) 0 took (omega arith) (omega arith);
       }
 
-      pub all_read : (x : TableEntry × State) → expect kinds.Colon s2 ≡ Ok x → (list : Vec Parameter) → list.items ≡ all → All (Ok list) rules first then s x.1
+      pub all_read : (x : TableEntry × State) → expect kinds.Colon s2 ≡ Ok x → (parameters : ReadParameters) → parameters.list.items ≡ all → All (Ok parameters) rules first then s x.1
       unfolding headers.parameters
-      all_read x h list is =
+      all_read x h parameters is =
           let P : List Parameter → Type 0 = λ ps. ReadsParameters {X = Unit {0}} rules (λ _. ps) (Ok tt) [] first then s x.1 all_parameters in
           let read : P all = record {
             reads = rw (begun.reads, ended.reads, h) refl;

@@ -22,7 +22,7 @@ use Rattle.justfile_model.specs.Trees.LeafView.{or_empty}
 use Rattle.justfile_model.specs.Trees.Tree.{OptionName}
 use Rattle.justfile_parse_base.specs.TextSets.{HaveSame, texts_in}
 use Rattle.justfile_parse_base.proofs.TextSetLemmas.{same_more, same_then}
-use Rattle.justfile_parse_header.specs.Arguments.{AreNames}
+use Rattle.justfile_parse_header.specs.Arguments.{is_named}
 use Rattle.justfile_parse_header.specs.HeaderTable.{LeafParameter}
 use Rattle.justfile_parse_header.specs.Options.{character_of, option_in}
 use Rattle.justfile_parse_header.specs.Tree.{parameter_tree}
@@ -53,9 +53,6 @@ module _ {X : Type 0} (same : X → X → Bool) (decides : (x y : X) → Decides
 pub character_among : (c : ℕ) (others : List ℕ) → list_any (λ (d : ℕ). nat_eq d c) others ≡ list_any (nat_eq c) others
 character_among = any_turned nat_eq Decides-eqb
 
-abbrev pub is_named : List LeafParameter → (name : List ℕ) → Bool
-is_named parameters name = list_any (λ (p : LeafParameter). bytes_eq (views_leaves.bytes p.name) name) parameters
-
 -- a parameter of this name is among them
 pub named_is : (ps : List Parameter) (name : List ℕ) → list_any (λ (p : Parameter). bytes_eq (lexeme_of p.name.token) name) ps
     ≡ list_any (λ (p : LeafParameter). bytes_eq (views_leaves.bytes p.name) name) (map parameter_tree ps)
@@ -65,20 +62,6 @@ named_is ps name = any_map (λ (p : LeafParameter). bytes_eq (views_leaves.bytes
 abbrev pub names_of : List Parameter → List (List ℕ)
 names_of = map (λ (p : Parameter). lexeme_of p.name.token)
 
-pub no_names : (ps : List Parameter) (names : List (List ℕ)) → names ≡ [] → HaveSame (names_of (take 0 ps)) names
-no_names ps names none = λ text. ap (list_any (bytes_eq text)) (sym none)
-
-pub one_name : (ps : List Parameter) (i : ℕ) (p : Parameter) (text : List ℕ) (old new : List (List ℕ)) → i < length ps → p ≡ get_or ps i p → text ≡ lexeme_of p.name.token
-    → HaveSame (names_of (take i ps)) old → HaveSame (old ++ text ∷ []) new → HaveSame (names_of (take (i + 1) ps)) new
-one_name ps i p text old new within item is so_far added =
-    let next : take (i + 1) ps ≡ take i ps ++ p ∷ [] = take_next ps i p within ∙ ap (λ (q : Parameter). take i ps ++ q ∷ []) (sym item) in
-    let names : names_of (take (i + 1) ps) ≡ names_of (take i ps) ++ text ∷ [] =
-    ap names_of next ∙ map-append (λ (p : Parameter). lexeme_of p.name.token) (take i ps) (p ∷ []) ∙ ap (λ t. names_of (take i ps) ++ t ∷ []) (sym is) in
-    subst (λ ns. HaveSame ns new) (sym names) (same_then _ _ _ (same_more _ _ text so_far) added)
-  where
-    take_next : (qs : List Parameter) (j : ℕ) (d : Parameter) → j < length qs → take (j + 1) qs ≡ take j qs ++ get_or qs j d ∷ []
-    take_next qs j d h = let e : j + 1 ≡ suc j = omega arith in ap (λ n. take n qs) e ∙ take-suc qs j d h
-
 -- a parameter of this name is among them where the name is
 pub named_among : (ps : List Parameter) (name : List ℕ) → is_named (map parameter_tree ps) name ≡ list_any (bytes_eq name) (names_of ps)
 named_among ps name =
@@ -86,15 +69,10 @@ named_among ps name =
     ∙ any_map (λ (t : List ℕ). bytes_eq t name) (λ (p : Parameter). lexeme_of p.name.token) ps
     ∙ any_turned bytes_eq bytes_eq-Decides name (names_of ps)
 
-pub all_names : (ps : List Parameter) (i : ℕ) (set : BTreeSet (Bor (List ℕ))) → length ps ≤ i → HaveSame (names_of (take i ps)) (texts_in set) → AreNames (map parameter_tree ps) set
-unfolding AreNames
-all_names ps i set h so_far name = named_among ps name ∙ ap (λ qs. list_any (bytes_eq name) (names_of qs)) (sym (take_all i ps h)) ∙ so_far name
-
--- an argument that is none of them, or one
-pub outside : (parameters : List LeafParameter) (set : BTreeSet (Bor (List ℕ))) (name : StringLiteral) (text : List ℕ) → AreNames parameters set → text ≡ string_bytes name.cooked
-    → list_any (bytes_eq text) (texts_in set) ≡ is_named parameters (text_of views_leaves (quoted_leaf name))
-unfolding AreNames
-outside parameters set name text names e = sym (names text) ∙ ap (is_named parameters) (e ∙ sym (text_is name))
+-- a parameter has the text of a literal as its name
+pub literal_named : (parameters : List LeafParameter) (name : StringLiteral) (text : List ℕ) → text ≡ string_bytes name.cooked
+    → is_named parameters text ≡ is_named parameters (text_of views_leaves (quoted_leaf name))
+literal_named parameters name text e = ap (is_named parameters) (e ∙ sym (text_is name))
 
 -- ---- what an option is called
 

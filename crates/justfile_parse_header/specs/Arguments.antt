@@ -1,4 +1,5 @@
 -- The parameters that `arg` attributes belong to.
+use Rattle.std.proofs.Common.{refl}
 use Rattle.std.specs.Prelude.{◌≡◌, ℕ, Bool, false, List, Option, Some, None, not, if◌then◌else◌}
 use Rattle.std.specs.BTreeSet.{BTreeSet}
 use Rattle.std.specs.Coded.{Coded-set, coded_bool}
@@ -43,13 +44,26 @@ lesser_of None second = second
 lesser_of (Some q) None = Some q
 lesser_of (Some q) (Some r) = Some (lesser (text_of views_leaves) q (Some r))
 
+-- whether one of the parameters has the name
+abbrev pub is_named : List LeafParameter → (name : List ℕ) → Bool
+is_named parameters name = list_any (λ (p : LeafParameter). bytes_eq (views_leaves.bytes p.name) name) parameters
+
 -- The set has the names of these parameters, and no others.
 unfoldable pub AreNames : List LeafParameter → BTreeSet (Bor (List ℕ)) → Type 0
-AreNames parameters set = (name : List ℕ) → list_any (λ (p : LeafParameter). bytes_eq (views_leaves.bytes p.name) name) parameters ≡ list_any (bytes_eq name) (texts_in set)
+AreNames parameters set = (name : List ℕ) → is_named parameters name ≡ list_any (bytes_eq name) (texts_in set)
 
 pub prop_names : (parameters : List LeafParameter) (set : BTreeSet (Bor (List ℕ))) → IsProp (AreNames parameters set)
 unfolding AreNames
 prop_names parameters set = hlevel (Coded-set coded_bool)
+
+-- The set, if there is one, has the names of these parameters.
+abbrev pub AreKeptNames : List LeafParameter → Option (BTreeSet (Bor (List ℕ))) → Type 0
+AreKeptNames parameters None = Unit {0}
+AreKeptNames parameters (Some set) = AreNames parameters set
+
+pub prop_kept : (parameters : List LeafParameter) (names : Option (BTreeSet (Bor (List ℕ)))) → IsProp (AreKeptNames parameters names)
+prop_kept parameters None = λ a b. refl
+prop_kept parameters (Some set) = prop_names parameters set
 
 -- the name in an `arg` attribute, if it isn't the name of a parameter
 abbrev pub undefined_in : List LeafParameter → Attribute Leaf Token → Option (Quoted Leaf)

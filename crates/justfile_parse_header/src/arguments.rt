@@ -1,5 +1,5 @@
 //! The parameters that `arg` attributes belong to.
-ghost use Rattle.std.specs.Prelude.{◌≡◌, IfOk, List, None, map, string_bytes};
+ghost use Rattle.std.specs.Prelude.{◌≡◌, None, map, string_bytes};
 ghost use Rattle.std.specs.Option.{option_map};
 ghost use Rattle.justfile_attribute.specs.Attribute.{leaf_attribute_of};
 ghost use Rattle.justfile_attribute_rules.specs.Made.{IsFaultOfRule, quoted_leaf};
@@ -7,8 +7,7 @@ ghost use Rattle.justfile_model.specs.Meanings.RecipeRules.{rules_for};
 ghost use Rattle.justfile_model.specs.Meanings.Rules.{UndefinedArgAttribute};
 ghost use Rattle.justfile_parse_base.specs.ParseErrors.{ChecksRules};
 ghost use Rattle.justfile_parse_header.specs.HeaderTable as reader;
-ghost use Rattle.justfile_parse_header.specs.HeaderTable.{LeafParameter};
-ghost use Rattle.justfile_parse_header.specs.Arguments.{AreNames, OptionHasBoundKeys, least_undefined, lesser_of, rules_by, undefined_in};
+ghost use Rattle.justfile_parse_header.specs.Arguments.{OptionHasBoundKeys, least_undefined, lesser_of, rules_by, undefined_in};
 ghost use Rattle.justfile_parse_header.specs.ArgNames.{AreFirsts};
 ghost use Rattle.justfile_parse_header.specs.Tree.{parameter_tree, rules_of};
 ghost use Rattle.justfile_expression.specs.LeafViews.{views_leaves};
@@ -18,12 +17,9 @@ use crate::arg_names::{ArgAttributes, find_first};
 use crate::read_parameters::ReadParameters;
 use justfile_attribute::Attribute;
 use justfile_attribute_set::AttributeSet;
-use justfile_parse_base::text_sets::{add_text, is_among};
 use justfile_parse_base::{ParseError, rule_error};
-use justfile_recipe_header::Parameter;
 use justfile_token::{CompileErrorKind, Fault, StringLiteral, Token};
-use std::alloc::{AllocError, Global};
-use std::collections::BTreeSet;
+use std::alloc::Global;
 
 /// Returns the `arg` attribute of the parameter with this name, if it has one. It belongs to the
 /// first parameter with its name, so a parameter that repeats a name from `before` has none.
@@ -38,10 +34,12 @@ pub(crate) fn find_arg<'run, 'src>(
         (map parameter_tree before.now.list.items) (Named name.entry None) }
     ensures keyed { OptionHasBoundKeys result }
 {
-    if is_among(&before.names, name.lexeme()) {
-        return None;
+    let found = find_first(&arg_attributes.firsts, name.lexeme())?;
+    if before.is_named(name.lexeme()) {
+        None
+    } else {
+        Some(found)
     }
-    find_first(&arg_attributes.firsts, name.lexeme())
 }
 
 /// Refuses `arg` attributes that name no parameter. The error is about the one whose name is the
@@ -50,12 +48,12 @@ pub(crate) fn find_arg<'run, 'src>(
 pub(crate) fn check_defined<'src>(
     attributes: &AttributeSet<'src>,
     alloc: Global,
-    parameters: &[Parameter<'src>],
+    parameters: &ReadParameters<'src>,
 ) -> Result<(), ParseError<'src>>
-    ensures { ChecksRules (reader.undefined (map parameter_tree parameters.now)
+    ensures { ChecksRules (reader.undefined (map parameter_tree parameters.now.list.items)
         (rules_of attributes.now)) result }
 {
-    match find_undefined(attributes, alloc, parameters)? {
+    match find_undefined(attributes, parameters) {
         None => Ok(()),
         Some(argument) => Err(rule_error(alloc, undefined_argument_fault(alloc, argument))),
     }
@@ -66,51 +64,34 @@ pub(crate) fn check_defined<'src>(
 #[tactic(auto, using(crate::proofs::Least::begins, crate::proofs::Least::goes_on, crate::proofs::Least::ends))]
 fn find_undefined<'run, 'src>(
     attributes: &'run AttributeSet<'src>,
-    alloc: Global,
-    parameters: &[Parameter<'src>],
-) -> Result<Option<&'run StringLiteral<'src>>, AllocError>
-    ensures { IfOk result (λ found. option_map (λ l. quoted_leaf l.now) found
-        ≡ least_undefined (map parameter_tree parameters.now) (rules_of attributes.now)) }
+    parameters: &ReadParameters<'src>,
+) -> Option<&'run StringLiteral<'src>>
+    ensures { option_map (λ l. quoted_leaf l.now) result
+        ≡ least_undefined (map parameter_tree parameters.now.list.items)
+        (rules_of attributes.now) }
 {
-    let names = parameter_names(alloc, parameters)?;
     let mut found: Option<&'run StringLiteral<'src>> = None;
     let mut left = attributes.iter();
     'attributes: loop {
         let Some(attribute) = left.next() else {
-            return Ok(found);
+            return found;
         };
-        found = min_by_text(found, undefined_parameter(attribute, &names));
+        found = min_by_text(found, undefined_parameter(attribute, parameters));
     }
 }
 
-/// Returns the set of the parameters' names.
-#[tactic(auto, using(crate::proofs::Texts::no_names, crate::proofs::Texts::one_name))]
-fn parameter_names<'src>(
-    alloc: Global,
-    parameters: &[Parameter<'src>],
-) -> Result<BTreeSet<&'src str>, AllocError>
-    ensures { IfOk result (λ names. AreNames (map parameter_tree parameters.now) names) }
-{
-    let mut names = BTreeSet::new(alloc);
-    for parameter in parameters {
-        add_text(&mut names, parameter.name.lexeme())?;
-    }
-    Ok(names)
-}
-
-/// Returns the name in an `arg` attribute, if it isn't one of these names of parameters.
-#[tactic(auto, using(crate::proofs::Texts::outside))]
+/// Returns the name in an `arg` attribute, if it isn't the name of a parameter.
 fn undefined_parameter<'run, 'src>(
     attribute: &'run Attribute<'src>,
-    names: &BTreeSet<&str>,
+    parameters: &ReadParameters<'src>,
 ) -> Option<&'run StringLiteral<'src>>
-    ensures { (parameters : List LeafParameter) → AreNames parameters names.now
-        → option_map (λ l. quoted_leaf l.now) result
-        ≡ undefined_in parameters (leaf_attribute_of attribute.now) }
+    ensures { option_map (λ l. quoted_leaf l.now) result
+        ≡ undefined_in (map parameter_tree parameters.now.list.items)
+        (leaf_attribute_of attribute.now) }
 {
     match attribute {
         Attribute::Arg { name, .. } => {
-            if is_among(names, name.cooked.as_str()) {
+            if parameters.is_named(name.cooked.as_str()) {
                 None
             } else {
                 Some(name)

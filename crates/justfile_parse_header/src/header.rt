@@ -58,7 +58,7 @@ pub fn parse_header<'src, X: Expander>(
     note_arg_attributes(attributes, parser)?;
     check_options(attributes, parser.alloc, name.0)?;
     let parameters = parse_parameters(attributes, parser, numerator)?;
-    check_defined(attributes, parser.alloc, parameters.as_slice())?;
+    check_defined(attributes, parser.alloc, &parameters)?;
     let mut dependencies = Vec::new(parser.alloc);
     parse_dependencies(parser, &mut dependencies)?;
     let priors = dependencies.len();
@@ -66,7 +66,7 @@ pub fn parse_header<'src, X: Expander>(
     Ok(Header {
         dependencies,
         name: *name,
-        parameters,
+        parameters: parameters.list,
         priors,
     })
 }

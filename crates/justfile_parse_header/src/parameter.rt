@@ -39,19 +39,19 @@ pub(crate) fn parse_parameters<'src, X: Expander>(
     attributes: &AttributeSet<'src>,
     parser: &mut TokenCursor<'_, 'src, X>,
     numerator: &mut Numerator,
-) -> Result<Vec<Parameter<'src>>, ParseError<'src>>
+) -> Result<ReadParameters<'src>, ParseError<'src>>
     requires { HaveBoundKeys (attributes_of attributes.now) }
-    ensures { ParsesParameters X.answer (rules_of attributes.now) (λ list. list.items)
+    ensures { ParsesParameters X.answer (rules_of attributes.now) (λ read. read.list.items)
         result [] numerator.old numerator.new parser.old parser.new
         (λ rules x. reader.parameters rules x.0.1 x.1) }
 {
     let firsts = find_firsts(attributes, parser.alloc)?;
+    let mut parameters = ReadParameters::new(parser.alloc, !firsts.is_empty());
     let arg_attributes = ArgAttributes { attributes, firsts };
-    let mut parameters = ReadParameters::new(parser.alloc);
     parse_singulars(&arg_attributes, parser, numerator, &mut parameters)?;
     parse_last(&arg_attributes, parser, numerator, &mut parameters)?;
     parser.expect(TokenKind::Colon)?;
-    Ok(parameters.into_list())
+    Ok(parameters)
 }
 
 /// Parses parameters that take one argument, and appends them to `parameters`.

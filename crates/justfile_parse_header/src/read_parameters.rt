@@ -1,34 +1,47 @@
 //! The parameters of a recipe while they are parsed.
-ghost use Rattle.std.specs.Prelude.{◌≡◌, ◌∷◌, ◌++◌, [], OnErr, OnOk, length, map, take};
+ghost use Rattle.std.specs.Prelude.{◌≡◌, ◌∷◌, ◌++◌, [], IfSome, OnErr, OnOk, map};
+ghost use Rattle.std.specs.List.{list_any};
+ghost use Rattle.std.specs.Str.{bytes_eq};
 ghost use Rattle.justfile_token.specs.Token.{lexeme_of};
 ghost use Rattle.justfile_parse_base.specs.TextSets.{HaveSame, texts_in};
-ghost use Rattle.justfile_parse_header.specs.Arguments.{AreNames, prop_names};
+ghost use Rattle.justfile_parse_header.specs.Arguments.{AreKeptNames, is_named, prop_kept};
 ghost use Rattle.justfile_parse_header.specs.Tree.{parameter_tree};
 
-use justfile_parse_base::text_sets::add_text;
+use justfile_parse_base::text_sets::{add_text, is_among};
 use justfile_recipe_header::Parameter;
 use std::alloc::{AllocError, Global};
 use std::collections::BTreeSet;
 
-/// The parameters parsed so far, and the set of their names.
+/// The parameters parsed so far, and the set of their names if they will be looked up.
 #[derive(Drop)]
 pub(crate) struct ReadParameters<'src> {
     pub(crate) list: Vec<Parameter<'src>>,
-    pub(crate) names: BTreeSet<&'src str>,
-    ghost named: { AreNames (map parameter_tree list.items) names } by { prop_names (map parameter_tree list.items) names },
+    names: Option<BTreeSet<&'src str>>,
+    ghost named: { AreKeptNames (map parameter_tree list.items) names } by { prop_kept (map parameter_tree list.items) names },
 }
 
 impl<'src> ReadParameters<'src> {
     ghost use Rattle.std.specs.Prelude.{◌≡◌, ◌∷◌, ◌++◌, [], OnOk};
 
-    /// Returns an empty list of parameters.
+    /// Returns an empty list of parameters. Many lookups by name are fast only if it keeps their
+    /// names.
     #[tactic(auto, using(crate::proofs::ReadNames::none_named))]
-    pub(crate) fn new(alloc: Global) -> Self
+    pub(crate) fn new(alloc: Global, keeps_names: bool) -> Self
         ensures { result.list.items ≡ [] }
     {
         ReadParameters {
             list: Vec::new(alloc),
-            names: BTreeSet::new(alloc),
+            names: no_names(alloc, keeps_names),
+        }
+    }
+
+    /// Whether a parameter so far has this name.
+    pub(crate) fn is_named(&self, name: &str) -> bool
+        ensures { result ≡ is_named (map parameter_tree self.now.list.items) name.now }
+    {
+        match &self.names {
+            Some(names) => is_among(names, name),
+            None => any_named(&self.list, name),
         }
     }
 
@@ -37,17 +50,12 @@ impl<'src> ReadParameters<'src> {
     /// # Errors
     ///
     /// `AllocError` if memory runs out.
-    #[tactic(auto, using(crate::proofs::ReadNames::one_named, crate::proofs::ReadNames::still_named))]
     pub(crate) fn push(&mut self, parameter: Parameter<'src>) -> Result<(), AllocError>
         ensures { OnOk result (self.new.list.items ≡ self.old.list.items ++ parameter.entry ∷ []) }
     {
-        let count = self.list.len();
-        match push_named(&mut self.list, &mut self.names, parameter) {
-            Ok(()) => Ok(()),
-            Err(error) => {
-                self.list.truncate(count);
-                Err(error)
-            }
+        match &mut self.names {
+            Some(names) => push_named(&mut self.list, names, parameter),
+            None => push_parameter(&mut self.list, parameter),
         }
     }
 
@@ -61,12 +69,32 @@ impl<'src> ReadParameters<'src> {
     }
 }
 
-/// Appends a parameter to a list, and adds its name to a set.
+/// Whether one of the parameters has the name.
+fn any_named(parameters: &[Parameter<'_>], name: &str) -> bool
+    ensures { result ≡ list_any (λ p. bytes_eq (lexeme_of p.name.token) name.now) parameters.now }
+{
+    parameters
+        .iter()
+        .any(|parameter| parameter.name.lexeme() == name)
+}
+
+/// Returns an empty set of names if it is wanted.
+fn no_names<'src>(alloc: Global, is_wanted: bool) -> Option<BTreeSet<&'src str>>
+    ensures { IfSome result (λ names. names.keys ≡ []) }
+{
+    if is_wanted {
+        Some(BTreeSet::new(alloc))
+    } else {
+        None
+    }
+}
+
+/// Appends a parameter to a list, and adds its name to a set. Changes neither if there is an error.
 ///
 /// # Errors
 ///
 /// `AllocError` if memory runs out.
-#[tactic(auto, using(crate::proofs::ReadNames::begins_pushed, crate::proofs::ReadNames::begins_same))]
+#[tactic(auto, using(crate::proofs::ReadNames::taken_away))]
 fn push_named<'src>(
     list: &mut Vec<Parameter<'src>>,
     names: &mut BTreeSet<&'src str>,
@@ -75,10 +103,39 @@ fn push_named<'src>(
     ensures pushed { OnOk result (list.new.items ≡ list.old.items ++ parameter.entry ∷ []) }
     ensures named { OnOk result (HaveSame
         (texts_in names.old ++ lexeme_of parameter.entry.name.token ∷ []) (texts_in names.new)) }
-    ensures kept { OnErr result (names.new.keys ≡ names.old.keys) }
-    ensures keeps_earlier { take (length list.old.items) list.new.items ≡ list.old.items }
+    ensures kept { OnErr result (list.new.items ≡ list.old.items) }
+    ensures kept_names { OnErr result (names.new.keys ≡ names.old.keys) }
 {
+    let count = list.len();
     let name = parameter.name.lexeme();
-    list.push(parameter)?;
-    add_text(names, name)
+    push_parameter(list, parameter)?;
+    match add_text(names, name) {
+        Ok(()) => Ok(()),
+        Err(error) => {
+            list.truncate(count);
+            Err(error)
+        }
+    }
+}
+
+/// Appends a parameter to a list. The first room is for two, since most recipes have no more. Room is
+/// reserved first: a push that can fail would return the parameter on failure, which costs one more
+/// copy.
+///
+/// # Errors
+///
+/// `AllocError` if memory runs out.
+fn push_parameter<'src>(
+    list: &mut Vec<Parameter<'src>>,
+    parameter: Parameter<'src>,
+) -> Result<(), AllocError>
+    ensures pushed { OnOk result (list.new.items ≡ list.old.items ++ parameter.entry ∷ []) }
+    ensures kept { OnErr result (list.new.items ≡ list.old.items) }
+{
+    if list.is_empty() {
+        list.reserve_exact(2)?;
+    }
+    list.reserve(1)?;
+    list.push_reserved(parameter);
+    Ok(())
 }

@@ -117,6 +117,26 @@ fn peek_line<X: Expander>(parser: &TokenCursor<'_, '_, X>) -> usize
     }
 }
 
+/// A line that is a text alone.
+const TEXT_ALONE: [TokenKind; 2] = [TokenKind::Text, TokenKind::Eol];
+/// A line that ends in the interpolation of a name.
+const NAME_LAST: [TokenKind; 5] = [
+    TokenKind::Text,
+    TokenKind::InterpolationStart,
+    TokenKind::Identifier,
+    TokenKind::InterpolationEnd,
+    TokenKind::Eol,
+];
+/// A line with the interpolation of a name between texts.
+const NAME_WITHIN: [TokenKind; 6] = [
+    TokenKind::Text,
+    TokenKind::InterpolationStart,
+    TokenKind::Identifier,
+    TokenKind::InterpolationEnd,
+    TokenKind::Text,
+    TokenKind::Eol,
+];
+
 /// Parses the rest of a line of a body. Takes the end of the line, but not the end of the body.
 #[tactic(auto, using(crate::proofs::Bodies::line_ends, crate::proofs::Bodies::line_left, crate::proofs::Bodies::line_goes_on, crate::proofs::Bodies::line_stops))]
 fn parse_line_rest<'src, X: Expander>(
@@ -125,7 +145,7 @@ fn parse_line_rest<'src, X: Expander>(
     ensures { Parses X.answer (λ fragments. map fragment_tree fragments.items) result
         parser.old parser.new reader.line_rest }
 {
-    let mut fragments = Vec::new(parser.alloc);
+    let mut fragments = Vec::with_capacity(parser.alloc, first_room(parser))?;
     'fragments: loop {
         if let Some(_newline) = parser.accept(TokenKind::Eol) {
             return Ok(fragments);
@@ -137,6 +157,21 @@ fn parse_line_rest<'src, X: Expander>(
         fragments.reserve(1)?;
         fragments.push_reserved(fragment);
     }
+}
+
+/// Returns how many texts and interpolations the next line has, or 4 if that isn't seen at once: most
+/// lines are a text alone, or have one interpolation, of a name.
+fn first_room<X: Expander>(parser: &TokenCursor<'_, '_, X>) -> usize {
+    if parser.probe_kinds(&TEXT_ALONE) {
+        return 1;
+    }
+    if parser.probe_kinds(&NAME_LAST) {
+        return 2;
+    }
+    if parser.probe_kinds(&NAME_WITHIN) {
+        return 3;
+    }
+    4
 }
 
 /// Parses a text, or an expression between `{{` and `}}`.

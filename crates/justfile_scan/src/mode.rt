@@ -33,6 +33,8 @@ pub struct Mode<'src> {
 impl<'src> Mode<'src> {
     ghost use Rattle.justfile_model.specs.Lexing.Modes.{mode, mode_after, innermost, nested, start_mode, is_empty, head_of, tail_of, opener};
     ghost use Rattle.justfile_model.specs.Lexing.Next.{is_level};
+    ghost use Rattle.justfile_token.specs.StringKind.{kind_of};
+    ghost use Rattle.justfile_token.specs.declared.delimiter.Delimiter.TheVariants.{FormatString};
     ghost use Rattle.justfile_model.specs.Lexing.Tok.{tok_of};
     ghost use Rattle.justfile_scan.specs.Modes.{mode_of, interpolation_after};
 
@@ -118,8 +120,7 @@ impl<'src> Mode<'src> {
             TokenKind::ParenL => self.open(Delimiter::Paren, token.line)?,
             TokenKind::FormatStringStart => {
                 let bytes = token.lexeme().as_bytes();
-                let line = token.line + count_line_feeds(bytes);
-                self.open(Delimiter::FormatString(StringKind::of_opening(bytes)), line)?
+                self.open_format_string(bytes, token.line + count_line_feeds(bytes))?
             }
             TokenKind::BraceR
             | TokenKind::BracketR
@@ -141,7 +142,21 @@ impl<'src> Mode<'src> {
         Ok(())
     }
 
-    /// Opens a delimiter whose token ends on the line.
+    /// Opens the format string that begins with this text, which ends on the line.
+    #[inline(never)]
+    fn open_format_string(&mut self, start: &[u8], line: usize) -> Result<(), AllocError>
+        ensures mode { OnOk result (mode_of self.new ≡ record
+            (mode_of self.old) {
+              openers = opener (FormatString (kind_of start.now)) line ∷ (mode_of self.old).openers;
+            }) }
+        ensures interpolation { self.new.interpolation ≡ self.old.interpolation }
+    {
+        self.open(Delimiter::FormatString(StringKind::of_opening(start)), line)
+    }
+
+    /// Opens a delimiter whose token ends on the line. It isn't inlined, since LLVM would clear the
+    /// room for a delimiter before it looks at the kind of each token.
+    #[inline(never)]
     fn open(&mut self, delimiter: Delimiter, line: usize) -> Result<(), AllocError>
         ensures mode { OnOk result (mode_of self.new ≡ record
             (mode_of self.old) { openers = opener delimiter line ∷ (mode_of self.old).openers }) }

@@ -1,12 +1,13 @@
 -- Invariants of the loops over the characters of a line.
-use Rattle.std.proofs.Common.{◌≡◌, ℕ, zero, suc, ◌+◌, ◌<◌, ◌≤◌, ◌^◌, ◌/◌, ◌%◌, max, if◌then◌else◌, Bool, true, false, ◌||◌, cond, List, [], ◌∷◌, ◌++◌, IsUtf8, length, take, drop, get_or, sym, ap, subst, ◌∙◌, arith, append_assoc, append-nil, length-append, zero-add, suc-add}
-use Rattle.std.specs.Prelude.{chars, codes, encode_utf8, filter, sum_by}
+use Rattle.std.proofs.Common.{◌≡◌, ℕ, zero, suc, ◌+◌, ◌<◌, ◌≤◌, ◌^◌, ◌/◌, ◌%◌, max, if◌then◌else◌, Bool, true, false, ◌||◌, ◌&&◌, cond, List, [], ◌∷◌, ◌++◌, IsUtf8, length, take, drop, get_or, sym, ap, subst, ◌∙◌, arith, append_assoc, append-nil, length-append, zero-add, suc-add}
+use Rattle.std.specs.Prelude.{chars, codes, encode_utf8, filter, nat_le, nat_lt, sum_by}
 use Rattle.std.proofs.Common.{refl}
 use lib.Utf8.{encodes}
 use Rattle.std.specs.List.{flat_map, list_any, repeat}
 use Rattle.std.specs.Fmt.{IsDefaultSpec, IsPlainFormatter, HasWritten, HasWrittenStyled, decimal}
 use Rattle.std.specs.Str.Iter.{char_indices_rest, char_indices_offset, char_indices_steps}
 use Rattle.std.specs.declared.fmt.Formatter.{Formatter}
+use Rattle.std.proofs.lemmas.Bool.Decides.{Decides-ltb}
 use Rattle.std.proofs.lemmas.Fmt.{decimal_step_wide}
 use Rattle.std.proofs.lemmas.Iterator.{YieldsList}
 use Rattle.std.proofs.lemmas.Iterator.Splits.{YieldsList-from_shown_while}
@@ -61,6 +62,39 @@ width_among-front start count all xs p front turn =
     let same = ap (width_among start count) pushed in
     omega (arith, whole, same)
 
+second_true : (a b : Bool) → (a && b) ≡ true → b ≡ true
+second_true true b h = h
+second_true false b h = absurd cc
+
+-- a character after the range takes none of its columns
+width_among-out : (start count : ℕ) (p : ℕ × ℕ) → start + count ≤ p.0 → width_among start count (p ∷ []) ≡ 0
+width_among-out start count p past = go (is_among start count p.0) refl
+  where
+    go : (b : Bool) → is_among start count p.0 ≡ b → width_among start count (p ∷ []) ≡ 0
+    go true e =
+        let before = (Decides-ltb p.0 (start + count)).0 (second_true (nat_le start p.0) (nat_lt p.0 (start + count)) e) in
+        absurd (omega (arith, past, before))
+    go false e = ap (λ (b : Bool). sum_by (λ (q : ℕ × ℕ). width_of q.1) (if b then p ∷ [] else [])) e
+
+none_among : (start count place : ℕ) (cs : List ℕ) → start + count ≤ place → width_among start count (placed_from place cs) ≡ 0
+none_among start count place [] past = refl
+none_among start count place (c ∷ cs) past =
+    let rest = place + length (encode_utf8 c) in
+    width_among-append start count ((place, c) ∷ []) (placed_from rest cs)
+    ∙ ap (λ n. n + width_among start count (placed_from rest cs)) (width_among-out start count (place, c) past)
+    ∙ ap (λ n. 0 + n) (none_among start count rest cs (omega (arith, past)))
+
+-- from a character after the range on, no character takes a column of the range
+pub width_among-past : (start count place : ℕ) (cs : List ℕ) (n : ℕ) (p : ℕ × ℕ) → n < length (placed_from place cs) → p ≡ get_or (placed_from place cs) n p → start + count ≤ p.0
+    → width_among start count (placed_from place cs) ≡ width_among start count (take n (placed_from place cs))
+width_among-past start count place [] n p within is past = absurd (omega (arith, within))
+width_among-past start count place (c ∷ cs) zero p within is past = none_among start count place (c ∷ cs) (subst (λ (q : ℕ × ℕ). start + count ≤ q.0) is past)
+width_among-past start count place (c ∷ cs) (suc n) p within is past =
+    let rest = placed_from (place + length (encode_utf8 c)) cs in
+    width_among-append start count ((place, c) ∷ []) rest
+    ∙ ap (λ w. width_among start count ((place, c) ∷ []) + w) (width_among-past start count (place + length (encode_utf8 c)) cs n p (omega (arith, within)) is past)
+    ∙ sym (width_among-append start count ((place, c) ∷ []) (take n rest))
+
 -- at least one repetition: the same number if it isn't 0, and one otherwise
 pub repeat-max : {A : Type 0} (n : ℕ) (xs : List A) → 0 < n → repeat (max 1 n) xs ≡ repeat n xs
 repeat-max n xs some = let same : max 1 n ≡ n = omega arith in ap (λ k. repeat k xs) same
@@ -79,6 +113,25 @@ module _ {W : Type 0} (took : W → List ℕ → W → Type 0) where
     wrote = written.wrote;
     plain = record { bare = subst IsDefaultSpec (sym written.spec) plain.bare; flush = written.flush };
   }
+
+-- one more character, after a text and the spaces of some tabs that are the characters before it
+shown_push : (cs : List ℕ) (c : ℕ) → flat_map shown_character (cs ++ c ∷ []) ≡ flat_map shown_character cs ++ shown_character c
+shown_push [] c = append-nil (shown_character c)
+shown_push (d ∷ cs) c = ap (λ t. shown_character d ++ t) (shown_push cs c) ∙ sym (append_assoc (shown_character d) (flat_map shown_character cs) (shown_character c))
+
+module _ (cs : List ℕ) (c : ℕ) (text : List ℕ) (tabs : ℕ) (all : text ++ repeat tabs (codes "    ") ≡ flat_map shown_character cs) where
+  shown_more : (b : Bool) → is_tab c ≡ b → flat_map shown_character (cs ++ c ∷ []) ≡ (text ++ repeat tabs (codes "    ")) ++ (if b then codes "    " else encode_utf8 c)
+  shown_more b e =
+      shown_push cs c ∙ ap (λ t. t ++ shown_character c) (sym all)
+      ∙ ap (λ (b : Bool). (text ++ repeat tabs (codes "    ")) ++ (if b then codes "    " else encode_utf8 c)) e
+
+  pub shown_tab : is_tab c ≡ true → text ++ repeat (tabs + 1) (codes "    ") ≡ flat_map shown_character (cs ++ c ∷ [])
+  shown_tab e =
+      ap (λ t. text ++ t) (repeat-add tabs 1 (codes "    ") ∙ ap (λ t. repeat tabs (codes "    ") ++ t) (append-nil (codes "    ")))
+      ∙ sym (append_assoc text (repeat tabs (codes "    ")) (codes "    ")) ∙ sym (shown_more true e)
+
+  pub shown_other : is_tab c ≡ false → (text ++ repeat tabs (codes "    ")) ++ encode_utf8 c ≡ flat_map shown_character (cs ++ c ∷ [])
+  shown_other e = sym (shown_more false e)
 
 -- a line without a tab shows as it is
 plain_characters : (cs : List ℕ) → list_any is_tab cs ≡ false → flat_map shown_character cs ≡ encodes cs

@@ -1,5 +1,5 @@
 //! Lines of a text as messages show them, and the screen columns of their characters.
-ghost use Rattle.std.specs.Prelude.{◌≡◌, ◌+◌, ◌<◌, ◌↔◌, IsTrue, Some, chars, codes, length, max};
+ghost use Rattle.std.specs.Prelude.{◌≡◌, ◌+◌, ◌<◌, ◌≤◌, ◌↔◌, IsTrue, Some, chars, codes, length, max};
 ghost use Rattle.std.specs.Fmt.{DisplaysOnOk, decimal};
 ghost use Rattle.std.specs.List.{list_any, repeat, slice_get};
 ghost use Rattle.std.specs.Option.{option_map};
@@ -65,6 +65,13 @@ fn is_among(place: usize, start: usize, count: usize) -> bool
     start <= place && place - start < count
 }
 
+/// Whether a byte position is after the `count` positions from `start` on.
+fn is_past(place: usize, start: usize, count: usize) -> bool
+    ensures { IsTrue result ↔ (start + count ≤ place) }
+{
+    start <= place && place - start >= count
+}
+
 /// Whether a character takes a column and begins in the `count` bytes of the line from `start` on.
 fn has_width(line: &str, start: usize, count: usize) -> bool
     ensures { IsTrue result ↔ (0 < width_in line.now start count) }
@@ -90,6 +97,9 @@ pub fn write_columns<W: fmt::Write>(
         (Some (repeat (width_in line.now start count) text.now)) f.new }
 {
     for (place, character) in line.char_indices() {
+        if is_past(place, start, count) {
+            return Ok(());
+        }
         if is_among(place, start, count) {
             f.write_repeated(text, width_of(character))?;
         }
@@ -104,6 +114,11 @@ fn has_tab(line: &str) -> bool
     line.chars().any(|character| character == '\t')
 }
 
+/// How many tabs, at most, are written as one text.
+const TABS_AT_ONCE: usize = 8;
+/// The spaces for so many tabs.
+const SPACES: &str = "                                ";
+
 /// Writes a line, with four spaces for each tab.
 pub fn write_line<W: fmt::Write>(line: &str, f: &mut fmt::Formatter<W>) -> fmt::Result
     ensures { DisplaysOnOk W.write_str_gives f.old result (Some (shown_line line.now)) f.new }
@@ -111,14 +126,21 @@ pub fn write_line<W: fmt::Write>(line: &str, f: &mut fmt::Formatter<W>) -> fmt::
     if !has_tab(line) {
         return f.write_str(line);
     }
+    let mut tabs = 0;
     for character in line.chars() {
         if character == '\t' {
-            f.write_str("    ")?;
+            tabs += 1;
+            if tabs == TABS_AT_ONCE {
+                f.write_str(SPACES)?;
+                tabs = 0;
+            }
         } else {
+            f.write_repeated("    ", tabs)?;
+            tabs = 0;
             f.write_char(character)?;
         }
     }
-    Ok(())
+    f.write_repeated("    ", tabs)
 }
 
 /// Writes a caret for each column of the characters that begin in the `count` bytes of the line

@@ -11,9 +11,9 @@ use Rattle.justfile_expression.specs.LeafTree.{Leaf}
 
 pub attributes-preserved : goal.attributes-preserved
 attributes-preserved c =
-    let ps = map parameter_tree c.args.parameters.now in
+    let ps = map parameter_tree c.args.parameters.now.list.items in
     let found = option_map (λ l. quoted_leaf l.now) c.attributes.found in
     let rest = keys_left c.next.new.self in
     goes_on ps (least_undefined ps (rules_of c.args.attributes.now)) found c.in-Some.attribute.now (keys_left c.attributes.left) rest c.in-Some.ensures.steps c.attributes.invariant
     ∙ ap (λ (f : Option (Quoted Leaf)). lesser_of f (least_in ps rest))
-    (ap (lesser_of found) (sym (c.undefined_parameter.ensures ps c.in_ok-names.ensures)) ∙ sym c.min_by_text-found.ensures)
+    (ap (lesser_of found) (sym c.undefined_parameter.ensures) ∙ sym c.min_by_text-found.ensures)

@@ -9,8 +9,8 @@ use Rattle.justfile_parse_header.proofs.arguments.find_undefined.Given as goal
 
 -- the least of all is the one found so far, or one that is left
 abbrev pub invariant-attributes : goal.invariant-attributes
-invariant-attributes l = least_undefined (map parameter_tree l.parameters) (rules_of l.attributes)
-    ≡ lesser_of (option_map (λ a. quoted_leaf a.now) l.found) (least_in (map parameter_tree l.parameters) (keys_left l.left))
+invariant-attributes l = least_undefined (map parameter_tree l.parameters.list.items) (rules_of l.attributes)
+    ≡ lesser_of (option_map (λ a. quoted_leaf a.now) l.found) (least_in (map parameter_tree l.parameters.list.items) (keys_left l.left))
 
 abbrev pub decreases-attributes : goal.decreases-attributes
 decreases-attributes l = length (keys_left l.left)

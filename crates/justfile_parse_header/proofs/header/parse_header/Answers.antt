@@ -1,7 +1,6 @@
 use Rattle.std.proofs.Common.{◌≡◌, ◌+◌, ◌≤◌, List, [], map, Ok, Err, subst, arith}
 use Rattle.std.proofs.lemmas.Result.{err_from_is_err_and}
 use Rattle.justfile_vocabulary.specs.declared.token_kind.TokenKind.TheVariants as kinds
-use Rattle.justfile_recipe_header.specs.declared.parameter.Parameter.{Parameter}
 use Rattle.justfile_recipe_header.specs.declared.unresolved_dependency.UnresolvedDependency.{UnresolvedDependency}
 use Rattle.justfile_model.specs.Readers.HeaderReader.{obeying}
 use Rattle.justfile_model.specs.Readers.ReaderState.{NoNumber, prepend}
@@ -25,20 +24,17 @@ use Rattle.justfile_parse_header.proofs.header.parse_header.Goals.{In_ok-note_ar
 
 -- the parameters, from the state after the name, where the features of the rules are noted
 parameters_are : (g : Over) (c : In_ok-parameters g) → reader.parameters (rules_of c.args.attributes.now) (counters_of c.args.numerator.now) (ruled (rules_of c.args.attributes.now) (state_of g.X.Expander.answer c.expect.new.self))
-    ≡ Ok ((map parameter_tree c.in_ok-parameters.parameters.items, counters_of c.parse_parameters.new.numerator), state_of g.X.Expander.answer c.parse_parameters.new.parser)
+    ≡ Ok ((map parameter_tree c.in_ok-parameters.parameters.list.items, counters_of c.parse_parameters.new.numerator), state_of g.X.Expander.answer c.parse_parameters.new.parser)
 parameters_are g c =
-    let found = Ok ((map parameter_tree c.in_ok-parameters.parameters.items, counters_of c.parse_parameters.new.numerator), state_of g.X.Expander.answer c.parse_parameters.new.parser) in
+    let found = Ok ((map parameter_tree c.in_ok-parameters.parameters.list.items, counters_of c.parse_parameters.new.numerator), state_of g.X.Expander.answer c.parse_parameters.new.parser) in
     let P : State → Type 0 = λ s. reader.parameters (rules_of c.args.attributes.now) (counters_of c.args.numerator.now) s ≡ found in
     subst P c.in_ok-note_arg_attributes.ensures c.in_ok-parameters.ensures.reads
 
 -- each parameter that an `arg` attribute names is among them
 all_defined : (g : Over) (c : In_ok-check_defined g)
-    → obeying (reader.undefined (map parameter_tree c.in_ok-parameters.parameters.items) (rules_of c.args.attributes.now)) (state_of g.X.Expander.answer c.parse_parameters.new.parser)
+    → obeying (reader.undefined (map parameter_tree c.in_ok-parameters.parameters.list.items) (rules_of c.args.attributes.now)) (state_of g.X.Expander.answer c.parse_parameters.new.parser)
     ≡ Ok (tt, state_of g.X.Expander.answer c.parse_parameters.new.parser)
-all_defined g c =
-    let s = state_of g.X.Expander.answer c.parse_parameters.new.parser in
-    let P : List Parameter → Type 0 = λ ps. obeying (reader.undefined (map parameter_tree ps) (rules_of c.args.attributes.now)) s ≡ Ok (tt, s) in
-    subst P c.as_slice.ensures.value (c.in_ok-check_defined.ensures s)
+all_defined g c = c.in_ok-check_defined.ensures (state_of g.X.Expander.answer c.parse_parameters.new.parser)
 
 -- the dependencies before `&&`
 priors_are : (g : Over) (c : In_ok-parse_dependencies g)
@@ -140,12 +136,10 @@ returns-in_err-check_defined-clause-reads g c =
     let s2 = state_of g.X.Expander.answer c.parse_parameters.new.parser in
     let p = err_from_is_err_and c.from_residual-in_err-check_defined.result c.from_residual-in_err-check_defined.ensures.1 in
     let error = c.in_err-check_defined.field-0.0 in
-    let undefined : List Parameter → Read (Unit {0}) = λ ps. obeying (reader.undefined (map parameter_tree ps) (rules_of c.args.attributes.now)) s2 in
-    let P : List Parameter → Type 0 = λ ps. IsParseError error s2 ⊥ (undefined ps) in
+    let undefined : Read (Unit {0}) = obeying (reader.undefined (map parameter_tree c.in_ok-parameters.parameters.list.items) (rules_of c.args.attributes.now)) s2 in
     let fails = undefined_fail (rules_of c.args.attributes.now) (counters_of c.args.numerator.now) (state_of g.X.Expander.answer c.args.parser.now) c.in_ok-name.ensures.reads (c.in_ok-check_options.ensures (ruled (rules_of c.args.attributes.now) (state_of g.X.Expander.answer c.expect.new.self))) (parameters_are g (goal.at.returns-in_err-check_defined-clause-reads g c).In_ok-parameters) in
     rw (p.1, p.2)
-    (failed (undefined c.in_ok-parameters.parameters.items) _ fails error s2 ⊥ _ (λ k. absurd k)
-    (subst P c.as_slice.ensures.value (c.in_err-check_defined.ensures s2)))
+    (failed undefined _ fails error s2 ⊥ _ (λ k. absurd k) (c.in_err-check_defined.ensures s2))
 
 pub returns-in_err-check_defined-clause-numbers : goal.returns-in_err-check_defined-clause-numbers
 returns-in_err-check_defined-clause-numbers g c =
@@ -203,7 +197,7 @@ returns-clause-fields g c =
     let s4 = state_of A c.parse_subsequents.new.parser in
     let others = read_after (map dependency_tree before) (map dependency_tree all) (reader.subsequents s3) s4 c.in_ok-parse_subsequents.ensures in
     record {
-      parameters = then_fields (rules_of c.args.attributes.now) [] c.in_ok-parameters.parameters.items (none_fields (rules_of c.args.attributes.now)) c.in_ok-parameters.ensures.fields;
+      parameters = then_fields (rules_of c.args.attributes.now) [] c.in_ok-parameters.parameters.list.items (none_fields (rules_of c.args.attributes.now)) c.in_ok-parameters.ensures.fields;
       priors = omega (arith, c.len-priors.ensures, c.parse_dependencies.new.dependencies.ok.0, priors_within before all others.0 others.2);
       name = c.in_ok-name.ensures.kind;
     }

@@ -1,4 +1,4 @@
-use Rattle.std.proofs.Common.{List, [], Ok, Err, arith, subst}
+use Rattle.std.proofs.Common.{List, [], Ok, Err, arith, refl, subst}
 use Rattle.std.proofs.lemmas.Result.{err_from_is_err_and}
 use Rattle.justfile_recipe_header.specs.declared.parameter.Parameter.{Parameter}
 use Rattle.justfile_parse_expression.specs.View.{state_of}
@@ -64,4 +64,4 @@ returns g c =
     let A = g.X.Expander.answer in
     let new = c.parse_last.new in
     all_read (rules_of c.args.attributes.now) c.args.numerator.now (state_of A c.args.parser.now) _ _ _ (singulars_are g (goal.at.returns g c).In_ok-parse_singulars)
-    new.parameters.list.items new.numerator (state_of A new.parser) c.in_ok-parse_last.ensures (_, state_of A c.expect.new.self) c.in_ok-expect.ensures.reads c.into_list.result c.into_list.ensures
+    new.parameters.list.items new.numerator (state_of A new.parser) c.in_ok-parse_last.ensures (_, state_of A c.expect.new.self) c.in_ok-expect.ensures.reads new.parameters refl

@@ -15,7 +15,7 @@ use Rattle.justfile_parse_item_parts.proofs.body.parse_line_rest.Goals as goal
 pub fragments-init : goal.fragments-init
 fragments-init g c =
     let s = state_of g.X.Expander.answer c.args.parser.now in
-    rw c.new-fragments.ensures.items (begins (line_rest s))
+    rw c.in_ok-fragments.ensures.items (begins (line_rest s))
 
 pub fragments-smaller : goal.fragments-smaller
 fragments-smaller g c =
@@ -30,7 +30,7 @@ pub returns-in_err-fragment : goal.returns-in_err-fragment
 returns-in_err-fragment g c =
     let A = g.X.Expander.answer in
     let done = c.fragments.fragments.items in
-    let p = err_from_is_err_and c.from_residual.result c.from_residual.ensures.1 in
+    let p = err_from_is_err_and c.from_residual-in_err-fragment.result c.from_residual-in_err-fragment.ensures.1 in
     let P : TokenCursor _ → Type 0 = λ q. prepend (map fragment_tree done) (line_rest (state_of A q)) ≡ line_rest (state_of A c.args.parser.now) in
     let Q : TokenCursor _ → Type 0 = λ q. accept kinds.Eol (state_of A q) ≡ None in
     let here = sym c.in_default.ensures.moves in

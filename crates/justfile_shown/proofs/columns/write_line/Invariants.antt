@@ -1,9 +1,15 @@
+use Rattle.std.proofs.Common.{◌≡◌, ◌<◌, ℕ, List, ◌++◌}
 use Rattle.std.specs.Fmt.{HasWritten, IsPlainFormatter}
-use Rattle.std.specs.List.{flat_map}
+use Rattle.std.specs.List.{flat_map, repeat}
+use Rattle.std.specs.Prelude.{codes}
 use Rattle.justfile_shown.specs.Columns.{shown_character}
 use Rattle.justfile_shown.proofs.columns.write_line.Given as goal
 
--- the characters so far are written
+-- a text is written that is, with the spaces of the tabs since, the characters so far
 abbrev pub invariant-loop-character : goal.invariant-loop-character
-invariant-loop-character g l =
-    IsPlainFormatter l.initial.f → HasWritten g.W.Write.write_str_gives l.initial.f (flat_map shown_character l.yielded) l.f
+invariant-loop-character g l = record {
+  text : List ℕ;
+  few : l.tabs < 8;
+  all : text ++ repeat l.tabs (codes "    ") ≡ flat_map shown_character l.yielded;
+  written : IsPlainFormatter l.initial.f → HasWritten g.W.Write.write_str_gives l.initial.f text l.f;
+}
