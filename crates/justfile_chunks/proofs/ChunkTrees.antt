@@ -1,5 +1,5 @@
 -- The laws for trees, tokens and numbers: the tree of a text is that of its chunks, moved and joined.
-use Rattle.std.proofs.Common.{◌≡◌, ◌∙◌, ℕ, ◌+◌, Bool, true, false, cond, not, List, [], ◌∷◌, ◌++◌, length, map, drop, refl, sym, ap, subst, arith, length-append}
+use Rattle.std.proofs.Common.{◌≡◌, ◌∙◌, ℕ, ◌+◌, Bool, true, false, cond, not, List, [], ◌∷◌, ◌++◌, inl, inr, length, map, drop, refl, sym, ap, subst, arith, length-append}
 use Rattle.std.proofs.lemmas.List.{map-append}
 use Rattle.std.specs.Prelude.{◌↔◌}
 use Rattle.std.specs.List.{AllByRecursion, AllZip, flat_map}
@@ -264,12 +264,12 @@ module _ (count : Tree → ℕ) (count_append : (xs ys : Tree) → count (xs ++ 
           (m.0, m.1 ∙ sym (joined_counts conditions part parts c.each_items c.each_features each) ∙ ap count (sym c.items_are))
 
 bindings_append : (xs ys : Tree) → bindings (xs ++ ys) ≡ bindings xs + bindings ys
-bindings_append [] ys = refl
+bindings_append [] ys = omega arith
 bindings_append (x ∷ xs) ys = ap (λ n. item_bindings x + n) (bindings_append xs ys) ∙ omega arith
 
 recipes_append : (xs ys : Tree) → recipes (xs ++ ys) ≡ recipes xs + recipes ys
-recipes_append [] ys = refl
+recipes_append [] ys = omega arith
 recipes_append (x ∷ xs) ys = ap (λ n. item_recipes x + n) (recipes_append xs ys) ∙ omega arith
 
 pub numbers_follow : NumberLaw
-numbers_follow = (numbers_of bindings bindings_append (λ xs. refl) refl, numbers_of recipes recipes_append (λ xs. refl) refl)
+numbers_follow = (numbers_of bindings bindings_append (λ xs. omega arith) refl, numbers_of recipes recipes_append (λ xs. omega arith) refl)

@@ -1,5 +1,5 @@
 -- The tokens of each chunk, moved to their places in the text, are those that the text has there, except that dedents can be elsewhere.
-use Rattle.std.proofs.Common.{◌≡◌, ◌≢◌, ◌∙◌, ℕ, ◌+◌, ◌-◌, ◌<◌, Bool, true, false, List, [], ◌∷◌, ◌++◌, ◌⊎◌, inl, inr, length, map, Some, refl, sym, ap, subst, arith, append_assoc, append-nil, length-append}
+use Rattle.std.proofs.Common.{suc, ◌≡◌, ◌≢◌, ◌∙◌, ℕ, ◌+◌, ◌-◌, ◌<◌, Bool, true, false, List, [], ◌∷◌, ◌++◌, ◌⊎◌, inl, inr, length, map, Some, refl, sym, ap, subst, arith, append_assoc, append-nil, length-append}
 use Rattle.std.specs.List.{AllByRecursion, AllZip, count_by}
 use Rattle.std.specs.Str.{IsUtf8}
 use Rattle.std.proofs.lemmas.List.{map-append}
@@ -38,7 +38,7 @@ chunk_by false part = later_chunk part
 abbrev feed_mark : Mark
 feed_mark = mark kinds.Eol (10 ∷ [])
 
-pub borders : Borders
+abbrev pub borders : Borders
 borders = record {
   feed = λ part. in_text (later_chunk part) (tok_at (after_feed part) 0 feed_mark);
   eof = λ first part. end_of_chunk (chunk_by first part);
@@ -132,6 +132,9 @@ marks_closed part t = map-append (λ (t : Tok). mark t.kind t.lexeme) part (t �
 
 -- ---- chunks
 
+one_more : (n : ℕ) → 1 + n ≡ suc n
+one_more n = omega arith
+
 first_near : (text rest : List ℕ) (part : List Tok) → text ≡ text_of part ++ rest → Placed text 0 part → AllByRecursion HasBytes part
     → NearChunk (first_chunk part) (closed borders true part)
 first_near text rest part is h bytes = record {
@@ -140,8 +143,9 @@ first_near text rest part is h bytes = record {
       let marked : marks us ≡ marks part ++ (mark kinds.Eof [] ∷ []) = e ∙ marks_closed part (end_of_chunk (first_chunk part)) in
       let whole : Placed (p ++ rest) 0 part = subst (λ x. Placed x 0 part) is h in
       let chunk : Placed (p ++ []) 0 us = subst (λ x. Placed x 0 us) (sym (append-nil p)) (placed p us l) in
-      near_part (first_chunk part) part us 0 (all_moved [] [] p rest [] 0 0 at_start part us (mark kinds.Eof [] ∷ []) 0 whole chunk marked (omega arith)) bytes
-      (placed p us l) marked;
+      subst (λ n. AllZip NearToken (part ++ (end_at (first_chunk part) n ∷ [])) (map (in_text (first_chunk part)) us)) (omega arith)
+      (near_part (first_chunk part) part us 0 (all_moved [] [] p rest [] 0 0 at_start part us (mark kinds.Eof [] ∷ []) 0 whole chunk marked (omega arith)) bytes
+      (placed p us l) marked);
 }
 
 module _ (text before rest : List ℕ) (t : Tok) (part : List Tok) (feed : EndsInFeed before) (is : text ≡ before ++ (text_of (t ∷ part) ++ rest))
@@ -185,10 +189,12 @@ module _ (text before rest : List ℕ) (t : Tok) (part : List Tok) (feed : EndsI
     near = λ us l e. near_feed us (closed borders false (t ∷ part)) l e (λ u others l one marked.
         let p = text_of (t ∷ part) in
         let end : marks others ≡ marks (t ∷ part) ++ (mark kinds.Eof [] ∷ []) = marked ∙ marks_closed (t ∷ part) (end_of_chunk (later_chunk (t ∷ part))) in
-        near_part (later_chunk (t ∷ part)) (t ∷ part) others 1
+        subst (λ n. AllZip NearToken (t ∷ part ++ (end_at (later_chunk (t ∷ part)) n ∷ [])) (map (in_text (later_chunk (t ∷ part))) others))
+        (one_more (length p))
+        (near_part (later_chunk (t ∷ part)) (t ∷ part) others 1
         (all_moved before (10 ∷ []) p rest [] (t.offset - 1) (t.line - 1) by_first (t ∷ part) others (mark kinds.Eof [] ∷ []) 0 in_whole
         (in_chunk u others l one) end (omega arith))
-        bytes (subst (λ n. Placed (10 ∷ p) n others) (omega (arith, one)) (placed (10 ∷ p) (u ∷ others) l).1) end);
+        bytes (subst (λ n. Placed (10 ∷ p) n others) (omega (arith, one)) (placed (10 ∷ p) (u ∷ others) l).1) end));
   }
 
 last_near : (text before : List ℕ) (t : Tok) (part : List Tok) (feed : EndsInFeed before) (is : text ≡ before ++ (text_of (t ∷ part) ++ []))
@@ -282,9 +288,13 @@ module _ (text : List ℕ) where
                 (placed_rest before earlier later part (q ∷ parts) h s is pl) (feed_after before earlier later part (q ∷ parts) h s is f),
           )
 
+none_more : (n : ℕ) → 0 + n ≡ n
+none_more n = omega arith
+
 unmoved : (ts : List Tok) → map (moved 0 0) ts ≡ ts
 unmoved [] = refl
-unmoved (t ∷ ts) = ap (λ l. t ∷ l) (unmoved ts)
+unmoved (t ∷ ts) = λ i.
+    (record { kind = t.kind; lexeme = t.lexeme; offset = none_more t.offset i; line = none_more t.line i; column = t.column }) ∷ unmoved ts i
 
 -- the tokens of the chunks of a text are its tokens, moved
 pub chunks_near : (text : List ℕ) (tokens : List Tok) (parts : List (List Tok)) → IsUtf8 text → Lexed text tokens → AreParts tokens parts
