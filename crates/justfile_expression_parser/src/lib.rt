@@ -9,7 +9,7 @@ ghost use Rattle.justfile_parse_expression.specs.TableReader as reader;
 ghost use Rattle.justfile_parse_expression.specs.View.{tokens_left};
 
 use justfile_expression::Expression;
-use justfile_parse_expression::{ExpressionError, TokenCursor};
+use justfile_parse_expression::{ExpressionError, ParserState};
 use justfile_token::Expander;
 
 /// Parses an expression, and returns it in a box.
@@ -18,7 +18,7 @@ use justfile_token::Expander;
 ///
 /// The tokens are refused, a literal has no text, or memory runs out.
 pub fn parse_expression<'src, X: Expander>(
-    parser: &mut TokenCursor<'_, 'src, X>,
+    parser: &mut ParserState<'_, 'src, X>,
 ) -> Result<Box<Expression<'src>>, ExpressionError<'src>>
     ensures reads { Parses X.answer (λ e. leaf_tree_of e.value) result parser.old parser.new
         (λ s. reader.read (reader.At levels.Expression false s)) }

@@ -34,7 +34,7 @@ use Rattle.justfile_parse_expression.specs.TableReader.{Read, State, accept, exp
 use Rattle.justfile_parse_expression.specs.View.{tokens_left, state_of}
 use Rattle.justfile_parse_base.specs.declared.parse_error.ParseError.{ParseError}
 use Rattle.justfile_parse_base.specs.declared.parse_error.ParseError.TheVariants.{Expression, Compile}
-use Rattle.justfile_parse_expression.specs.declared.token_cursor.TokenCursor.{TokenCursor}
+use Rattle.justfile_parse_expression.specs.declared.parser_state.ParserState.{ParserState}
 use Rattle.justfile_parse_expression.specs.Significant.{TableEntry}
 use Rattle.justfile_parse_expression.specs.declared.expression_error.SyntaxError.TheVariants as refusals
 use Rattle.justfile_parse_expression.specs.declared.expression_error.ExpressionError.TheVariants as causes
@@ -46,7 +46,7 @@ use Rattle.justfile_written.specs.Written.{uncommented}
 use Rattle.justfile_written.specs.declared.written.Written.{Written}
 
 -- where nothing comes next no expression is read
-pub none_before : {X : Type 0} (answer : X → List ℕ → Result (List ℕ) (List ℕ)) (p q : TokenCursor X) (s : State) → front (state_of answer p).left ≡ None → tokens_left q < tokens_left p
+pub none_before : {X : Type 0} (answer : X → List ℕ → Result (List ℕ) (List ℕ)) (p q : ParserState X) (s : State) → front (state_of answer p).left ≡ None → tokens_left q < tokens_left p
     → ◌≡◌ {A = Read (Argument Leaf Token)} (Err (reading.Unexpected None)) (Err (read_error_at refusals.Unexpected s))
 none_before answer p q s h k = go (state_of answer p).left (left_is answer p) h
   where

@@ -20,7 +20,7 @@ use justfile_expression::Expression;
 use justfile_expression_parser::parse_expression;
 use justfile_parse_base::{ParseError, comment_text, parse_separator, rule_error};
 use justfile_parse_expression::significant::SignificantToken;
-use justfile_parse_expression::{ExpressionError, SyntaxError, TokenCursor};
+use justfile_parse_expression::{ExpressionError, ParserState, SyntaxError};
 use justfile_token::{CompileErrorKind, Expander, Fault, Name, Token};
 use justfile_vocabulary::{AttributeKind, Keyword, TokenKind};
 use justfile_written::Written;
@@ -34,7 +34,7 @@ use justfile_written::Written;
 /// memory runs out.
 #[tactic(auto, using(crate::proofs::AttributeLoops::lines_end, crate::proofs::AttributeLoops::lines_go_on, crate::proofs::DerivedFieldsKept::then_fields))]
 pub fn parse_attributes<'src, X: Expander>(
-    parser: &mut TokenCursor<'_, 'src, X>,
+    parser: &mut ParserState<'_, 'src, X>,
 ) -> Result<Vec<(Attribute<'src>, Written<'src>)>, ParseError<'src>>
     ensures reads { ParsesRuled X.answer (λ pairs. entries_of pairs.items) result
         parser.old parser.new reader.attribute_lines }
@@ -52,7 +52,7 @@ pub fn parse_attributes<'src, X: Expander>(
 /// Returns whether there are no more lines.
 #[tactic(auto, using(justfile_parse_base::proofs::RuleSteps::broken_first, crate::proofs::DerivedFieldsKept::same_fields), unfolding(crate::specs::AttributeTable::line_step))]
 fn parse_next_line<'src, X: Expander>(
-    parser: &mut TokenCursor<'_, 'src, X>,
+    parser: &mut ParserState<'_, 'src, X>,
     attributes: &mut ReadAttributes<'src>,
 ) -> Result<bool, ParseError<'src>>
     ensures reads { ParsesRuled X.answer
@@ -73,7 +73,7 @@ fn parse_next_line<'src, X: Expander>(
 /// Parses a line of attributes after its opening bracket, and appends them to `attributes`.
 #[tactic(auto, using(justfile_parse_base::proofs::RuleSteps::broken_first, crate::proofs::DerivedFieldsKept::both_fields), unfolding(crate::specs::AttributeTable::attribute_line))]
 fn parse_attribute_line<'src, X: Expander>(
-    parser: &mut TokenCursor<'_, 'src, X>,
+    parser: &mut ParserState<'_, 'src, X>,
     attributes: &mut ReadAttributes<'src>,
 ) -> Result<(), ParseError<'src>>
     ensures reads { ParsesRuled X.answer
@@ -105,7 +105,7 @@ fn attach_comment<'src>(
 /// Parses the attributes of a bracket and its closing delimiter, and appends them to `attributes`.
 #[tactic(auto, using(crate::proofs::AttributeLoops::bracket_ends, crate::proofs::AttributeLoops::bracket_goes_on, crate::proofs::DerivedFieldsKept::same_fields, crate::proofs::DerivedFieldsKept::both_fields))]
 fn parse_bracketed<'src, X: Expander>(
-    parser: &mut TokenCursor<'_, 'src, X>,
+    parser: &mut ParserState<'_, 'src, X>,
     attributes: &mut ReadAttributes<'src>,
 ) -> Result<(), ParseError<'src>>
     ensures reads { ParsesRuled X.answer
@@ -126,7 +126,7 @@ fn parse_bracketed<'src, X: Expander>(
 /// bracket is closed.
 #[tactic(auto, using(justfile_parse_base::proofs::RuleSteps::broken_first), unfolding(crate::specs::AttributeTable::bracket_step))]
 fn parse_next_attribute<'src, X: Expander>(
-    parser: &mut TokenCursor<'_, 'src, X>,
+    parser: &mut ParserState<'_, 'src, X>,
     attributes: &mut ReadAttributes<'src>,
 ) -> Result<bool, ParseError<'src>>
     ensures reads { ParsesRuled X.answer
@@ -143,7 +143,7 @@ fn parse_next_attribute<'src, X: Expander>(
 /// Parses the end of a line of attributes, and returns the comment before it, if there is one.
 #[tactic(auto, unfolding(justfile_model::specs::Readers::AttributeReader::attributes_end))]
 fn parse_attributes_end<'src, X: Expander>(
-    parser: &mut TokenCursor<'_, 'src, X>,
+    parser: &mut ParserState<'_, 'src, X>,
 ) -> Result<Option<SignificantToken<'src>>, ExpressionError<'src>>
     ensures reads { Parses X.answer (λ comment. comment) result parser.old parser.new
         reader.attributes_end }
@@ -159,7 +159,7 @@ fn parse_attributes_end<'src, X: Expander>(
 /// comment. The end of the file isn't allowed here.
 #[tactic(auto, unfolding(justfile_model::specs::Readers::AttributeReader::line_end_after))]
 fn parse_line_end_after<'src, X: Expander>(
-    parser: &mut TokenCursor<'_, 'src, X>,
+    parser: &mut ParserState<'_, 'src, X>,
     comment: Option<SignificantToken<'src>>,
 ) -> Result<Option<SignificantToken<'src>>, ExpressionError<'src>>
     ensures reads { Parses X.answer (λ comment. comment) result parser.old parser.new
@@ -173,7 +173,7 @@ fn parse_line_end_after<'src, X: Expander>(
 
 /// Adds the end of the file to the expected tokens, as after other lines. If the file ends here,
 /// adds what a construct begins with, because one has to follow the attributes.
-fn add_expected_end<X: Expander>(parser: &TokenCursor<'_, '_, X>) {
+fn add_expected_end<X: Expander>(parser: &ParserState<'_, '_, X>) {
     parser.expected_tokens.add(TokenKind::Eof);
     if parser.probe_if(TokenKind::Eof).is_some() {
         parser.expected_tokens.add_all(&[
@@ -188,7 +188,7 @@ fn add_expected_end<X: Expander>(parser: &TokenCursor<'_, '_, X>) {
 /// Parses an attribute, and appends it to `attributes`.
 #[tactic(auto, using(justfile_parse_base::proofs::RuleSteps::broken_first, crate::proofs::AttributeSteps::one_attribute_is))]
 fn parse_attribute<'src, X: Expander>(
-    parser: &mut TokenCursor<'_, 'src, X>,
+    parser: &mut ParserState<'_, 'src, X>,
     attributes: &mut ReadAttributes<'src>,
 ) -> Result<(), ParseError<'src>>
     ensures reads { ParsesRuled X.answer
@@ -217,7 +217,7 @@ fn parse_attribute<'src, X: Expander>(
 /// No attribute has this name, or memory runs out.
 #[tactic(auto, using(justfile_parse_base::proofs::RuleSteps::fails_for, crate::proofs::AttributeSteps::kind_at_is), unfolding(justfile_parse_expression::specs::TableReader::leaves))]
 fn find_attribute_kind<'src, X: Expander>(
-    parser: &TokenCursor<'_, 'src, X>,
+    parser: &ParserState<'_, 'src, X>,
     name: &SignificantToken<'src>,
 ) -> Result<AttributeKind, ParseError<'src>>
     ensures { ParsesRuled X.answer (λ kind. kind) result parser.now parser.now
@@ -233,7 +233,7 @@ fn find_attribute_kind<'src, X: Expander>(
 /// those before it.
 #[tactic(auto, using(crate::proofs::AttributeSteps::entry_fails, crate::proofs::AttributeSteps::entry_last))]
 fn push_attribute<'src, X: Expander>(
-    parser: &TokenCursor<'_, 'src, X>,
+    parser: &ParserState<'_, 'src, X>,
     attributes: &mut ReadAttributes<'src>,
     name: Name<'src>,
     kind: AttributeKind,
@@ -256,7 +256,7 @@ fn push_attribute<'src, X: Expander>(
 /// allowed.
 #[tactic(auto, using(crate::proofs::AttributeSteps::arguments_is))]
 fn parse_arguments<'src, X: Expander>(
-    parser: &mut TokenCursor<'_, 'src, X>,
+    parser: &mut ParserState<'_, 'src, X>,
     name: &SignificantToken<'src>,
     keys: bool,
 ) -> Result<Arguments<'src>, ParseError<'src>>
@@ -276,7 +276,7 @@ fn parse_arguments<'src, X: Expander>(
 /// Parses the argument after a colon.
 #[tactic(auto, unfolding(crate::specs::AttributeTable::single_argument))]
 fn parse_one_argument<'src, X: Expander>(
-    parser: &mut TokenCursor<'_, 'src, X>,
+    parser: &mut ParserState<'_, 'src, X>,
 ) -> Result<Arguments<'src>, ExpressionError<'src>>
     ensures reads { Parses X.answer arguments_of result parser.old parser.new
         reader.single_argument }
@@ -291,7 +291,7 @@ fn parse_one_argument<'src, X: Expander>(
 /// Parses arguments separated by commas, and the closing parenthesis.
 #[tactic(auto, using(crate::proofs::AttributeLoops::list_ends, crate::proofs::AttributeLoops::list_goes_on))]
 fn parse_argument_list<'src, X: Expander>(
-    parser: &mut TokenCursor<'_, 'src, X>,
+    parser: &mut ParserState<'_, 'src, X>,
     name: &SignificantToken<'src>,
     keys: bool,
 ) -> Result<Arguments<'src>, ParseError<'src>>
@@ -311,7 +311,7 @@ fn parse_argument_list<'src, X: Expander>(
 /// arguments are at their end.
 #[tactic(auto, using(justfile_parse_base::proofs::RuleSteps::broken_first), unfolding(crate::specs::AttributeTable::list_step))]
 fn parse_next_argument<'src, X: Expander>(
-    parser: &mut TokenCursor<'_, 'src, X>,
+    parser: &mut ParserState<'_, 'src, X>,
     name: &SignificantToken<'src>,
     keys: bool,
     arguments: &mut Arguments<'src>,
@@ -330,7 +330,7 @@ fn parse_next_argument<'src, X: Expander>(
 /// Parses an argument of the attribute with this name, and appends it to `arguments`.
 #[tactic(auto, using(crate::proofs::AttributeSteps::one_argument_is))]
 fn parse_argument<'src, X: Expander>(
-    parser: &mut TokenCursor<'_, 'src, X>,
+    parser: &mut ParserState<'_, 'src, X>,
     name: &SignificantToken<'src>,
     keys: bool,
     arguments: &mut Arguments<'src>,
@@ -348,7 +348,7 @@ fn parse_argument<'src, X: Expander>(
 /// Parses a keyword argument, and appends it to `arguments`.
 #[tactic(auto, using(justfile_parse_base::proofs::RuleSteps::fails_for), unfolding(justfile_parse_expression::specs::TableReader::leaves, crate::specs::AttributeTable::one_keyed, justfile_model::specs::Readers::AttributeReader::keyed))]
 fn parse_keyed<'src, X: Expander>(
-    parser: &mut TokenCursor<'_, 'src, X>,
+    parser: &mut ParserState<'_, 'src, X>,
     name: &SignificantToken<'src>,
     arguments: &mut Arguments<'src>,
 ) -> Result<(), ParseError<'src>>
@@ -368,7 +368,7 @@ fn parse_keyed<'src, X: Expander>(
 /// Parses what follows a key: `=` and its value, or nothing.
 #[tactic(auto, unfolding(justfile_model::specs::Readers::AttributeReader::key_value))]
 fn parse_key_value<'src, X: Expander>(
-    parser: &mut TokenCursor<'_, 'src, X>,
+    parser: &mut ParserState<'_, 'src, X>,
 ) -> Result<Option<Box<Expression<'src>>>, ExpressionError<'src>>
     ensures reads { Parses X.answer (option_map (λ e. leaf_tree_of e.value)) result
         parser.old parser.new reader.key_value }
@@ -383,7 +383,7 @@ fn parse_key_value<'src, X: Expander>(
 /// Parses a positional argument, and appends it to `arguments`. It can't follow a keyword argument.
 #[tactic(auto, using(justfile_parse_base::proofs::RuleSteps::fails_for), unfolding(crate::specs::AttributeTable::one_positional, justfile_model::specs::Readers::AttributeReader::positional))]
 fn parse_positional<'src, X: Expander>(
-    parser: &mut TokenCursor<'_, 'src, X>,
+    parser: &mut ParserState<'_, 'src, X>,
     arguments: &mut Arguments<'src>,
 ) -> Result<(), ParseError<'src>>
     ensures reads { ParsesRuled X.answer (λ _. arguments_of arguments.new) result
@@ -401,7 +401,7 @@ fn parse_positional<'src, X: Expander>(
 /// Parses an expression, and returns it with its first token.
 #[tactic(auto, using(crate::proofs::AttributeSteps::none_before), unfolding(justfile_model::specs::Readers::AttributeReader::placed, justfile_parse_expression::specs::TableReader::leaves))]
 fn parse_placed<'src, X: Expander>(
-    parser: &mut TokenCursor<'_, 'src, X>,
+    parser: &mut ParserState<'_, 'src, X>,
 ) -> Result<(Token<'src>, Box<Expression<'src>>), ExpressionError<'src>>
     ensures reads { Parses X.answer (λ x. tree.Positional x.0 (leaf_tree_of x.1.value)) result
         parser.old parser.new reader.placed }
@@ -416,7 +416,7 @@ fn parse_placed<'src, X: Expander>(
 }
 
 /// Whether a name comes next that isn't the mark of a string.
-fn peek_key<X: Expander>(parser: &TokenCursor<'_, '_, X>) -> bool
+fn peek_key<X: Expander>(parser: &ParserState<'_, '_, X>) -> bool
     ensures { result ≡ reader.begins_key (state_of X.answer parser.now) }
 {
     parser.peek_kinds(&[TokenKind::Identifier])

@@ -12,7 +12,7 @@ use Rattle.justfile_parse_expression.specs.Significant.{significant_of}
 use Rattle.justfile_parse_expression.specs.TableReader.{Read, State}
 use Rattle.justfile_parse_expression.specs.View.{state_of}
 use Rattle.justfile_parse_expression.specs.declared.expression_error.ExpressionError.{ExpressionError}
-use Rattle.justfile_parse_expression.specs.declared.token_cursor.TokenCursor.{TokenCursor}
+use Rattle.justfile_parse_expression.specs.declared.parser_state.ParserState.{ParserState}
 
 -- the counters of a numerator
 abbrev pub counters_of : Numerator → Counters
@@ -30,7 +30,7 @@ ReadsCounted view (Err error) n s found = IsParseError error s (found ≡ Err (r
 
 -- What was returned and the parser after it are what `read` reads from the parser before it, with the counters of the numerator after it.
 abbrev pub ParsesCounted : {X Y E : Type 0} (answer : E → List ℕ → Result (List ℕ) (List ℕ)) → (X → Y) → Result X ParseError → Numerator
-    → (old new : TokenCursor E) → (read : State → Read (Y × Counters)) → Type 0
+    → (old new : ParserState E) → (read : State → Read (Y × Counters)) → Type 0
 ParsesCounted answer view result n old new read = ReadsCounted view result n (state_of answer new) (read (state_of answer old))
 
 -- how many identifiers are left

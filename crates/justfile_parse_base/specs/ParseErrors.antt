@@ -12,7 +12,7 @@ use Rattle.justfile_model.specs.Readers.ReaderState as reading
 use Rattle.justfile_model.specs.Meanings.Rules.{Broken}
 use Rattle.justfile_parse_expression.specs.MethodResults.{IsExpressionError}
 use Rattle.justfile_parse_expression.specs.View.{state_of}
-use Rattle.justfile_parse_expression.specs.declared.token_cursor.TokenCursor.{TokenCursor}
+use Rattle.justfile_parse_expression.specs.declared.parser_state.ParserState.{ParserState}
 use Rattle.justfile_parse_expression.specs.TableReader as table
 use Rattle.justfile_parse_expression.specs.TableReader.{Read, State}
 use Rattle.justfile_parse_base.specs.declared.parse_error.ParseError.{ParseError}
@@ -69,7 +69,7 @@ ReadsRuled view (Err error) s found = IsParseError error s ⊥ found
 
 -- What was returned, mapped by `view`, and the parser after it are what `read` reads from the parser before it; an error is that of `read`.
 abbrev pub ParsesRuled : {X Y E : Type 0} (answer : E → List ℕ → Result (List ℕ) (List ℕ)) → (X → Y) → Result X ParseError
-    → (old new : TokenCursor E) → (read : State → Read Y) → Type 0
+    → (old new : ParserState E) → (read : State → Read Y) → Type 0
 ParsesRuled answer view result old new read = ReadsRuled view result (state_of answer new) (read (state_of answer old))
 
 -- Nothing is returned if none of these rules is broken, and else the error for the first.

@@ -3,7 +3,7 @@ ghost use Rattle.justfile_parse_expression.specs.ParsedResults.{Parses};
 ghost use Rattle.justfile_parse_base.specs.SharedTable as reader;
 ghost use Rattle.justfile_parse_base.specs.Trees.{path_tree};
 
-use justfile_parse_expression::{ExpressionError, TokenCursor};
+use justfile_parse_expression::{ExpressionError, ParserState};
 use justfile_token::{Expander, Name, Namepath};
 use justfile_vocabulary::TokenKind;
 
@@ -14,7 +14,7 @@ use justfile_vocabulary::TokenKind;
 /// The tokens are refused, or memory runs out.
 #[tactic(auto, using(crate::proofs::Paths::path_begins, crate::proofs::Paths::path_ends, crate::proofs::Paths::path_goes_on))]
 pub fn parse_namepath<'src, X: Expander>(
-    parser: &mut TokenCursor<'_, 'src, X>,
+    parser: &mut ParserState<'_, 'src, X>,
 ) -> Result<Namepath<'src>, ExpressionError<'src>>
     ensures { Parses X.answer path_tree result parser.old parser.new reader.path }
 {

@@ -4,7 +4,7 @@ ghost use Rattle.justfile_parse_base.specs.SharedTable as reader;
 ghost use Rattle.justfile_parse_expression.specs.ParsedResults.{Parses};
 ghost use Rattle.justfile_parse_expression.specs.View.{tokens_left};
 
-use justfile_parse_expression::{ExpressionError, TokenCursor};
+use justfile_parse_expression::{ExpressionError, ParserState};
 use justfile_token::Expander;
 use justfile_vocabulary::TokenKind;
 
@@ -16,7 +16,7 @@ use justfile_vocabulary::TokenKind;
 /// Another token comes next.
 #[tactic(auto, unfolding(crate::specs::SharedTable::separator))]
 pub fn parse_separator<'src, X: Expander>(
-    parser: &mut TokenCursor<'_, 'src, X>,
+    parser: &mut ParserState<'_, 'src, X>,
     closing: TokenKind,
 ) -> Result<bool, ExpressionError<'src>>
     ensures reads { Parses X.answer (λ is_last. is_last) result parser.old parser.new

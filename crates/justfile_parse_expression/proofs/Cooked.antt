@@ -28,7 +28,7 @@ use Rattle.justfile_parse_expression.specs.MethodResults.{IsExpressionError, IsE
 use Rattle.justfile_parse_expression.specs.Significant.{TableEntry}
 use Rattle.justfile_expression.specs.LeafTree.{Command, Literal, literal_of}
 use Rattle.justfile_parse_expression.specs.View.{state_at, state_of}
-use Rattle.justfile_parse_expression.specs.declared.token_cursor.TokenCursor.{TokenCursor}
+use Rattle.justfile_parse_expression.specs.declared.parser_state.ParserState.{ParserState}
 use Rattle.justfile_parse_expression.specs.declared.expression_error.ExpressionError.{ExpressionError}
 use Rattle.justfile_parse_expression.specs.declared.expression_error.ExpressionError.TheVariants as causes
 
@@ -94,7 +94,7 @@ framed_continue entry kind e h = subst (λ (k : TokenKind). IsTrue (is_delimited
 
 -- ---- texts
 
-module _ {X : Type 0} (answer : X → List ℕ → Result (List ℕ) (List ℕ)) (p : TokenCursor X) (entry : TableEntry) where
+module _ {X : Type 0} (answer : X → List ℕ → Result (List ℕ) (List ℕ)) (p : ParserState X) (entry : TableEntry) where
   abbrev by : Expansions
   by = answers_by answer p.expander.now
 

@@ -29,7 +29,7 @@ use Rattle.justfile_model.proofs.Readers.ExpressionReading.{advances}
 use Rattle.justfile_model.proofs.Readers.ReadingSteps.{known}
 use Rattle.justfile_parse_expression.proofs.Anywhere.{derives}
 use Rattle.justfile_parse_expression.proofs.Rules.{part_is}
-use Rattle.justfile_parse_expression.specs.declared.token_cursor.TokenCursor.{TokenCursor}
+use Rattle.justfile_parse_expression.specs.declared.parser_state.ParserState.{ParserState}
 
 -- ---- the entries that are taken
 
@@ -90,7 +90,7 @@ marked word kind s = go s.left
 -- ---- from a start on
 
 -- after the start of a format string
-pub after_start : {X : Type 0} (answer : X → List ℕ → Result (List ℕ) (List ℕ)) (p : TokenCursor X) (word : List ℕ) (start : TableEntry) (rest : State) → accept_marked word kinds.FormatStringStart (state_of answer p) ≡ Some (start, rest) → start.0.kind ≡ kinds.FormatStringStart
+pub after_start : {X : Type 0} (answer : X → List ℕ → Result (List ℕ) (List ℕ)) (p : ParserState X) (word : List ℕ) (start : TableEntry) (rest : State) → accept_marked word kinds.FormatStringStart (state_of answer p) ≡ Some (start, rest) → start.0.kind ≡ kinds.FormatStringStart
     → IsEndedFrom (kind_of (lexeme_of start.0)) rest
 unfolding state_of state_at IsEndedFrom AreEnded
 after_start answer p word start rest found kind =

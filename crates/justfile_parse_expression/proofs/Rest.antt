@@ -15,7 +15,7 @@ use Rattle.justfile_parse_expression.specs.TableReader.{Run, State, accept_marke
 use Rattle.justfile_parse_expression.specs.Significant.{significant_of}
 use Rattle.justfile_parse_expression.specs.View.{tokens_left, run_of, state_at, state_from, state_of}
 use Rattle.std.proofs.Common.{is_some}
-use Rattle.justfile_parse_expression.specs.declared.token_cursor.TokenCursor.{TokenCursor}
+use Rattle.justfile_parse_expression.specs.declared.parser_state.ParserState.{ParserState}
 
 module _ (run : Run) (depth n : ℕ) (fs : List (ListFeature × Token)) where
   pub state_here : (d : TableEntry) → n < length run.table → state_at run depth n fs ≡ with_next (get_or run.table n d) (state_at run depth (n + 1) fs)
@@ -65,7 +65,7 @@ sound_at table n d h = decided (is_sound (get_or table n d)) (list_all is_sound 
 pub with_none : (s : State) → with [] s ≡ s
 with_none s = ap (λ (l : List (ListFeature × Token)). record { run = s.run; depth = s.depth; left = s.left; noted = l }) (append-nil s.noted)
 
-module _ {X : Type 0} (answer : X → List ℕ → Result (List ℕ) (List ℕ)) (p : TokenCursor X) where
+module _ {X : Type 0} (answer : X → List ℕ → Result (List ℕ) (List ℕ)) (p : ParserState X) where
   pub peeked : (d : TableEntry) → p.next < length p.tokens.now → state_of answer p ≡ with_next (get_or p.tokens.now p.next d) (state_from answer p (p.next + 1))
   unfolding state_of
   peeked d h = state_here (run_of answer p) p.depth p.next p.list_features.items d h
@@ -75,15 +75,15 @@ module _ {X : Type 0} (answer : X → List ℕ → Result (List ℕ) (List ℕ))
   ended h = state_end (run_of answer p) p.depth p.next p.list_features.items h
 
 -- the file's depth is that of the run
-pub file_depth_is : {X : Type 0} (answer : X → List ℕ → Result (List ℕ) (List ℕ)) (p : TokenCursor X) → (state_of answer p).run.file_depth ≡ p.file_depth
+pub file_depth_is : {X : Type 0} (answer : X → List ℕ → Result (List ℕ) (List ℕ)) (p : ParserState X) → (state_of answer p).run.file_depth ≡ p.file_depth
 unfolding state_of state_at
 file_depth_is answer p = refl
 
-pub import_offsets_are : {X : Type 0} (answer : X → List ℕ → Result (List ℕ) (List ℕ)) (p : TokenCursor X) → (state_of answer p).run.import_offsets ≡ p.import_offsets.now
+pub import_offsets_are : {X : Type 0} (answer : X → List ℕ → Result (List ℕ) (List ℕ)) (p : ParserState X) → (state_of answer p).run.import_offsets ≡ p.import_offsets.now
 unfolding state_of state_at
 import_offsets_are answer p = refl
 
-pub left_is : {X : Type 0} (answer : X → List ℕ → Result (List ℕ) (List ℕ)) (p : TokenCursor X) → length (state_of answer p).left ≡ tokens_left p
+pub left_is : {X : Type 0} (answer : X → List ℕ → Result (List ℕ) (List ℕ)) (p : ParserState X) → length (state_of answer p).left ≡ tokens_left p
 unfolding state_of state_at tokens_left
 left_is answer p = length-drop p.next p.tokens.now
 
@@ -93,7 +93,7 @@ pub begin_is : (run : Run) (fs : List (ListFeature × Token)) → fs ≡ [] → 
 unfolding state_at
 begin_is run fs none = ap (λ (l : List (ListFeature × Token)). record { run = run; depth = 0; left = run.table; noted = l }) none
 
-pub noted_is : {X : Type 0} (answer : X → List ℕ → Result (List ℕ) (List ℕ)) (p : TokenCursor X) → (state_of answer p).noted ≡ p.list_features.items
+pub noted_is : {X : Type 0} (answer : X → List ℕ → Result (List ℕ) (List ℕ)) (p : ParserState X) → (state_of answer p).noted ≡ p.list_features.items
 unfolding state_of state_at
 noted_is answer p = refl
 

@@ -11,8 +11,8 @@ ghost use Rattle.justfile_expression.specs.LeafTree.{leaf_tree_of};
 
 use crate::expression::Link;
 use crate::expression_error::{ExpressionError, SyntaxError};
+use crate::parser_state::{ParserState, is_word};
 use crate::significant::SignificantToken;
-use crate::token_cursor::{TokenCursor, is_word};
 use justfile_expression::{Expression, ListFeature};
 use justfile_model::Level;
 use justfile_token::Expander;
@@ -25,7 +25,7 @@ pub(crate) enum Branch<'run, 'src> {
     Next(Link<'run, 'src>, &'run SignificantToken<'src>),
 }
 
-impl<'run, 'src, X: Expander> TokenCursor<'run, 'src, X> {
+impl<'run, 'src, X: Expander> ParserState<'run, 'src, X> {
     ghost use Rattle.justfile_parse_expression.specs.View.{tokens_left};
 
     /// Parses a conditional, after its `if`.

@@ -15,8 +15,8 @@ ghost use Rattle.justfile_model.specs.declared.level.Level.TheVariants as levels
 
 use crate::expression_error::{ExpressionError, SyntaxError};
 use crate::operator::{find_feature, find_left_level, find_operator, is_at, make_operation};
+use crate::parser_state::ParserState;
 use crate::significant::SignificantToken;
-use crate::token_cursor::TokenCursor;
 use justfile_expression::Expression;
 use justfile_model::{Level, Operator};
 use justfile_token::{Expander, Token};
@@ -51,7 +51,7 @@ pub(crate) enum Step<'run, 'src> {
     Next(Link<'run, 'src>),
 }
 
-impl<'run, 'src, X: Expander> TokenCursor<'run, 'src, X> {
+impl<'run, 'src, X: Expander> ParserState<'run, 'src, X> {
     ghost use Rattle.justfile_parse_expression.specs.View.{Moves, tokens_left, state_of};
 
     /// Parses an expression, and returns it in a box.

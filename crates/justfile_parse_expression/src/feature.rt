@@ -7,12 +7,12 @@ ghost use Rattle.justfile_expression.specs.LeafTree.{leaf_tree_of};
 ghost use Rattle.justfile_parse_expression.specs.MethodResults.{UnlessMemory};
 
 use crate::expression_error::ExpressionError;
+use crate::parser_state::ParserState;
 use crate::significant::SignificantToken;
-use crate::token_cursor::TokenCursor;
 use justfile_expression::{Expression, ListFeature};
 use justfile_token::{Expander, Token};
 
-impl<'src, X: Expander> TokenCursor<'_, 'src, X> {
+impl<'src, X: Expander> ParserState<'_, 'src, X> {
     ghost use Rattle.justfile_parse_expression.specs.View.{tokens_left, state_of};
 
     /// Notes a condition that isn't a comparison, at its first token.

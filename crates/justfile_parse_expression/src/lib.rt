@@ -9,11 +9,11 @@ mod expression_error;
 mod feature;
 mod literal;
 mod operator;
+mod parser_state;
 pub mod significant;
-mod token_cursor;
 mod value;
 
 pub use crate::expected_tokens::ExpectedTokens;
 pub use crate::expression::RECURSION_LIMIT;
 pub use crate::expression_error::{ExpressionError, LiteralError, SyntaxError};
-pub use crate::token_cursor::{TokenCursor, is_word};
+pub use crate::parser_state::{ParserState, is_word};

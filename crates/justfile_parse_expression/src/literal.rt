@@ -14,8 +14,8 @@ ghost use Rattle.justfile_parse_expression.specs.ValueForms as values;
 ghost use Rattle.justfile_expression.specs.LeafTree.{Literal, literal_of, leaf_tree_of};
 
 use crate::expression_error::{ExpressionError, LiteralError};
+use crate::parser_state::ParserState;
 use crate::significant::SignificantToken;
-use crate::token_cursor::TokenCursor;
 use crate::value::make_format_string;
 use justfile_expression::Expression;
 use justfile_literal::{command, format_part, string_literal, verbatim_text};
@@ -23,7 +23,7 @@ use justfile_token::{Expander, Fault, StringKind, StringLiteral};
 use justfile_vocabulary::{FormatStringPart, Keyword, TokenKind};
 use std::alloc::Global;
 
-impl<'run, 'src, X: Expander> TokenCursor<'run, 'src, X> {
+impl<'run, 'src, X: Expander> ParserState<'run, 'src, X> {
     ghost use Rattle.justfile_parse_expression.specs.View.{tokens_left};
 
     /// Parses a literal.

@@ -20,8 +20,8 @@ ghost use Rattle.justfile_expression.specs.LeafTree.{Literal, Named, format_stri
 use crate::expression_error::{ExpressionError, SyntaxError};
 use crate::feature::find_function_feature;
 use crate::literal::find_kind;
+use crate::parser_state::ParserState;
 use crate::significant::SignificantToken;
-use crate::token_cursor::TokenCursor;
 use justfile_expression::{Expression, ListFeature};
 use justfile_model::Level;
 use justfile_token::{Expander, Name, StringLiteral, Token};
@@ -44,7 +44,7 @@ pub(crate) enum ValueForm {
     Missing,
 }
 
-impl<'run, 'src, X: Expander> TokenCursor<'run, 'src, X> {
+impl<'run, 'src, X: Expander> ParserState<'run, 'src, X> {
     ghost use Rattle.justfile_parse_expression.specs.View.{tokens_left, state_of};
 
     /// Parses what can be on either side of an operator: a value after `!`, or a value without

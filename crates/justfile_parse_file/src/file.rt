@@ -30,7 +30,7 @@ use justfile_numbers::{Numerator, Version};
 use justfile_parse_base::ParseError;
 use justfile_parse_docs::take_docs;
 use justfile_parse_expression::significant::{SignificantToken, significant};
-use justfile_parse_expression::{ExpectedTokens, ExpressionError, SyntaxError, TokenCursor};
+use justfile_parse_expression::{ExpectedTokens, ExpressionError, ParserState, SyntaxError};
 use justfile_parse_item::parse_items;
 use justfile_token::{
     CompileError, CompileErrorKind, CompileResult, Expander, Fault, Modulepath, Namepath, Source,
@@ -199,7 +199,7 @@ fn parse_table<'run, 'src, X: Expander>(
     ensures moved { CountersMoved numerator.old numerator.new
         (identifiers (map significant_of tokens.now)) }
 {
-    let mut parser = TokenCursor::new(
+    let mut parser = ParserState::new(
         alloc,
         current,
         expander,
@@ -224,7 +224,7 @@ fn parse_table<'run, 'src, X: Expander>(
 /// is open.
 #[tactic(auto, using(justfile_parse_item::proofs::Loop::file_is))]
 fn parse_file<'src, X: Expander>(
-    parser: &mut TokenCursor<'_, 'src, X>,
+    parser: &mut ParserState<'_, 'src, X>,
     numerator: &mut Numerator,
 ) -> Result<Vec<Item<'src>>, ParseError<'src>>
     requires { (state_of X.answer parser.old).depth ≡ 0 }
@@ -239,7 +239,7 @@ fn parse_file<'src, X: Expander>(
 }
 
 /// Takes the byte order mark that a file may begin with.
-fn accept_byte_order_mark<X: Expander>(parser: &mut TokenCursor<'_, '_, X>)
+fn accept_byte_order_mark<X: Expander>(parser: &mut ParserState<'_, '_, X>)
     ensures { state_of X.answer parser.new ≡ after_mark (state_of X.answer parser.old) }
 {
     let _mark = parser.accept(TokenKind::ByteOrderMark);

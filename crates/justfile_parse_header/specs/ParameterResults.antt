@@ -5,7 +5,7 @@ use Rattle.justfile_recipe_header.specs.declared.parameter.Parameter.{Parameter}
 use Rattle.justfile_parse_base.specs.declared.parse_error.ParseError.{ParseError}
 use Rattle.justfile_parse_expression.specs.TableReader.{Read, State}
 use Rattle.justfile_parse_expression.specs.View.{state_of}
-use Rattle.justfile_parse_expression.specs.declared.token_cursor.TokenCursor.{TokenCursor}
+use Rattle.justfile_parse_expression.specs.declared.parser_state.ParserState.{ParserState}
 use Rattle.justfile_parse_header.specs.ArgAttribute.{KeepsDerivedParameterFields}
 use Rattle.justfile_parse_base.specs.Counting.{ReadsCounted, TookBindingNumbers, counters_of, identifiers_left, identifiers_left_after}
 use Rattle.justfile_parse_header.specs.HeaderTable.{Parameters, Rules}
@@ -25,5 +25,5 @@ pub record ReadsParameters {X : Type 0} (rules : List Rules) (parameters : X →
 
 -- the same from the parser before it to the parser after it
 abbrev pub ParsesParameters : {X E : Type 0} (answer : E → List ℕ → Result (List ℕ) (List ℕ)) → List Rules → (X → List Parameter) → Result X ParseError → (before : List Parameter)
-    → (old new : Numerator) → (first last : TokenCursor E) → ParameterReader → Type 0
+    → (old new : Numerator) → (first last : ParserState E) → ParameterReader → Type 0
 ParsesParameters answer rules parameters result before old new first last read = ReadsParameters rules parameters result before old new (state_of answer first) (state_of answer last) read

@@ -15,7 +15,7 @@ use justfile_expression::Expression;
 use justfile_expression_parser::parse_expression;
 use justfile_parse_base::{ParseError, parse_namepath, rule_error};
 use justfile_parse_expression::significant::SignificantToken;
-use justfile_parse_expression::{ExpressionError, SyntaxError, TokenCursor};
+use justfile_parse_expression::{ExpressionError, ParserState, SyntaxError};
 use justfile_recipe_header::{DependencyArgument, UnresolvedDependency};
 use justfile_token::{CompileErrorKind, Expander, Fault};
 use justfile_vocabulary::TokenKind;
@@ -33,7 +33,7 @@ pub(crate) struct ReadArgument<'src> {
 /// `dependencies`.
 #[tactic(auto, using(crate::proofs::Dependencies::subsequents_none))]
 pub(crate) fn parse_subsequents<'src, X: Expander>(
-    parser: &mut TokenCursor<'_, 'src, X>,
+    parser: &mut ParserState<'_, 'src, X>,
     dependencies: &mut Vec<UnresolvedDependency<'src>>,
 ) -> Result<(), ParseError<'src>>
     ensures { ParsesRuled X.answer
@@ -54,7 +54,7 @@ pub(crate) fn parse_subsequents<'src, X: Expander>(
 /// Parses dependencies up to a token that doesn't begin one, and appends them to `dependencies`.
 #[tactic(auto, using(crate::proofs::Dependencies::dependencies_end, crate::proofs::Dependencies::dependencies_go_on))]
 pub(crate) fn parse_dependencies<'src, X: Expander>(
-    parser: &mut TokenCursor<'_, 'src, X>,
+    parser: &mut ParserState<'_, 'src, X>,
     dependencies: &mut Vec<UnresolvedDependency<'src>>,
 ) -> Result<(), ParseError<'src>>
     ensures { ParsesRuled X.answer
@@ -71,7 +71,7 @@ pub(crate) fn parse_dependencies<'src, X: Expander>(
 }
 
 /// Whether a dependency begins with the next token.
-fn begins_dependency<X: Expander>(parser: &TokenCursor<'_, '_, X>) -> bool
+fn begins_dependency<X: Expander>(parser: &ParserState<'_, '_, X>) -> bool
     ensures { result ≡ reader.begins_dependency (state_of X.answer parser.now) }
 {
     parser.peek_kinds(&[TokenKind::Identifier])
@@ -83,7 +83,7 @@ fn begins_dependency<X: Expander>(parser: &TokenCursor<'_, '_, X>) -> bool
 /// precede.
 #[tactic(auto, using(justfile_parse_base::proofs::RuleSteps::broken_first), unfolding(justfile_model::specs::Readers::HeaderReader::dependency))]
 fn parse_dependency<'src, X: Expander>(
-    parser: &mut TokenCursor<'_, 'src, X>,
+    parser: &mut ParserState<'_, 'src, X>,
 ) -> Result<UnresolvedDependency<'src>, ParseError<'src>>
     ensures { ParsesRuled X.answer dependency_tree result parser.old parser.new
         reader.dependency }
@@ -100,7 +100,7 @@ fn parse_dependency<'src, X: Expander>(
 /// Parses a dependency without arguments.
 #[tactic(auto, unfolding(justfile_model::specs::Readers::HeaderReader::bare_dependency))]
 fn parse_bare<'src, X: Expander>(
-    parser: &mut TokenCursor<'_, 'src, X>,
+    parser: &mut ParserState<'_, 'src, X>,
 ) -> Result<UnresolvedDependency<'src>, ExpressionError<'src>>
     ensures { Parses X.answer dependency_tree result parser.old parser.new
         reader.bare_dependency }
@@ -115,7 +115,7 @@ fn parse_bare<'src, X: Expander>(
 /// Parses a path and its arguments in parentheses, after the star before them, if there is one.
 #[tactic(auto, using(justfile_parse_base::proofs::RuleSteps::broken_first), unfolding(justfile_model::specs::Readers::HeaderReader::parenthesized))]
 fn parse_parenthesized<'src, X: Expander>(
-    parser: &mut TokenCursor<'_, 'src, X>,
+    parser: &mut ParserState<'_, 'src, X>,
     star: Option<SignificantToken<'src>>,
 ) -> Result<UnresolvedDependency<'src>, ParseError<'src>>
     ensures { ParsesRuled X.answer dependency_tree result parser.old parser.new
@@ -132,7 +132,7 @@ fn parse_parenthesized<'src, X: Expander>(
 /// Parses arguments, which nothing separates, and the closing parenthesis.
 #[tactic(auto, using(crate::proofs::Dependencies::arguments_end, crate::proofs::Dependencies::arguments_go_on))]
 fn parse_arguments<'src, X: Expander>(
-    parser: &mut TokenCursor<'_, 'src, X>,
+    parser: &mut ParserState<'_, 'src, X>,
 ) -> Result<Vec<ReadArgument<'src>>, ParseError<'src>>
     ensures { ParsesRuled X.answer (λ arguments. map read_argument arguments.items) result
         parser.old parser.new (λ s. reader.dependency_arguments ([], s)) }
@@ -150,7 +150,7 @@ fn parse_arguments<'src, X: Expander>(
 /// Parses an argument with or without a star, after those in `before`.
 #[tactic(auto, unfolding(justfile_model::specs::Readers::HeaderReader::dependency_argument))]
 fn parse_argument<'src, X: Expander>(
-    parser: &mut TokenCursor<'_, 'src, X>,
+    parser: &mut ParserState<'_, 'src, X>,
     before: &[ReadArgument<'src>],
 ) -> Result<ReadArgument<'src>, ParseError<'src>>
     ensures { ParsesRuled X.answer read_argument result parser.old parser.new
@@ -165,7 +165,7 @@ fn parse_argument<'src, X: Expander>(
 /// Parses an argument without a star.
 #[tactic(auto, unfolding(justfile_model::specs::Readers::HeaderReader::plain_argument))]
 fn parse_plain<'src, X: Expander>(
-    parser: &mut TokenCursor<'_, 'src, X>,
+    parser: &mut ParserState<'_, 'src, X>,
 ) -> Result<ReadArgument<'src>, ExpressionError<'src>>
     ensures { Parses X.answer read_argument result parser.old parser.new
         reader.plain_argument }
@@ -177,7 +177,7 @@ fn parse_plain<'src, X: Expander>(
 /// Parses an argument after its star. Refuses the star if it is the second.
 #[tactic(auto, using(justfile_parse_base::proofs::RuleSteps::broken_first), unfolding(justfile_model::specs::Readers::HeaderReader::starred_argument))]
 fn parse_starred<'src, X: Expander>(
-    parser: &mut TokenCursor<'_, 'src, X>,
+    parser: &mut ParserState<'_, 'src, X>,
     before: &[ReadArgument<'src>],
     star: SignificantToken<'src>,
 ) -> Result<ReadArgument<'src>, ParseError<'src>>

@@ -15,7 +15,7 @@ use crate::parameter::parse_parameters;
 use justfile_attribute_set::AttributeSet;
 use justfile_numbers::Numerator;
 use justfile_parse_base::ParseError;
-use justfile_parse_expression::TokenCursor;
+use justfile_parse_expression::ParserState;
 use justfile_parse_expression::significant::SignificantToken;
 use justfile_recipe_header::{Parameter, UnresolvedDependency};
 use justfile_token::Expander;
@@ -43,7 +43,7 @@ pub struct Header<'src> {
 /// out.
 pub fn parse_header<'src, X: Expander>(
     attributes: &AttributeSet<'src>,
-    parser: &mut TokenCursor<'_, 'src, X>,
+    parser: &mut ParserState<'_, 'src, X>,
     numerator: &mut Numerator,
 ) -> Result<Header<'src>, ParseError<'src>>
     requires { HaveBoundKeys (attributes_of attributes.now) }

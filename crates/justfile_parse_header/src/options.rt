@@ -23,7 +23,7 @@ use justfile_attribute_set::AttributeSet;
 use justfile_expression::ListFeature;
 use justfile_parse_base::text_sets::{add_text, is_among};
 use justfile_parse_base::{ParseError, rule_error};
-use justfile_parse_expression::{ExpressionError, TokenCursor};
+use justfile_parse_expression::{ExpressionError, ParserState};
 use justfile_token::{CompileErrorKind, Expander, Fault, Name, Token};
 use justfile_vocabulary::Switch;
 use std::alloc::Global;
@@ -33,7 +33,7 @@ use std::collections::BTreeSet;
 #[tactic(auto, using(crate::proofs::ArgAttributes::noting_begins, crate::proofs::ArgAttributes::noting_goes_on, crate::proofs::ArgAttributes::noting_ends))]
 pub(crate) fn note_arg_attributes<'src, X: Expander>(
     attributes: &AttributeSet<'src>,
-    parser: &mut TokenCursor<'_, 'src, X>,
+    parser: &mut ParserState<'_, 'src, X>,
 ) -> Result<(), ExpressionError<'src>>
     ensures { UnlessMemory result (λ done. state_of X.answer parser.new
         ≡ with (flat_map rules_features (rules_of attributes.now)) (state_of X.answer parser.old)) }
@@ -50,7 +50,7 @@ pub(crate) fn note_arg_attributes<'src, X: Expander>(
 /// Notes what an attribute uses that needs the setting `lists`, at its keys.
 fn note_attribute<'src, X: Expander>(
     attribute: &Attribute<'src>,
-    parser: &mut TokenCursor<'_, 'src, X>,
+    parser: &mut ParserState<'_, 'src, X>,
 ) -> Result<(), ExpressionError<'src>>
     ensures { UnlessMemory result (λ done. state_of X.answer parser.new
         ≡ with (features_in (leaf_attribute_of attribute.now)) (state_of X.answer parser.old)) }
@@ -86,7 +86,7 @@ fn note_attribute<'src, X: Expander>(
 /// Notes a feature at a key, if there is one.
 #[tactic(auto, using(justfile_parse_expression::proofs::Rest::with_none))]
 fn note_at<'src, X: Expander>(
-    parser: &mut TokenCursor<'_, 'src, X>,
+    parser: &mut ParserState<'_, 'src, X>,
     feature: ListFeature,
     key: Option<Token<'src>>,
 ) -> Result<(), ExpressionError<'src>>

@@ -27,7 +27,7 @@ use justfile_attribute_set::AttributeSet;
 use justfile_expression::Expression;
 use justfile_numbers::{Number, Numerator};
 use justfile_parse_base::{ParseError, next_binding_number, rule_error};
-use justfile_parse_expression::{ExpressionError, TokenCursor};
+use justfile_parse_expression::{ExpressionError, ParserState};
 use justfile_recipe_header::{Parameter, ParameterKind, unboxed};
 use justfile_token::{CompileErrorKind, Expander, Fault, Name, Token};
 use justfile_vocabulary::TokenKind;
@@ -37,7 +37,7 @@ use std::alloc::Global;
 #[tactic(auto, unfolding(justfile_model::specs::Readers::HeaderReader::parameters))]
 pub(crate) fn parse_parameters<'src, X: Expander>(
     attributes: &AttributeSet<'src>,
-    parser: &mut TokenCursor<'_, 'src, X>,
+    parser: &mut ParserState<'_, 'src, X>,
     numerator: &mut Numerator,
 ) -> Result<ReadParameters<'src>, ParseError<'src>>
     requires { HaveBoundKeys (attributes_of attributes.now) }
@@ -57,7 +57,7 @@ pub(crate) fn parse_parameters<'src, X: Expander>(
 /// Parses parameters that take one argument, and appends them to `parameters`.
 fn parse_singulars<'src, X: Expander>(
     arg_attributes: &ArgAttributes<'_, 'src>,
-    parser: &mut TokenCursor<'_, 'src, X>,
+    parser: &mut ParserState<'_, 'src, X>,
     numerator: &mut Numerator,
     parameters: &mut ReadParameters<'src>,
 ) -> Result<(), ParseError<'src>>
@@ -81,7 +81,7 @@ fn parse_singulars<'src, X: Expander>(
 }
 
 /// Whether the next token begins a parameter that takes one argument.
-fn begins_parameter<X: Expander>(parser: &TokenCursor<'_, '_, X>) -> bool
+fn begins_parameter<X: Expander>(parser: &ParserState<'_, '_, X>) -> bool
     ensures { result ≡ reader.begins_parameter (state_of X.answer parser.now) }
 {
     parser.peek_kinds(&[TokenKind::Identifier]) || parser.peek_kinds(&[TokenKind::Dollar])
@@ -92,7 +92,7 @@ fn begins_parameter<X: Expander>(parser: &TokenCursor<'_, '_, X>) -> bool
 #[tactic(auto, unfolding(justfile_model::specs::Readers::HeaderReader::last_parameter))]
 fn parse_last<'src, X: Expander>(
     arg_attributes: &ArgAttributes<'_, 'src>,
-    parser: &mut TokenCursor<'_, 'src, X>,
+    parser: &mut ParserState<'_, 'src, X>,
     numerator: &mut Numerator,
     parameters: &mut ReadParameters<'src>,
 ) -> Result<(), ParseError<'src>>
@@ -126,7 +126,7 @@ fn parse_last<'src, X: Expander>(
 #[tactic(auto, unfolding(justfile_model::specs::Readers::HeaderReader::variadic))]
 fn parse_variadic<'src, X: Expander>(
     arg_attributes: &ArgAttributes<'_, 'src>,
-    parser: &mut TokenCursor<'_, 'src, X>,
+    parser: &mut ParserState<'_, 'src, X>,
     numerator: &mut Numerator,
     parameters: &mut ReadParameters<'src>,
     kind: ParameterKind,
@@ -143,7 +143,7 @@ fn parse_variadic<'src, X: Expander>(
 /// Refuses a name after a variadic parameter.
 #[tactic(auto, unfolding(justfile_model::specs::Readers::HeaderReader::expect_no_name, justfile_parse_expression::specs::TableReader::leaves))]
 fn expect_no_name<'src, X: Expander>(
-    parser: &TokenCursor<'_, 'src, X>,
+    parser: &ParserState<'_, 'src, X>,
 ) -> Result<(), ParseError<'src>>
     ensures { ParsesRuled X.answer (λ _. tt) result parser.now parser.now reader.expect_no_name }
 {
@@ -165,7 +165,7 @@ fn after_variadic_fault<'src>(name: Token<'src>) -> Fault<'src>
 /// Parses a parameter with or without `$` before it, and appends it to `parameters`.
 fn parse_parameter<'src, X: Expander>(
     arg_attributes: &ArgAttributes<'_, 'src>,
-    parser: &mut TokenCursor<'_, 'src, X>,
+    parser: &mut ParserState<'_, 'src, X>,
     numerator: &mut Numerator,
     parameters: &mut ReadParameters<'src>,
     kind: ParameterKind,
@@ -184,7 +184,7 @@ fn parse_parameter<'src, X: Expander>(
 /// Parses a parameter from its name on, and appends it to `parameters`.
 fn parse_named<'src, X: Expander>(
     arg_attributes: &ArgAttributes<'_, 'src>,
-    parser: &mut TokenCursor<'_, 'src, X>,
+    parser: &mut ParserState<'_, 'src, X>,
     numerator: &mut Numerator,
     parameters: &mut ReadParameters<'src>,
     kind: ParameterKind,
@@ -262,7 +262,7 @@ fn make_parameter<'src>(
 /// Parses the default value of a parameter, if `=` comes next.
 #[tactic(auto, unfolding(justfile_model::specs::Readers::HeaderReader::default_value))]
 fn parse_default<'src, X: Expander>(
-    parser: &mut TokenCursor<'_, 'src, X>,
+    parser: &mut ParserState<'_, 'src, X>,
 ) -> Result<Option<Box<Expression<'src>>>, ExpressionError<'src>>
     ensures { Parses X.answer value_tree result parser.old parser.new reader.default_value }
 {

@@ -21,7 +21,7 @@ use Rattle.justfile_parse_base.specs.declared.parse_error.ParseError.{ParseError
 use Rattle.justfile_parse_expression.specs.TableReader.{State, leaves}
 use Rattle.justfile_parse_expression.specs.Significant.{TableEntry}
 use Rattle.justfile_parse_expression.specs.View.{state_of}
-use Rattle.justfile_parse_expression.specs.declared.token_cursor.TokenCursor.{TokenCursor}
+use Rattle.justfile_parse_expression.specs.declared.parser_state.ParserState.{ParserState}
 use Rattle.justfile_parse_base.specs.Counting.{ParsesCounted, counters_of, identifiers_left}
 use Rattle.justfile_parse_base.proofs.Fewer.{fewer}
 use Rattle.justfile_parse_base.proofs.HeaderErrors.{failed}
@@ -116,7 +116,7 @@ keyword_fewer s word rest h = subst (LeavesFewer s) h (some_fewer s)
 -- ---- a construct that takes no number
 
 pub uncounted : {X E : Type 0} (answer : E → List ℕ → Result (List ℕ) (List ℕ)) (view : X → OrderedItem Leaf Token ℕ) (result : Result X ParseError)
-    (n : Numerator) (old new : TokenCursor E) (read : Counters → State → ReadItem)
+    (n : Numerator) (old new : ParserState E) (read : Counters → State → ReadItem)
     → ParsesUncounted answer view result old new read → ParsesCounted answer view result n old new (read (counters_of n))
 unfolding ParsesUncounted
 uncounted answer view (Ok x) n old new read h = h (counters_of n)

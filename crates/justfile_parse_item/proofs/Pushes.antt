@@ -17,7 +17,7 @@ use Rattle.justfile_parse_base.specs.declared.parse_error.ParseError.{ParseError
 use Rattle.justfile_parse_base.specs.declared.parse_error.ParseError.TheVariants as errors
 use Rattle.justfile_parse_expression.specs.TableReader.{State}
 use Rattle.justfile_parse_expression.specs.View.{state_of}
-use Rattle.justfile_parse_expression.specs.declared.token_cursor.TokenCursor.{TokenCursor}
+use Rattle.justfile_parse_expression.specs.declared.parser_state.ParserState.{ParserState}
 use Rattle.justfile_parse_expression.specs.declared.expression_error.ExpressionError.TheVariants as causes
 use Rattle.justfile_parse_base.specs.Counting.{ReadsCounted, counters_of}
 use Rattle.justfile_parse_item.specs.DerivedFields.{HasDerivedItemFields}
@@ -62,7 +62,7 @@ reads item old new (Err error) n s found h e =
 
 -- the same for a construct that takes no number
 pub reads_uncounted : {E : Type 0} (answer : E → List ℕ → Result (List ℕ) (List ℕ)) (item : Item) (old new : List Item) (result : Done)
-    (before after : TokenCursor E) (read : Counters → State → ReadItem) → Pushes item old new result
+    (before after : ParserState E) (read : Counters → State → ReadItem) → Pushes item old new result
     → ((n : Counters) → read n (state_of answer before) ≡ Ok ((item_tree item, n), state_of answer after))
     → ParsesUncounted answer (λ _. last_tree new) result before after read
 unfolding ParsesUncounted

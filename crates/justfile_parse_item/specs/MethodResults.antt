@@ -10,7 +10,7 @@ use Rattle.justfile_parse_item.specs.ItemTable.{ReadItem}
 use Rattle.justfile_parse_base.specs.ParseErrors.{ParsesRuled}
 use Rattle.justfile_parse_base.specs.declared.parse_error.ParseError.{ParseError}
 use Rattle.justfile_parse_expression.specs.TableReader.{State, accept}
-use Rattle.justfile_parse_expression.specs.declared.token_cursor.TokenCursor.{TokenCursor}
+use Rattle.justfile_parse_expression.specs.declared.parser_state.ParserState.{ParserState}
 use Rattle.justfile_expression.specs.LeafTree.{Leaf}
 
 -- Only bindings and recipes were given numbers, together at most `most`.
@@ -28,5 +28,5 @@ pub record IsAtItem (s : State) : Type 0 where
 -- For a construct that takes no number: what was returned and the parser after it are what `read` reads from the parser before it, with
 -- any counters.
 unfoldable pub ParsesUncounted : {X E : Type 0} (answer : E → List ℕ → Result (List ℕ) (List ℕ)) → (X → OrderedItem Leaf Token ℕ)
-    → Result X ParseError → (old new : TokenCursor E) → (read : Counters → State → ReadItem) → Type 0
+    → Result X ParseError → (old new : ParserState E) → (read : Counters → State → ReadItem) → Type 0
 ParsesUncounted answer view result old new read = (n : Counters) → ParsesRuled answer (λ x. (view x, n)) result old new (read n)

@@ -17,7 +17,7 @@ use justfile_expression_parser::parse_expression;
 use justfile_item::{Binding, Item, is_private_item};
 use justfile_numbers::Numerator;
 use justfile_parse_base::{ParseError, next_binding_number};
-use justfile_parse_expression::TokenCursor;
+use justfile_parse_expression::ParserState;
 use justfile_token::{Expander, Name};
 use justfile_vocabulary::{ItemKind, TokenKind};
 use justfile_written::Written;
@@ -26,7 +26,7 @@ use justfile_written::Written;
 /// `:=`, and an expression. Checks the attributes, and appends the item.
 #[tactic(auto, using(crate::proofs::CounterSteps::unmoved, crate::proofs::Pushes::reads, crate::proofs::Pushes::appends, justfile_parse_expression::proofs::Rest::file_depth_is), unfolding(justfile_model::specs::Readers::Reader::assignment, justfile_parse_expression::specs::TableReader::leaves))]
 pub(crate) fn parse_assignment<'src, X: Expander>(
-    parser: &mut TokenCursor<'_, 'src, X>,
+    parser: &mut ParserState<'_, 'src, X>,
     eager: bool,
     export: bool,
     attributes: Vec<(Attribute<'src>, Written<'src>)>,

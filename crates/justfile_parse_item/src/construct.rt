@@ -24,7 +24,7 @@ use justfile_item::Item;
 use justfile_numbers::Numerator;
 use justfile_parse_attribute::parse_attributes;
 use justfile_parse_base::{ParseError, rule_error};
-use justfile_parse_expression::TokenCursor;
+use justfile_parse_expression::ParserState;
 use justfile_parse_item_parts::{Lookahead, accept_keyword_before, peek_assignment};
 use justfile_token::Expander;
 use justfile_vocabulary::{Keyword, TokenKind};
@@ -45,7 +45,7 @@ pub(crate) enum ConstructKeyword {
 /// Parses a construct with its attributes, and appends it. Requires that no expression is open.
 #[tactic(auto, using(crate::proofs::CounterSteps::unmoved), unfolding(justfile_model::specs::Readers::Reader::construct))]
 pub(crate) fn parse_construct<'src, X: Expander>(
-    parser: &mut TokenCursor<'_, 'src, X>,
+    parser: &mut ParserState<'_, 'src, X>,
     items: &mut Vec<Item<'src>>,
     numerator: &mut Numerator,
 ) -> Result<(), ParseError<'src>>
@@ -63,7 +63,7 @@ pub(crate) fn parse_construct<'src, X: Expander>(
 /// Parses the attributes before a construct. Refuses them if a blank line or a comment follows.
 #[tactic(auto, unfolding(justfile_model::specs::Readers::Reader::attributes))]
 fn parse_item_attributes<'src, X: Expander>(
-    parser: &mut TokenCursor<'_, 'src, X>,
+    parser: &mut ParserState<'_, 'src, X>,
 ) -> Result<Vec<(Attribute<'src>, Written<'src>)>, ParseError<'src>>
     ensures reads { ParsesRuled X.answer (λ pairs. entries_of pairs.items) result
         parser.old parser.new reader.item_attributes }
@@ -80,7 +80,7 @@ fn parse_item_attributes<'src, X: Expander>(
 }
 
 /// Whether a blank line or a comment comes next.
-fn stands_alone<X: Expander>(parser: &TokenCursor<'_, '_, X>) -> bool
+fn stands_alone<X: Expander>(parser: &ParserState<'_, '_, X>) -> bool
     ensures { result ≡ reader.stands_alone (state_of X.answer parser.now) }
 {
     parser.peek_kinds(&[TokenKind::Eol]) || parser.peek_kinds(&[TokenKind::Comment])
@@ -89,7 +89,7 @@ fn stands_alone<X: Expander>(parser: &TokenCursor<'_, '_, X>) -> bool
 /// Parses a construct after its attributes, and appends it.
 #[tactic(auto, using(crate::proofs::ConstructKeywords::content_after_keyword, crate::proofs::ConstructKeywords::content_without_keyword))]
 fn parse_content<'src, X: Expander>(
-    parser: &mut TokenCursor<'_, 'src, X>,
+    parser: &mut ParserState<'_, 'src, X>,
     attributes: Vec<(Attribute<'src>, Written<'src>)>,
     items: &mut Vec<Item<'src>>,
     numerator: &mut Numerator,
@@ -112,7 +112,7 @@ fn parse_content<'src, X: Expander>(
 /// word can be such a keyword: in most constructs it can't.
 #[tactic(auto, using(crate::proofs::NoKeyword::unnamed, crate::proofs::NoKeyword::unlike))]
 fn accept_construct_keyword<X: Expander>(
-    parser: &mut TokenCursor<'_, '_, X>,
+    parser: &mut ParserState<'_, '_, X>,
 ) -> Option<ConstructKeyword>
     ensures takes { Takes result (state_of X.answer parser.new)
         (keyword_taken (state_of X.answer parser.old)) }
@@ -161,7 +161,7 @@ fn has_keyword_length(length: usize) -> bool
 /// Takes the keyword that the construct begins with, if it begins with one. A keyword is an
 /// ordinary name unless what follows it fits.
 #[tactic(auto, unfolding(crate::specs::ConstructKeywords::keyword_taken))]
-fn accept_any_keyword<X: Expander>(parser: &mut TokenCursor<'_, '_, X>) -> Option<ConstructKeyword>
+fn accept_any_keyword<X: Expander>(parser: &mut ParserState<'_, '_, X>) -> Option<ConstructKeyword>
     ensures takes { Takes result (state_of X.answer parser.new)
         (keyword_taken (state_of X.answer parser.old)) }
     ensures moves { Moves result parser.old parser.new }
@@ -191,7 +191,7 @@ fn accept_any_keyword<X: Expander>(parser: &mut TokenCursor<'_, '_, X>) -> Optio
 /// Parses a construct after its attributes and this keyword, and appends it.
 fn parse_after_keyword<'src, X: Expander>(
     keyword: ConstructKeyword,
-    parser: &mut TokenCursor<'_, 'src, X>,
+    parser: &mut ParserState<'_, 'src, X>,
     attributes: Vec<(Attribute<'src>, Written<'src>)>,
     items: &mut Vec<Item<'src>>,
     numerator: &mut Numerator,
@@ -222,7 +222,7 @@ fn parse_after_keyword<'src, X: Expander>(
 /// Parses a construct without a keyword, after its attributes, and appends it.
 #[tactic(auto, unfolding(justfile_model::specs::Readers::Reader::without_keyword))]
 fn parse_without_keyword<'src, X: Expander>(
-    parser: &mut TokenCursor<'_, 'src, X>,
+    parser: &mut ParserState<'_, 'src, X>,
     attributes: Vec<(Attribute<'src>, Written<'src>)>,
     items: &mut Vec<Item<'src>>,
     numerator: &mut Numerator,

@@ -17,7 +17,7 @@ use justfile_expression_parser::parse_expression;
 use justfile_item::{FunctionDefinition, Item};
 use justfile_numbers::Numerator;
 use justfile_parse_base::ParseError;
-use justfile_parse_expression::TokenCursor;
+use justfile_parse_expression::ParserState;
 use justfile_parse_item_parts::parse_parameter_names;
 use justfile_token::{Expander, Name};
 use justfile_vocabulary::{ItemKind, TokenKind};
@@ -27,7 +27,7 @@ use justfile_written::Written;
 /// `:=`, and an expression. Checks the attributes, and appends the item.
 #[tactic(auto, using(crate::proofs::CounterSteps::unmoved, crate::proofs::Pushes::reads, crate::proofs::Pushes::appends), unfolding(justfile_model::specs::Readers::Reader::function, justfile_parse_expression::specs::TableReader::leaves))]
 pub(crate) fn parse_function<'src, X: Expander>(
-    parser: &mut TokenCursor<'_, 'src, X>,
+    parser: &mut ParserState<'_, 'src, X>,
     attributes: Vec<(Attribute<'src>, Written<'src>)>,
     items: &mut Vec<Item<'src>>,
     numerator: &mut Numerator,

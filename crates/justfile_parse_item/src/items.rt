@@ -23,7 +23,7 @@ use crate::construct::parse_construct;
 use justfile_item::Item;
 use justfile_numbers::Numerator;
 use justfile_parse_base::ParseError;
-use justfile_parse_expression::{ExpressionError, SyntaxError, TokenCursor};
+use justfile_parse_expression::{ExpressionError, ParserState, SyntaxError};
 use justfile_token::{Expander, Token};
 use justfile_vocabulary::TokenKind;
 use std::alloc::AllocError;
@@ -40,7 +40,7 @@ const TOKENS_OF_AN_ITEM: usize = 8;
 /// has reached its maximum and a number is needed, or if memory runs out.
 #[tactic(auto, using(crate::proofs::CounterSteps::unmoved, crate::proofs::Loop::moved, crate::proofs::Loop::moved_on))]
 pub fn parse_items<'src, X: Expander>(
-    parser: &mut TokenCursor<'_, 'src, X>,
+    parser: &mut ParserState<'_, 'src, X>,
     numerator: &mut Numerator,
 ) -> Result<Vec<Item<'src>>, ParseError<'src>>
     requires { (state_of X.answer parser.old).depth ≡ 0 }
@@ -63,7 +63,7 @@ pub fn parse_items<'src, X: Expander>(
 /// Refuses tokens after the end of the file.
 #[tactic(auto, unfolding(crate::specs::ItemTable::read_nothing, justfile_model::specs::Readers::ReaderState::refused))]
 fn expect_nothing<'src, X: Expander>(
-    parser: &TokenCursor<'_, 'src, X>,
+    parser: &ParserState<'_, 'src, X>,
 ) -> Result<(), ExpressionError<'src>>
     ensures { Parses X.answer (λ nothing. nothing) result parser.now parser.now
         reader.read_nothing }
@@ -78,7 +78,7 @@ fn expect_nothing<'src, X: Expander>(
 /// is open.
 #[tactic(auto, using(crate::proofs::Lines::line_blank, crate::proofs::CounterSteps::unmoved, crate::proofs::DerivedItemFields::newline_fields))]
 fn parse_line<'src, X: Expander>(
-    parser: &mut TokenCursor<'_, 'src, X>,
+    parser: &mut ParserState<'_, 'src, X>,
     items: &mut Vec<Item<'src>>,
     numerator: &mut Numerator,
 ) -> Result<(), ParseError<'src>>
@@ -99,7 +99,7 @@ fn parse_line<'src, X: Expander>(
 
 /// Parses a line that isn't blank: an item and its end. Appends both.
 fn parse_item_line<'src, X: Expander>(
-    parser: &mut TokenCursor<'_, 'src, X>,
+    parser: &mut ParserState<'_, 'src, X>,
     items: &mut Vec<Item<'src>>,
     numerator: &mut Numerator,
 ) -> Result<(), ParseError<'src>>
@@ -119,7 +119,7 @@ fn parse_item_line<'src, X: Expander>(
 /// Parses an item that begins a line, and appends it. Requires that no expression is open.
 #[tactic(auto, using(crate::proofs::CounterSteps::unmoved, crate::proofs::Pushes::appends), unfolding(justfile_model::specs::Readers::Reader::any_item, justfile_parse_expression::specs::TableReader::leaves))]
 fn parse_item<'src, X: Expander>(
-    parser: &mut TokenCursor<'_, 'src, X>,
+    parser: &mut ParserState<'_, 'src, X>,
     items: &mut Vec<Item<'src>>,
     numerator: &mut Numerator,
 ) -> Result<(), ParseError<'src>>
@@ -138,7 +138,7 @@ fn parse_item<'src, X: Expander>(
 
 /// Parses the end of the last item, and appends the line end.
 fn end_item<'src, X: Expander>(
-    parser: &mut TokenCursor<'_, 'src, X>,
+    parser: &mut ParserState<'_, 'src, X>,
     items: &mut Vec<Item<'src>>,
 ) -> Result<(), ExpressionError<'src>>
     ensures reads { Parses X.answer (λ _. map item_tree items.new.items) result parser.old
@@ -154,7 +154,7 @@ fn end_item<'src, X: Expander>(
 /// already, so there the line end is added without a token.
 #[tactic(auto, using(crate::proofs::Lines::ended_body, crate::proofs::Lines::ended_after, crate::proofs::DerivedItemFields::newline_fields))]
 fn parse_item_end<'src, X: Expander>(
-    parser: &mut TokenCursor<'_, 'src, X>,
+    parser: &mut ParserState<'_, 'src, X>,
     has_body: bool,
     items: &mut Vec<Item<'src>>,
 ) -> Result<(), ExpressionError<'src>>
@@ -173,7 +173,7 @@ fn parse_item_end<'src, X: Expander>(
 /// the line. Appends them.
 #[tactic(auto, using(crate::proofs::Lines::after_comment, crate::proofs::Lines::after_bare))]
 fn parse_after_item<'src, X: Expander>(
-    parser: &mut TokenCursor<'_, 'src, X>,
+    parser: &mut ParserState<'_, 'src, X>,
     items: &mut Vec<Item<'src>>,
 ) -> Result<(), ExpressionError<'src>>
     ensures reads { Parses X.answer (λ _. map item_tree items.new.items) result
@@ -193,7 +193,7 @@ fn parse_after_item<'src, X: Expander>(
 /// and appends nothing.
 #[tactic(auto, using(crate::proofs::Lines::line_end_closes, crate::proofs::Lines::line_end_newline, crate::proofs::DerivedItemFields::newline_fields, crate::proofs::DerivedItemFields::same_fields))]
 fn parse_line_end<'src, X: Expander>(
-    parser: &mut TokenCursor<'_, 'src, X>,
+    parser: &mut ParserState<'_, 'src, X>,
     items: &mut Vec<Item<'src>>,
 ) -> Result<(), ExpressionError<'src>>
     ensures reads { Parses X.answer (λ _. map item_tree items.new.items) result

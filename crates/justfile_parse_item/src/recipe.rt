@@ -24,7 +24,7 @@ use justfile_item::{Item, UnresolvedRecipe, is_private_item};
 use justfile_line::Line;
 use justfile_numbers::{Number, Numerator};
 use justfile_parse_base::{ParseError, comment_text};
-use justfile_parse_expression::{ExpressionError, TokenCursor};
+use justfile_parse_expression::{ExpressionError, ParserState};
 use justfile_parse_header::parse_header;
 use justfile_parse_item_parts::parse_body_after_header;
 use justfile_token::{Expander, Name};
@@ -34,7 +34,7 @@ use justfile_written::Written;
 /// Parses a recipe after its attributes, with or without `@` before its name, and appends it.
 #[tactic(auto, using(crate::proofs::Recipes::any_recipe_is))]
 pub(crate) fn parse_any_recipe<'src, X: Expander>(
-    parser: &mut TokenCursor<'_, 'src, X>,
+    parser: &mut ParserState<'_, 'src, X>,
     attributes: Vec<(Attribute<'src>, Written<'src>)>,
     items: &mut Vec<Item<'src>>,
     numerator: &mut Numerator,
@@ -56,7 +56,7 @@ pub(crate) fn parse_any_recipe<'src, X: Expander>(
 /// appends the item.
 #[tactic(auto, using(crate::proofs::CounterSteps::unmoved, crate::proofs::Constructs::set_fields))]
 fn parse_recipe<'src, X: Expander>(
-    parser: &mut TokenCursor<'_, 'src, X>,
+    parser: &mut ParserState<'_, 'src, X>,
     attributes: Vec<(Attribute<'src>, Written<'src>)>,
     quiet: bool,
     items: &mut Vec<Item<'src>>,

@@ -11,7 +11,7 @@ use crate::items::push_parsed_item;
 use justfile_attribute::Attribute;
 use justfile_item::{Alias, Item, Set};
 use justfile_parse_base::{ParseError, parse_namepath};
-use justfile_parse_expression::TokenCursor;
+use justfile_parse_expression::ParserState;
 use justfile_parse_item_parts::{parse_setting_value, setting_keyword};
 use justfile_token::{Expander, Name};
 use justfile_vocabulary::{ItemKind, TokenKind};
@@ -21,7 +21,7 @@ use justfile_written::Written;
 /// the attributes, and appends the item.
 #[tactic(auto, unfolding(crate::specs::MethodResults::ParsesUncounted, justfile_model::specs::Readers::Reader::alias, justfile_parse_expression::specs::TableReader::leaves))]
 pub(crate) fn parse_alias<'src, X: Expander>(
-    parser: &mut TokenCursor<'_, 'src, X>,
+    parser: &mut ParserState<'_, 'src, X>,
     attributes: Vec<(Attribute<'src>, Written<'src>)>,
     items: &mut Vec<Item<'src>>,
 ) -> Result<(), ParseError<'src>>
@@ -48,7 +48,7 @@ pub(crate) fn parse_alias<'src, X: Expander>(
 /// and appends the item.
 #[tactic(auto, unfolding(crate::specs::MethodResults::ParsesUncounted, justfile_model::specs::Readers::Reader::setting, justfile_parse_expression::specs::TableReader::leaves))]
 pub(crate) fn parse_set<'src, X: Expander>(
-    parser: &mut TokenCursor<'_, 'src, X>,
+    parser: &mut ParserState<'_, 'src, X>,
     attributes: Vec<(Attribute<'src>, Written<'src>)>,
     items: &mut Vec<Item<'src>>,
 ) -> Result<(), ParseError<'src>>
@@ -75,7 +75,7 @@ pub(crate) fn parse_set<'src, X: Expander>(
 /// appends the item.
 #[tactic(auto, unfolding(crate::specs::MethodResults::ParsesUncounted, justfile_model::specs::Readers::Reader::unexport, justfile_parse_expression::specs::TableReader::leaves))]
 pub(crate) fn parse_unexport<'src, X: Expander>(
-    parser: &mut TokenCursor<'_, 'src, X>,
+    parser: &mut ParserState<'_, 'src, X>,
     attributes: Vec<(Attribute<'src>, Written<'src>)>,
     items: &mut Vec<Item<'src>>,
 ) -> Result<(), ParseError<'src>>

@@ -12,7 +12,7 @@ use crate::items::push_parsed_item;
 use justfile_attribute::Attribute;
 use justfile_item::Item;
 use justfile_parse_base::ParseError;
-use justfile_parse_expression::TokenCursor;
+use justfile_parse_expression::ParserState;
 use justfile_parse_item_parts::{parse_file_path, parse_optional_path};
 use justfile_token::{Expander, Name};
 use justfile_vocabulary::{ItemKind, TokenKind};
@@ -22,7 +22,7 @@ use justfile_written::Written;
 /// the attributes, and appends the item.
 #[tactic(auto, unfolding(crate::specs::MethodResults::ParsesUncounted, justfile_model::specs::Readers::Reader::import))]
 pub(crate) fn parse_import<'src, X: Expander>(
-    parser: &mut TokenCursor<'_, 'src, X>,
+    parser: &mut ParserState<'_, 'src, X>,
     attributes: Vec<(Attribute<'src>, Written<'src>)>,
     items: &mut Vec<Item<'src>>,
 ) -> Result<(), ParseError<'src>>
@@ -38,7 +38,7 @@ pub(crate) fn parse_import<'src, X: Expander>(
 /// Parses the path of an import. Checks the attributes, and appends the item.
 #[tactic(auto, unfolding(crate::specs::MethodResults::ParsesUncounted, justfile_model::specs::Readers::Reader::imported, justfile_parse_expression::specs::TableReader::leaves))]
 fn parse_imported<'src, X: Expander>(
-    parser: &mut TokenCursor<'_, 'src, X>,
+    parser: &mut ParserState<'_, 'src, X>,
     optional: bool,
     attributes: Vec<(Attribute<'src>, Written<'src>)>,
     items: &mut Vec<Item<'src>>,
@@ -64,7 +64,7 @@ fn parse_imported<'src, X: Expander>(
 /// has one. Checks the attributes, and appends the item.
 #[tactic(auto, unfolding(crate::specs::MethodResults::ParsesUncounted, justfile_model::specs::Readers::Reader::any_module))]
 pub(crate) fn parse_module<'src, X: Expander>(
-    parser: &mut TokenCursor<'_, 'src, X>,
+    parser: &mut ParserState<'_, 'src, X>,
     attributes: Vec<(Attribute<'src>, Written<'src>)>,
     items: &mut Vec<Item<'src>>,
 ) -> Result<(), ParseError<'src>>
@@ -81,7 +81,7 @@ pub(crate) fn parse_module<'src, X: Expander>(
 /// item.
 #[tactic(auto, unfolding(crate::specs::MethodResults::ParsesUncounted, justfile_model::specs::Readers::Reader::named_module, justfile_parse_expression::specs::TableReader::leaves))]
 fn parse_named_module<'src, X: Expander>(
-    parser: &mut TokenCursor<'_, 'src, X>,
+    parser: &mut ParserState<'_, 'src, X>,
     optional: bool,
     attributes: Vec<(Attribute<'src>, Written<'src>)>,
     items: &mut Vec<Item<'src>>,

@@ -10,7 +10,7 @@ ghost use Rattle.justfile_parse_expression.specs.View.{state_of};
 
 use justfile_line::{Fragment, Line};
 use justfile_parse_expression::significant::SignificantToken;
-use justfile_parse_expression::{ExpressionError, SyntaxError, TokenCursor};
+use justfile_parse_expression::{ExpressionError, ParserState, SyntaxError};
 use justfile_token::Expander;
 use justfile_vocabulary::TokenKind;
 
@@ -25,7 +25,7 @@ pub type CommentedBody<'src> = (Option<SignificantToken<'src>>, Vec<Line<'src>>)
 /// The tokens are refused, a literal has no text, or memory runs out.
 #[tactic(auto, using(crate::proofs::Bodies::body_at_once, crate::proofs::Bodies::body_commented, crate::proofs::Bodies::body_missing))]
 pub fn parse_body_after_header<'src, X: Expander>(
-    parser: &mut TokenCursor<'_, 'src, X>,
+    parser: &mut ParserState<'_, 'src, X>,
 ) -> Result<CommentedBody<'src>, ExpressionError<'src>>
     ensures { Parses X.answer (λ b. (b.0, map line_tree b.1.items)) result
         parser.old parser.new reader.optional_body }
@@ -47,7 +47,7 @@ pub fn parse_body_after_header<'src, X: Expander>(
 /// one.
 #[tactic(auto, unfolding(justfile_model::specs::Readers::Reader::body_after))]
 fn parse_body_after<'src, X: Expander>(
-    parser: &mut TokenCursor<'_, 'src, X>,
+    parser: &mut ParserState<'_, 'src, X>,
     comment: Option<SignificantToken<'src>>,
 ) -> Result<CommentedBody<'src>, ExpressionError<'src>>
     ensures { Parses X.answer (λ b. (b.0, map line_tree b.1.items)) result
@@ -61,7 +61,7 @@ fn parse_body_after<'src, X: Expander>(
 /// isn't empty.
 #[tactic(auto, using(crate::proofs::Bodies::body_some, crate::proofs::Bodies::body_none))]
 fn parse_body<'src, X: Expander>(
-    parser: &mut TokenCursor<'_, 'src, X>,
+    parser: &mut ParserState<'_, 'src, X>,
 ) -> Result<Vec<Line<'src>>, ExpressionError<'src>>
     ensures { Parses X.answer (λ lines. map line_tree lines.items) result
         parser.old parser.new reader.body }
@@ -77,7 +77,7 @@ fn parse_body<'src, X: Expander>(
 /// Parses the lines of a body, and its end.
 #[tactic(auto, using(crate::proofs::Bodies::lines_end, crate::proofs::Bodies::lines_go_on, crate::proofs::Bodies::body_line_shrinks, crate::proofs::Bodies::lines_stop))]
 fn parse_lines<'src, X: Expander>(
-    parser: &mut TokenCursor<'_, 'src, X>,
+    parser: &mut ParserState<'_, 'src, X>,
 ) -> Result<Vec<Line<'src>>, ExpressionError<'src>>
     ensures { Parses X.answer (λ lines. map line_tree lines.items) result
         parser.old parser.new reader.lines }
@@ -96,7 +96,7 @@ fn parse_lines<'src, X: Expander>(
 /// Parses a line of a body.
 #[tactic(auto, unfolding(justfile_model::specs::Readers::Reader::body_line))]
 fn parse_body_line<'src, X: Expander>(
-    parser: &mut TokenCursor<'_, 'src, X>,
+    parser: &mut ParserState<'_, 'src, X>,
 ) -> Result<Line<'src>, ExpressionError<'src>>
     ensures { Parses X.answer line_tree result parser.old parser.new reader.body_line }
 {
@@ -108,7 +108,7 @@ fn parse_body_line<'src, X: Expander>(
 /// Returns the line of the source that the next token begins on, counted from 0, or 0 if no token
 /// is left.
 #[tactic(auto, unfolding(justfile_parse_expression::specs::TableReader::leaves))]
-fn peek_line<X: Expander>(parser: &TokenCursor<'_, '_, X>) -> usize
+fn peek_line<X: Expander>(parser: &ParserState<'_, '_, X>) -> usize
     ensures { result ≡ reader.line_at (state_of X.answer parser.now).left }
 {
     match parser.peek_front() {
@@ -140,7 +140,7 @@ const NAME_WITHIN: [TokenKind; 6] = [
 /// Parses the rest of a line of a body. Takes the end of the line, but not the end of the body.
 #[tactic(auto, using(crate::proofs::Bodies::line_ends, crate::proofs::Bodies::line_left, crate::proofs::Bodies::line_goes_on, crate::proofs::Bodies::line_stops))]
 fn parse_line_rest<'src, X: Expander>(
-    parser: &mut TokenCursor<'_, 'src, X>,
+    parser: &mut ParserState<'_, 'src, X>,
 ) -> Result<Vec<Fragment<'src>>, ExpressionError<'src>>
     ensures { Parses X.answer (λ fragments. map fragment_tree fragments.items) result
         parser.old parser.new reader.line_rest }
@@ -161,7 +161,7 @@ fn parse_line_rest<'src, X: Expander>(
 
 /// Returns how many texts and interpolations the next line has, or 4 if that isn't seen at once: most
 /// lines are a text alone, or have one interpolation, of a name.
-fn first_room<X: Expander>(parser: &TokenCursor<'_, '_, X>) -> usize {
+fn first_room<X: Expander>(parser: &ParserState<'_, '_, X>) -> usize {
     if parser.probe_kinds(&TEXT_ALONE) {
         return 1;
     }
@@ -177,7 +177,7 @@ fn first_room<X: Expander>(parser: &TokenCursor<'_, '_, X>) -> usize {
 /// Parses a text, or an expression between `{{` and `}}`.
 #[tactic(auto, using(crate::proofs::Bodies::fragment_is))]
 fn parse_fragment<'src, X: Expander>(
-    parser: &mut TokenCursor<'_, 'src, X>,
+    parser: &mut ParserState<'_, 'src, X>,
 ) -> Result<Fragment<'src>, ExpressionError<'src>>
     ensures { Parses X.answer fragment_tree result parser.old parser.new reader.fragment }
 {

@@ -12,7 +12,7 @@ ghost use Rattle.justfile_parse_item_parts.specs.Parts.{optional_path_tree, file
 use crate::errors::expected_keyword_fault;
 use justfile_parse_base::{ParseError, rule_error};
 use justfile_parse_expression::significant::SignificantToken;
-use justfile_parse_expression::{ExpressionError, SyntaxError, TokenCursor, is_word};
+use justfile_parse_expression::{ExpressionError, ParserState, SyntaxError, is_word};
 use justfile_token::{Expander, StringLiteral};
 use justfile_vocabulary::{Keyword, TokenKind};
 
@@ -24,7 +24,7 @@ use justfile_vocabulary::{Keyword, TokenKind};
 /// or memory runs out.
 #[tactic(auto, using(justfile_parse_base::proofs::RuleSteps::broken_first), unfolding(justfile_model::specs::Readers::PartReader::optional_path))]
 pub fn parse_optional_path<'src, X: Expander>(
-    parser: &mut TokenCursor<'_, 'src, X>,
+    parser: &mut ParserState<'_, 'src, X>,
 ) -> Result<Option<StringLiteral<'src>>, ParseError<'src>>
     ensures { ParsesRuled X.answer optional_path_tree result parser.old parser.new
         reader.optional_path }
@@ -44,7 +44,7 @@ pub fn parse_optional_path<'src, X: Expander>(
 /// or memory runs out.
 #[tactic(auto, using(justfile_parse_base::proofs::RuleSteps::broken_first, crate::proofs::FilePaths::path_is))]
 pub fn parse_file_path<'src, X: Expander>(
-    parser: &mut TokenCursor<'_, 'src, X>,
+    parser: &mut ParserState<'_, 'src, X>,
 ) -> Result<(SignificantToken<'src>, StringLiteral<'src>), ParseError<'src>>
     ensures { ParsesRuled X.answer file_path_tree result parser.old parser.new reader.file_path }
 {
@@ -55,7 +55,7 @@ pub fn parse_file_path<'src, X: Expander>(
 }
 
 /// Whether a path comes next, with or without a mark.
-fn begins_path<X: Expander>(parser: &TokenCursor<'_, '_, X>) -> bool
+fn begins_path<X: Expander>(parser: &ParserState<'_, '_, X>) -> bool
     ensures { result ≡ reader.begins_path (state_of X.answer parser.now) }
 {
     parser.peek_kinds(&[TokenKind::StringToken])
@@ -66,7 +66,7 @@ fn begins_path<X: Expander>(parser: &TokenCursor<'_, '_, X>) -> bool
 /// identifier.
 #[tactic(auto, using(justfile_parse_base::proofs::RuleSteps::fails_with), unfolding(justfile_model::specs::Readers::PartReader::expansion_mark, justfile_parse_expression::specs::TableReader::leaves))]
 fn parse_mark<'src, X: Expander>(
-    parser: &mut TokenCursor<'_, 'src, X>,
+    parser: &mut ParserState<'_, 'src, X>,
 ) -> Result<bool, ParseError<'src>>
     ensures { ParsesRuled X.answer (λ expand. expand) result parser.old parser.new
         reader.expansion_mark }
@@ -87,7 +87,7 @@ fn parse_mark<'src, X: Expander>(
 /// Takes the next token, which has to be a string.
 #[tactic(auto, unfolding(justfile_model::specs::Readers::ReaderState::expect))]
 fn expect_string<'run, 'src, X: Expander>(
-    parser: &mut TokenCursor<'run, 'src, X>,
+    parser: &mut ParserState<'run, 'src, X>,
 ) -> Result<&'run SignificantToken<'src>, ExpressionError<'src>>
     ensures reads { Parses X.answer (λ entry. entry.now) result parser.old parser.new
         (table.expect kinds.StringToken) }

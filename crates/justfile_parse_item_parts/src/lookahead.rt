@@ -5,7 +5,7 @@ ghost use Rattle.justfile_parse_expression.specs.MethodResults.{TakesEntry};
 ghost use Rattle.justfile_parse_expression.specs.View.{Moves, state_of};
 ghost use Rattle.justfile_parse_item_parts.specs.PartTable as reader;
 
-use justfile_parse_expression::TokenCursor;
+use justfile_parse_expression::ParserState;
 use justfile_parse_expression::significant::SignificantToken;
 use justfile_token::Expander;
 use justfile_vocabulary::{Keyword, TokenKind};
@@ -27,7 +27,7 @@ pub enum Lookahead {
 
 /// Takes the next token if it is this keyword and is followed as the lookahead asks.
 pub fn accept_keyword_before<'run, 'src, X: Expander>(
-    parser: &mut TokenCursor<'run, 'src, X>,
+    parser: &mut ParserState<'run, 'src, X>,
     keyword: Keyword,
     lookahead: Lookahead,
 ) -> Option<&'run SignificantToken<'src>>
@@ -43,14 +43,14 @@ pub fn accept_keyword_before<'run, 'src, X: Expander>(
 }
 
 /// Whether a name and `:=` come next.
-pub fn peek_assignment<X: Expander>(parser: &TokenCursor<'_, '_, X>) -> bool
+pub fn peek_assignment<X: Expander>(parser: &ParserState<'_, '_, X>) -> bool
     ensures { result ≡ reader.peek_assignment (state_of X.answer parser.now) }
 {
     parser.peek_kinds(&[TokenKind::Identifier, TokenKind::ColonEquals])
 }
 
 /// Whether the next token, a keyword, is followed as the lookahead asks.
-fn follows_keyword<X: Expander>(parser: &TokenCursor<'_, '_, X>, lookahead: Lookahead) -> bool
+fn follows_keyword<X: Expander>(parser: &ParserState<'_, '_, X>, lookahead: Lookahead) -> bool
     ensures { result ≡ reader.follows_past lookahead (state_of X.answer parser.now) }
 {
     match lookahead {
@@ -63,7 +63,7 @@ fn follows_keyword<X: Expander>(parser: &TokenCursor<'_, '_, X>, lookahead: Look
 }
 
 /// Whether a name and `:=` follow a keyword.
-fn peek_assignment_past<X: Expander>(parser: &TokenCursor<'_, '_, X>) -> bool
+fn peek_assignment_past<X: Expander>(parser: &ParserState<'_, '_, X>) -> bool
     ensures { result ≡ reader.assigned_past (state_of X.answer parser.now) }
 {
     let keyword = TokenKind::Identifier;
@@ -72,7 +72,7 @@ fn peek_assignment_past<X: Expander>(parser: &TokenCursor<'_, '_, X>) -> bool
 }
 
 /// Whether `?` or a path follows a keyword.
-fn peek_import_past<X: Expander>(parser: &TokenCursor<'_, '_, X>) -> bool
+fn peek_import_past<X: Expander>(parser: &ParserState<'_, '_, X>) -> bool
     ensures { result ≡ reader.imported_past (state_of X.answer parser.now) }
 {
     let keyword = TokenKind::Identifier;
@@ -80,7 +80,7 @@ fn peek_import_past<X: Expander>(parser: &TokenCursor<'_, '_, X>) -> bool
 }
 
 /// Whether a path, with or without a mark, follows a keyword.
-fn peek_path_past<X: Expander>(parser: &TokenCursor<'_, '_, X>) -> bool
+fn peek_path_past<X: Expander>(parser: &ParserState<'_, '_, X>) -> bool
     ensures { result ≡ reader.path_past (state_of X.answer parser.now) }
 {
     let keyword = TokenKind::Identifier;
@@ -90,7 +90,7 @@ fn peek_path_past<X: Expander>(parser: &TokenCursor<'_, '_, X>) -> bool
 }
 
 /// Whether `?`, or a name that is alone on its line or before a path, follows a keyword.
-fn peek_module_past<X: Expander>(parser: &TokenCursor<'_, '_, X>) -> bool
+fn peek_module_past<X: Expander>(parser: &ParserState<'_, '_, X>) -> bool
     ensures { result ≡ reader.module_past (state_of X.answer parser.now) }
 {
     let keyword = TokenKind::Identifier;
@@ -103,7 +103,7 @@ fn peek_module_past<X: Expander>(parser: &TokenCursor<'_, '_, X>) -> bool
 }
 
 /// Whether a name alone on its line follows a keyword.
-fn peek_line_past<X: Expander>(parser: &TokenCursor<'_, '_, X>) -> bool
+fn peek_line_past<X: Expander>(parser: &ParserState<'_, '_, X>) -> bool
     ensures { result ≡ reader.line_past (state_of X.answer parser.now) }
 {
     let keyword = TokenKind::Identifier;

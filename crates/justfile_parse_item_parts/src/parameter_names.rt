@@ -7,7 +7,7 @@ ghost use Rattle.justfile_parse_item_parts.specs.Parts.{numbered_leaves};
 
 use justfile_numbers::{Number, Numerator};
 use justfile_parse_base::{ParseError, next_binding_number, parse_separator};
-use justfile_parse_expression::TokenCursor;
+use justfile_parse_expression::ParserState;
 use justfile_token::{Expander, Name};
 use justfile_vocabulary::TokenKind;
 
@@ -17,7 +17,7 @@ use justfile_vocabulary::TokenKind;
 ///
 /// The tokens are refused, or memory or numbers run out.
 pub fn parse_parameter_names<'src, X: Expander>(
-    parser: &mut TokenCursor<'_, 'src, X>,
+    parser: &mut ParserState<'_, 'src, X>,
     numerator: &mut Numerator,
 ) -> Result<Vec<(Name<'src>, Number)>, ParseError<'src>>
     ensures reads { ParsesCounted X.answer (λ parameters. numbered_leaves parameters.items) result
@@ -38,7 +38,7 @@ pub fn parse_parameter_names<'src, X: Expander>(
 /// their end.
 #[tactic(auto, using(justfile_parse_base::proofs::RuleSteps::broken_first), unfolding(crate::specs::PartTable::names_step))]
 fn parse_next_name<'src, X: Expander>(
-    parser: &mut TokenCursor<'_, 'src, X>,
+    parser: &mut ParserState<'_, 'src, X>,
     numerator: &mut Numerator,
     parameters: &mut Vec<(Name<'src>, Number)>,
 ) -> Result<bool, ParseError<'src>>
@@ -61,7 +61,7 @@ fn parse_next_name<'src, X: Expander>(
 /// Parses a name, gives it a number, and appends it to `parameters`.
 #[tactic(auto, unfolding(crate::specs::PartTable::one_name, justfile_model::specs::Readers::PartReader::numbered_name))]
 fn parse_numbered_name<'src, X: Expander>(
-    parser: &mut TokenCursor<'_, 'src, X>,
+    parser: &mut ParserState<'_, 'src, X>,
     numerator: &mut Numerator,
     parameters: &mut Vec<(Name<'src>, Number)>,
 ) -> Result<(), ParseError<'src>>

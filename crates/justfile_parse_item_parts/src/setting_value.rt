@@ -19,7 +19,7 @@ use justfile_expression::Expression;
 use justfile_expression_parser::parse_expression;
 use justfile_parse_base::{ParseError, rule_error};
 use justfile_parse_expression::significant::SignificantToken;
-use justfile_parse_expression::{ExpressionError, SyntaxError, TokenCursor, is_word};
+use justfile_parse_expression::{ExpressionError, ParserState, SyntaxError, is_word};
 use justfile_setting::{Setting, SettingForm, setting_form};
 use justfile_token::Expander;
 use justfile_vocabulary::{Keyword, TokenKind};
@@ -50,7 +50,7 @@ pub fn setting_keyword<'src>(
 /// The tokens are refused, a literal has no text, the keyword isn't the name of a setting, the
 /// value breaks a rule, or memory runs out.
 pub fn parse_setting_value<'src, X: Expander>(
-    parser: &mut TokenCursor<'_, 'src, X>,
+    parser: &mut ParserState<'_, 'src, X>,
     name: &SignificantToken<'src>,
     keyword: Keyword,
 ) -> Result<Setting<'src>, ParseError<'src>>
@@ -71,7 +71,7 @@ pub fn parse_setting_value<'src, X: Expander>(
 /// Parses a setting that takes a boolean.
 #[tactic(auto, using(justfile_parse_base::proofs::RuleSteps::broken_first))]
 fn parse_truth_setting<'src, X: Expander>(
-    parser: &mut TokenCursor<'_, 'src, X>,
+    parser: &mut ParserState<'_, 'src, X>,
     keyword: Keyword,
 ) -> Result<Setting<'src>, ParseError<'src>>
     requires { forms.setting_form keyword ≡ Some forms.TruthForm }
@@ -86,7 +86,7 @@ fn parse_truth_setting<'src, X: Expander>(
 /// Parses the value of a boolean setting: nothing, which means true, or `:=` and a boolean.
 #[tactic(auto, unfolding(justfile_model::specs::Readers::PartReader::truth))]
 fn parse_truth<'src, X: Expander>(
-    parser: &mut TokenCursor<'_, 'src, X>,
+    parser: &mut ParserState<'_, 'src, X>,
 ) -> Result<bool, ParseError<'src>>
     ensures { ParsesRuled X.answer tree.Truth result parser.old parser.new reader.truth }
 {
@@ -117,7 +117,7 @@ fn find_truth<'src>(alloc: Global, word: &SignificantToken<'src>) -> Result<bool
 /// Parses a setting that takes an expression.
 #[tactic(auto, unfolding(justfile_model::specs::Readers::PartReader::expression_value))]
 fn parse_expression_setting<'src, X: Expander>(
-    parser: &mut TokenCursor<'_, 'src, X>,
+    parser: &mut ParserState<'_, 'src, X>,
     keyword: Keyword,
 ) -> Result<Setting<'src>, ParseError<'src>>
     requires { forms.setting_form keyword ≡ Some forms.ExpressionForm }
@@ -133,7 +133,7 @@ fn parse_expression_setting<'src, X: Expander>(
 
 /// Parses a setting that takes a command with its arguments.
 fn parse_interpreter_setting<'src, X: Expander>(
-    parser: &mut TokenCursor<'_, 'src, X>,
+    parser: &mut ParserState<'_, 'src, X>,
     keyword: Keyword,
 ) -> Result<Setting<'src>, ParseError<'src>>
     requires { forms.setting_form keyword ≡ Some forms.InterpreterForm }
@@ -150,7 +150,7 @@ fn parse_interpreter_setting<'src, X: Expander>(
 /// Parses a command with its arguments, in brackets.
 #[tactic(auto, using(crate::proofs::SettingSteps::interpreter_is))]
 fn parse_interpreter<'src, X: Expander>(
-    parser: &mut TokenCursor<'_, 'src, X>,
+    parser: &mut ParserState<'_, 'src, X>,
 ) -> Result<Box<Interpreter<Expression<'src>>>, ExpressionError<'src>>
     ensures { Parses X.answer interpreter_tree result parser.old parser.new
         reader.interpreter }
@@ -166,7 +166,7 @@ fn parse_interpreter<'src, X: Expander>(
 /// Parses a command with its arguments, after the opening bracket.
 #[tactic(auto, unfolding(crate::specs::PartTable::command_from))]
 fn parse_command<'src, X: Expander>(
-    parser: &mut TokenCursor<'_, 'src, X>,
+    parser: &mut ParserState<'_, 'src, X>,
 ) -> Result<Box<Interpreter<Expression<'src>>>, ExpressionError<'src>>
     ensures { Parses X.answer interpreter_tree result parser.old parser.new
         reader.command_from }
@@ -195,7 +195,7 @@ fn make_interpreter<'src>(
 /// Parses a setting that takes a plain literal.
 #[tactic(auto, using(crate::proofs::SettingSteps::plain_is))]
 fn parse_plain_setting<'src, X: Expander>(
-    parser: &mut TokenCursor<'_, 'src, X>,
+    parser: &mut ParserState<'_, 'src, X>,
     name: &SignificantToken<'src>,
     keyword: Keyword,
 ) -> Result<Setting<'src>, ParseError<'src>>
@@ -212,7 +212,7 @@ fn parse_plain_setting<'src, X: Expander>(
 
 /// Refuses a keyword that isn't the name of a setting, once `:=` is taken.
 fn refuse_setting<'src, X: Expander>(
-    parser: &mut TokenCursor<'_, 'src, X>,
+    parser: &mut ParserState<'_, 'src, X>,
     name: &SignificantToken<'src>,
 ) -> Result<Setting<'src>, ParseError<'src>>
     ensures reads { ParsesRuled X.answer leaf_value_of result parser.old parser.new

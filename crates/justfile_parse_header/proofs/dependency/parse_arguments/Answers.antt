@@ -6,7 +6,7 @@ use Rattle.justfile_parse_base.specs.ParseErrors.{IsParseError}
 use Rattle.justfile_parse_base.proofs.Progress.{shrinks}
 use Rattle.justfile_parse_expression.specs.TableReader.{accept, leaves}
 use Rattle.justfile_parse_expression.specs.View.{state_of, tokens_left}
-use Rattle.justfile_parse_expression.specs.declared.token_cursor.TokenCursor.{TokenCursor}
+use Rattle.justfile_parse_expression.specs.declared.parser_state.ParserState.{ParserState}
 use Rattle.justfile_parse_header.specs.HeaderTable.{dependency_argument, dependency_arguments}
 use Rattle.justfile_parse_header.specs.Tree.{read_argument}
 use Rattle.justfile_parse_header.specs.declared.dependency.ReadArgument.{ReadArgument}
@@ -19,7 +19,7 @@ arguments-smaller g c =
     let q = c.accept.new.self in
     let s = state_of A q in
     let before = map read_argument c.as_slice.result.now in
-    let P : TokenCursor _ → Type 0 = λ p. tokens_left c.parse_argument.new.parser < tokens_left p in
+    let P : ParserState _ → Type 0 = λ p. tokens_left c.parse_argument.new.parser < tokens_left p in
     subst P c.in_default.ensures.moves
     (shrinks A q c.parse_argument.new.parser (dependency_argument before s) (read_argument c.in_ok-argument.argument) (dependency_argument_goes leaves before s) c.in_ok-argument.ensures)
 
@@ -32,8 +32,8 @@ returns-in_err-argument g c =
     let error = c.in_err-argument.field-0.0 in
     let left = state_of A c.parse_argument.new.parser in
     let p = err_from_is_err_and c.from_residual.result c.from_residual.ensures.1 in
-    let P : TokenCursor _ → Type 0 = λ p. dependency_arguments (map read_argument done, state_of A p) ≡ dependency_arguments ([], s) in
-    let Q : TokenCursor _ → Type 0 = λ p. accept kinds.ParenR (state_of A p) ≡ None in
+    let P : ParserState _ → Type 0 = λ p. dependency_arguments (map read_argument done, state_of A p) ≡ dependency_arguments ([], s) in
+    let Q : ParserState _ → Type 0 = λ p. accept kinds.ParenR (state_of A p) ≡ None in
     let R : List ReadArgument → Type 0 = λ l. IsParseError error left ⊥ (dependency_argument (map read_argument l) q) in
     let here = sym c.in_default.ensures.moves in
     rw (p.1, p.2)

@@ -4,7 +4,7 @@ use Rattle.justfile_model.specs.declared.parameter_kind.ParameterKind.TheVariant
 use Rattle.justfile_parse_expression.specs.Significant.{TableEntry}
 use Rattle.justfile_parse_expression.specs.TableReader.{State, accept}
 use Rattle.justfile_parse_expression.specs.View.{state_of}
-use Rattle.justfile_parse_expression.specs.declared.token_cursor.TokenCursor.{TokenCursor}
+use Rattle.justfile_parse_expression.specs.declared.parser_state.ParserState.{ParserState}
 use Rattle.justfile_parse_base.specs.Counting.{counters_of}
 use Rattle.justfile_parse_header.specs.HeaderTable as reader
 use Rattle.justfile_parse_header.specs.ParameterResults.{ReadsParameters}
@@ -29,7 +29,7 @@ returns-in-Some-accept g c =
     let x : reader.Parameters = (map parameter_tree c.args.parameters.now.list.items, counters_of c.args.numerator.now) in
     let s = state_of A c.args.parser.now in
     let star : TableEntry × State = (c.in-Some-accept._star.now, state_of A c.accept-2.new.self) in
-    let P : TokenCursor _ → Type 0 = λ p. accept kinds.Asterisk (state_of A p) ≡ Some star in
+    let P : ParserState _ → Type 0 = λ p. accept kinds.Asterisk (state_of A p) ≡ Some star in
     let found = subst P c.in_default.ensures.moves c.in-Some-accept.ensures.takes in
     after_token rules _ _ _ _ _ kinds.Asterisk s star _ reader.last_parameter (λ rules. reader.variadic rules Star) found
     (star_next rules x s c.in_default.ensures.takes star found) c.parse_variadic-in-Some-accept.ensures
@@ -41,7 +41,7 @@ returns g c =
     let before = c.args.parameters.now.list.items in
     let n = c.args.numerator.now in
     let s = state_of A c.args.parser.now in
-    let P : TokenCursor _ → Type 0 = λ p. ReadsParameters {X = Unit {0}} rules (λ _. before) (Ok tt) before n n s (state_of A p) reader.last_parameter in
-    let Q : TokenCursor _ → Type 0 = λ p. accept kinds.Asterisk (state_of A p) ≡ None in
+    let P : ParserState _ → Type 0 = λ p. ReadsParameters {X = Unit {0}} rules (λ _. before) (Ok tt) before n n s (state_of A p) reader.last_parameter in
+    let Q : ParserState _ → Type 0 = λ p. accept kinds.Asterisk (state_of A p) ≡ None in
     let no_star = subst Q c.in_default.ensures.moves c.in_default-accept.ensures.takes in
     subst P (sym (c.in_default-accept.ensures.moves ∙ c.in_default.ensures.moves)) (no_last rules before n s c.in_default.ensures.takes no_star)

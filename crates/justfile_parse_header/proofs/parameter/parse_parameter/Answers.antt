@@ -1,7 +1,7 @@
 use Rattle.std.proofs.Common.{false, map, subst, true}
 use Rattle.justfile_vocabulary.specs.declared.token_kind.TokenKind.TheVariants as kinds
 use Rattle.justfile_parse_expression.specs.View.{state_of}
-use Rattle.justfile_parse_expression.specs.declared.token_cursor.TokenCursor.{TokenCursor}
+use Rattle.justfile_parse_expression.specs.declared.parser_state.ParserState.{ParserState}
 use Rattle.justfile_parse_base.specs.Counting.{counters_of}
 use Rattle.justfile_parse_header.specs.HeaderTable as reader
 use Rattle.justfile_parse_header.specs.ParameterResults.{ReadsParameters}
@@ -26,6 +26,6 @@ returns-in-None g c =
     let rules = rules_of c.args.arg_attributes.now.attributes.now in
     let x : reader.Parameters = (map parameter_tree c.args.parameters.now.list.items, counters_of c.args.numerator.now) in
     let call = c.parse_named-in-None in
-    let P : TokenCursor _ → Type 0 = λ p. ReadsParameters {X = Unit {0}} rules (λ _. call.new.parameters.list.items) call.result c.args.parameters.now.list.items c.args.numerator.now call.new.numerator (state_of A p) (state_of A call.new.parser) (λ rules x. reader.named_parameter rules c.args.kind false x.0 x.1) in
+    let P : ParserState _ → Type 0 = λ p. ReadsParameters {X = Unit {0}} rules (λ _. call.new.parameters.list.items) call.result c.args.parameters.now.list.items c.args.numerator.now call.new.numerator (state_of A p) (state_of A call.new.parser) (λ rules x. reader.named_parameter rules c.args.kind false x.0 x.1) in
     let h = subst P c.in-None.ensures.moves call.ensures in
     record { reads = rw (unexported rules c.args.kind x (state_of A c.args.parser.now) c.in-None.ensures.takes) h.reads; fields = h.fields; numbers = h.numbers }

@@ -5,7 +5,7 @@ use Rattle.justfile_model.specs.Readers.ReaderState as reading
 use Rattle.justfile_parse_expression.specs.TableReader.{accept}
 use Rattle.justfile_parse_expression.specs.View.{tokens_left, state_of}
 use Rattle.justfile_parse_expression.proofs.Rest.{left_is}
-use Rattle.justfile_parse_expression.specs.declared.token_cursor.TokenCursor.{TokenCursor}
+use Rattle.justfile_parse_expression.specs.declared.parser_state.ParserState.{ParserState}
 use Rattle.justfile_parse_item.proofs.Loop.{IsReadTo, begins, ends, goes_on, goes_past, errs, item_line_shrinks}
 use Rattle.justfile_parse_item.proofs.items.parse_items.Goals as goal
 use Rattle.justfile_parse_base.specs.Counting.{counters_of}
@@ -31,8 +31,8 @@ pub lines-preserved : goal.lines-preserved
 lines-preserved g c =
     let A = g.X.Expander.answer in
     let here = sym c.in_default.ensures.moves in
-    let P : TokenCursor _ → Type 0 = λ q. IsReadTo (state_of A c.args.parser.now) (state_of A q) c.args.numerator.now c.lines.numerator c.lines.items.items in
-    let Q : TokenCursor _ → Type 0 = λ q. accept kinds.Eof (state_of A q) ≡ None in
+    let P : ParserState _ → Type 0 = λ q. IsReadTo (state_of A c.args.parser.now) (state_of A q) c.args.numerator.now c.lines.numerator c.lines.items.items in
+    let Q : ParserState _ → Type 0 = λ q. accept kinds.Eof (state_of A q) ≡ None in
     goes_on (state_of A c.args.parser.now) (state_of A c.accept.new.self) c.args.numerator.now c.lines.numerator c.lines.items.items (subst P here c.lines.invariant)
     (subst Q here c.in_default.ensures.takes) c.parse_line.new.numerator c.parse_line.new.items.items (state_of A c.parse_line.new.parser) c.in_ok-parse_line.ensures.reads c.in_ok-parse_line.ensures.fields
 
@@ -46,7 +46,7 @@ lines-smaller g c =
       item_line_shrinks (state_of A q) c.lines.numerator c.parse_line.new.numerator c.lines.items.items c.parse_line.new.items.items (state_of A rest) c.in_ok-parse_line.ensures.reads,
       left_is A q,
       left_is A rest,
-      ap (λ (p : TokenCursor _). tokens_left p) c.in_default.ensures.moves,
+      ap (λ (p : ParserState _). tokens_left p) c.in_default.ensures.moves,
     )
 
 pub returns-in_err-parse_line-clause-reads : goal.returns-in_err-parse_line-clause-reads
@@ -54,8 +54,8 @@ returns-in_err-parse_line-clause-reads g c =
     let A = g.X.Expander.answer in
     let here = sym c.in_default.ensures.moves in
     let p = err_from_is_err_and c.from_residual-in_err-parse_line.result c.from_residual-in_err-parse_line.ensures.1 in
-    let P : TokenCursor _ → Type 0 = λ q. IsReadTo (state_of A c.args.parser.now) (state_of A q) c.args.numerator.now c.lines.numerator c.lines.items.items in
-    let Q : TokenCursor _ → Type 0 = λ q. accept kinds.Eof (state_of A q) ≡ None in
+    let P : ParserState _ → Type 0 = λ q. IsReadTo (state_of A c.args.parser.now) (state_of A q) c.args.numerator.now c.lines.numerator c.lines.items.items in
+    let Q : ParserState _ → Type 0 = λ q. accept kinds.Eof (state_of A q) ≡ None in
     rw (p.1, p.2)
     (errs (state_of A c.args.parser.now) (state_of A c.accept.new.self) c.args.numerator.now c.lines.numerator c.lines.items.items (subst P here c.lines.invariant)
     (subst Q here c.in_default.ensures.takes) c.in_err-parse_line.field-0.0 (state_of A c.parse_line.new.parser) (reading.NoNumber (counters_of c.parse_line.new.numerator)) c.in_err-parse_line.ensures.reads)
@@ -63,5 +63,5 @@ returns-in_err-parse_line-clause-reads g c =
 pub parse_line-requires : goal.parse_line-requires
 parse_line-requires g c =
     let A = g.X.Expander.answer in
-    let P : TokenCursor _ → Type 0 = λ q. (state_of A q).depth ≡ 0 in
+    let P : ParserState _ → Type 0 = λ q. (state_of A q).depth ≡ 0 in
     subst P (sym c.in_default.ensures.moves) c.lines.invariant.depth

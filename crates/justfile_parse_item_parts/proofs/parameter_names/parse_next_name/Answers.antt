@@ -2,7 +2,7 @@ use Rattle.std.proofs.Common.{subst, arith}
 use Rattle.justfile_vocabulary.specs.declared.token_kind.TokenKind.TheVariants as kinds
 use Rattle.justfile_parse_base.specs.SharedTable.{separator}
 use Rattle.justfile_parse_expression.specs.View.{state_of}
-use Rattle.justfile_parse_expression.specs.declared.token_cursor.TokenCursor.{TokenCursor}
+use Rattle.justfile_parse_expression.specs.declared.parser_state.ParserState.{ParserState}
 use Rattle.justfile_parse_base.specs.Counting.{TookBindingNumbers, identifiers_left}
 use Rattle.justfile_parse_base.proofs.BindingNumbers.{took_none, within}
 use Rattle.justfile_parse_base.proofs.Fewer.{accept_fewer, fewer_at}
@@ -23,7 +23,7 @@ returns-clause-numbers g c =
     let next = c.parse_numbered_name.new.numerator in
     let s1 = state_of A c.parse_numbered_name.new.parser in
     let s2 = state_of A c.parse_separator.new.parser in
-    let P : TokenCursor _ → Type 0 = λ p. TookBindingNumbers first next (identifiers_left (state_of A p)) (identifiers_left s2) in
+    let P : ParserState _ → Type 0 = λ p. TookBindingNumbers first next (identifiers_left (state_of A p)) (identifiers_left s2) in
     let taken = identifiers_left (state_of A c.accept.new.self) in
     subst P c.in_default.ensures.moves
     (within first next taken (identifiers_left s1) taken (identifiers_left s2) c.in_ok-parse_numbered_name.ensures.numbers (omega arith)

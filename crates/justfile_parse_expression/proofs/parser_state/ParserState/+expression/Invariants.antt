@@ -10,7 +10,7 @@ use Rattle.justfile_parse_expression.proofs.Chains as chains
 use Rattle.justfile_parse_expression.specs.View.{tokens_left, state_of}
 use Rattle.justfile_parse_expression.proofs.Elements as elements
 use Rattle.justfile_parse_expression.proofs.Parts as parts
-use Rattle.justfile_parse_expression.proofs.token_cursor.TokenCursor.+expression.Given as goal
+use Rattle.justfile_parse_expression.proofs.parser_state.ParserState.+expression.Given as goal
 
 abbrev pub decreases-parse_level : goal.decreases-parse_level
 decreases-parse_level g l = 32 * tokens_left l.self.now + 14

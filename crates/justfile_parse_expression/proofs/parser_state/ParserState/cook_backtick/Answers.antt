@@ -5,7 +5,7 @@ use Rattle.justfile_parse_expression.specs.TableReader.{ReadExpr}
 use Rattle.justfile_expression.specs.LeafTree.{leaf_tree_of}
 use Rattle.justfile_parse_expression.specs.View.{state_of}
 use Rattle.justfile_parse_expression.proofs.Cooked.{command_given, command_is_literal, command_refused}
-use Rattle.justfile_parse_expression.proofs.token_cursor.TokenCursor.cook_backtick.Goals as goal
+use Rattle.justfile_parse_expression.proofs.parser_state.ParserState.cook_backtick.Goals as goal
 
 pub literal_error-requires : goal.literal_error-requires
 literal_error-requires g c = command_is_literal (answers_by g.X.Expander.answer c.args.self.now.expander.now) c.args.entry.now.0 c.in-Err.fault c.in-Err.ensures.err

@@ -1,5 +1,5 @@
 use Rattle.justfile_parse_expression.proofs.Cooked.{string_given, string_refused}
-use Rattle.justfile_parse_expression.proofs.token_cursor.TokenCursor.cook_literal.Goals as goal
+use Rattle.justfile_parse_expression.proofs.parser_state.ParserState.cook_literal.Goals as goal
 
 pub returns-in-Ok-clause-reads : goal.returns-in-Ok-clause-reads
 returns-in-Ok-clause-reads g c = string_given g.X.Expander.answer c.args.self.now c.args.entry.now c.args.expand c.in-Ok.literal c.in-Ok.ensures.ok

@@ -3,7 +3,7 @@ use Rattle.justfile_vocabulary.specs.declared.token_kind.TokenKind.TheVariants a
 use Rattle.justfile_model.specs.Readers.ReaderState.{same_kind}
 use Rattle.justfile_parse_expression.specs.View.{tokens_left, run_of, state_of}
 use Rattle.justfile_parse_expression.proofs.NextKinds.{are_all, are_ended, are_go_on, are_other, are_within, left_are}
-use Rattle.justfile_parse_expression.proofs.token_cursor.TokenCursor.probe_kinds.Goals as goal
+use Rattle.justfile_parse_expression.proofs.parser_state.ParserState.probe_kinds.Goals as goal
 
 pub returns-in_default-clause-next : goal.returns-in_default-clause-next
 unfolding same_kind state_of

@@ -2,7 +2,7 @@ use Rattle.std.proofs.Common.{rules, ◌≡◌, ◌∙◌, sym, subst, arith, �
 use Rattle.justfile_parse_expression.specs.TableReader.{accept_marked}
 use Rattle.justfile_parse_expression.specs.View.{run_of, state_from, state_of}
 use Rattle.justfile_parse_expression.proofs.Rest.{marked_taken, marked_left}
-use Rattle.justfile_parse_expression.proofs.token_cursor.TokenCursor.take_marked.Goals as goal
+use Rattle.justfile_parse_expression.proofs.parser_state.ParserState.take_marked.Goals as goal
 
 pub returns-then-is_marked-clause-takes : goal.returns-then-is_marked-clause-takes
 unfolding state_of

@@ -2,7 +2,7 @@ use Rattle.std.proofs.Common.{◌∙◌, sym, arith}
 use Rattle.justfile_model.specs.Readers.ReaderState.{same_kind}
 use Rattle.justfile_parse_expression.specs.View.{run_of, state_of}
 use Rattle.justfile_parse_expression.proofs.Lengths.{unmarked}
-use Rattle.justfile_parse_expression.proofs.token_cursor.TokenCursor.is_second.Goals as goal
+use Rattle.justfile_parse_expression.proofs.parser_state.ParserState.is_second.Goals as goal
 
 pub returns : goal.returns
 unfolding state_of same_kind

@@ -1,4 +1,4 @@
-//! The cursor: how the parser takes tokens from the table of significant tokens.
+//! The parser's state: how it takes tokens from the table of significant tokens.
 ghost use Rattle.std.specs.Option.{is_some};
 ghost use Rattle.std.specs.Prelude.{◌≡◌, ◌<◌, ◌≤◌, ◌+◌, ℕ, false, List, None, drop, length, map, IsTrue, IfOk, OnOk, OnSome, IfSome};
 ghost use Rattle.std.specs.List.{list_all};
@@ -33,7 +33,7 @@ use std::alloc::Global;
 /// for, they add it to `expected_tokens`. `probe_if`, `probe_kinds` and `accept_unrecorded` add
 /// nothing, nor do the methods for keywords, marks and operators.
 #[derive(Drop)]
-pub struct TokenCursor<'run, 'src, X> {
+pub struct ParserState<'run, 'src, X> {
     /// Where what is parsed takes its memory.
     pub alloc: Global,
     /// The version of `just` that is running.
@@ -64,10 +64,10 @@ pub struct TokenCursor<'run, 'src, X> {
     ghost ended: { AreEnded (map significant_of tokens.now) } by { prop_ended (map significant_of tokens.now) },
 }
 
-impl<'run, 'src, X: Expander> TokenCursor<'run, 'src, X> {
+impl<'run, 'src, X: Expander> ParserState<'run, 'src, X> {
     ghost use Rattle.justfile_parse_expression.specs.View.{Moves, tokens_left, state_from, state_of};
 
-    /// Returns a cursor at the first token of a table, with no expression open, and up to `limit`
+    /// Returns the state at the first token of a table, with no expression open, and up to `limit`
     /// nested expressions allowed. Requires all significant tokens of one text.
     #[tactic(auto, using(crate::proofs::Rest::begin_is), unfolding(crate::specs::View::state_of))]
     pub fn new(
@@ -87,7 +87,7 @@ impl<'run, 'src, X: Expander> TokenCursor<'run, 'src, X> {
           import_offsets = import_offsets.now;
         }) }
     {
-        TokenCursor {
+        ParserState {
             alloc,
             current,
             depth: 0,

@@ -2,7 +2,7 @@ use Rattle.std.proofs.Common.{◌≡◌, ◌∙◌, ℕ, List, subst, is_some, a
 use Rattle.justfile_parse_expression.specs.TableReader.{accept_marked}
 use Rattle.justfile_parse_expression.specs.View.{run_of, state_from, state_of}
 use Rattle.justfile_parse_expression.proofs.Rest.{marked_is}
-use Rattle.justfile_parse_expression.proofs.token_cursor.TokenCursor.marks_next.Goals as goal
+use Rattle.justfile_parse_expression.proofs.parser_state.ParserState.marks_next.Goals as goal
 
 pub returns : goal.returns
 unfolding state_of

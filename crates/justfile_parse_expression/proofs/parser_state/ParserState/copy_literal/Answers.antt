@@ -1,7 +1,7 @@
 use Rattle.std.proofs.Common.{◌≡◌, ◌∙◌, None, Ok, false, refl, sym, ap}
 use Rattle.justfile_token.specs.declared.string_literal.StringLiteral.{StringLiteral}
 use Rattle.justfile_parse_expression.proofs.Cooked.{verbatim_given}
-use Rattle.justfile_parse_expression.proofs.token_cursor.TokenCursor.copy_literal.Goals as goal
+use Rattle.justfile_parse_expression.proofs.parser_state.ParserState.copy_literal.Goals as goal
 
 pub returns-clause-reads : goal.returns-clause-reads
 returns-clause-reads g c =

@@ -11,14 +11,14 @@ use Rattle.justfile_token.specs.declared.string_literal.StringLiteral.{StringLit
 use Rattle.justfile_parse_expression.specs.MethodResults.{IsExpressionError}
 use Rattle.justfile_expression.specs.LeafTree.{Leaf, Literal, format_string_tree, literal_of, leaf_tree_of, trees_of}
 use Rattle.justfile_parse_expression.specs.View.{state_of}
-use Rattle.justfile_parse_expression.specs.declared.token_cursor.TokenCursor.{TokenCursor}
+use Rattle.justfile_parse_expression.specs.declared.parser_state.ParserState.{ParserState}
 use Rattle.justfile_parse_expression.proofs.Branches as branching
 use Rattle.justfile_parse_expression.proofs.Chains as chains
 use Rattle.justfile_parse_expression.specs.Chains.{branches, link_of, row}
 use Rattle.justfile_parse_expression.proofs.Elements as elements
 use Rattle.justfile_parse_expression.proofs.FormatStrings.{after_expression, after_pair, after_start}
 use Rattle.justfile_parse_expression.proofs.Parts as parts
-use Rattle.justfile_parse_expression.proofs.token_cursor.TokenCursor.+expression.Goals as goal
+use Rattle.justfile_parse_expression.proofs.parser_state.ParserState.+expression.Goals as goal
 
 pub parse_sequence-returns-then-is_last-clause-reads : goal.parse_sequence-returns-then-is_last-clause-reads
 parse_sequence-returns-then-is_last-clause-reads g t c =
@@ -36,7 +36,7 @@ parse_sequence-returns-in_err-element-clause-reads g t c =
     let A = g.X.Expander.answer in
     let left = state_of A c.parse_element.new.self in
     let stop = c.in_err-element.field-0.0 in
-    let P : TokenCursor _ → Type 0 = λ q. IsExpressionError stop left ⊥ (element c.args.closing (state_of A q)) in
+    let P : ParserState _ → Type 0 = λ q. IsExpressionError stop left ⊥ (element c.args.closing (state_of A q)) in
     let p = err_from_is_err_and c.from_residual-in_err-element.result c.from_residual-in_err-element.ensures.1 in
     rw (p.1, p.2)
     (elements.stops c.args.closing (state_of A c.elements.self) c.elements.elements.items stop left (read (Sequence c.args.closing (state_of A c.args.self.now)))

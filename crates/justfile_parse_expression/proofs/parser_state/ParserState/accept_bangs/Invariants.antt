@@ -2,7 +2,7 @@ use Rattle.std.proofs.Common.{◌≡◌, ◌≤◌, ◌+◌}
 use Rattle.justfile_parse_expression.specs.TableReader.{value}
 use Rattle.justfile_parse_expression.specs.View.{tokens_left, state_of}
 use Rattle.justfile_parse_expression.proofs.Negations.{with_bangs}
-use Rattle.justfile_parse_expression.proofs.token_cursor.TokenCursor.accept_bangs.Given as goal
+use Rattle.justfile_parse_expression.proofs.parser_state.ParserState.accept_bangs.Given as goal
 
 abbrev pub invariant-loop-bang : goal.invariant-loop-bang
 invariant-loop-bang g l = record {

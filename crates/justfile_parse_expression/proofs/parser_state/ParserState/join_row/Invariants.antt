@@ -3,7 +3,7 @@ use Rattle.justfile_parse_expression.specs.Chains.{link_of, row_closed, row_tree
 use Rattle.justfile_model.specs.Readers.ExpressionReader.{closed}
 use Rattle.justfile_expression.specs.LeafTree.{leaf_tree_of}
 use Rattle.justfile_parse_expression.specs.View.{tokens_left, state_of}
-use Rattle.justfile_parse_expression.proofs.token_cursor.TokenCursor.join_row.Given as goal
+use Rattle.justfile_parse_expression.proofs.parser_state.ParserState.join_row.Given as goal
 
 abbrev pub invariant-loop-link : goal.invariant-loop-link
 invariant-loop-link g l = record {
