@@ -1,7 +1,7 @@
 -- Why a text isn't formatted.
 use Rattle.std.proofs.Common.{◌≡◌, ◌⊎◌, inl, inr, ℕ, List, sym, subst}
 use Rattle.std.specs.Str.{IsUtf8}
-use Rattle.justfile_numbers.specs.Numerator.{bindings_of, recipes_of}
+use Rattle.justfile_numbers.specs.Numerator.{recipes_of}
 use Rattle.justfile_numbers.specs.declared.numerator.Numerator.{Numerator}
 use Rattle.justfile_token.specs.declared.compile_error.CompileError.{CompileError}
 use Rattle.justfile_token.specs.declared.fault.Fault.{Fault}
