@@ -1,16 +1,15 @@
 -- Why a text isn't formatted.
 use Rattle.std.proofs.Common.{◌≡◌, ◌⊎◌, inl, inr, ℕ, List, sym, subst}
 use Rattle.std.specs.Str.{IsUtf8}
-use Rattle.justfile_numbers.specs.Numerator.{bindings_of, recipes_of}
+use Rattle.justfile_numbers.specs.Numerator.{recipes_of}
 use Rattle.justfile_numbers.specs.declared.numerator.Numerator.{Numerator}
 use Rattle.justfile_token.specs.declared.compile_error.CompileError.{CompileError}
 use Rattle.justfile_token.specs.declared.fault.Fault.{Fault}
 use Rattle.justfile_token.specs.declared.fault.Fault.TheVariants.{Compile, Numbers}
 use Rattle.justfile_model.specs.Grammars.Files.{NumbersSuffice}
-use Rattle.justfile_ast.specs.declared.ast.Ast.{Ast}
 use Rattle.justfile_parse.specs.Parsing.{HasNoTree, IsTreeless}
-use Rattle.justfile_canonical.specs.Fault.{IsFormatFaultOf, IsFaultOfPrinting, IsRejectionFor}
-use Rattle.justfile_canonical.specs.Formatting.{IsFileOf, LacksNumbers}
+use Rattle.justfile_canonical.specs.Fault.{IsFormatFaultOf, IsRejectionFor}
+use Rattle.justfile_canonical.specs.Formatting.{LacksNumbers}
 use Rattle.justfile_canonical.specs.Root.{HasNoRoot, conditions}
 use Rattle.justfile_canonical.specs.declared.fault.FormatFault.{FormatFault}
 use Rattle.justfile_canonical.specs.declared.fault.FormatFault.TheVariants as faults
@@ -52,10 +51,3 @@ lacking path source fault root is =
           h.1 limit tree features derives
           (subst (λ n. NumbersSuffice n (recipes_of root.old) tree) (sym root.no_binding) (subst (λ n. NumbersSuffice 0 n tree) (sym root.no_recipe) enough));
     }
-
--- a file of the text that isn't printed
-pub unprinted : (path source : List ℕ) (ast : Ast) (f : FormatFault) → IsFileOf source ast → IsFaultOfPrinting ast f → IsFormatFaultOf path source f
-unprinted path source ast faults.NotPrintable file h = record { tree = _; features = _; derives = file.derives; cannot_be_printed = h }
-unprinted path source ast faults.Memory file h = tt
-unprinted path source ast (faults.Rejected lines) file h = absurd h
-unprinted path source ast faults.Numbers file h = absurd h

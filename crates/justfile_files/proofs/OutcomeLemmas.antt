@@ -1,5 +1,5 @@
 -- What becomes of files, one after the other.
-use Rattle.std.proofs.Common.{lit<, zero, suc, ◌≡◌, ◌≢◌, ◌⊎◌, inl, inr, ℕ, ◌+◌, ◌<◌, ◌≤◌, max, All, Contains, List, [], ◌∷◌, ◌++◌, length, map, take, drop, get_or, Bool, true, false, true≢false, Result, Ok, Err, Option, None, Some, IfOk, IfSome, String, string_bytes, refl, sym, ap, subst, ◌∙◌, arith, append-nil}
+use Rattle.std.proofs.Common.{zero, suc, ◌≡◌, ◌⊎◌, inl, inr, ℕ, ◌+◌, ◌<◌, ◌≤◌, max, All, Contains, List, [], ◌∷◌, ◌++◌, length, map, take, drop, get_or, false, Result, Ok, Err, Option, None, Some, IfOk, IfSome, String, string_bytes, refl, sym, ap, subst, ◌∙◌, arith, append-nil}
 use Rattle.std.specs.List.{AllZip, FoldsTo, flat_map}
 use Rattle.std.specs.Io.KnownBytes.{Appends}
 use Rattle.std.proofs.KnownBytes.{Appends-nil, Appends-trans}
@@ -8,14 +8,13 @@ use Rattle.std.proofs.lemmas.List.{get_or-map, length-map, map-append, take_all,
 use Rattle.std.proofs.lemmas.List.Elements.{All-append, All-cons, All-head, All-nil, All-tail}
 use Rattle.std.proofs.lemmas.Option.{same_Some}
 use Rattle.justfile_files.specs.Failure.{IsMessage, TellFailure, failure_status, message_of}
-use Rattle.justfile_files.specs.FileResult.{HasResult, Reports}
-use Rattle.justfile_files.specs.Folder.{Files, KeepsFiles, Replaces}
+use Rattle.justfile_files.specs.FileResult.{HasResult}
+use Rattle.justfile_files.specs.Folder.{Files}
 use Rattle.justfile_files.specs.declared.failure.Failure.{Failure}
 use Rattle.justfile_files.specs.declared.failure.Failure.TheVariants as failures
 use Rattle.justfile_files.specs.Outcome.{AppendsBeginning, BecomesFormatted, ChangesFiles, IsUnformatted, HasOutcome, HasOutcomes, HasStatus, IsReported, Means, Outcome, differs, failed, formatted, greatest, messages_of, rejected, report_of, reported_status, status_of, unreported}
 use Rattle.justfile_files.specs.Request.{texts}
 use Rattle.justfile_files.specs.declared.request.Task.{Task}
-use Rattle.justfile_files.specs.declared.request.Task.TheVariants.{Format}
 use Rattle.std.proofs.Common.{Global}
 use Rattle.std.specs.declared.alloc.AllocError.{AllocError}
 use Rattle.std.specs.declared.io.Error.{Error}
@@ -38,16 +37,6 @@ texts_more {A} words i word name l e n =
     ap (λ x. texts (take i words) ++ x ∷ []) (n ∙ ap (λ (s : String A). string_bytes s) e)
     ∙ sym (ap (λ (ws : List (String A)). texts ws) (take_more words i word l) ∙ map-append (λ (s : String A). string_bytes s) (take i words) (get_or words i word ∷ []))
 
-same_bytes : (bytes source : List ℕ) (old : Option (List ℕ)) → IfSome old (λ b. bytes ≡ b) → source ≡ bytes → IfSome old (λ b. source ≡ b)
-same_bytes bytes source None h e = tt
-same_bytes bytes source (Some b) h e = e ∙ h
-
--- the text of the bytes that were read is what the file holds
-pub text_read : (old new : Files) (name bytes source : List ℕ) → KeepsFiles old new → IfSome (old name) (λ b. bytes ≡ b) → source ≡ bytes
-    → IfSome (new name) (λ b. source ≡ b)
-text_read old new name bytes source kept read e =
-    subst (λ (o : Option (List ℕ)). IfSome o (λ b. source ≡ b)) (sym (kept name)) (same_bytes bytes source (old name) read e)
-
 -- steps, one after the other
 folds_both : {P A : Type 0} (R : P → A → P → Type 0) (p q r : P) (xs ys : List A) → FoldsTo R p xs q → FoldsTo R q ys r → FoldsTo R p (xs ++ ys) r
 folds_both R p q r [] ys h k = subst (λ x. FoldsTo R x ys r) (sym h) k
@@ -67,9 +56,6 @@ only_one name other h = at h.0 h.1 h.2
     at : (k : ℕ) → k < 1 → get_or (name ∷ []) k other ≡ other → name ≡ other
     at zero l e = e
     at (suc k) l e = absurd (omega arith)
-
-two_not_three : (◌≡◌ {A = ℕ} 2 3) → ⊥
-two_not_three e = omega arith
 
 -- ---- failures
 
@@ -214,29 +200,6 @@ module _ (formats : List ℕ → List ℕ → Type 0) (rejects : List ℕ → Li
           had = ap a (only_one name r.named r.is_given) ∙ r.had;
         })
 
-    pub changes-none : (a b : Files) → KeepsFiles a b → ChangesFiles formats task names a b
-    changes-none a b h = λ name. inl (h name)
-
-  becomes : (name source text : List ℕ) (files : Files) (old new : Option (List ℕ)) → IfSome (files name) (λ b. source ≡ b) → formats source text → task ≡ Format
-      → (new ≡ old) ⊎ ((bytes : List ℕ) × (files name ≡ Some bytes) × (old ≡ Some bytes) × (new ≡ Some text))
-      → (new ≡ old) ⊎ BecomesFormatted formats task (name ∷ []) files old new
-  becomes name source text files old new is f in_place (inl e) = inl e
-  becomes name source text files old new is f in_place (inr h) = inr (record {
-    in_place = in_place;
-    source = h.0;
-    text = text;
-    was = h.2;
-    is = h.3;
-    formatted = subst (λ s. formats s text) (same_known source h.0 (files name) h.1 is) f;
-    named = name;
-    is_given = (0, lit< tt, refl);
-    had = h.1;
-  })
-
-  pub changes_replaced : (name source text : List ℕ) (old new : Files) → Replaces old new name text → IfSome (old name) (λ b. source ≡ b) → formats source text
-      → task ≡ Format → ChangesFiles formats task (name ∷ []) old new
-  changes_replaced name source text old new r is f in_place = λ other. becomes name source text old (old other) (new other) is f in_place (r.others other)
-
   -- ---- outcomes, one after the other
 
   -- what an outcome means is true of the formatted text too
@@ -261,9 +224,6 @@ module _ (formats : List ℕ → List ℕ → Type 0) (rejects : List ℕ → Li
   }
 
   module _ {E : Type 0} (tells : E → List ℕ → E → Type 0) where
-    pub none_yet : (files : Files) (output : Option (List ℕ)) (errors : E) → AllReported formats rejects task tells [] files output output errors errors 0
-    none_yet files output errors = record { outcomes = []; each = tt; status_is = refl; all = All-nil IsReported; written = Appends-nil output; told = refl }
-
     pub all_reported : {names : List (List ℕ)} {files : Files} {a b : Option (List ℕ)} {errors_old errors_new : E} {status : ℕ}
         → AllReported formats rejects task tells names files a b errors_old errors_new status → HasOutcomes formats rejects task tells names files a b errors_old errors_new status
     all_reported {names} {files} {a} {b} h = record {
@@ -373,17 +333,6 @@ module _ (formats : List ℕ → List ℕ → Type 0) (rejects : List ℕ → Li
 
     -- ---- one file
 
-    pub status_formatted : (name : List ℕ) (files : Files) (a b : Option (List ℕ)) (errors : E)
-        → HasResult formats rejects task name (files name) a b (Ok true) → HasStatus formats rejects task tells name files a b errors errors (Some 0)
-    status_formatted name files a b errors h = record {
-      outcome = formatted;
-      is = record { source = h.source; known = h.known; means = h.found.0; in_place = λ _ h. h };
-      status_is = refl;
-      reported = λ _. h.found.1;
-      beginning = whole a b [] h.found.1;
-      told = refl;
-    }
-
     pub status_differs : (name : List ℕ) (files : Files) (a b : Option (List ℕ)) (errors : E)
         → HasResult formats rejects task name (files name) a b (Ok false) → HasStatus formats rejects task tells name files a b errors errors (Some 1)
     status_differs name files a b errors h =
@@ -457,35 +406,3 @@ module _ (formats : List ℕ → List ℕ → Type 0) (rejects : List ℕ → Li
   result_nothing name bytes a failures.NotUtf8 e = let s = some_text bytes in record { source = s.0; known = s.1; found = Appends-nil a }
   result_nothing name bytes a (failures.Exhausted what) e = let s = some_text bytes in record { source = s.0; known = s.1; found = Appends-nil a }
   result_nothing name bytes a (failures.Replacing error) e = let s = some_text bytes in record { source = s.0; known = s.1; found = Appends-nil a }
-
-  pub result_formatted : (name source : List ℕ) (bytes a : Option (List ℕ)) → IfSome bytes (λ b. source ≡ b) → formats source source
-      → HasResult formats rejects task name bytes a a (Ok true)
-  result_formatted name source bytes a is f = record { source = source; known = is; found = (f, Appends-nil a) }
-
-  pub result_reported : (name source text : List ℕ) (bytes a b : Option (List ℕ)) (result : Result Bool Failure) → IfSome bytes (λ x. source ≡ x)
-      → formats source text → text ≢ source → task ≢ Format → Reports task name source text a b result → HasResult formats rejects task name bytes a b result
-  result_reported name source text bytes a b (Ok true) is f apart option r = absurd (true≢false r.0)
-  result_reported name source text bytes a b (Ok false) is f apart option r =
-      record { source = source; known = is; found = (option, (r.1.0, record { text = text; formatted = f; differs = apart; is = r.1.1 }, r.1.2)) }
-  result_reported name source text bytes a b (Err (failures.Writing error)) is f apart option r =
-      record { source = source; known = is; found = (option, (r.0, record { text = text; formatted = f; differs = apart; is = r.1 }, r.2)) }
-  result_reported name source text bytes a b (Err (failures.Rejected lines)) is f apart option r = absurd (two_not_three (same_Some 2 3 r.0))
-  result_reported name source text bytes a b (Err (failures.Reading error)) is f apart option r = record { source = source; known = is; found = r.1 }
-  result_reported name source text bytes a b (Err failures.NotUtf8) is f apart option r = record { source = source; known = is; found = r.1 }
-  result_reported name source text bytes a b (Err (failures.Exhausted what)) is f apart option r = record { source = source; known = is; found = r.1 }
-  result_reported name source text bytes a b (Err (failures.Replacing error)) is f apart option r = record { source = source; known = is; found = r.1 }
-
-  replaced_known : (text : List ℕ) (old new : Option (List ℕ))
-      → (new ≡ old) ⊎ ((bytes : List ℕ) × (old ≡ Some bytes) × (old ≡ Some bytes) × (new ≡ Some text))
-      → IfSome old (λ b. new ≡ Some text) → IfSome new (λ b. text ≡ b)
-  replaced_known text old new (inr h) r = subst (λ (x : Option (List ℕ)). IfSome x (λ b. text ≡ b)) (sym h.3) refl
-  replaced_known text None new (inl e) r = subst (λ (x : Option (List ℕ)). IfSome x (λ b. text ≡ b)) (sym e) tt
-  replaced_known text (Some b) new (inl e) r = subst (λ (x : Option (List ℕ)). IfSome x (λ b. text ≡ b)) (sym r) refl
-
-  pub result_replaced : (name source text : List ℕ) (old new : Files) (a : Option (List ℕ)) → Replaces old new name text → formats source text
-      → HasResult formats rejects task name (new name) a a (Ok true)
-  result_replaced name source text old new a r f = record {
-    source = text;
-    known = replaced_known text (old name) (new name) (r.others name) r.replaced;
-    found = (settled source text f, Appends-nil a);
-  }

@@ -20,12 +20,6 @@ module _ {X Y : Type 0} (view : X → Y) (xs : List X) (i : ℕ) (x : X) (inside
   visited : map view (take (i + 1) xs) ≡ map view (take i xs) ++ view x ∷ []
   visited = ap (map view) (take_more xs i x inside ∙ ap (λ y. take i xs ++ y ∷ []) (sym at)) ∙ map-append view (take i xs) (x ∷ [])
 
-  -- a loop that appends a text for each element
-  pub appended : (f : Y → List ℕ) (before t u : List ℕ) → t ≡ before ++ flat_map f (map view (take i xs)) → u ≡ t ++ f (view x)
-      → u ≡ before ++ flat_map f (map view (take (i + 1) xs))
-  appended f before t u so_far e =
-      e ∙ ap (λ a. a ++ f (view x)) so_far ∙ flat_map_more f before (map view (take i xs)) (view x) ∙ ap (λ l. before ++ flat_map f l) (sym visited)
-
 names_append : (names xs ys : List (List ℕ)) → with_names names (xs ++ ys) ≡ with_names (with_names names xs) ys
 names_append names [] ys = refl
 names_append names (x ∷ xs) ys = names_append (with_name names x) xs ys
