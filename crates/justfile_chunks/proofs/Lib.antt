@@ -11,4 +11,3 @@ pub mod SameModes
 pub mod SameNext
 pub mod SplitRuns
 pub mod TidyModes
-pub mod TreeCuts

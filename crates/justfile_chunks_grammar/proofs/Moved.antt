@@ -62,9 +62,6 @@ module _ (offset line : ℕ) where
     pub tok_is : u.tok ≡ move t.tok
     pub glued_is : t.glued ≡ u.glued
 
-  moved_same : (t u : SignificantToken) → IsMoved t u → Same t u
-  moved_same t u m = record { kind = sym (ap (λ (x : Tok). x.kind) m.tok_is); lexeme = sym (ap (λ (x : Tok). x.lexeme) m.tok_is); glued = m.glued_is }
-
   moved_pairs : (ts : List Tok) (glued : Bool) → Pairs IsMoved (significant_from glued ts) (significant_from glued (map move ts))
   moved_pairs [] glued = nil
   moved_pairs (t ∷ ts) glued = by (moved_pairs ts false) (moved_pairs ts true) (is_whitespace t.kind)
@@ -75,21 +72,6 @@ module _ (offset line : ℕ) where
           (cond b (significant_from false (map move ts)) (record { tok = move t; glued = glued } ∷ significant_from true (map move ts)))
       by h k true = h
       by h k false = cons (record { tok_is = refl; glued_is = refl }) k
-
-  moved_file : (limit : ℕ) {written : WrittenTree} {fs : List (ConstructFeatures Tok)} {ts us : Tokens} → File to_tokens (BelowLimit limit) written fs ts
-      → Pairs IsMoved ts us
-      → File to_tokens (BelowLimit limit) (over_items moves written) (map (over_features move) fs) us
-  moved_file limit {fs = fs} {us = us} h s =
-      let same : Alike to_tokens moves to_tokens unchanged IsMoved = record {
-        leaves = λ t u m. m.tok_is;
-        positions = λ t u m. m.tok_is;
-        numbers = λ t u m. ap line_of m.tok_is;
-        stars = λ t u m. m.tok_is;
-      } in
-      let x =
-      carry.file to_tokens (BelowLimit limit) moves IsMoved moved_same to_tokens (BelowLimit limit) unchanged same (λ d ts us s opened. opened) h us s in
-      subst (λ y. File to_tokens (BelowLimit limit) y (map (over_features move) fs) us) (sym (items_itself x.tree) ∙ x.alike)
-      (subst (λ n. File to_tokens (BelowLimit limit) x.tree n us) (sym (features_itself x.features) ∙ x.noted_alike) x.derives)
 
   back_same : (t u : SignificantToken) → IsMoved u t → Same t u
   back_same t u m = record { kind = ap (λ (x : Tok). x.kind) m.tok_is; lexeme = ap (λ (x : Tok). x.lexeme) m.tok_is; glued = sym m.glued_is }
@@ -255,23 +237,6 @@ module _ (offset line : ℕ) where
       ∙ lexemes_moved (all_literals written)
 
   -- ---- files
-
-  -- Moved tokens derive the moved tree.
-  pub moved_derives : (conditions : Conditions) (ts : List Tok) (all : Tree) (features : List (Noted Tok))
-      → FileDerives conditions (significant_tokens ts) all features
-      → FileDerives conditions (significant_tokens (map move ts)) (move_tree all) (map (over_noted move) features)
-  moved_derives conditions ts all features d = record {
-    written = over_items moves d.written;
-    by_construct = map (over_features move) d.by_construct;
-    derives = moved_file conditions.limit d.derives (moved_pairs ts false);
-    features_are = ap (map (over_noted move)) d.features_are ∙ sym (features_moved conditions.expander d.written d.by_construct);
-    obeys = record {
-      cooked = d.obeys.cooked;
-      cooks = subst (λ ls. AreCookedTexts conditions.expander ls d.obeys.cooked) (sym (literals_moved d.written)) d.obeys.cooks;
-      unbroken = broken_moved conditions.expander conditions.current d.written ∙ ap (map (over_broken move)) d.obeys.unbroken;
-    };
-    ordered_is = ordered_moved conditions.expander d.written ∙ ap (option_map move_tree) d.ordered_is;
-  }
 
   -- the tree before it was moved
   pub record Back (conditions : Conditions) (ts : List Tok) (all : Tree) (features : List (Noted Tok)) : Type 0 where

@@ -1,23 +1,23 @@
 -- The grammar's part of the law of chunks: the law for one cut, that tokens that derive a shape have their colons, and that a line end before
 -- tokens is derived as one.
 use Rattle.std.proofs.Common.{◌≡◌, ◌∙◌, ℕ, Bool, true, false, cond, List, [], ◌∷◌, ◌++◌, Option, refl, sym, ap, subst, append_assoc, append-nil}
-use Rattle.std.proofs.lemmas.List.{map-append, reverse-append, reverse-reverse}
-use Rattle.std.specs.Prelude.{◌↔◌, map, reverse}
+use Rattle.std.proofs.lemmas.List.{reverse-append, reverse-reverse}
+use Rattle.std.specs.Prelude.{◌↔◌, reverse}
 use Rattle.justfile_vocabulary.specs.declared.token_kind.TokenKind.{TokenKind}
 use Rattle.justfile_vocabulary.specs.declared.token_kind.TokenKind.TheVariants as kinds
 use Rattle.justfile_model.specs.Grammars.Conditions.{Conditions}
 use Rattle.justfile_model.specs.Grammars.Docs.{LineEnd, documented}
 use Rattle.justfile_model.specs.Grammars.Expressions.{BelowLimit, Tokens, IsKind}
 use Rattle.justfile_model.specs.Grammars.Features.{ConstructFeatures, Noted}
-use Rattle.justfile_model.specs.Grammars.Files.{FileDerives, ShapeDerives, ordered, sets_doc, to_lexemes, to_tokens}
+use Rattle.justfile_model.specs.Grammars.Files.{ShapeDerives, ordered, sets_doc, to_lexemes}
 use Rattle.justfile_model.specs.Grammars.Grammar as g
 use Rattle.justfile_model.specs.Grammars.Grammar.{File, ItemRest, Items, TokenProjection}
 use Rattle.justfile_model.specs.Lexing.SignificantTokens.{SignificantToken, is_whitespace, significant_from, significant_tokens}
 use Rattle.justfile_model.specs.Lexing.Tok.{Tok}
-use Rattle.justfile_model.specs.LiteralTexts.Literals.{Literal, over_literal}
-use Rattle.justfile_model.specs.Trees.LeafView.{LeafView, views_lexemes, views_tokens}
+use Rattle.justfile_model.specs.LiteralTexts.Literals.{Literal}
+use Rattle.justfile_model.specs.Trees.LeafView.{LeafView, views_lexemes}
 use Rattle.justfile_model.specs.Trees.Tree as tree
-use Rattle.justfile_model.specs.Trees.Tree.{OrderedItem, Shape, Tree, WrittenItem, lexeme}
+use Rattle.justfile_model.specs.Trees.Tree.{OrderedItem, Shape, WrittenItem}
 use Rattle.justfile_chunks_grammar.specs.Chunks.{IsCut, IsCutAfter, OneCutLaw, ShapeFeatures, SidesShape, ends_line}
 use Rattle.justfile_chunks_grammar.proofs.AgainAttributes as again_attributes
 use Rattle.justfile_chunks_grammar.proofs.AgainItems as again_items
@@ -283,85 +283,5 @@ one_cut conditions before after feed eof is_feed is_eof c shape features = (to, 
       left_derives = shape_to conditions s.left_derives;
       right_derives = shape_to conditions s.right_derives;
       all_is = s.shape_is;
-      features_are = s.features_are;
-    }))
-
--- ---- trees
-
-module _ (conditions : Conditions) where
-  abbrev cooked_lexemes : List (Literal Tok) → List (Literal (List ℕ))
-  cooked_lexemes = map (over_literal lexeme)
-
-  abbrev DerivesTree : Tokens → Tree → List (Noted Tok) → Type 0
-  DerivesTree = Derives to_tokens conditions (views_tokens conditions.expander) cooked_lexemes (map-append (over_literal lexeme))
-
-  pub tree_from : {ts : Tokens} {all : Tree} {features : List (Noted Tok)} → DerivesTree ts all features → FileDerives conditions ts all features
-  tree_from d = record {
-    written = d.written;
-    by_construct = d.by_construct;
-    derives = d.derives;
-    features_are = d.features_are;
-    obeys = record { cooked = d.cooked; cooks = d.cooks; unbroken = d.unbroken };
-    ordered_is = d.ordered_is;
-  }
-
-  pub tree_to : {ts : Tokens} {all : Tree} {features : List (Noted Tok)} → FileDerives conditions ts all features → DerivesTree ts all features
-  tree_to d = record {
-    written = d.written;
-    by_construct = d.by_construct;
-    derives = d.derives;
-    features_are = d.features_are;
-    cooked = d.obeys.cooked;
-    cooks = d.obeys.cooks;
-    unbroken = d.obeys.unbroken;
-    ordered_is = d.ordered_is;
-  }
-
--- the tokens before a cut and those after it derive these trees
-pub record SidesTree (conditions : Conditions) (before after : List Tok) (feed eof : Tok) (all : Tree) (features : List (Noted Tok)) : Type 0 where
-  pub left : Tree
-  pub right : Tree
-  pub left_features : List (Noted Tok)
-  pub right_features : List (Noted Tok)
-  pub left_derives : FileDerives conditions (significant_tokens (before ++ (eof ∷ []))) left left_features
-  pub right_derives : FileDerives conditions (significant_tokens (feed ∷ after)) (tree.Newline ∷ right) right_features
-  pub tree_is : all ≡ left ++ right
-  pub features_are : features ≡ left_features ++ right_features
-
-pub tree_cut : (conditions : Conditions) (before after : List Tok) (feed eof : Tok) → feed.kind ≡ kinds.Eol → eof.kind ≡ kinds.Eof
-    → IsCut (reverse before) after
-    → (all : Tree) (features : List (Noted Tok))
-    → FileDerives conditions (significant_tokens (before ++ after)) all features ↔ SidesTree conditions before after feed eof all features
-tree_cut conditions before after feed eof is_feed is_eof c all features = (to, from)
-  where
-    law : DerivesTree conditions (significant_tokens (before ++ after)) all features
-        ↔ CutSides to_tokens conditions (views_tokens conditions.expander) (cooked_lexemes conditions) (map-append (over_literal lexeme)) before after feed eof all features
-    law =
-        cut_law to_tokens conditions (views_tokens conditions.expander) (cooked_lexemes conditions) (map-append (over_literal lexeme)) before after feed eof is_feed is_eof c
-        all features
-
-    to : FileDerives conditions (significant_tokens (before ++ after)) all features → SidesTree conditions before after feed eof all features
-    to d =
-        let s = law.0 (tree_to conditions d) in
-        record {
-          left = s.left;
-          right = s.right;
-          left_features = s.left_features;
-          right_features = s.right_features;
-          left_derives = tree_from conditions s.left_derives;
-          right_derives = tree_from conditions s.right_derives;
-          tree_is = s.all_is;
-          features_are = s.features_are;
-        }
-
-    from : SidesTree conditions before after feed eof all features → FileDerives conditions (significant_tokens (before ++ after)) all features
-    from s = tree_from conditions (law.1 (record {
-      left = s.left;
-      right = s.right;
-      left_features = s.left_features;
-      right_features = s.right_features;
-      left_derives = tree_to conditions s.left_derives;
-      right_derives = tree_to conditions s.right_derives;
-      all_is = s.tree_is;
       features_are = s.features_are;
     }))
