@@ -11,6 +11,7 @@
 - Each figure that can be computed is as stated, and no command takes two times (figures.py).
 - No line has more than 300 characters.
 - Each source of a crate begins with a line `//!`, which says what it has.
+- Each definition and each lemma is cited (uncited.py).
 
 Prints what it finds, and ends with 1 if it found something. With --write it rewrites the figures of docs/SIZES.md: both
 tables, how the times were measured, and the longest chain of crates, the times from docs/times.txt.
@@ -24,6 +25,7 @@ from subprocess import run
 sys.dont_write_bytecode = True
 import clauses  # noqa: E402
 import figures  # noqa: E402
+import uncited  # noqa: E402
 from figures import NAMES, TOP, halves  # noqa: E402
 
 LONGEST = 300
@@ -266,6 +268,12 @@ def check_heads():
             yield f"{file}: no line //! at its head"
 
 
+def check_citations():
+    """What nothing cites: a reader would ask what it is for."""
+    for it in uncited.uncited():
+        yield f"crates/{it}: nothing cites it"
+
+
 def check_document(file, text):
     """What is wrong with a document apart from its figures."""
     prose, blocks = halves(text)
@@ -281,6 +289,7 @@ def check_document(file, text):
 def main():
     found = list(figures.check({it: (TOP / it).read_text() for it in DOCUMENTS}, "--write" in sys.argv))
     found.extend([*clauses.check(), *check_heads()])
+    found.extend(check_citations())
     for file in DOCUMENTS:
         found.extend(check_document(file, (TOP / file).read_text()))
     print("\n".join(found), end="\n" if found else "")
