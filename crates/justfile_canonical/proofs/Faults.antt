@@ -44,10 +44,9 @@ lacking path source fault root is =
     record {
       old = root.old;
       new = root.new;
-      no_binding = root.no_binding;
-      no_recipe = root.no_recipe;
+      from_zero = root.from_zero;
       wants = h.0;
       never_enough = λ limit tree features derives enough.
           h.1 limit tree features derives
-          (subst (λ n. NumbersSuffice n (recipes_of root.old) tree) (sym root.no_binding) (subst (λ n. NumbersSuffice 0 n tree) (sym root.no_recipe) enough));
+          (subst (λ n. NumbersSuffice n (recipes_of root.old) tree) (sym root.from_zero.no_binding) (subst (λ n. NumbersSuffice 0 n tree) (sym root.from_zero.no_recipe) enough));
     }

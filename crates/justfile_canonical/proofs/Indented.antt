@@ -110,4 +110,4 @@ indented path source old new (Err fault) parsed = tt
 -- it is that of its text
 pub file_of : (path source : List ℕ) (ast : Ast) → IsRoot path source ast → IsFileOf source ast
 file_of path source ast root =
-    record { derives = root.parsed.derives; indented = parsed_indented path source root.old root.new ast root.parsed }
+    record { derives = root.from.parsed.derives; indented = parsed_indented path source root.old root.new ast root.from.parsed }

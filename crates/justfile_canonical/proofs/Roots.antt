@@ -16,19 +16,12 @@ root_from path source old new (Err fault) parsed module_path working_directory =
 
 pub root_of : (path source : List ℕ) (old new : Numerator) (r : Result Ast Fault) → bindings_of old ≡ 0 → recipes_of old ≡ 0 → IfOk r (IsRootFrom old new path source)
     → IfOk r (IsRoot path source)
-root_of path source old new (Ok ast) no_binding no_recipe root = record {
-  old = old;
-  new = new;
-  no_binding = no_binding;
-  no_recipe = no_recipe;
-  parsed = root.parsed;
-  module_path = root.module_path;
-  working_directory = root.working_directory;
-}
+root_of path source old new (Ok ast) no_binding no_recipe root =
+    record { old = old; new = new; from_zero = record { no_binding = no_binding; no_recipe = no_recipe }; from = root }
 root_of path source old new (Err fault) no_binding no_recipe root = tt
 
 pub no_root : (path source : List ℕ) (old new : Numerator) (r : Result Ast Fault) → bindings_of old ≡ 0 → recipes_of old ≡ 0
     → IfErr r (HasNoTree conditions path source old new) → IfErr r (HasNoRoot path source)
 no_root path source old new (Ok ast) no_binding no_recipe none = tt
 no_root path source old new (Err fault) no_binding no_recipe none =
-    record { old = old; new = new; no_binding = no_binding; no_recipe = no_recipe; no_tree = none }
+    record { old = old; new = new; from_zero = record { no_binding = no_binding; no_recipe = no_recipe }; no_tree = none }

@@ -1,7 +1,6 @@
 -- The canonical text of a justfile.
 use Rattle.std.specs.Prelude.{◌≡◌, ◌⊎◌, ℕ, true, false, List}
 use Rattle.std.specs.Str.{IsUtf8}
-use Rattle.justfile_numbers.specs.Numerator.{bindings_of, recipes_of}
 use Rattle.justfile_numbers.specs.declared.numerator.Numerator.{Numerator}
 use Rattle.justfile_token.specs.declared.compile_error.CompileError.{CompileError}
 use Rattle.justfile_model.specs.Lexing.LexResult.{IsFrom, IsLexicalError}
@@ -18,7 +17,7 @@ use Rattle.justfile_round_trip.specs.RoundTrip.{TextDerives, printed}
 use Rattle.justfile_parse.specs.Parsing.{IsTextRefused, TextWantsNumber}
 use Rattle.justfile_indentation.specs.OwnIndentation.{HasCookedIndentation, IsIndentedBy}
 use Rattle.justfile_canonical.specs.Messages.{error_text}
-use Rattle.justfile_canonical.specs.Root.{conditions}
+use Rattle.justfile_canonical.specs.Root.{IsFromZero, conditions}
 
 -- The text is a justfile that can be printed, and `canonical` is its canonical text, at its own indentation.
 pub record IsFormatted (source canonical : List ℕ) : Type 0 where
@@ -61,8 +60,7 @@ pub data HasNone (source : List ℕ) : Type 0 where
 pub record LacksNumbers (source : List ℕ) : Type 0 where
   pub old : Numerator
   pub new : Numerator
-  pub no_binding : bindings_of old ≡ 0
-  pub no_recipe : recipes_of old ≡ 0
+  pub from_zero : IsFromZero old
   pub wants : TextWantsNumber conditions source old new
   pub never_enough : (limit : ℕ) (tree : Tree) (features : List (Noted Tok)) → TextDerives (with_limit limit conditions) source tree features
       → NumbersSuffice 0 0 tree → ⊥

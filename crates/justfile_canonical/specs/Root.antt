@@ -23,20 +23,21 @@ pub record IsRootFrom (old new : Numerator) (path source : List ℕ) (ast : Ast)
   pub module_path : names_of ast.module_path ≡ []
   pub working_directory : string_bytes ast.working_directory ≡ []
 
+-- Numbers are counted from 0 on.
+pub record IsFromZero (old : Numerator) : Type 0 where
+  pub no_binding : bindings_of old ≡ 0
+  pub no_recipe : recipes_of old ≡ 0
+
 -- The file is that of the text, read as the root file at this path, with numbers from 0 on.
 pub record IsRoot (path source : List ℕ) (ast : Ast) : Type 0 where
   pub old : Numerator
   pub new : Numerator
-  pub no_binding : bindings_of old ≡ 0
-  pub no_recipe : recipes_of old ≡ 0
-  pub parsed : IsParsedText conditions path source 0 [] old new ast
-  pub module_path : names_of ast.module_path ≡ []
-  pub working_directory : string_bytes ast.working_directory ≡ []
+  pub from_zero : IsFromZero old
+  pub from : IsRootFrom old new path source ast
 
 -- The fault is why the text has no tree as the root file at this path, with numbers from 0 on.
 pub record HasNoRoot (path source : List ℕ) (fault : Fault) : Type 0 where
   pub old : Numerator
   pub new : Numerator
-  pub no_binding : bindings_of old ≡ 0
-  pub no_recipe : recipes_of old ≡ 0
+  pub from_zero : IsFromZero old
   pub no_tree : HasNoTree conditions path source old new fault

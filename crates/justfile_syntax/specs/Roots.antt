@@ -1,2 +1,2 @@
 -- Root files under the usual conditions.
-pub use Rattle.justfile_canonical.specs.Root.{HasNoRoot, IsRoot, IsRootFrom, conditions, unchanged}
+pub use Rattle.justfile_canonical.specs.Root.{HasNoRoot, IsFromZero, IsRoot, IsRootFrom, conditions, unchanged}
