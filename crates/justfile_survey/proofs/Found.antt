@@ -2,6 +2,7 @@
 use Rattle.std.proofs.Common.{◌≡◌, ◌∙◌, ◌+◌, ◌≤◌, ℕ, List, [], ◌∷◌, map, length, Result, Ok, Err, refl, sym, ap, subst, arith}
 use Rattle.std.specs.Prelude.{All, IfOk}
 use Rattle.std.proofs.lemmas.List.Elements.{All-nil}
+use Rattle.justfile_numbers.specs.declared.numerator.Numerator.{Numerator}
 use Rattle.justfile_token.specs.declared.compile_error.CompileError.{CompileError}
 use Rattle.justfile_token.specs.declared.fault.Fault.{Fault}
 use Rattle.justfile_token.specs.declared.fault.Fault.TheVariants.{Compile, Memory, Numbers}
@@ -26,7 +27,7 @@ shown_if_ok path text ast (Ok whole) root is = shown path text ast whole root is
 shown_if_ok path text ast (Err e) root is = tt
 
 -- the error of a text is in it
-in_text : (path text : List ℕ) (e : CompileError) (s : SurveyedError) (old new : _) → IsTreeless conditions path text old new e → IsOfFault (Compile e) s → LiesIn (length text) s.span
+in_text : (path text : List ℕ) (e : CompileError) (s : SurveyedError) (old new : Numerator) → IsTreeless conditions path text old new e → IsOfFault (Compile e) s → LiesIn (length text) s.span
 in_text path text e s old new treeless says =
     let within : e.token.offset + e.token.length ≤ length text = subst (λ src. e.token.offset + e.token.length ≤ length src) treeless.from.src_is e.token.in_source.0 in
     subst (LiesIn (length text)) (sym says.span_is) (record { forward = omega arith; within = within })
@@ -45,13 +46,9 @@ pub refused_if_ok : {E : Type 0} (path text : List ℕ) (fault : Fault) (r : Res
 refused_if_ok path text fault (Ok whole) root is = refused path text fault whole root is
 refused_if_ok path text fault (Err e) root is = tt
 
--- the error for a fault that is an error
-pub of_error : (fault : Fault) (e : CompileError) (s : SurveyedError) → fault ≡ Compile e → IsOfFault (Compile e) s → IsOfFault fault s
-of_error fault e s is says = subst (λ f. IsOfFault f s) (sym is) says
-
--- the error that numbers run out
-pub of_numbers : (fault : Fault) (s : SurveyedError) → fault ≡ Numbers → IsOfFault Numbers s → IsOfFault fault s
-of_numbers fault s is says = subst (λ f. IsOfFault f s) (sym is) says
+-- what is refused for a fault is refused for the same one
+pub same_fault : {E : Type 0} (fault other : Fault) (r : Result Whole E) → fault ≡ other → IfOk r (IsRefused other) → IfOk r (IsRefused fault)
+same_fault fault other r same is = subst (λ f. IfOk r (IsRefused f)) (sym same) is
 
 -- a survey that begins with the error of the text
 pub told : (path text : List ℕ) (s : Survey) (first : SurveyedError) → TellsWhy path text first → BeginsWith (length text) first s → IsSurvey path text s

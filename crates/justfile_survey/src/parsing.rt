@@ -163,7 +163,7 @@ fn refuse(
     ensures { IfOk result (IsRefusalIn (length source.entry.text.now)) }
 {
     match fault {
-        Fault::Compile(error) => refuse_for(alloc, source, base, error),
+        Fault::Compile(mut error) => refuse_for(alloc, source, base, &mut error),
         Fault::Memory => Err(AllocError),
         Fault::Numbers => Ok(None),
     }
@@ -174,9 +174,9 @@ fn refuse_for(
     alloc: Global,
     source: Source<'_>,
     base: usize,
-    mut error: CompileError<'_>,
+    error: &mut CompileError<'_>,
 ) -> Result<Option<Refusal>, AllocError>
     ensures { IfOk result (IsRefusalIn (length source.entry.text.now)) }
 {
-    Ok(Some(refusal_of_part(alloc, source, base, &mut error)?))
+    Ok(Some(refusal_of_part(alloc, source, base, error)?))
 }

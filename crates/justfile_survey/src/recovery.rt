@@ -108,32 +108,31 @@ fn take(
     requires parts { AreIn (length source.text.now) found.old }
     ensures { OnOk result (AreIn (length source.entry.text.now) found.new) }
 {
-    let source = count_feeds(source, start, found);
+    let here = Source {
+        path: source.path,
+        text: source.text,
+        feeds: count_feeds(source.text, start, found),
+    };
     let end = part_end(source.text.as_bytes(), start);
     let part = Span { start, end };
-    match parse(source, alloc, part, Cut::Whole, &mut found.items)? {
+    match parse(here, alloc, part, Cut::Whole, &mut found.items)? {
         None => Ok(end),
-        Some(refusal) => go_on(source, alloc, part, refusal, found),
+        Some(refusal) => go_on(here, alloc, part, refusal, found),
     }
 }
 
-/// Counts the line feeds before the one before an offset.
+/// Returns the number of line feeds before the byte before an offset.
 #[tactic(auto, using(crate::proofs::Kept::unchanged))]
-fn count_feeds<'a>(source: Source<'a>, start: usize, found: &mut Found) -> Source<'a>
-    requires { AreIn (length source.text.now) found.old }
-    ensures text { result.text.now ≡ source.entry.text.now }
-    ensures parts { AreIn (length source.entry.text.now) found.new }
+fn count_feeds(text: &str, start: usize, found: &mut Found) -> usize
+    requires { AreIn (length text.now) found.old }
+    ensures { AreIn (length text.now) found.new }
 {
     let base = start.saturating_sub(1);
-    if let Some(passed) = source.text.as_bytes().get(found.counted..base) {
+    if let Some(passed) = text.as_bytes().get(found.counted..base) {
         found.feeds = found.feeds.saturating_add(line_feeds(passed));
         found.counted = base;
     }
-    Source {
-        path: source.path,
-        text: source.text,
-        feeds: found.feeds,
-    }
+    found.feeds
 }
 
 /// Goes on after a part that is refused. Returns from where on.

@@ -1,5 +1,6 @@
 //! The survey of a text as a whole.
 ghost use Rattle.std.specs.Prelude.{IfOk, codes, length};
+ghost use Rattle.justfile_token.specs.declared.fault.Fault.TheVariants.{Compile, Numbers};
 ghost use Rattle.justfile_survey.specs.Surveys.{IsJustfile, IsRefused, IsWhole, Says};
 
 use crate::errors::error_of_text;
@@ -10,7 +11,7 @@ use justfile_ast::Ast;
 use justfile_canonical::root::parse_root;
 use justfile_lex::Lexer;
 use justfile_spans::{Span, chunks};
-use justfile_token::Fault;
+use justfile_token::{CompileError, Fault};
 use std::alloc::{AllocError, Global};
 
 /// What a text is as a whole.
@@ -64,15 +65,29 @@ pub(crate) fn extents(alloc: Global, path: &str, text: &str) -> Result<Vec<Span>
 }
 
 /// Returns the error for which a text is refused.
-#[tactic(auto, using(crate::proofs::Found::of_error, crate::proofs::Found::of_numbers))]
+#[tactic(auto, using(crate::proofs::Found::same_fault))]
 fn whole_fault(alloc: Global, fault: Fault<'_>) -> Result<Whole, AllocError>
     ensures { IfOk result (IsRefused fault.entry) }
 {
     match fault {
-        Fault::Compile(error) => Ok(Whole::Refused(error_of_text(alloc, &error)?)),
+        Fault::Compile(error) => refused_for(alloc, &error),
         Fault::Memory => Err(AllocError),
-        Fault::Numbers => Ok(Whole::Refused(out_of_numbers(alloc)?)),
+        Fault::Numbers => refused_for_numbers(alloc),
     }
+}
+
+/// Returns that a text is refused for an error.
+fn refused_for(alloc: Global, error: &CompileError<'_>) -> Result<Whole, AllocError>
+    ensures { IfOk result (IsRefused (Compile error.now)) }
+{
+    Ok(Whole::Refused(error_of_text(alloc, error)?))
+}
+
+/// Returns that a text is refused since numbers run out.
+fn refused_for_numbers(alloc: Global) -> Result<Whole, AllocError>
+    ensures { IfOk result (IsRefused Numbers) }
+{
+    Ok(Whole::Refused(out_of_numbers(alloc)?))
 }
 
 /// Returns the error that numbers run out.
