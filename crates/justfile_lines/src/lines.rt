@@ -30,6 +30,13 @@ impl<'a> Lines<'a> {
         Ok(Lines { text, starts })
     }
 
+    /// Returns the offset of the end of the text.
+    pub fn end(&self) -> usize
+        ensures { result ≡ length self.now.text.now }
+    {
+        self.text.len()
+    }
+
     /// Returns the number of the last line, from 0.
     pub fn last_line(&self) -> usize
         ensures { result ≡ feeds self.now.text.now }

@@ -1,0 +1,73 @@
+//! The headers of messages.
+ghost use Rattle.std.specs.Prelude.{◌≡◌, ◌⊎◌, IfOk, IfSome, Some};
+ghost use Rattle.std.specs.Io.KnownBytes.{Consumes};
+ghost use Rattle.message_stream.specs.Header.{IsLengthField, ReadsHeader, length_of};
+
+use crate::field::{is_last, length_in};
+use std::alloc::Global;
+use std::io::{self, BufRead};
+
+/// How many lines a header has at most.
+const MOST_LINES: usize = 64;
+
+/// What was read where a header is due.
+pub(crate) enum Header {
+    /// A header. The body has so many bytes.
+    Length(usize),
+    /// Lines that are no header that names a length.
+    Wrong,
+    /// The end of the input.
+    End,
+}
+
+/// Reads a header.
+///
+/// # Errors
+///
+/// Reading failed, or memory ran out.
+pub(crate) fn read_header<R: BufRead>(alloc: Global, reader: &mut R) -> io::Result<Header>
+    ensures { IfOk result (ReadsHeader (R.remaining reader.old) (R.remaining reader.new)) }
+{
+    let mut length = None;
+    'lines: for _ in 0..MOST_LINES {
+        let line = read_line(alloc, reader)?;
+        if line.is_empty() {
+            return Ok(Header::End);
+        }
+        if is_last(&line) {
+            return Ok(ended(length));
+        }
+        length = latest(length, &line);
+    }
+    Ok(Header::Wrong)
+}
+
+/// Reads the bytes up to the first line feed, with it, or up to the end of the input.
+fn read_line<R: BufRead>(alloc: Global, reader: &mut R) -> io::Result<Vec<u8>>
+    ensures { IfOk result
+        (λ line. Consumes (R.remaining reader.old) (R.remaining reader.new) line.items) }
+{
+    let mut line = Vec::new(alloc);
+    reader.read_until(b'\n', &mut line)?;
+    Ok(line)
+}
+
+/// Returns the header of which the lines before the last one name the length.
+fn ended(length: Option<usize>) -> Header
+    ensures { length_of result ≡ length }
+{
+    match length {
+        Some(count) => Header::Length(count),
+        None => Header::Wrong,
+    }
+}
+
+/// Returns the length that the line names, or otherwise that which was found before.
+fn latest(found: Option<usize>, line: &[u8]) -> Option<usize>
+    ensures { IfSome result (λ count. IsLengthField line.now count ⊎ (found ≡ Some count)) }
+{
+    match length_in(line) {
+        Some(count) => Some(count),
+        None => found,
+    }
+}
