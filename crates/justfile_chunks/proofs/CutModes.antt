@@ -1,8 +1,7 @@
 -- The modes in which a line or a body ends: nothing is open.
-use Rattle.std.proofs.Common.{◌≡◌, ◌⊎◌, ◌∙◌, ℕ, zero, suc, ◌<◌, ◌≤◌, Bool, true, false, cond, eqb, not, ◌&&◌, ◌||◌, List, [], ◌∷◌, length, map, drop, get_or, Option, Some, None, is_some, take, arith, length-take, Ok, Err, refl, sym, ap, subst, nat_eq, inl, inr, ⊎_elim}
+use Rattle.std.proofs.Common.{◌≡◌, ◌⊎◌, ◌∙◌, ℕ, zero, suc, ◌<◌, ◌≤◌, Bool, true, false, cond, eqb, not, ◌&&◌, ◌||◌, List, [], ◌∷◌, length, map, drop, get_or, Option, Some, None, is_some, arith, length-take, Ok, Err, refl, sym, ap, subst, nat_eq, inl, inr, ⊎_elim}
 use Rattle.std.specs.List.{starts_with}
 use Rattle.std.specs.Str.{bytes_eq}
-use Rattle.std.proofs.lemmas.Slice.Eq.{bytes_eq-Decides}
 use Rattle.justfile_vocabulary.specs.declared.byte_class.ByteClass.{ByteClass}
 use Rattle.justfile_vocabulary.specs.declared.byte_class.ByteClass.TheVariants as classes
 use Rattle.justfile_vocabulary.specs.declared.token_kind.TokenKind.{TokenKind}
@@ -22,6 +21,7 @@ use Rattle.justfile_model.specs.Lexing.LiteralText.{raw_len}
 use Rattle.justfile_model.specs.Lexing.Modes.{Mode, innermost, is_empty, mode_after, nested, start_mode}
 use Rattle.justfile_model.specs.Lexing.Next.{NextToken, Region, InText, InInterpolation, OutsideText, begins_blank_line, blanks_or, body_token, brace_by, closing_delimiter, doubled_token, fixed_token, is_level, is_same, layout, line_end_token, literal_part, literal_token, next, next_by, region_by, tested_blanks, text_or, token_by_class, token_in_region, token_within_line}
 use Rattle.justfile_model.specs.Lexing.Tok.{Tok}
+use Rattle.justfile_model.proofs.Lexing.NextLaws.{begins_within}
 use Rattle.justfile_round_trip.proofs.RecipeBodies.BodyTokens.{InBody}
 use Rattle.justfile_chunks_grammar.specs.Chunks.{ends_line}
 use Rattle.justfile_chunks.proofs.SameNext.{SameMode}
@@ -215,10 +215,6 @@ module _ (m : Mode) (rest : List ℕ) where
   split : (b : Bool) {x y : NextToken} → (b ≡ true → NextEnds m rest x) → (b ≡ false → NextEnds m rest y) → NextEnds m rest (cond b x y)
   split true p q = p refl
   split false p q = q refl
-
-  begins_within : (a : Bool) (text front : List ℕ) → (a && starts_with nat_eq text front) ≡ true → length front ≤ length text
-  begins_within true text front h = omega (arith, ap length ((bytes_eq-Decides front (take (length front) text)).0 h), length-take (length front) text)
-  begins_within false text front h = cc
 
   no_body : (a s : Bool) → (a && s) ≡ false → not s ≡ false → a ≡ false
   no_body a true h g = by a h

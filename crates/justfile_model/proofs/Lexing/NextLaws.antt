@@ -57,6 +57,10 @@ CutsBy m rest (Err r) = RefusedCuts rest r
 pub record Cuts (m : Mode) (rest : List ℕ) (found : NextToken) : Type 0 where
   pub by_case : CutsBy m rest found
 
+pub begins_within : (a : Bool) (text front : List ℕ) → (a && starts_with nat_eq text front) ≡ true → length front ≤ length text
+begins_within true text front h = omega (arith, ap length ((bytes_eq-Decides front (take (length front) text)).0 h), length-take (length front) text)
+begins_within false text front h = cc
+
 module _ (m : Mode) (rest : List ℕ) where
   if_cuts : (b : Bool) {x y : NextToken} → (b ≡ true → Cuts m rest x) → (b ≡ false → Cuts m rest y) → Cuts m rest (cond b x y)
   if_cuts true f g = f refl
@@ -291,10 +295,6 @@ module _ (m : Mode) (rest : List ℕ) where
     has_level (l ∷ ls) found h g = omega arith
     has_level [] [] h g = cc
     has_level [] (b ∷ bs) h g = cc
-
-    begins_within : (a : Bool) (text front : List ℕ) → (a && starts_with nat_eq text front) ≡ true → length front ≤ length text
-    begins_within true text front h = omega (arith, ap length ((bytes_eq-Decides front (take (length front) text)).0 h), length-take (length front) text)
-    begins_within false text front h = cc
 
     seen_within : (b : Bool) (k : ℕ) (found : List ℕ) → length (cond b (take k found) found) ≤ length found
     seen_within true k found = omega (arith, length-take k found)
