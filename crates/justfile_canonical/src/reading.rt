@@ -68,8 +68,8 @@ pub trait Query {
     /// # Errors
     ///
     /// `AllocError` if memory runs out.
-    fn answer(&self, alloc: Global, ast: &mut Ast<'_>) -> Result<Self::Answer, AllocError>
-        ensures { IfOk result (λ answer. answers self.now ast.old answer) };
+    fn answer(ast: &mut Ast<'_>, alloc: Global, query: &Self) -> Result<Self::Answer, AllocError>
+        ensures { IfOk result (λ answer. answers query.now ast.old answer) };
 }
 
 /// Parses a text as the root file at this path, and returns the answer to a query of it.
@@ -88,7 +88,7 @@ pub fn query_root<'src, Q: Query>(
     ensures err { IfErr result (HasNoRoot path.now source.now) }
 {
     let mut ast = parse_root(alloc, path, source)?;
-    Ok(query.answer(alloc, &mut ast)?)
+    Ok(Q::answer(&mut ast, alloc, query)?)
 }
 
 /// Parses a text as the root file at this path, and returns its symbols.
