@@ -3,7 +3,7 @@ use Rattle.std.specs.Prelude.{ℕ, Bool, List, Option, Some, None, cond}
 use Rattle.std.specs.List.{list_any}
 use Rattle.std.specs.Str.{bytes_eq}
 use Rattle.justfile_builtins.specs.declared.functions.Arguments.{Arguments}
-use Rattle.justfile_builtins.specs.declared.functions.TheConstants.{OF_ONE, OF_ONE_OR_MORE, OF_ONE_OR_TWO, OF_THREE, OF_TWO, OF_TWO_OR_MORE, WITHOUT_ARGUMENTS}
+use Rattle.justfile_builtins.specs.declared.functions.TheConstants.{FUNCTIONS, OF_ONE, OF_ONE_OR_MORE, OF_ONE_OR_TWO, OF_THREE, OF_TWO, OF_TWO_OR_MORE, WITHOUT_ARGUMENTS}
 
 -- the function is among those that take no arguments
 abbrev pub takes_none : List ℕ → Bool
@@ -44,3 +44,7 @@ arguments_of name =
     (cond (takes_two name) (numbers 2 (Some 2))
     (cond (takes_three name) (numbers 3 (Some 3))
     (cond (takes_one_or_two name) (numbers 1 (Some 2)) (cond (takes_one_or_more name) (numbers 1 None) (cond (takes_two_or_more name) (numbers 2 None) None))))))
+
+-- the name is in the list of all functions
+abbrev pub is_listed : List ℕ → Bool
+is_listed name = list_any (λ known. bytes_eq name known.now) FUNCTIONS
