@@ -88,16 +88,10 @@ module _ {A B C D : Type 0} (f : A → C) (g : B → D) where
 
   pub entries_features_over : {Z S Z' S' : Type 0} (h : Z → Z') (k : S → S') (content : Content A B Z S) (es : List (Entry A B))
       → entries_features (over_content f g h k content) (map (over_entry f g) es) ≡ map (over_noted g) (entries_features content es)
-  entries_features_over h k (tree.Assignment parts) es = refl
-  entries_features_over h k (tree.Alias parts) es = refl
-  entries_features_over h k (tree.Function parts) es = refl
-  entries_features_over h k (tree.Import parts) es = refl
-  entries_features_over h k (tree.Module parts) es = refl
-  entries_features_over h k (tree.Setting parts) es = refl
-  entries_features_over h k (tree.Unexport name) es = refl
   entries_features_over h k (tree.Recipe parts) es =
       ap (flat_map rules_features) (arg_rules_over es)
       ∙ flat_mapped rules_features rules_features (over_rules f g) (over_noted g) rules_features_over (arg_rules es)
+  entries_features_over h k _ es = refl
 
 -- ---- the rules that constructs break
 

@@ -45,21 +45,11 @@ module _ (expander : Expansions) where
 
   same_cooked : (l : Literal Tok) → lexemes.cooked (over_literal lexeme l) ≡ tokens.cooked l
   same_cooked (literals.Plain t) = refl
-  same_cooked (literals.Expanded t) = refl
-  same_cooked (literals.Command t) = refl
-  same_cooked (literals.Single t) = refl
-  same_cooked (literals.Start t) = refl
-  same_cooked (literals.Continue s t) = refl
-  same_cooked (literals.End s t) = refl
+  same_cooked _ = refl
 
   same_value : (l : Literal Tok) → literal_value (lexemes.literal_content (over_literal lexeme l)) ≡ literal_value (tokens.literal_content l)
   same_value (literals.Plain t) = refl
-  same_value (literals.Expanded t) = refl
-  same_value (literals.Command t) = refl
-  same_value (literals.Single t) = refl
-  same_value (literals.Start t) = refl
-  same_value (literals.Continue s t) = refl
-  same_value (literals.End s t) = refl
+  same_value _ = refl
 
   -- a shape is seen as the tree is
   pub seen : SameView lexeme nothing tokens lexemes

@@ -115,12 +115,7 @@ module _ {R T A B S D R' T' A' B' S' D' : Type 0} (rel : Relations R T A B S D R
 
   pub same_kind : {x : Attribute A B} {x' : Attribute A' B'} → AlikeAttribute x x' → kind_of_attribute x ≡ kind_of_attribute x'
   same_kind (plain kind) = refl
-  same_kind (single kind e) = refl
-  same_kind (texts kind qs) = refl
-  same_kind (env k v) = refl
-  same_kind (signals given) = refl
-  same_kind (cache x i o) = refl
-  same_kind (arg r) = refl
+  same_kind _ = refl
 
   pub quoted_alike : {e : Expr A B} {e' : Expr A' B'} → Alike rel e e' → AlikeOption (AlikeQuoted rel) (quoted e) (quoted e')
   quoted_alike (a.string lexeme l) = present (record { expanded = refl; lexeme = lexeme; token = l })
