@@ -11,18 +11,6 @@ use Rattle.justfile_expression.specs.declared.expression.Expression.{Expression,
 nothing : {P : Type 0} → false ≡ true → P
 nothing h = absurd (true≢false (sym h))
 
--- parents without a right side are none
-pub no_parents : (parents e : Expression) → is_some (right_side parents) ≡ false → rejoined parents e ≡ e
-no_parents (And' p l q r) e h = nothing (sym h)
-no_parents (Comparison' p l o q r t) e h = nothing (sym h)
-no_parents (Concatenation' p l o q r) e h = nothing (sym h)
-no_parents (Conditional' p c q b (Some' s o)) e h = nothing (sym h)
-no_parents (Join' l o q r) e h = nothing (sym h)
-no_parents (ListConcatenation' p l o q r) e h = nothing (sym h)
-no_parents (Not' p r) e h = nothing (sym h)
-no_parents (Or' p l q r) e h = nothing (sym h)
-no_parents parents e h = refl
-
 -- the innermost parent and its own parents
 next_parent : (parent others e : Expression) → is_some (right_side parent) ≡ true → rejoined (with_right parent others) e ≡ rejoined others (with_right parent e)
 next_parent (And' p l q r) others e h = refl
