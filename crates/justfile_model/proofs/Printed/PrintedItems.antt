@@ -56,8 +56,8 @@ module _ {A B : Type 0} where
     };
     comment = parts.comment;
     body = parts.body;
-  content_starless _ = refl
   })
+  content_starless _ = refl
 
 -- ---- each item
 
