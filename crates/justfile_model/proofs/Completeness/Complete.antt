@@ -41,7 +41,7 @@ use Rattle.justfile_model.proofs.Completeness.AttributeComplete.{attributes_reac
 use Rattle.justfile_model.proofs.Completeness.AttributeCovers as covers
 use Rattle.justfile_model.proofs.Completeness.AttributeCovers.{AreReadings, readings_mean, readings_written}
 use Rattle.justfile_model.proofs.Sound.AttributeSound.{written_in}
-use Rattle.justfile_model.proofs.Derivations.Beginnings.{attributes_begin, block_begins, line_begins}
+use Rattle.justfile_model.proofs.Derivations.Beginnings.{Begins, attributes_begin, block_begins, line_begins}
 use Rattle.justfile_model.proofs.Derivations.CookedTexts.{trimmed_literals}
 use Rattle.justfile_model.proofs.Readers.Counters.{after_parameters, count, count_content, counted, parameters_recipes}
 use Rattle.justfile_model.proofs.Completeness.ExpressionDeep.{expression_deep}
