@@ -187,21 +187,21 @@ module _ (expander : Expansions) (IsToken : Token → Type 0) where
   IsFilledDependency d = All IsFilledName (names_in d.recipe) × All IsFilledArgument d.arguments.items
 
   -- The command and the arguments of an interpreter setting have their derived values.
-  abbrev pub IsFilledCommandLine : Box (Interpreter Expression) → Type 0
-  IsFilledCommandLine i = IsFilledExpression expander IsToken i.value.command × All (IsFilledExpression expander IsToken) i.value.arguments.items
+  abbrev pub IsFilledCommandLine : Interpreter Expression → Type 0
+  IsFilledCommandLine i = IsFilledExpression expander IsToken i.command × All (IsFilledExpression expander IsToken) i.arguments.items
 
   -- The literals of a setting have their texts. An indentation is that of its literal.
   abbrev pub IsFilledSetting : values.Setting → Type 0
-  IsFilledSetting (settings.DotenvCommand value) = IsFilledBoxed value
-  IsFilledSetting (settings.DotenvFilename value) = IsFilledBoxed value
-  IsFilledSetting (settings.DotenvPath value) = IsFilledBoxed value
+  IsFilledSetting (settings.DotenvCommand value) = IsFilledExpression expander IsToken value
+  IsFilledSetting (settings.DotenvFilename value) = IsFilledExpression expander IsToken value
+  IsFilledSetting (settings.DotenvPath value) = IsFilledExpression expander IsToken value
   IsFilledSetting (settings.Indentation literal indentation) = IsFilledLiteral expander IsToken literal × (indentation_text indentation ≡ string_bytes literal.cooked)
   IsFilledSetting (settings.MinimumVersion literal) = IsFilledLiteral expander IsToken literal
   IsFilledSetting (settings.ScriptInterpreter interpreter) = IsFilledCommandLine interpreter
   IsFilledSetting (settings.Shell interpreter) = IsFilledCommandLine interpreter
-  IsFilledSetting (settings.Tempdir value) = IsFilledBoxed value
+  IsFilledSetting (settings.Tempdir value) = IsFilledExpression expander IsToken value
   IsFilledSetting (settings.WindowsShell interpreter) = IsFilledCommandLine interpreter
-  IsFilledSetting (settings.WorkingDirectory value) = IsFilledBoxed value
+  IsFilledSetting (settings.WorkingDirectory value) = IsFilledExpression expander IsToken value
   IsFilledSetting (settings.AllowDuplicateRecipes value) = Unit {0}
   IsFilledSetting (settings.AllowDuplicateVariables value) = Unit {0}
   IsFilledSetting (settings.DefaultList value) = Unit {0}
