@@ -12,7 +12,7 @@ use Rattle.justfile_model.specs.Meanings.Meaning.{KeyArgument, PositionalArgumen
 use Rattle.justfile_model.specs.Readers.NewAttribute.{◌>>=◌, Made, check_keys, from_expressions, make_all, new_continue, new_of_expressions, placed_literal}
 use Rattle.justfile_model.specs.Trees.Tree as tree
 use Rattle.justfile_model.specs.Trees.Tree.{Attribute, Quoted}
-use Rattle.justfile_expression.specs.LeafViews.{views_leaves}
+use Rattle.justfile_attribute_rules.specs.Keys.{views_keys}
 use Rattle.justfile_expression.specs.LeafTree.{Leaf, leaf_tree_of}
 use Rattle.justfile_expression.specs.declared.expression.Expression.{Expression}
 use Rattle.justfile_attribute.specs.New.{IsCounted, continue_made, values_of, with_known}
@@ -36,12 +36,12 @@ none_first [] h = refl
 none_first (x ∷ xs) h = absurd (omega (arith, h))
 
 pub directory_is : (at : Token) (xs : List Argument) (p : Argument) → 1 ≤ length xs → p ≡ get_or xs 0 p
-    → tree.Single kinds.WorkingDirectory (leaf_tree_of p.1.value) ≡ new_of_expressions views_leaves at kinds.WorkingDirectory (values_of (positional_leaves xs))
+    → tree.Single kinds.WorkingDirectory (leaf_tree_of p.1.value) ≡ new_of_expressions views_keys at kinds.WorkingDirectory (values_of (positional_leaves xs))
 directory_is at [] p h e = absurd (omega (arith, h))
 directory_is at (x ∷ xs) p h e = ap (λ (q : Argument). tree.Single kinds.WorkingDirectory (leaf_tree_of q.1.value)) e
 
 pub env_is : (at : Token) (xs ys : List Argument) (p q : Argument) → 2 ≤ length xs → p ≡ get_or xs 1 p → ys ≡ remove xs 1 → q ≡ get_or ys 0 q
-    → tree.Env (leaf_tree_of q.1.value) (leaf_tree_of p.1.value) ≡ new_of_expressions views_leaves at kinds.Env (values_of (positional_leaves xs))
+    → tree.Env (leaf_tree_of q.1.value) (leaf_tree_of p.1.value) ≡ new_of_expressions views_keys at kinds.Env (values_of (positional_leaves xs))
 env_is at [] ys p q h e f g = absurd (omega (arith, h))
 env_is at (x ∷ []) ys p q h e f g = absurd (omega (arith, h))
 env_is at (x ∷ y ∷ zs) ys p q h e f g =
@@ -50,11 +50,11 @@ env_is at (x ∷ y ∷ zs) ys p q h e f g =
 
 -- an attribute of any expressions, whose keys are accepted
 pub expressions_made : (at : Token) (kind wanted : AttributeKind) (placed : List (PositionalArgument Leaf Token)) (keys : List (KeyArgument Leaf Token)) (made : Attribute Leaf Token)
-    → check_keys views_leaves at kind keys ≡ Ok tt → kind ≡ wanted → made ≡ new_of_expressions views_leaves at wanted (values_of placed)
-    → from_expressions views_leaves at kind placed keys ≡ Ok made
+    → check_keys views_keys at kind keys ≡ Ok tt → kind ≡ wanted → made ≡ new_of_expressions views_keys at wanted (values_of placed)
+    → from_expressions views_keys at kind placed keys ≡ Ok made
 expressions_made at kind wanted placed keys made known is same =
-    ap (λ (m : Made Token (Unit {0})). m >>= (λ u. Ok (new_of_expressions views_leaves at kind (values_of placed)))) known
-    ∙ ap (λ k. Ok (new_of_expressions views_leaves at k (values_of placed))) is
+    ap (λ (m : Made Token (Unit {0})). m >>= (λ u. Ok (new_of_expressions views_keys at kind (values_of placed)))) known
+    ∙ ap (λ k. Ok (new_of_expressions views_keys at k (values_of placed))) is
     ∙ ap Ok (sym same)
 
 pub only_is : (xs : List StringLiteral) (l : StringLiteral) → length xs ≡ 1 → l ≡ get_or xs 0 l → quoted_leaves xs ≡ quoted_leaf l ∷ []
@@ -63,7 +63,7 @@ only_is (x ∷ []) l h e = ap (λ y. quoted_leaf y ∷ []) (sym e)
 only_is (x ∷ y ∷ zs) l h e = absurd (omega (arith, h))
 
 pub script_is : (xs ys : List StringLiteral) (l : StringLiteral) → 0 < length xs → l ≡ get_or xs 0 l → ys ≡ remove xs 0
-    → tree.Texts kinds.Script (quoted_leaf l ∷ quoted_leaves ys) ≡ texts_of views_leaves kinds.Script (quoted_leaves xs)
+    → tree.Texts kinds.Script (quoted_leaf l ∷ quoted_leaves ys) ≡ texts_of views_keys kinds.Script (quoted_leaves xs)
 script_is [] ys l h e f = absurd (omega (arith, h))
 script_is (x ∷ xs) ys l h e f = λ i. tree.Texts kinds.Script (quoted_leaf (e i) ∷ quoted_leaves (f i))
 
@@ -81,15 +81,15 @@ module _ {X Y : Type 0} (f : X → Made Token Y) where
       go (Ok y) (Ok zs) h e later = let same : y ∷ zs ≡ ys = cc in ap length (sym same) ∙ ap suc (later zs h)
 
 pub same_count : (at : Token) (kind : AttributeKind) (placed : List (PositionalArgument Leaf Token)) (texts : List (Quoted Leaf))
-    → make_all (placed_literal views_leaves at) placed ≡ Ok texts → IsCounted at kind (length placed) → IsCounted at kind (length texts)
-same_count at kind placed texts e h = subst (IsCounted at kind) (sym (made_length (placed_literal views_leaves at) placed texts e)) h
+    → make_all (placed_literal views_keys at) placed ≡ Ok texts → IsCounted at kind (length placed) → IsCounted at kind (length texts)
+same_count at kind placed texts e h = subst (IsCounted at kind) (sym (made_length (placed_literal views_keys at) placed texts e)) h
 
 -- ---- signals
 
 abbrev signals_attribute : List Signal → Made Token (Attribute Leaf Token)
 signals_attribute given = Ok (tree.Signals given)
 
-continue_is : (at : Token) (texts : List (Quoted Leaf)) → continue_made texts ≡ new_continue views_leaves at texts
+continue_is : (at : Token) (texts : List (Quoted Leaf)) → continue_made texts ≡ new_continue views_keys at texts
 continue_is at texts = go (make_all signal_made texts)
   where
     go : (m : Made Token (List Signal)) → ((m >>= (λ given. Ok (signal_set given))) >>= signals_attribute) ≡ (m >>= (λ given. signals_attribute (signal_set given)))
@@ -97,7 +97,7 @@ continue_is at texts = go (make_all signal_made texts)
     go (Err e) = refl
 
 pub continue_known : (at : Token) (known : Made Token (Unit {0})) (texts : List (Quoted Leaf))
-    → with_known known (continue_made texts) ≡ with_known known (new_continue views_leaves at texts)
+    → with_known known (continue_made texts) ≡ with_known known (new_continue views_keys at texts)
 continue_known at known texts = ap (with_known known) (continue_is at texts)
 
 -- ---- accepted keys

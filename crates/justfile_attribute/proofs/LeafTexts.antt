@@ -1,6 +1,5 @@
 -- Every literal among the arguments of an attribute has a text, since its leaf has one.
 use Rattle.std.proofs.Common.{◌≡◌, Bool, true, false, List, get_or, Option, Some, None, refl, subst}
-use Rattle.std.specs.BTreeMap.{values}
 use Rattle.std.specs.Global.{Box}
 use Rattle.std.specs.Option.{is_some, option_map}
 use Rattle.std.proofs.lemmas.List.Elements.{All-map}
@@ -8,32 +7,31 @@ use Rattle.justfile_token.specs.declared.token.Token.{Token}
 use Rattle.justfile_model.specs.Meanings.ArgumentTexts.{ValueHasText, HasText, HasTexts}
 use Rattle.justfile_model.specs.Meanings.Meaning.{KeyArgument, PositionalArgument, quoted, quoted_text}
 use Rattle.justfile_model.specs.Trees.Tree.{Expr, Quoted}
-use Rattle.justfile_expression.specs.LeafViews.{views_leaves}
 use Rattle.justfile_expression.specs.LeafTree.{Leaf, Literal, LiteralText, leaf_tree_of, literal_of}
 use Rattle.justfile_expression.specs.declared.expression.Expression.{Expression, StringLiteral}
-use Rattle.justfile_attribute_rules.specs.Keys.{KeyMap, key_argument, key_arguments}
+use Rattle.justfile_attribute_rules.specs.Keys.{KeyMap, key_argument, key_arguments, views_keys}
 use Rattle.justfile_attribute_rules.specs.Made.{positional_leaf, positional_leaves}
 use Rattle.justfile_attribute_rules.proofs.Quoted.{not_quoted}
 
-literal_text : (expanded : Bool) (l : LiteralText) → is_some (quoted_text views_leaves (record { expanded = expanded; token = Literal l })) ≡ true
+literal_text : (expanded : Bool) (l : LiteralText) → is_some (quoted_text views_keys (record { expanded = expanded; token = Literal l })) ≡ true
 literal_text true l = refl
 literal_text false l = refl
 
-no_literal : (e : Expr Leaf Token) → quoted e ≡ None → HasText views_leaves e
+no_literal : (e : Expr Leaf Token) → quoted e ≡ None → HasText views_keys e
 no_literal e none q is = cc
 
-expression_text : (e : Expression) → HasText views_leaves (leaf_tree_of e)
+expression_text : (e : Expression) → HasText views_keys (leaf_tree_of e)
 expression_text (StringLiteral l) q is =
     let same : record { expanded = l.expand; token = Literal (literal_of l) } ≡ q = cc in
-    subst (λ (q : Quoted Leaf). is_some (quoted_text views_leaves q) ≡ true) same (literal_text l.expand (literal_of l))
+    subst (λ (q : Quoted Leaf). is_some (quoted_text views_keys q) ≡ true) same (literal_text l.expand (literal_of l))
 expression_text e q is = no_literal (leaf_tree_of e) (not_quoted e (λ l h. cc)) q is
 
-given_text : (o : Option (Box Expression)) → ValueHasText views_leaves (option_map (λ (b : Box Expression). leaf_tree_of b.value) o)
+given_text : (o : Option (Box Expression)) → ValueHasText views_keys (option_map (λ (b : Box Expression). leaf_tree_of b.value) o)
 given_text None e is = cc
-given_text (Some b) e is = let same : leaf_tree_of b.value ≡ e = cc in subst (HasText views_leaves) same (expression_text b.value)
+given_text (Some b) e is = let same : leaf_tree_of b.value ≡ e = cc in subst (HasText views_keys) same (expression_text b.value)
 
-pub have_texts : (placed : List (Token × Box Expression)) (keys : KeyMap) → HasTexts views_leaves (positional_leaves placed) (key_arguments keys)
+pub have_texts : (placed : List (Token × Box Expression)) (keys : KeyMap) → HasTexts views_keys (positional_leaves placed) (key_arguments keys)
 have_texts placed keys = record {
-  values = All-map (λ (p : PositionalArgument Leaf Token). HasText views_leaves p.value) positional_leaf placed (λ k d lt. expression_text (get_or placed k d).1.value);
-  given = All-map (λ (k : KeyArgument Leaf Token). ValueHasText views_leaves k.value) key_argument (values keys) (λ k d lt. given_text (get_or (values keys) k d).1);
+  values = All-map (λ (p : PositionalArgument Leaf Token). HasText views_keys p.value) positional_leaf placed (λ k d lt. expression_text (get_or placed k d).1.value);
+  given = All-map (λ (k : KeyArgument Leaf Token). ValueHasText views_keys k.value) key_argument keys.entries (λ k d lt. given_text (get_or keys.entries k d).1.1);
 }

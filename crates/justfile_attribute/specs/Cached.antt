@@ -7,11 +7,10 @@ use Rattle.justfile_model.specs.Meanings.Meaning.{KeyArgument}
 use Rattle.justfile_model.specs.Readers.NewAttribute.{◌>>=◌, Made, required_at}
 use Rattle.justfile_model.specs.Trees.Tree as tree
 use Rattle.justfile_model.specs.Trees.Tree.{Attribute}
-use Rattle.justfile_expression.specs.LeafViews.{views_leaves}
 use Rattle.justfile_expression.specs.LeafTree.{Leaf, leaf_tree_of}
 use Rattle.justfile_expression.specs.declared.expression.Expression.{Expression}
 use Rattle.justfile_attribute.specs.declared.cache_values.CacheValues.{CacheValues}
-use Rattle.justfile_attribute_rules.specs.Keys.{without}
+use Rattle.justfile_attribute_rules.specs.Keys.{views_keys, without}
 
 -- the attribute with these values
 abbrev pub cache_of : CacheValues → Attribute Leaf Token
@@ -21,7 +20,7 @@ cache_of v = tree.Cache (option_map (λ (e : Box Expression). leaf_tree_of e.val
 -- the attribute with these keys; each key is taken from those that are left
 abbrev pub cache_read : (at : Token) → List (KeyArgument Leaf Token) → Made Token (Attribute Leaf Token)
 cache_read at keys = do
-  extra ← required_at views_leaves at (codes "extra") keys
-  inputs ← required_at views_leaves at (codes "inputs") (without (codes "extra") keys)
-  outputs ← required_at views_leaves at (codes "outputs") (without (codes "inputs") (without (codes "extra") keys))
+  extra ← required_at views_keys at (codes "extra") keys
+  inputs ← required_at views_keys at (codes "inputs") (without (codes "extra") keys)
+  outputs ← required_at views_keys at (codes "outputs") (without (codes "inputs") (without (codes "extra") keys))
   Ok (tree.Cache extra inputs outputs)

@@ -12,7 +12,7 @@ use Rattle.justfile_model.specs.Meanings.Meaning.{PositionalArgument}
 use Rattle.justfile_model.specs.Readers.NewAttribute.{◌>>=◌, Made, check_count}
 use Rattle.justfile_model.specs.Trees.Tree as tree
 use Rattle.justfile_model.specs.Trees.Tree.{Attribute, Expr, Quoted}
-use Rattle.justfile_expression.specs.LeafViews.{views_leaves}
+use Rattle.justfile_attribute_rules.specs.Keys.{views_keys}
 use Rattle.justfile_expression.specs.LeafTree.{Leaf}
 use Rattle.justfile_attribute.specs.Form as forms
 use Rattle.justfile_attribute.specs.Form.{Form, form_of}
@@ -22,7 +22,7 @@ use Rattle.justfile_attribute_rules.specs.Made.{signals_made}
 
 -- the number of positional arguments is right for the kind
 abbrev pub IsCounted : (at : Token) → AttributeKind → (found : ℕ) → Type 0
-IsCounted at kind found = check_count views_leaves at kind found ≡ Ok tt
+IsCounted at kind found = check_count views_keys at kind found ≡ Ok tt
 
 -- the values of positional arguments
 abbrev pub values_of : List (PositionalArgument Leaf Token) → List (Expr Leaf Token)

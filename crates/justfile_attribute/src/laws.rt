@@ -8,7 +8,6 @@ ghost use Rattle.justfile_model.specs.Meanings.Meaning.{attribute_of};
 ghost use Rattle.justfile_model.specs.Readers.NewAttribute.{new_attribute};
 ghost use Rattle.justfile_model.specs.Meanings.Rules.{Broken};
 ghost use Rattle.justfile_model.specs.Trees.Tree.{Attribute};
-ghost use Rattle.justfile_expression.specs.LeafViews.{views_leaves};
 ghost use Rattle.justfile_expression.specs.LeafTree.{Leaf};
 ghost use Rattle.justfile_expression.specs.Orders.{IsOrder};
 ghost use Rattle.justfile_expression.specs.declared.expression.Expression.{Expression};
@@ -17,7 +16,7 @@ ghost use Rattle.justfile_attribute.specs.InterpreterOrder.{interpreter_cmp, int
 ghost use Rattle.justfile_attribute.specs.contracts.attribute.AttributePartialEq.TheImpl as equality;
 ghost use Rattle.justfile_attribute.specs.declared.attribute.Attribute as code;
 ghost use Rattle.justfile_attribute.specs.declared.interpreter.Interpreter.{Interpreter};
-ghost use Rattle.justfile_attribute_rules.specs.Keys.{KeyMap, key_arguments};
+ghost use Rattle.justfile_attribute_rules.specs.Keys.{KeyMap, key_arguments, views_keys};
 ghost use Rattle.justfile_attribute_rules.specs.Made.{positional_leaves};
 
 use crate::interpreter::Interpreter;
@@ -28,20 +27,20 @@ use crate::interpreter::Interpreter;
 pub fn new_attributes()
     ensures made { (at : Token) (kind : AttributeKind)
         (placed : List (Token × Box Expression)) (keys : KeyMap) (a : Attribute Leaf Token)
-        → new_attribute views_leaves at kind (positional_leaves placed) (key_arguments keys) ≡ Ok a
-        → (attribute_of views_leaves kind (positional_leaves placed) (key_arguments keys) ≡ Some a)
-        × (arguments_broken views_leaves at kind (positional_leaves placed)
+        → new_attribute views_keys at kind (positional_leaves placed) (key_arguments keys) ≡ Ok a
+        → (attribute_of views_keys kind (positional_leaves placed) (key_arguments keys) ≡ Some a)
+        × (arguments_broken views_keys at kind (positional_leaves placed)
         (key_arguments keys) ≡ []) }
     ensures refused { (at : Token) (kind : AttributeKind)
         (placed : List (Token × Box Expression)) (keys : KeyMap) (r : Broken Token)
-        → new_attribute views_leaves at kind (positional_leaves placed) (key_arguments keys) ≡ Err r
+        → new_attribute views_keys at kind (positional_leaves placed) (key_arguments keys) ≡ Err r
         → Contains
-        (arguments_broken views_leaves at kind (positional_leaves placed) (key_arguments keys)) r }
+        (arguments_broken views_keys at kind (positional_leaves placed) (key_arguments keys)) r }
     ensures unbroken { (at : Token) (kind : AttributeKind)
         (placed : List (Token × Box Expression)) (keys : KeyMap)
-        → arguments_broken views_leaves at kind (positional_leaves placed) (key_arguments keys) ≡ []
+        → arguments_broken views_keys at kind (positional_leaves placed) (key_arguments keys) ≡ []
         → (a : Attribute Leaf Token)
-        × (new_attribute views_leaves at kind (positional_leaves placed)
+        × (new_attribute views_keys at kind (positional_leaves placed)
         (key_arguments keys) ≡ Ok a) }
 {}
 

@@ -7,22 +7,20 @@ ghost use Rattle.justfile_model.specs.Meanings.AttributeKinds.{takes_expressions
 ghost use Rattle.justfile_model.specs.Meanings.Meaning.{first_of, texts_of};
 ghost use Rattle.justfile_model.specs.Readers.NewAttribute as new;
 ghost use Rattle.justfile_model.specs.Trees.Tree as tree;
-ghost use Rattle.justfile_expression.specs.LeafViews.{views_leaves};
 ghost use Rattle.justfile_expression.specs.LeafTree.{leaf_tree_of};
 ghost use Rattle.justfile_attribute.specs.Attribute.{leaf_attribute_of};
 ghost use Rattle.justfile_attribute.specs.Cached.{cache_of, cache_read};
 ghost use Rattle.justfile_attribute.specs.New.{IsCounted, HasDerivedAttributeFields, continue_made, has_no_own_rules, takes_no_arguments, values_of, with_known};
 ghost use Rattle.justfile_attribute_rules.specs.ArgumentRules.{AreNamed, rules_of};
-ghost use Rattle.justfile_attribute_rules.specs.Keys.{AreKeyed, IsTaken, key_arguments};
-ghost use Rattle.justfile_attribute_rules.specs.KeywordArguments.{keys_of};
+ghost use Rattle.justfile_attribute_rules.specs.Keys.{IsTaken, key_arguments, views_keys};
 ghost use Rattle.justfile_attribute_rules.specs.Made.{Makes, positional_leaves, quoted_leaf, quoted_leaves};
 
 use crate::attribute::Attribute;
 use crate::cache_values::CacheValues;
 use crate::interpreter::Interpreter;
 use justfile_attribute_rules::{
-    ArgumentRules, KeyMap, KeywordArguments, accepts_expressions, check_count, check_keys,
-    read_argument_rules, signal_set, string_literals, take_value,
+    ArgumentRules, KeyMap, accepts_expressions, check_count, check_keys, read_argument_rules,
+    signal_set, string_literals, take_value,
 };
 use justfile_expression::Expression;
 use justfile_token::{CompileResult, Name, StringLiteral, Token};
@@ -31,7 +29,8 @@ use std::alloc::{AllocError, Global};
 
 impl<'src> Attribute<'src> {
     /// Returns the attribute of this kind with these arguments. Each positional argument comes with
-    /// its first token. Only errors use the name.
+    /// its first token. A key is found by its text in the map, and errors name its token. Only
+    /// errors use the name of the attribute.
     ///
     /// # Errors
     ///
@@ -42,23 +41,22 @@ impl<'src> Attribute<'src> {
         name: Name<'src>,
         kind: AttributeKind,
         arguments: Vec<(Token<'src>, Box<Expression<'src>>)>,
-        keyword_arguments: KeywordArguments<'src>,
+        keyword_arguments: KeyMap<'src>,
     ) -> CompileResult<'src, Self>
-        ensures made { Makes leaf_attribute_of result (new.new_attribute views_leaves
+        ensures made { Makes leaf_attribute_of result (new.new_attribute views_keys
             name.entry.token kind (positional_leaves arguments.entry.items)
-            (key_arguments (keys_of keyword_arguments.entry))) }
+            (key_arguments keyword_arguments.entry)) }
         // The fields of an `arg` that follow from others. With a `long_key` (the key of a `long`
         // without a value) `long` is a copy of `name`; the same for `short`. `min` is there exactly
         // if `min_key` is; the same for `max`. `help` is `None`: its expression, `help_property`,
         // isn't evaluated.
         ensures fields { IfOk result HasDerivedAttributeFields }
     {
-        let keys = keyword_arguments.into_map();
         check_count(name, kind, arguments.len())?;
         if accepts_expressions(kind) {
-            from_expressions(name, kind, arguments, keys)
+            from_expressions(name, kind, arguments, keyword_arguments)
         } else {
-            from_literals(alloc, name, kind, arguments, keys)
+            from_literals(alloc, name, kind, arguments, keyword_arguments)
         }
     }
 }
@@ -71,10 +69,9 @@ fn from_expressions<'src>(
     arguments: Vec<(Token<'src>, Box<Expression<'src>>)>,
     keys: KeyMap<'src>,
 ) -> CompileResult<'src, Attribute<'src>>
-    requires keyed { AreKeyed keys }
     requires kind { takes_expressions kind ≡ true }
     requires counted { IsCounted name.token kind (length (positional_leaves arguments.items)) }
-    ensures made { Makes leaf_attribute_of result (new.from_expressions views_leaves
+    ensures made { Makes leaf_attribute_of result (new.from_expressions views_keys
         name.entry.token kind (positional_leaves arguments.entry.items)
         (key_arguments keys.entry)) }
     ensures fields { IfOk result HasDerivedAttributeFields }
@@ -111,7 +108,7 @@ fn working_directory<'src>(
     mut arguments: Vec<(Token<'src>, Box<Expression<'src>>)>,
 ) -> Attribute<'src>
     requires { 1 ≤ length arguments.items }
-    ensures made { (at : Token) → leaf_attribute_of result ≡ new.new_of_expressions views_leaves at
+    ensures made { (at : Token) → leaf_attribute_of result ≡ new.new_of_expressions views_keys at
         kinds.WorkingDirectory (values_of (positional_leaves arguments.entry.items)) }
     ensures fields { HasDerivedAttributeFields result }
 {
@@ -123,7 +120,7 @@ fn working_directory<'src>(
 #[tactic(auto, using(crate::proofs::Counted::env_is))]
 fn env<'src>(mut arguments: Vec<(Token<'src>, Box<Expression<'src>>)>) -> Attribute<'src>
     requires { 2 ≤ length arguments.items }
-    ensures made { (at : Token) → leaf_attribute_of result ≡ new.new_of_expressions views_leaves at
+    ensures made { (at : Token) → leaf_attribute_of result ≡ new.new_of_expressions views_keys at
         kinds.Env (values_of (positional_leaves arguments.entry.items)) }
     ensures fields { HasDerivedAttributeFields result }
 {
@@ -141,10 +138,9 @@ fn from_literals<'src>(
     arguments: Vec<(Token<'src>, Box<Expression<'src>>)>,
     mut keys: KeyMap<'src>,
 ) -> CompileResult<'src, Attribute<'src>>
-    requires keyed { AreKeyed keys }
     requires kind { takes_expressions kind ≡ false }
     requires counted { IsCounted name.token kind (length (positional_leaves arguments.items)) }
-    ensures made { Makes leaf_attribute_of result (new.from_literals views_leaves name.entry.token
+    ensures made { Makes leaf_attribute_of result (new.from_literals views_keys name.entry.token
         kind (positional_leaves arguments.entry.items) (key_arguments keys.entry)) }
     ensures fields { IfOk result HasDerivedAttributeFields }
 {
@@ -162,12 +158,11 @@ fn of_literals<'src>(
     literals: Vec<StringLiteral<'src>>,
     keys: &mut KeyMap<'src>,
 ) -> CompileResult<'src, Attribute<'src>>
-    requires keyed { AreKeyed keys.old }
     requires kind { takes_expressions kind ≡ false }
     requires counted { IsCounted name.token kind (length (quoted_leaves literals.items)) }
     ensures made { Makes leaf_attribute_of result
-        (with_known (new.check_keys views_leaves name.entry.token kind (key_arguments keys.old))
-        (new.new_of_literals views_leaves name.entry.token kind (quoted_leaves literals.entry.items)
+        (with_known (new.check_keys views_keys name.entry.token kind (key_arguments keys.old))
+        (new.new_of_literals views_keys name.entry.token kind (quoted_leaves literals.entry.items)
         (key_arguments keys.old))) }
     ensures fields { IfOk result HasDerivedAttributeFields }
 {
@@ -187,13 +182,12 @@ fn of_plain_literals<'src>(
     literals: Vec<StringLiteral<'src>>,
     keys: &KeyMap<'src>,
 ) -> CompileResult<'src, Attribute<'src>>
-    requires keyed { AreKeyed keys.now }
     requires kind { takes_expressions kind ≡ false }
     requires texts { IsTrue (has_no_own_rules kind) }
     requires counted { IsCounted name.token kind (length (quoted_leaves literals.items)) }
     ensures made { Makes leaf_attribute_of result
-        (with_known (new.check_keys views_leaves name.entry.token kind (key_arguments keys.now))
-        (new.new_of_literals views_leaves name.entry.token kind (quoted_leaves literals.entry.items)
+        (with_known (new.check_keys views_keys name.entry.token kind (key_arguments keys.now))
+        (new.new_of_literals views_keys name.entry.token kind (quoted_leaves literals.entry.items)
         (key_arguments keys.now))) }
     ensures fields { IfOk result HasDerivedAttributeFields }
 {
@@ -272,9 +266,8 @@ fn continue_attribute<'src>(
     literals: Vec<StringLiteral<'src>>,
     keys: &KeyMap<'src>,
 ) -> CompileResult<'src, Attribute<'src>>
-    requires { AreKeyed keys.now }
     ensures made { Makes leaf_attribute_of result
-        (with_known (new.check_keys views_leaves name.entry.token kinds.Continue
+        (with_known (new.check_keys views_keys name.entry.token kinds.Continue
         (key_arguments keys.now)) (continue_made (quoted_leaves literals.entry.items))) }
     ensures fields { IfOk result HasDerivedAttributeFields }
 {
@@ -288,7 +281,7 @@ fn continue_attribute<'src>(
 #[inline(never)]
 fn script(mut literals: Vec<StringLiteral<'_>>) -> Attribute<'_>
     ensures made { leaf_attribute_of result
-        ≡ texts_of views_leaves kinds.Script (quoted_leaves literals.entry.items) }
+        ≡ texts_of views_keys kinds.Script (quoted_leaves literals.entry.items) }
     ensures fields { HasDerivedAttributeFields result }
 {
     if literals.is_empty() {
@@ -309,10 +302,9 @@ fn cache<'src>(
     name: Name<'src>,
     keys: &mut KeyMap<'src>,
 ) -> CompileResult<'src, Attribute<'src>>
-    requires { AreKeyed keys.old }
     ensures made { Makes leaf_attribute_of result (with_known
-        (new.check_keys views_leaves name.entry.token kinds.Cache (key_arguments keys.old))
-        (new.new_cache views_leaves name.entry.token (key_arguments keys.old))) }
+        (new.check_keys views_keys name.entry.token kinds.Cache (key_arguments keys.old))
+        (new.new_cache views_keys name.entry.token (key_arguments keys.old))) }
     ensures fields { IfOk result HasDerivedAttributeFields }
 {
     let mut values = no_values(alloc)?;
@@ -343,7 +335,6 @@ fn read_cache<'src>(
     keys: &mut KeyMap<'src>,
     values: &mut CacheValues<'src>,
 ) -> CompileResult<'src>
-    requires { AreKeyed keys.old }
     ensures { Makes (λ _. cache_of values.new) result
         (cache_read name.entry.token (key_arguments keys.old)) }
 {
@@ -360,9 +351,8 @@ fn read_value<'src>(
     word: &str,
     value: &mut Option<Box<Expression<'src>>>,
 ) -> CompileResult<'src>
-    requires { AreKeyed keys.old }
     ensures read { Makes (λ _. option_map (λ b. leaf_tree_of b.value) value.new) result
-        (new.required_at views_leaves name.entry.token word.now (key_arguments keys.old)) }
+        (new.required_at views_keys name.entry.token word.now (key_arguments keys.old)) }
     ensures removed { IsTaken word.now keys.old keys.new }
 {
     match take_value(name, keys, word) {
@@ -396,11 +386,10 @@ fn arg<'src>(
     literals: Vec<StringLiteral<'src>>,
     keys: &mut KeyMap<'src>,
 ) -> CompileResult<'src, Attribute<'src>>
-    requires keyed { AreKeyed keys.old }
     requires counted { length literals.items ≡ 1 }
     ensures made { Makes leaf_attribute_of result (with_known
-        (new.check_keys views_leaves name.entry.token kinds.Arg (key_arguments keys.old))
-        (new.new_arg views_leaves name.entry.token (quoted_leaves literals.entry.items)
+        (new.check_keys views_keys name.entry.token kinds.Arg (key_arguments keys.old))
+        (new.new_arg views_keys name.entry.token (quoted_leaves literals.entry.items)
         (key_arguments keys.old))) }
     ensures fields { IfOk result HasDerivedAttributeFields }
 {

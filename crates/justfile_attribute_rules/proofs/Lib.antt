@@ -1,7 +1,7 @@
 pub mod Counts
 pub mod KeyLemmas
+pub mod KeyTexts
 pub mod Loops
-pub mod PutKeys
 pub mod Quoted
 pub mod Refused
 pub mod StepLaws

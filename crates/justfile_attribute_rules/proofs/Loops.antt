@@ -15,7 +15,7 @@ use Rattle.justfile_token.specs.declared.token.Token.{Token}
 use Rattle.justfile_model.specs.Meanings.Meaning.{signal_set}
 use Rattle.justfile_model.specs.Readers.NewAttribute.{◌>>=◌, Made, make_all, placed_literal}
 use Rattle.justfile_model.specs.Trees.Tree.{Quoted}
-use Rattle.justfile_expression.specs.LeafViews.{views_leaves}
+use Rattle.justfile_attribute_rules.specs.Keys.{views_keys}
 use Rattle.justfile_expression.specs.LeafTree.{Leaf}
 use Rattle.justfile_expression.specs.declared.expression.Expression.{Expression}
 use Rattle.justfile_attribute_rules.specs.Made.{quoted_leaf, quoted_leaves, positional_leaf, positional_leaves, signal_made, signals_made}
@@ -47,13 +47,13 @@ one_last (x ∷ xs) l = ap (λ qs. quoted_leaf x ∷ qs) (one_last xs l)
 
 -- the next argument is a literal
 pub literal_turn : (at : Token) (made : List StringLiteral) (l : StringLiteral) (rest others : List (Token × Box Expression)) (p : Token × Box Expression) → rest ≡ p ∷ others
-    → placed_literal views_leaves at (positional_leaf p) ≡ Ok (quoted_leaf l)
-    → goes_on (placed_literal views_leaves at) (quoted_leaves made) (positional_leaves rest)
-    ≡ goes_on (placed_literal views_leaves at) (quoted_leaves (made ++ l ∷ [])) (positional_leaves others)
+    → placed_literal views_keys at (positional_leaf p) ≡ Ok (quoted_leaf l)
+    → goes_on (placed_literal views_keys at) (quoted_leaves made) (positional_leaves rest)
+    ≡ goes_on (placed_literal views_keys at) (quoted_leaves (made ++ l ∷ [])) (positional_leaves others)
 literal_turn at made l rest others p e is_literal =
-    ap (λ xs. goes_on (placed_literal views_leaves at) (quoted_leaves made) (positional_leaves xs)) e
-    ∙ one_made (placed_literal views_leaves at) (quoted_leaves made) (positional_leaf p) (positional_leaves others) (quoted_leaf l) is_literal
-    ∙ ap (λ qs. goes_on (placed_literal views_leaves at) qs (positional_leaves others)) (sym (one_last made l))
+    ap (λ xs. goes_on (placed_literal views_keys at) (quoted_leaves made) (positional_leaves xs)) e
+    ∙ one_made (placed_literal views_keys at) (quoted_leaves made) (positional_leaf p) (positional_leaves others) (quoted_leaf l) is_literal
+    ∙ ap (λ qs. goes_on (placed_literal views_keys at) qs (positional_leaves others)) (sym (one_last made l))
 
 -- ---- sets of signals
 

@@ -14,9 +14,9 @@ use Rattle.justfile_model.specs.Meanings.Meaning.{is_key, text_of}
 use Rattle.justfile_model.specs.Readers.NewAttribute as new
 use Rattle.justfile_model.specs.Readers.NewAttribute.{◌>>=◌, Made, if_given, new_rules}
 use Rattle.justfile_model.specs.Trees.Tree.{Bound, Expr, OptionName, Property, Quoted}
-use Rattle.justfile_expression.specs.LeafViews.{leaf_cooked, views_leaves}
+use Rattle.justfile_expression.specs.LeafViews.{leaf_cooked}
 use Rattle.justfile_expression.specs.LeafTree.{Leaf, Literal, literal_of}
-use Rattle.justfile_attribute_rules.specs.Keys.{without}
+use Rattle.justfile_attribute_rules.specs.Keys.{views_keys, without}
 use Rattle.justfile_attribute_rules.specs.Made.{Makes, quoted_leaf, bounds_checked}
 use Rattle.justfile_attribute_rules.specs.Steps.{Key, Keys, Rules, at, bounds_of, help_of, named_only, names_of, rules_read, short_of, switches_of, values_of, with_long}
 
@@ -33,12 +33,12 @@ apart word other e bytes h = go (bytes_eq bytes word) refl
 -- a key is still found after another is taken
 still : (word other : List ℕ) → bytes_eq word other ≡ false → (keys : Keys) → at word (without other keys) ≡ at word keys
 still word other e [] = refl
-still word other e (k ∷ keys) = go (is_key views_leaves other k) refl (still word other e keys)
+still word other e (k ∷ keys) = go (is_key views_keys other k) refl (still word other e keys)
   where
-    go : (b : Bool) → is_key views_leaves other k ≡ b → at word (without other keys) ≡ at word keys
+    go : (b : Bool) → is_key views_keys other k ≡ b → at word (without other keys) ≡ at word keys
         → at word (cond b keys (k ∷ without other keys)) ≡ at word (k ∷ keys)
-    go true h same = rw (apart word other e (views_leaves.bytes k.key) h) refl
-    go false h same = ap (λ o. cond (is_key views_leaves word k) (Some k) o) same
+    go true h same = rw (apart word other e (views_keys.bytes k.key) h) refl
+    go false h same = ap (λ o. cond (is_key views_keys word k) (Some k) o) same
 
 -- the keys without those with these texts
 abbrev pub without_all : List (List ℕ) → Keys → Keys
@@ -91,7 +91,7 @@ checked {Y = Y} {U = U} (Ok x) f check h g = go (f x)
 
 module _ (name : Token) (argument : Quoted Leaf) (l s p v f m x n h : Option Key) where
   abbrev text : List ℕ
-  text = text_of views_leaves argument
+  text = text_of views_keys argument
 
   abbrev Name : Type 0
   Name = OptionName Leaf Token
@@ -114,30 +114,30 @@ module _ (name : Token) (argument : Quoted Leaf) (l s p v f m x n h : Option Key
   -- the steps that are left, each from the rules so far
   abbrev rest_3 : Rules → Made Token Rules
   rest_3 r =
-      if_given (new.bound views_leaves name text) x
-      >>= (λ max. if_given (new.bound views_leaves name text) n
-      >>= (λ min. new.check_bounds views_leaves name text min max
+      if_given (new.bound views_keys name text) x
+      >>= (λ max. if_given (new.bound views_keys name text) n
+      >>= (λ min. new.check_bounds views_keys name text min max
       >>= (λ bounds_checked. help_of name h (record r { min = min; max = max }))))
 
   abbrev rest_2 : Rules → Made Token Rules
   rest_2 r =
-      if_given (new.flag views_leaves name text r.long r.short (is_some r.value) (is_some r.pattern)) f
-      >>= (λ flag. if_given (new.multiple views_leaves name text r.long r.short) m
+      if_given (new.flag views_keys name text r.long r.short (is_some r.value) (is_some r.pattern)) f
+      >>= (λ flag. if_given (new.multiple views_keys name text r.long r.short) m
       >>= (λ multiple. rest_3 (record r { flag = flag; multiple = multiple })))
 
   abbrev rest_1 : Rules → Made Token Rules
   rest_1 r =
-      if_given (new.property views_leaves name) p
-      >>= (λ pattern. if_given (new.option_value views_leaves name text r.long r.short) v
+      if_given (new.property views_keys name) p
+      >>= (λ pattern. if_given (new.option_value views_keys name text r.long r.short) v
       >>= (λ value. rest_2 (record r { pattern = pattern; value = value })))
 
   abbrev rest_0 : Made Token Rules
   rest_0 =
-      new.option views_leaves name text false l
-      >>= (λ long. new.option views_leaves name text true s
+      new.option views_keys name text false l
+      >>= (λ long. new.option views_keys name text true s
       >>= (λ short. rest_1 (named long short)))
 
-  within_is : (min max : Option (Bound Token)) → bounds_checked min max ≡ new.check_bounds views_leaves name text min max
+  within_is : (min max : Option (Bound Token)) → bounds_checked min max ≡ new.check_bounds views_keys name text min max
   within_is None max = refl
   within_is (Some min) None = refl
   within_is (Some min) (Some max) = refl
@@ -147,30 +147,30 @@ module _ (name : Token) (argument : Quoted Leaf) (l s p v f m x n h : Option Key
       step_3 : (flag multiple : Option Token) → let r = switched long short pattern value flag multiple in (bounds_of name x n r >>= help_of name h) ≡ rest_3 r
       step_3 flag multiple =
           let r = switched long short pattern value flag multiple in
-          checked (if_given (new.bound views_leaves name text) x) (λ max. if_given (new.bound views_leaves name text) n)
+          checked (if_given (new.bound views_keys name text) x) (λ max. if_given (new.bound views_keys name text) n)
           (λ max min. bounds_checked min max) (λ max min. record r { min = min; max = max }) (help_of name h)
-          ∙ (λ i. if_given (new.bound views_leaves name text) x
-          >>= (λ max. if_given (new.bound views_leaves name text) n
+          ∙ (λ i. if_given (new.bound views_keys name text) x
+          >>= (λ max. if_given (new.bound views_keys name text) n
           >>= (λ min. within_is min max i >>= (λ u. help_of name h (record r { min = min; max = max })))))
 
       step_2 : let r = valued long short pattern value in (switches_of name f m r >>= (λ r3. bounds_of name x n r3 >>= help_of name h)) ≡ rest_2 r
       step_2 =
           let r = valued long short pattern value in
-          two (if_given (new.flag views_leaves name text long short (is_some value) (is_some pattern)) f)
-          (λ flag. if_given (new.multiple views_leaves name text long short) m) (λ flag multiple. record r { flag = flag; multiple = multiple })
+          two (if_given (new.flag views_keys name text long short (is_some value) (is_some pattern)) f)
+          (λ flag. if_given (new.multiple views_keys name text long short) m) (λ flag multiple. record r { flag = flag; multiple = multiple })
           (λ r3. bounds_of name x n r3 >>= help_of name h)
-          ∙ (λ i. if_given (new.flag views_leaves name text long short (is_some value) (is_some pattern)) f
-          >>= (λ flag. if_given (new.multiple views_leaves name text long short) m >>= (λ multiple. step_3 flag multiple i)))
+          ∙ (λ i. if_given (new.flag views_keys name text long short (is_some value) (is_some pattern)) f
+          >>= (λ flag. if_given (new.multiple views_keys name text long short) m >>= (λ multiple. step_3 flag multiple i)))
 
     step_1 : let r = named long short in
         (values_of name p v r >>= (λ r2. switches_of name f m r2 >>= (λ r3. bounds_of name x n r3 >>= help_of name h))) ≡ rest_1 r
     step_1 =
         let r = named long short in
-        two (if_given (new.property views_leaves name) p)
-        (λ pattern. if_given (new.option_value views_leaves name text long short) v) (λ pattern value. record r { pattern = pattern; value = value })
+        two (if_given (new.property views_keys name) p)
+        (λ pattern. if_given (new.option_value views_keys name text long short) v) (λ pattern value. record r { pattern = pattern; value = value })
         (λ r2. switches_of name f m r2 >>= (λ r3. bounds_of name x n r3 >>= help_of name h))
-        ∙ (λ i. if_given (new.property views_leaves name) p
-        >>= (λ pattern. if_given (new.option_value views_leaves name text long short) v >>= (λ value. step_2 pattern value i)))
+        ∙ (λ i. if_given (new.property views_keys name) p
+        >>= (λ pattern. if_given (new.option_value views_keys name text long short) v >>= (λ value. step_2 pattern value i)))
 
   -- all steps, on any keys
   abbrev steps : Made Token Rules
@@ -184,18 +184,18 @@ module _ (name : Token) (argument : Quoted Leaf) (l s p v f m x n h : Option Key
   step_0 : steps ≡ rest_0
   step_0 =
       ap (λ made. made >>= (λ r1. values_of name p v r1 >>= (λ r2. switches_of name f m r2 >>= (λ r3. bounds_of name x n r3 >>= help_of name h))))
-      (one (new.option views_leaves name text false l) (λ long. with_long long (named_only argument)) (short_of name s))
-      ∙ two (new.option views_leaves name text false l) (λ long. new.option views_leaves name text true s) (λ long short. named long short)
+      (one (new.option views_keys name text false l) (λ long. with_long long (named_only argument)) (short_of name s))
+      ∙ two (new.option views_keys name text false l) (λ long. new.option views_keys name text true s) (λ long short. named long short)
       (λ r1. values_of name p v r1 >>= (λ r2. switches_of name f m r2 >>= (λ r3. bounds_of name x n r3 >>= help_of name h)))
-      ∙ (λ i. new.option views_leaves name text false l
-      >>= (λ long. new.option views_leaves name text true s >>= (λ short. step_1 long short i)))
+      ∙ (λ i. new.option views_keys name text false l
+      >>= (λ long. new.option views_keys name text true s >>= (λ short. step_1 long short i)))
 
 abbrev words : List (List ℕ)
 words =
     codes "min" ∷ codes "max" ∷ codes "multiple" ∷ codes "flag" ∷ codes "value" ∷ codes "pattern" ∷ codes "short" ∷ codes "long" ∷ []
 
 pub rules_are : (name : Token) (argument : Quoted Leaf) (keys : Keys)
-    → rules_read name keys (named_only argument) ≡ new_rules views_leaves name (text_of views_leaves argument) argument keys
+    → rules_read name keys (named_only argument) ≡ new_rules views_keys name (text_of views_keys argument) argument keys
 rules_are name argument keys =
     (λ i. steps name argument
     (at (codes "long") keys)
@@ -211,7 +211,7 @@ rules_are name argument keys =
     (at (codes "multiple") keys) (at (codes "max") keys) (at (codes "min") keys) (at (codes "help") keys)
 
 -- the text of a literal, marked `x` or not
-text_is : (l : StringLiteral) → text_of views_leaves (quoted_leaf l) ≡ string_bytes l.cooked
+text_is : (l : StringLiteral) → text_of views_keys (quoted_leaf l) ≡ string_bytes l.cooked
 text_is l = go l.expand
   where
     go : (b : Bool) → or_empty (leaf_cooked (token_of (string_of b (Literal (literal_of l))))) ≡ string_bytes l.cooked
@@ -220,13 +220,13 @@ text_is l = go l.expand
 
 -- all steps, from the parameter's name alone
 pub rules_are_of : (name : Token) (argument : StringLiteral) (keys : Keys) (r : Rules) → r ≡ named_only (quoted_leaf argument)
-    → new_rules views_leaves name (string_bytes argument.cooked) (quoted_leaf argument) keys ≡ rules_read name keys r
+    → new_rules views_keys name (string_bytes argument.cooked) (quoted_leaf argument) keys ≡ rules_read name keys r
 rules_are_of name argument keys r e =
-    ap (λ t. new_rules views_leaves name t (quoted_leaf argument) keys) (sym (text_is argument))
+    ap (λ t. new_rules views_keys name t (quoted_leaf argument) keys) (sym (text_is argument))
     ∙ sym (ap (rules_read name keys) e ∙ rules_are name (quoted_leaf argument) keys)
 
 -- a result that agrees with the steps agrees with `new_rules`
 pub makes_of : (name : Token) (argument : StringLiteral) (keys : Keys) (r : Rules) → r ≡ named_only (quoted_leaf argument) → {X : Type 0} (see : X → Rules)
     (result : Result X Fault) → Makes see result (rules_read name keys r)
-    → Makes see result (new_rules views_leaves name (string_bytes argument.cooked) (quoted_leaf argument) keys)
+    → Makes see result (new_rules views_keys name (string_bytes argument.cooked) (quoted_leaf argument) keys)
 makes_of name argument keys r e see result h = subst (Makes see result) (sym (rules_are_of name argument keys r e)) h

@@ -1,6 +1,5 @@
 pub mod ArgumentRules
 pub mod Keys
-pub mod KeywordArguments
 pub mod Made
 pub mod RuleErrors
 pub mod Steps

@@ -12,7 +12,7 @@ use Rattle.justfile_model.specs.Meanings.Meaning.{PositionalArgument, count_of, 
 use Rattle.justfile_model.specs.Readers.NewAttribute.{◌>>=◌, Made, check, literal, make_all, or_refuse, refuse}
 use Rattle.justfile_model.specs.Meanings.Rules.{ArgAttributeMinExceedsMax, ArgumentCountParse, ArgumentCountValue, InvalidSignal, Rule}
 use Rattle.justfile_model.specs.Trees.Tree.{Bound, Expr, Quoted}
-use Rattle.justfile_expression.specs.LeafViews.{views_leaves}
+use Rattle.justfile_attribute_rules.specs.Keys.{views_keys}
 use Rattle.justfile_expression.specs.LeafTree.{Leaf, Literal, Named, leaf_tree_of, literal_of}
 use Rattle.justfile_expression.specs.declared.expression.Expression.{Expression}
 use Rattle.justfile_attribute_rules.specs.RuleErrors.{IsErrorOfRule}
@@ -49,7 +49,7 @@ positional_leaves = map positional_leaf
 
 -- the signal that a literal names, or the broken rule
 abbrev pub signal_made : Quoted Leaf → Made Token Signal
-signal_made q = or_refuse (signal_named (text_of views_leaves q)) (InvalidSignal (text_of views_leaves q)) (views_leaves.place q.token)
+signal_made q = or_refuse (signal_named (text_of views_keys q)) (InvalidSignal (text_of views_keys q)) (views_keys.place q.token)
 
 -- the signals that literals name, as a set
 abbrev pub signals_made : List (Quoted Leaf) → Made Token (List Signal)
@@ -65,8 +65,8 @@ bounds_checked _ _ = Ok tt
 -- the number that a literal holds, or the broken rule, for an error that names `key`
 abbrev pub count_made : (key : Token) → Quoted Leaf → Made Token ℕ
 count_made key q = do
-  digits ← check (not (is_count (text_of views_leaves q))) (ArgumentCountValue key (text_of views_leaves q)) (views_leaves.place q.token)
-  or_refuse (count_of (text_of views_leaves q)) (ArgumentCountParse key (text_of views_leaves q)) (views_leaves.place q.token)
+  digits ← check (not (is_count (text_of views_keys q))) (ArgumentCountValue key (text_of views_keys q)) (views_keys.place q.token)
+  or_refuse (count_of (text_of views_keys q)) (ArgumentCountParse key (text_of views_keys q)) (views_keys.place q.token)
 
 abbrev pub bound_at : Name × ℕ → Bound Token
 bound_at p = record { key = p.0.token; number = p.1 }
@@ -74,7 +74,7 @@ bound_at p = record { key = p.0.token; number = p.1 }
 -- the key and its number, or the broken rule
 abbrev pub bound_made : (at key : Token) → Expr Leaf Token → Made Token (Option (Bound Token))
 bound_made at key value = do
-  q ← literal views_leaves at (Named key None) value
+  q ← literal views_keys at (Named key None) value
   number ← count_made key q
   Ok (Some (record { key = key; number = number }))
 

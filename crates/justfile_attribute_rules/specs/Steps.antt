@@ -7,9 +7,8 @@ use Rattle.justfile_model.specs.Readers.NewAttribute as new
 use Rattle.justfile_model.specs.Readers.NewAttribute.{◌>>=◌, Made, if_given}
 use Rattle.justfile_model.specs.Trees.Tree as tree
 use Rattle.justfile_model.specs.Trees.Tree.{Bound, Expr, OptionName, Quoted}
-use Rattle.justfile_expression.specs.LeafViews.{views_leaves}
 use Rattle.justfile_expression.specs.LeafTree.{Leaf}
-use Rattle.justfile_attribute_rules.specs.Keys.{without}
+use Rattle.justfile_attribute_rules.specs.Keys.{views_keys, without}
 use Rattle.justfile_attribute_rules.specs.Made.{bounds_checked}
 
 abbrev pub Rules : Type 0
@@ -38,23 +37,23 @@ named_only name = record {
 
 -- the text of the parameter's name, and its token
 abbrev pub argument_of : Rules → List ℕ
-argument_of r = text_of views_leaves r.name
+argument_of r = text_of views_keys r.name
 
 abbrev pub place_of : Rules → Token
-place_of r = views_leaves.place r.name.token
+place_of r = views_keys.place r.name.token
 
 -- the parameter has neither name of an option, so it isn't one
 abbrev pub lacks_option : Rules → Bool
-lacks_option r = not (new.is_option views_leaves (place_of r) (argument_of r) r.long) && not (new.is_option views_leaves (place_of r) (argument_of r) r.short)
+lacks_option r = not (new.is_option views_keys (place_of r) (argument_of r) r.long) && not (new.is_option views_keys (place_of r) (argument_of r) r.short)
 
 abbrev pub value_made : Rules → Key → Made Token (Expr Leaf Token)
-value_made r = new.option_value views_leaves (place_of r) (argument_of r) r.long r.short
+value_made r = new.option_value views_keys (place_of r) (argument_of r) r.long r.short
 
 abbrev pub flag_made : Rules → Key → Made Token Token
-flag_made r = new.flag views_leaves (place_of r) (argument_of r) r.long r.short (is_some r.value) (is_some r.pattern)
+flag_made r = new.flag views_keys (place_of r) (argument_of r) r.long r.short (is_some r.value) (is_some r.pattern)
 
 abbrev pub multiple_made : Rules → Key → Made Token Token
-multiple_made r = new.multiple views_leaves (place_of r) (argument_of r) r.long r.short
+multiple_made r = new.multiple views_keys (place_of r) (argument_of r) r.long r.short
 
 abbrev pub with_bounds : (min max : Option (Bound Token)) → Rules → Rules
 with_bounds min max r = record r { min = min; max = max }
@@ -79,18 +78,18 @@ abbrev pub after_bounds : Keys → Keys
 after_bounds keys = without (codes "min") (without (codes "max") keys)
 
 abbrev pub at : (word : List ℕ) → Keys → Option Key
-at = at_key views_leaves
+at = at_key views_keys
 
 -- what each step makes of its own keys, if they are present
 module _ (name : Token) where
   abbrev pub long_of : Option Key → Rules → Made Token Rules
   long_of l r = do
-    long ← new.option views_leaves name (argument_of r) false l
+    long ← new.option views_keys name (argument_of r) false l
     Ok (with_long long r)
 
   abbrev pub short_of : Option Key → Rules → Made Token Rules
   short_of s r = do
-    short ← new.option views_leaves name (argument_of r) true s
+    short ← new.option views_keys name (argument_of r) true s
     Ok (with_short short r)
 
   abbrev pub names_of : (long short : Option Key) → Rules → Made Token Rules
@@ -105,7 +104,7 @@ module _ (name : Token) where
 
   abbrev pub values_of : (pattern value : Option Key) → Rules → Made Token Rules
   values_of p v r = do
-    pattern ← if_given (new.property views_leaves name) p
+    pattern ← if_given (new.property views_keys name) p
     value_of v (record r { pattern = pattern })
 
   abbrev pub multiple_of : Option Key → Rules → Made Token Rules
@@ -120,14 +119,14 @@ module _ (name : Token) where
 
   abbrev pub bounds_of : (max min : Option Key) → Rules → Made Token Rules
   bounds_of x n r = do
-    max ← if_given (new.bound views_leaves name (argument_of r)) x
-    min ← if_given (new.bound views_leaves name (argument_of r)) n
+    max ← if_given (new.bound views_keys name (argument_of r)) x
+    min ← if_given (new.bound views_keys name (argument_of r)) n
     checked ← bounds_checked min max
     Ok (with_bounds min max r)
 
   abbrev pub help_of : Option Key → Rules → Made Token Rules
   help_of h r = do
-    help ← if_given (new.property views_leaves name) h
+    help ← if_given (new.property views_keys name) h
     Ok (record r { help = help })
 
   -- the steps on a list of keys; each takes its keys from those that are left

@@ -3,9 +3,8 @@ ghost use Rattle.std.specs.Prelude.{◌≡◌, IfOk, OnOk, codes, string_bytes};
 ghost use Rattle.std.specs.Option.{option_map};
 ghost use Rattle.justfile_token.specs.declared.string_literal.StringLiteral.{StringLiteral};
 ghost use Rattle.justfile_model.specs.Readers.NewAttribute as new;
-ghost use Rattle.justfile_expression.specs.LeafViews.{views_leaves};
 ghost use Rattle.justfile_attribute_rules.specs.ArgumentRules.{AreNamed, option_of, rules_of};
-ghost use Rattle.justfile_attribute_rules.specs.Keys.{AreKeyed, IsTaken, key_arguments};
+ghost use Rattle.justfile_attribute_rules.specs.Keys.{IsTaken, key_arguments, views_keys};
 ghost use Rattle.justfile_attribute_rules.specs.Made.{Makes, bound_at, quoted_leaf};
 ghost use Rattle.justfile_attribute_rules.specs.Steps.{after_bounds, after_names, after_switches, after_values, bounds_read, help_read, named_only, names_read, rules_read, switches_read, values_read, at, long_of, short_of, with_long, with_short, with_bounds};
 
@@ -29,9 +28,8 @@ pub fn read_argument_rules<'src>(
     argument: StringLiteral<'src>,
     keys: &mut KeyMap<'src>,
 ) -> CompileResult<'src, Box<ArgumentRules<'src>>>
-    requires { AreKeyed keys.old }
     ensures made { Makes (λ rules. rules_of rules.value) result
-        (new.new_rules views_leaves name.entry.token (string_bytes argument.entry.cooked)
+        (new.new_rules views_keys name.entry.token (string_bytes argument.entry.cooked)
         (quoted_leaf argument.entry) (key_arguments keys.old)) }
     ensures named { IfOk result (λ rules. AreNamed rules.value) }
 {
@@ -80,7 +78,6 @@ fn read_rules<'src>(
     keys: &mut KeyMap<'src>,
     rules: &mut ArgumentRules<'src>,
 ) -> CompileResult<'src>
-    requires { AreKeyed keys.old }
     ensures { Makes (λ _. rules_of rules.new) result
         (rules_read name.entry.token (key_arguments keys.old) (rules_of rules.old)) }
 {
@@ -99,11 +96,9 @@ fn read_names<'src>(
     keys: &mut KeyMap<'src>,
     rules: &mut ArgumentRules<'src>,
 ) -> CompileResult<'src>
-    requires { AreKeyed keys.old }
     ensures read { Makes (λ _. rules_of rules.new) result
         (names_read name.entry.token (key_arguments keys.old) (rules_of rules.old)) }
     ensures rest { OnOk result (key_arguments keys.new ≡ after_names (key_arguments keys.old)) }
-    ensures keyed { OnOk result (AreKeyed keys.new) }
 {
     read_long(alloc, name, keys, rules)?;
     read_short(alloc, name, keys, rules)
@@ -117,7 +112,6 @@ fn read_long<'src>(
     keys: &mut KeyMap<'src>,
     rules: &mut ArgumentRules<'src>,
 ) -> CompileResult<'src>
-    requires { AreKeyed keys.old }
     ensures read { Makes (λ _. rules_of rules.new) result (long_of name.entry.token
         (at (codes "long") (key_arguments keys.old)) (rules_of rules.old)) }
     ensures removed { IsTaken (codes "long") keys.old keys.new }
@@ -149,7 +143,6 @@ fn read_short<'src>(
     keys: &mut KeyMap<'src>,
     rules: &mut ArgumentRules<'src>,
 ) -> CompileResult<'src>
-    requires { AreKeyed keys.old }
     ensures read { Makes (λ _. rules_of rules.new) result (short_of name.entry.token
         (at (codes "short") (key_arguments keys.old)) (rules_of rules.old)) }
     ensures removed { IsTaken (codes "short") keys.old keys.new }
@@ -180,11 +173,9 @@ fn read_values<'src>(
     keys: &mut KeyMap<'src>,
     rules: &mut ArgumentRules<'src>,
 ) -> CompileResult<'src>
-    requires { AreKeyed keys.old }
     ensures read { Makes (λ _. rules_of rules.new) result
         (values_read name.entry.token (key_arguments keys.old) (rules_of rules.old)) }
     ensures rest { OnOk result (key_arguments keys.new ≡ after_values (key_arguments keys.old)) }
-    ensures keyed { OnOk result (AreKeyed keys.new) }
 {
     rules.pattern_property = take_required(name, keys, "pattern")?;
     rules.value = take_value(keys, rules)?;
@@ -198,11 +189,9 @@ fn read_switches<'src>(
     keys: &mut KeyMap<'src>,
     rules: &mut ArgumentRules<'src>,
 ) -> CompileResult<'src>
-    requires { AreKeyed keys.old }
     ensures read { Makes (λ _. rules_of rules.new) result
         (switches_read rules.old.name.token (key_arguments keys.old) (rules_of rules.old)) }
     ensures rest { OnOk result (key_arguments keys.new ≡ after_switches (key_arguments keys.old)) }
-    ensures keyed { OnOk result (AreKeyed keys.new) }
 {
     rules.flag = take_flag(alloc, keys, rules)?;
     rules.multiple = take_multiple(keys, rules)?;
@@ -217,11 +206,9 @@ fn read_bounds<'src>(
     keys: &mut KeyMap<'src>,
     rules: &mut ArgumentRules<'src>,
 ) -> CompileResult<'src>
-    requires { AreKeyed keys.old }
     ensures read { Makes (λ _. rules_of rules.new) result
         (bounds_read name.entry.token (key_arguments keys.old) (rules_of rules.old)) }
     ensures rest { OnOk result (key_arguments keys.new ≡ after_bounds (key_arguments keys.old)) }
-    ensures keyed { OnOk result (AreKeyed keys.new) }
 {
     let max = take_bound(alloc, name, keys, "max")?;
     let min = take_bound(alloc, name, keys, "min")?;
@@ -250,7 +237,6 @@ fn read_help<'src>(
     keys: &mut KeyMap<'src>,
     rules: &mut ArgumentRules<'src>,
 ) -> CompileResult<'src>
-    requires { AreKeyed keys.old }
     ensures { Makes (λ _. rules_of rules.new) result
         (help_read name.entry.token (key_arguments keys.old) (rules_of rules.old)) }
 {

@@ -2,7 +2,7 @@
 ghost use Rattle.std.specs.Prelude.{◌≡◌};
 ghost use Rattle.justfile_model.specs.Meanings.AttributeKinds.{least_count, most_count, takes_expressions};
 ghost use Rattle.justfile_model.specs.Readers.NewAttribute as new;
-ghost use Rattle.justfile_expression.specs.LeafViews.{views_leaves};
+ghost use Rattle.justfile_attribute_rules.specs.Keys.{views_keys};
 ghost use Rattle.justfile_attribute_rules.specs.Made.{Makes};
 ghost use Rattle.justfile_attribute_rules.specs.RuleErrors.{IsMost};
 
@@ -31,7 +31,7 @@ pub fn accepts_expressions(kind: AttributeKind) -> bool
 /// `Compile` at the attribute's name.
 #[tactic(auto, using(crate::proofs::Counts::more_is))]
 pub fn check_count<'src>(name: Name<'src>, kind: AttributeKind, found: usize) -> CompileResult<'src>
-    ensures { Makes (λ _. tt) result (new.check_count views_leaves name.entry.token kind found) }
+    ensures { Makes (λ _. tt) result (new.check_count views_keys name.entry.token kind found) }
 {
     let (min, max) = argument_range(kind);
     if found < min || max < found {

@@ -1,25 +1,24 @@
-//! The keys of an attribute: insertion, removal, and the check that its kind accepts them.
-ghost use Rattle.std.specs.Prelude.{◌≡◌, OnErr, OnOk, codes};
+//! The keys of an attribute: removal, and the check that its kind accepts them.
+ghost use Rattle.std.specs.Prelude.{◌≡◌};
 ghost use Rattle.std.specs.List.{list_any};
 ghost use Rattle.std.specs.Option.{option_map};
 ghost use Rattle.std.specs.Str.{bytes_eq};
 ghost use Rattle.justfile_model.specs.Meanings.AttributeKinds.{known_keys};
 ghost use Rattle.justfile_model.specs.Meanings.Meaning.{at_key};
 ghost use Rattle.justfile_model.specs.Readers.NewAttribute as new;
-ghost use Rattle.justfile_expression.specs.LeafViews.{views_leaves};
 ghost use Rattle.justfile_expression.specs.LeafTree.{leaf_tree_of};
 ghost use Rattle.justfile_attribute_rules.specs.ArgumentRules.{property_of};
-ghost use Rattle.justfile_attribute_rules.specs.Keys.{AreKeyed, IsInserted, IsTaken, key_argument, key_arguments};
+ghost use Rattle.justfile_attribute_rules.specs.Keys.{IsTaken, key_arguments, keyed, views_keys};
 ghost use Rattle.justfile_model.specs.Meanings.Rules.{AttributeKeyMissingValue};
 ghost use Rattle.justfile_attribute_rules.specs.Made.{IsFaultOfRule, Makes};
 
 use justfile_expression::Expression;
 use justfile_token::{CompileErrorKind, CompileResult, Fault, Name};
 use justfile_vocabulary::AttributeKind;
-use std::alloc::AllocError;
 use std::collections::BTreeMap;
 
-/// The keys of an attribute, by their texts. Each has its name token and an optional value.
+/// The keys of an attribute, by their texts. Each has its name, which errors name, and an optional
+/// value.
 pub type KeyMap<'src> = BTreeMap<&'src str, (Name<'src>, Option<Box<Expression<'src>>>)>;
 
 /// The keys that `arg` accepts.
@@ -29,24 +28,6 @@ static ARGUMENT_KEYS: [&str; 9] = [
 
 /// The keys that `cache` accepts.
 static CACHE_KEYS: [&str; 3] = ["extra", "inputs", "outputs"];
-
-/// Inserts a key by its text. It replaces a key with the same text.
-#[tactic(auto, using(crate::proofs::PutKeys::same_keyed))]
-pub(crate) fn insert_key<'src>(
-    keys: &mut KeyMap<'src>,
-    property: (Name<'src>, Option<Box<Expression<'src>>>),
-) -> Result<(), AllocError>
-    requires { AreKeyed keys.old }
-    ensures ok { OnOk result (IsInserted property.entry keys.old keys.new) }
-    ensures err { OnErr result (keys.new.entries ≡ keys.old.entries) }
-    ensures keyed { AreKeyed keys.new }
-{
-    let text = property.0.lexeme();
-    match keys.insert(text, property) {
-        Ok(_before) => Ok(()),
-        Err(_failed) => Err(AllocError),
-    }
-}
 
 /// Removes the key with this text and returns it with its value, or `None` if there is no such key.
 ///
@@ -58,10 +39,9 @@ pub fn take_required<'src>(
     keys: &mut KeyMap<'src>,
     word: &str,
 ) -> CompileResult<'src, Option<(Name<'src>, Box<Expression<'src>>)>>
-    requires { AreKeyed keys.old }
     ensures made { Makes (option_map property_of) result
-        (new.if_given (new.property views_leaves name.entry.token)
-        (at_key views_leaves word.now (key_arguments keys.old))) }
+        (new.if_given (new.property views_keys name.entry.token)
+        (at_key views_keys word.now (key_arguments keys.old))) }
     ensures removed { IsTaken word.now keys.old keys.new }
 {
     match take(keys, word) {
@@ -81,9 +61,8 @@ pub fn take_value<'src>(
     keys: &mut KeyMap<'src>,
     word: &str,
 ) -> CompileResult<'src, Option<Box<Expression<'src>>>>
-    requires { AreKeyed keys.old }
     ensures made { Makes (option_map (λ e. leaf_tree_of e.value)) result
-        (new.required_at views_leaves name.entry.token word.now (key_arguments keys.old)) }
+        (new.required_at views_keys name.entry.token word.now (key_arguments keys.old)) }
     ensures removed { IsTaken word.now keys.old keys.new }
 {
     match take(keys, word) {
@@ -98,9 +77,8 @@ pub fn take<'src>(
     keys: &mut KeyMap<'src>,
     word: &str,
 ) -> Option<(Name<'src>, Option<Box<Expression<'src>>>)>
-    requires { AreKeyed keys.old }
-    ensures taken { option_map key_argument result
-        ≡ at_key views_leaves word.now (key_arguments keys.old) }
+    ensures taken { option_map (keyed word.now) result
+        ≡ at_key views_keys word.now (key_arguments keys.old) }
     ensures removed { IsTaken word.now keys.old keys.new }
 {
     keys.remove(word)
@@ -124,12 +102,11 @@ pub fn check_keys<'src>(
     kind: AttributeKind,
     keys: &KeyMap<'src>,
 ) -> CompileResult<'src>
-    requires { AreKeyed keys.now }
     ensures { Makes (λ _. tt) result
-        (new.check_keys views_leaves name.entry.token kind (key_arguments keys.now)) }
+        (new.check_keys views_keys name.entry.token kind (key_arguments keys.now)) }
 {
-    for (key, _value) in keys.values() {
-        if !is_known(kind, key.lexeme()) {
+    for (text, (key, _value)) in keys {
+        if !is_known(kind, text) {
             return Err(Fault::Compile(key.error(CompileErrorKind::UnknownAttributeKey {
                 attribute: name.lexeme(),
                 key: key.lexeme(),

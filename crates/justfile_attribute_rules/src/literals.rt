@@ -4,7 +4,7 @@ ghost use Rattle.std.specs.Option.{option_map};
 ghost use Rattle.justfile_model.specs.Meanings.Meaning.{quoted};
 ghost use Rattle.justfile_model.specs.Readers.NewAttribute as new;
 ghost use Rattle.justfile_model.specs.Meanings.Rules.{AttributeArgumentExpression};
-ghost use Rattle.justfile_expression.specs.LeafViews.{views_leaves};
+ghost use Rattle.justfile_attribute_rules.specs.Keys.{views_keys};
 ghost use Rattle.justfile_expression.specs.LeafTree.{Named, leaf_tree_of};
 ghost use Rattle.justfile_attribute_rules.specs.Made.{IsFaultOfRule, Makes, positional_leaf, positional_leaves, quoted_leaf, quoted_leaves};
 
@@ -24,7 +24,7 @@ pub(crate) fn key_literal<'src>(
     key: Name<'src>,
     value: Box<Expression<'src>>,
 ) -> CompileResult<'src, StringLiteral<'src>>
-    ensures { Makes quoted_leaf result (new.literal views_leaves name.entry.token
+    ensures { Makes quoted_leaf result (new.literal views_keys name.entry.token
         (Named key.entry.token None) (leaf_tree_of value.entry.value)) }
 {
     match literal_of(value) {
@@ -45,7 +45,7 @@ pub fn string_literals<'src>(
     arguments: Vec<(Token<'src>, Box<Expression<'src>>)>,
 ) -> CompileResult<'src, Vec<StringLiteral<'src>>>
     ensures { Makes (λ literals. quoted_leaves literals.items) result (new.make_all
-        (new.placed_literal views_leaves name.entry.token)
+        (new.placed_literal views_keys name.entry.token)
         (positional_leaves arguments.entry.items)) }
 {
     let mut literals = Vec::new(alloc);
@@ -66,7 +66,7 @@ fn placed_literal<'src>(
     first: Token<'src>,
     value: Box<Expression<'src>>,
 ) -> CompileResult<'src, StringLiteral<'src>>
-    ensures { Makes quoted_leaf result (new.placed_literal views_leaves name.entry.token
+    ensures { Makes quoted_leaf result (new.placed_literal views_keys name.entry.token
         (positional_leaf (first.entry, value.entry))) }
 {
     match literal_of(value) {

@@ -6,9 +6,8 @@ ghost use Rattle.justfile_model.proofs.Lists.CountLaws.{is_digit_byte};
 ghost use Rattle.justfile_model.specs.Meanings.Meaning as means;
 ghost use Rattle.justfile_model.specs.Meanings.Meaning.{at_key};
 ghost use Rattle.justfile_model.specs.Readers.NewAttribute as new;
-ghost use Rattle.justfile_expression.specs.LeafViews.{views_leaves};
 ghost use Rattle.justfile_expression.specs.LeafTree.{leaf_tree_of};
-ghost use Rattle.justfile_attribute_rules.specs.Keys.{AreKeyed, IsTaken, key_arguments};
+ghost use Rattle.justfile_attribute_rules.specs.Keys.{IsTaken, key_arguments, views_keys};
 ghost use Rattle.justfile_attribute_rules.specs.Made.{Makes, bound_at, bound_made, count_made, quoted_leaf, bounds_checked};
 
 use crate::keys::{KeyMap, missing_value_fault, take};
@@ -34,10 +33,9 @@ pub(crate) fn take_bound<'src>(
     keys: &mut KeyMap<'src>,
     word: &str,
 ) -> CompileResult<'src, Option<(Name<'src>, u64)>>
-    requires { AreKeyed keys.old }
     ensures made { Makes (option_map bound_at) result
-        (new.if_given (new.bound views_leaves name.entry.token [])
-        (at_key views_leaves word.now (key_arguments keys.old))) }
+        (new.if_given (new.bound views_keys name.entry.token [])
+        (at_key views_keys word.now (key_arguments keys.old))) }
     ensures removed { IsTaken word.now keys.old keys.new }
 {
     match take(keys, word) {

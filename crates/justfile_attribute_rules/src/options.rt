@@ -4,10 +4,9 @@ ghost use Rattle.std.specs.Option.{option_map};
 ghost use Rattle.std.specs.Str.{chars};
 ghost use Rattle.justfile_model.specs.Meanings.Meaning.{at_key};
 ghost use Rattle.justfile_model.specs.Readers.NewAttribute as new;
-ghost use Rattle.justfile_expression.specs.LeafViews.{views_leaves};
 ghost use Rattle.justfile_expression.specs.LeafTree.{Named, leaf_tree_of};
 ghost use Rattle.justfile_attribute_rules.specs.ArgumentRules.{IsNamedAs, option_of};
-ghost use Rattle.justfile_attribute_rules.specs.Keys.{AreKeyed, IsTaken, key_arguments};
+ghost use Rattle.justfile_attribute_rules.specs.Keys.{IsTaken, key_arguments, views_keys};
 ghost use Rattle.justfile_attribute_rules.specs.Made.{Makes, option_word, quoted_leaf};
 
 use crate::keys::{KeyMap, take};
@@ -33,10 +32,9 @@ pub(crate) fn take_option<'src>(
     is_short: bool,
     keys: &mut KeyMap<'src>,
 ) -> CompileResult<'src, OptionName<'src>>
-    requires { AreKeyed keys.old }
     ensures made { Makes (λ p. option_of p.1 p.0) result
-        (new.option views_leaves name.entry.token (string_bytes argument.now.cooked) is_short
-        (at_key views_leaves (option_word is_short) (key_arguments keys.old))) }
+        (new.option views_keys name.entry.token (string_bytes argument.now.cooked) is_short
+        (at_key views_keys (option_word is_short) (key_arguments keys.old))) }
     ensures removed { IsTaken (option_word is_short) keys.old keys.new }
 {
     let word = if is_short { "short" } else { "long" };
@@ -58,7 +56,7 @@ fn option_name<'src>(
     value: Box<Expression<'src>>,
 ) -> CompileResult<'src, OptionName<'src>>
     ensures { Makes (λ p. option_of p.1 p.0) result
-        (new.option_by views_leaves name.entry.token (string_bytes argument.now.cooked) is_short
+        (new.option_by views_keys name.entry.token (string_bytes argument.now.cooked) is_short
         (Named key.entry.token None) (Some (leaf_tree_of value.entry.value))) }
 {
     let literal = key_literal(name, key, value)?;
@@ -90,7 +88,7 @@ fn check_option_name<'src>(
     literal: &StringLiteral<'src>,
 ) -> CompileResult<'src>
     ensures { Makes (λ _. tt) result
-        (new.check_option_name views_leaves literal.now.token (string_bytes argument.now.cooked)
+        (new.check_option_name views_keys literal.now.token (string_bytes argument.now.cooked)
         (quoted_leaf literal.now) (string_bytes literal.now.cooked)) }
 {
     let option = literal.cooked.as_str().as_bytes();
@@ -127,7 +125,7 @@ fn check_short<'src>(
     literal: &StringLiteral<'src>,
 ) -> CompileResult<'src>
     ensures { Makes (λ _. tt) result
-        (new.check_short views_leaves literal.now.token (string_bytes argument.now.cooked) is_short
+        (new.check_short views_keys literal.now.token (string_bytes argument.now.cooked) is_short
         (quoted_leaf literal.now) (string_bytes literal.now.cooked)) }
 {
     if is_short && !has_one_char(literal.cooked.as_str()) {

@@ -4,10 +4,9 @@ ghost use Rattle.std.specs.Option.{is_some, option_map};
 ghost use Rattle.justfile_model.specs.Meanings.Meaning.{at_key};
 ghost use Rattle.justfile_model.specs.Readers.NewAttribute as new;
 ghost use Rattle.justfile_model.specs.Meanings.Rules as broken;
-ghost use Rattle.justfile_expression.specs.LeafViews.{views_leaves};
 ghost use Rattle.justfile_expression.specs.LeafTree.{leaf_tree_of};
 ghost use Rattle.justfile_attribute_rules.specs.ArgumentRules.{rules_of};
-ghost use Rattle.justfile_attribute_rules.specs.Keys.{AreKeyed, IsTaken, key_argument, key_arguments};
+ghost use Rattle.justfile_attribute_rules.specs.Keys.{IsTaken, key_arguments, keyed, views_keys};
 ghost use Rattle.justfile_attribute_rules.specs.Made.{Makes};
 ghost use Rattle.justfile_attribute_rules.specs.Steps.{flag_made, multiple_made, value_made, lacks_option};
 
@@ -27,10 +26,9 @@ pub(crate) fn take_value<'src>(
     keys: &mut KeyMap<'src>,
     rules: &ArgumentRules<'src>,
 ) -> CompileResult<'src, Option<Box<Expression<'src>>>>
-    requires { AreKeyed keys.old }
     ensures made { Makes (option_map (λ e. leaf_tree_of e.value)) result
         (new.if_given (value_made (rules_of rules.now))
-        (at_key views_leaves (codes "value") (key_arguments keys.old))) }
+        (at_key views_keys (codes "value") (key_arguments keys.old))) }
     ensures removed { IsTaken (codes "value") keys.old keys.new }
 {
     match take(keys, "value") {
@@ -54,9 +52,8 @@ pub(crate) fn take_flag<'src>(
     keys: &mut KeyMap<'src>,
     rules: &ArgumentRules<'src>,
 ) -> CompileResult<'src, Option<Token<'src>>>
-    requires { AreKeyed keys.old }
     ensures made { Makes (λ token. token) result (new.if_given (flag_made (rules_of rules.now))
-        (at_key views_leaves (codes "flag") (key_arguments keys.old))) }
+        (at_key views_keys (codes "flag") (key_arguments keys.old))) }
     ensures removed { IsTaken (codes "flag") keys.old keys.new }
 {
     match take(keys, "flag") {
@@ -78,7 +75,7 @@ fn check_flag<'src>(
     rules: &ArgumentRules<'src>,
 ) -> CompileResult<'src>
     ensures { Makes (λ _. key.entry.token) result
-        (flag_made (rules_of rules.now) (key_argument (key.entry, value.now))) }
+        (flag_made (rules_of rules.now) (keyed (codes "flag") (key.entry, value.now))) }
 {
     if value.is_some() {
         let parameter = argument_text(alloc, &rules.name)?;
@@ -111,9 +108,8 @@ pub(crate) fn take_multiple<'src>(
     keys: &mut KeyMap<'src>,
     rules: &ArgumentRules<'src>,
 ) -> CompileResult<'src, Option<Token<'src>>>
-    requires { AreKeyed keys.old }
     ensures made { Makes (λ token. token) result (new.if_given (multiple_made (rules_of rules.now))
-        (at_key views_leaves (codes "multiple") (key_arguments keys.old))) }
+        (at_key views_keys (codes "multiple") (key_arguments keys.old))) }
     ensures removed { IsTaken (codes "multiple") keys.old keys.new }
 {
     match take(keys, "multiple") {
@@ -132,7 +128,8 @@ fn check_multiple<'src>(
     rules: &ArgumentRules<'src>,
 ) -> CompileResult<'src>
     ensures { Makes (λ _. key.entry.token) result
-        (multiple_made (rules_of rules.now) (key_argument (key.entry, value.now))) }
+        (multiple_made (rules_of rules.now)
+        (keyed (codes "multiple") (key.entry, value.now))) }
 {
     if value.is_some() {
         return Err(Fault::Compile(key.error(CompileErrorKind::AttributeKeyTakesNoValue { key })));

@@ -12,8 +12,7 @@ use Rattle.justfile_model.specs.Readers.AttributeReader as attributes
 use Rattle.justfile_model.specs.Meanings.Meaning.{KeyArgument, at_key, by_key}
 use Rattle.justfile_model.specs.Trees.Tree as tree
 use Rattle.justfile_model.specs.Trees.Tree.{Argument, Expr}
-use Rattle.justfile_attribute_rules.specs.Keys.{key_text}
-use Rattle.justfile_parse_attribute.specs.ArgumentKeys.{Given, are_distinct, are_keys_distinct}
+use Rattle.justfile_parse_attribute.specs.ArgumentKeys.{Given, are_distinct, are_keys_distinct, key_text}
 use Rattle.justfile_parse_attribute.specs.AttributeTable.{meaning_in, meaning_kept, some_key}
 use Rattle.justfile_parse_base.specs.SharedTable.{view_of}
 use Rattle.justfile_parse_attribute.specs.Attributes.{arguments_of, keyed_of, positional_of}
@@ -23,10 +22,11 @@ use Rattle.justfile_expression.specs.LeafViews.{views_leaves}
 use Rattle.justfile_expression.specs.LeafTree.{Leaf, Named, leaf_tree_of}
 use Rattle.justfile_expression.specs.declared.expression.Expression.{Expression}
 
-abbrev Key : Type 0
+abbrev pub Key : Type 0
 Key = KeyArgument Leaf Token
 
-abbrev key_of : Given → Key
+-- the key of a written argument
+abbrev pub key_of : Given → Key
 key_of g = record { key = Named g.0.token None; value = option_map (λ (e : Box Expression). leaf_tree_of e.value) g.1 }
 
 -- of a key alone

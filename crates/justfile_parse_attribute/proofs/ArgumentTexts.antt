@@ -8,9 +8,8 @@ use Rattle.std.specs.BTreeSet.{BTreeSet}
 use Rattle.std.specs.List.{list_any}
 use Rattle.std.specs.Option.{is_some}
 use Rattle.std.specs.Str.{bytes_eq}
-use Rattle.justfile_attribute_rules.specs.Keys.{key_text}
 use Rattle.justfile_model.specs.Meanings.Meaning.{at_key, by_key}
-use Rattle.justfile_parse_attribute.specs.ArgumentKeys.{AreTexts, Given, are_keys_distinct}
+use Rattle.justfile_parse_attribute.specs.ArgumentKeys.{AreTexts, Given, are_keys_distinct, key_text}
 use Rattle.justfile_parse_attribute.specs.Attributes.{arguments_of}
 use Rattle.justfile_parse_base.specs.TextSets.{HaveSame, texts_in}
 use Rattle.justfile_parse_attribute.specs.declared.arguments.Arguments.{Arguments}

@@ -12,21 +12,22 @@ use Rattle.std.proofs.lemmas.List.Elements.{All-contains, All-contains_itself, A
 use Rattle.std.proofs.lemmas.Map.Views.{All-values-insert_entry}
 use Rattle.std.proofs.lemmas.Slice.Eq.{bytes_eq-Decides}
 use denote.Ref.{Bor}
-use Rattle.justfile_attribute_rules.specs.Keys.{AreKeyed, IsInserted, KeyMap, key_argument, key_arguments, key_text, text_order}
+use Rattle.justfile_attribute_rules.specs.Keys.{KeyMap, key_argument, key_arguments, views_keys}
+use Rattle.justfile_attribute_rules.proofs.KeyTexts.{attribute_text, by_text}
 use Rattle.justfile_attribute_rules.specs.Made.{positional_leaf, positional_leaves}
-use Rattle.justfile_attribute_rules.proofs.PutKeys.{IsKeyed, Stored, none_keyed, stays_keyed, tied}
+use Rattle.justfile_parse_attribute.proofs.PutKeys.{IsKeyed, Stored, none_keyed, stays_keyed, tied}
 use Rattle.justfile_vocabulary.specs.declared.attribute_kind.AttributeKind.{AttributeKind}
 use Rattle.justfile_token.specs.declared.token.Token.{Token}
 use Rattle.justfile_model.specs.Meanings.Meaning.{KeyArgument, PositionalArgument, by_key, by_position}
 use Rattle.justfile_model.specs.Readers.NewAttribute.{new_attribute}
 use Rattle.justfile_model.proofs.Meanings.NewAttributeSteps.{contains_first, nothing_in}
 use Rattle.justfile_model.proofs.Meanings.SameKeys.{SameKeys, attribute_same}
-use Rattle.justfile_parse_attribute.specs.ArgumentKeys.{Given, HasKeys, are_distinct, are_keys_distinct}
+use Rattle.justfile_parse_attribute.specs.ArgumentKeys.{AreKeyed, Given, HasKeys, IsInserted, are_distinct, are_keys_distinct, key_text, text_order}
 use Rattle.justfile_parse_attribute.specs.Attributes.{arguments_of, keyed_of, positional_of}
 use Rattle.justfile_parse_attribute.specs.declared.arguments.Arguments.{Arguments}
-use Rattle.justfile_parse_attribute.proofs.ArgumentLists.{both, keys_are}
+use Rattle.justfile_parse_attribute.proofs.ArgumentLists.{both, key_of, keys_are}
 use Rattle.justfile_expression.specs.LeafViews.{views_leaves}
-use Rattle.justfile_expression.specs.LeafTree.{Leaf}
+use Rattle.justfile_expression.specs.LeafTree.{Command, Leaf}
 use Rattle.justfile_expression.specs.declared.expression.Expression.{Expression}
 
 -- ---- elements
@@ -195,6 +196,7 @@ one_put all before front g m n distinct h e p =
 
 pub all_put : (all : List Given) (m : KeyMap) → ArePut all [] m → HasKeys all m
 all_put all m h = record {
+  keyed = h.keyed;
   there = All-from_recursion (Contains (values m)) all (all_then (λ g. Contains [] g ⊎ Contains (values m) g) (Contains (values m)) moved all h.there);
   back = All-from_recursion (Contains all) (values m) h.back;
 }
@@ -221,21 +223,32 @@ positions_are a = positions_after a.positional.items a.keyed.items
 abbrev text_of_key : KeyArgument Leaf Token → List ℕ
 text_of_key k = views_leaves.bytes k.key
 
-same_texts : (gs : List Given) → map text_of_key (map key_argument gs) ≡ map key_text gs
+same_texts : (gs : List Given) → map text_of_key (map key_of gs) ≡ map key_text gs
 same_texts [] = refl
 same_texts (g ∷ gs) = ap (λ (l : List (List ℕ)). key_text g ∷ l) (same_texts gs)
 
-keys_same : (gs : List Given) (m : KeyMap) → IsTrue (are_keys_distinct gs) → HasKeys gs m → SameKeys views_leaves (map key_argument gs) (key_arguments m)
+keys_same : (gs : List Given) (m : KeyMap) → IsTrue (are_keys_distinct gs) → HasKeys gs m → SameKeys views_leaves (map key_of gs) (map key_of (values m))
 unfolding are_keys_distinct
 keys_same gs m distinct h = record {
-  one_each = one_each text_of_key (map key_argument gs) (subst (λ texts. IsTrue (are_distinct texts)) (sym (same_texts gs)) distinct);
-  there = seen_within key_argument gs (values m) (recursion_from_All (Contains (values m)) gs h.there);
-  back = seen_within key_argument (values m) gs (recursion_from_All (Contains gs) (values m) h.back);
+  one_each = one_each text_of_key (map key_of gs) (subst (λ texts. IsTrue (are_distinct texts)) (sym (same_texts gs)) distinct);
+  there = seen_within key_of gs (values m) (recursion_from_All (Contains (values m)) gs h.there);
+  back = seen_within key_of (values m) gs (recursion_from_All (Contains gs) (values m) h.back);
 }
+
+-- each key stands in the map by its own text
+by_texts : (es : List Stored) → AllByRecursion IsKeyed es → map key_argument es ≡ map by_text (map key_of (values_of es))
+by_texts [] h = refl
+by_texts (e ∷ es) h = λ i. record { key = Command e.1.0.token (h.0 i); value = (key_of e.1).value } ∷ by_texts es h.1 i
+
+keys_by_text : (m : KeyMap) → AreKeyed m → map by_text (map key_of (values m)) ≡ key_arguments m
+unfolding AreKeyed
+keys_by_text m h = sym (by_texts m.entries (recursion_from_All IsKeyed m.entries h))
 
 -- the attribute is that of the arguments as they were read
 pub made_same : (at : Token) (kind : AttributeKind) (a : Arguments) (m : KeyMap) → HasKeys a.keyed.items m
-    → new_attribute views_leaves at kind (by_position (arguments_of a)) (by_key (arguments_of a)) ≡ new_attribute views_leaves at kind (positional_leaves a.positional.items) (key_arguments m)
+    → new_attribute views_leaves at kind (by_position (arguments_of a)) (by_key (arguments_of a)) ≡ new_attribute views_keys at kind (positional_leaves a.positional.items) (key_arguments m)
 made_same at kind a m h =
     (λ i. new_attribute views_leaves at kind (positions_are a i) (keys_are a i))
-    ∙ attribute_same views_leaves (map key_argument a.keyed.items) (key_arguments m) (keys_same a.keyed.items m a.distinct h) at kind (positional_leaves a.positional.items)
+    ∙ attribute_same views_leaves (map key_of a.keyed.items) (map key_of (values m)) (keys_same a.keyed.items m a.distinct h) at kind (positional_leaves a.positional.items)
+    ∙ sym (attribute_text at kind (positional_leaves a.positional.items) (map key_of (values m)))
+    ∙ ap (new_attribute views_keys at kind (positional_leaves a.positional.items)) (keys_by_text m h.keyed)

@@ -6,5 +6,6 @@ mod CommentedAttributes
 pub mod KeysPut
 pub mod KnownLabels
 pub mod PlainAttributes
+pub mod PutKeys
 pub mod RepeatedAttributes
 pub mod DerivedFieldsKept

@@ -2,12 +2,11 @@
 ghost use Rattle.std.specs.Prelude.{◌≡◌, ◌∷◌, ◌++◌, [], IfErr, IfOk, IsTrue, Ok, OnErr, OnOk};
 ghost use Rattle.justfile_attribute.specs.Attribute.{leaf_attribute_of};
 ghost use Rattle.justfile_attribute.specs.New.{HasDerivedAttributeFields, takes_no_arguments};
-ghost use Rattle.justfile_attribute_rules.specs.KeywordArguments.{keys_of};
 ghost use Rattle.justfile_attribute_rules.specs.Made.{Makes};
 ghost use Rattle.justfile_model.specs.Meanings.Meaning.{by_key, by_position};
 ghost use Rattle.justfile_model.specs.Readers.NewAttribute as new;
 ghost use Rattle.justfile_model.specs.Trees.Tree as tree;
-ghost use Rattle.justfile_parse_attribute.specs.ArgumentKeys.{HasKeys, are_keys_distinct};
+ghost use Rattle.justfile_parse_attribute.specs.ArgumentKeys.{AreKeyed, HasKeys, IsInserted, are_keys_distinct};
 ghost use Rattle.justfile_token.specs.declared.fault.Fault.TheVariants.{Memory};
 ghost use Rattle.justfile_parse_attribute.specs.AddedAttributes.{Adds};
 ghost use Rattle.justfile_parse_attribute.specs.Attributes.{arguments_of};
@@ -17,12 +16,13 @@ ghost use Rattle.justfile_written.specs.Written.{uncommented};
 
 use crate::arguments::Arguments;
 use justfile_attribute::{Attribute, plain_attribute, takes_no_arguments};
-use justfile_attribute_rules::KeywordArguments;
+use justfile_attribute_rules::KeyMap;
 use justfile_expression::Expression;
 use justfile_token::{CompileResult, Name};
 use justfile_vocabulary::AttributeKind;
 use justfile_written::Written;
 use std::alloc::{AllocError, Global};
+use std::collections::BTreeMap;
 
 /// Makes an attribute from its arguments, and appends it to `attributes`.
 ///
@@ -128,15 +128,32 @@ fn new_attribute<'src>(
 fn keys_by_text<'src>(
     alloc: Global,
     keyed: Vec<(Name<'src>, Option<Box<Expression<'src>>>)>,
-) -> Result<KeywordArguments<'src>, AllocError>
+) -> Result<KeyMap<'src>, AllocError>
     requires { IsTrue (are_keys_distinct keyed.items) }
-    ensures { IfOk result (λ keys. HasKeys keyed.entry.items (keys_of keys)) }
+    ensures { IfOk result (λ keys. HasKeys keyed.entry.items keys) }
 {
     let mut keyed = keyed;
-    let mut keys = KeywordArguments::new(alloc);
+    let mut keys = BTreeMap::new(alloc);
     while let Some(given) = keyed.pop() {
-        let (name, value) = given;
-        keys.insert(name, value)?;
+        insert_key(&mut keys, given)?;
     }
     Ok(keys)
+}
+
+/// Inserts a key by its text. It replaces a key with the same text.
+#[tactic(auto, using(crate::proofs::PutKeys::same_keyed))]
+fn insert_key<'src>(
+    keys: &mut KeyMap<'src>,
+    given: (Name<'src>, Option<Box<Expression<'src>>>),
+) -> Result<(), AllocError>
+    requires { AreKeyed keys.old }
+    ensures ok { OnOk result (IsInserted given.entry keys.old keys.new) }
+    ensures err { OnErr result (keys.new.entries ≡ keys.old.entries) }
+    ensures keyed { AreKeyed keys.new }
+{
+    let text = given.0.lexeme();
+    match keys.insert(text, given) {
+        Ok(_before) => Ok(()),
+        Err(_failed) => Err(AllocError),
+    }
 }

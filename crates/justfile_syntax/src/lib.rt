@@ -23,7 +23,7 @@ pub mod attribute {
     //! Attributes: their kinds, what they hold, what they are made of, and their order.
 
     pub use justfile_attribute::{Attribute, attribute_content_cmp};
-    pub use justfile_attribute_rules::{KeyMap, KeywordArguments};
+    pub use justfile_attribute_rules::KeyMap;
     pub use justfile_vocabulary::AttributeKind;
 }
 

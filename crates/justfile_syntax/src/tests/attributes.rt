@@ -1,6 +1,6 @@
 //! Attributes made of expressions, and with keys that the parser never passes for their kind.
 
-use crate::attribute::{Attribute, AttributeKind, KeywordArguments};
+use crate::attribute::{Attribute, AttributeKind, KeyMap};
 use crate::compile_error::CompileError;
 use crate::compile_error_kind::CompileErrorKind;
 use crate::expression::Expression;
@@ -8,7 +8,8 @@ use crate::fault::Fault;
 use crate::name::Name;
 use crate::tests::support::{names, same, same_text};
 use crate::token::Token;
-use std::alloc::Global;
+use std::alloc::{AllocError, Global};
+use std::collections::BTreeMap;
 use std::process::Abort;
 
 /// The name of an attribute followed by keys, the number of its positional arguments, and the key
@@ -53,11 +54,23 @@ fn arguments<'src>(
     arguments
 }
 
-/// Makes keyword arguments without values.
-fn keys<'src>(rt: &impl Abort, alloc: Global, names: &[Name<'src>]) -> KeywordArguments<'src> {
-    let mut keys = KeywordArguments::new(alloc);
+/// Inserts a key by a text.
+fn insert<'src>(
+    keys: &mut KeyMap<'src>,
+    text: &'src str,
+    given: (Name<'src>, Option<Box<Expression<'src>>>),
+) -> Result<(), AllocError> {
+    match keys.insert(text, given) {
+        Ok(_before) => Ok(()),
+        Err(_failed) => Err(AllocError),
+    }
+}
+
+/// Makes keyword arguments without values, by their texts.
+fn keys<'src>(rt: &impl Abort, alloc: Global, names: &[Name<'src>]) -> KeyMap<'src> {
+    let mut keys = BTreeMap::new(alloc);
     for name in names {
-        keys.insert(*name, None).expect(rt, "no memory");
+        insert(&mut keys, name.lexeme(), (*name, None)).expect(rt, "no memory");
     }
     keys
 }
@@ -112,6 +125,22 @@ fn compare(rt: &impl Abort, alloc: Global, text: &str, wanted: (usize, &str, Opt
     }
 }
 
+/// Checks that a key is found by its text in the map, whatever its name.
+fn compare_found<'src>(rt: &impl Abort, alloc: Global, name: Name<'src>, given: Name<'src>) {
+    let mut keys = BTreeMap::new(alloc);
+    let variable = Expression::Variable {
+        name: given,
+        number: None,
+    };
+    let value = Box::new(alloc, variable).expect(rt, "no memory");
+    insert(&mut keys, "inputs", (given, Some(value))).expect(rt, "no memory");
+    let kind = AttributeKind::Cache;
+    match Attribute::new(alloc, name, kind, Vec::new(alloc), keys) {
+        Ok(attribute) => compare_text(rt, alloc, &attribute, "cache(inputs=given)"),
+        Err(_) => panic!(rt; "no attribute"),
+    }
+}
+
 #[test]
 fn attributes_are_made_of_expressions(rt: HostRuntime) {
     let alloc = rt.alloc();
@@ -125,5 +154,14 @@ fn keys_that_a_kind_does_not_take(rt: HostRuntime) {
     let alloc = rt.alloc();
     for (text, count, wanted, at) in UNKNOWN {
         compare(&rt, alloc, text, (*count, *wanted, Some(*at)));
+    }
+}
+
+#[test]
+fn keys_are_found_by_their_texts(rt: HostRuntime) {
+    let alloc = rt.alloc();
+    match names(&rt, alloc, "cache given").as_slice() {
+        [name, given] => compare_found(&rt, alloc, *name, *given),
+        _ => panic!(&rt; "no names"),
     }
 }

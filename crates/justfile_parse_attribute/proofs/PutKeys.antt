@@ -9,7 +9,8 @@ use Rattle.std.proofs.lemmas.List.Elements.{All-from_recursion, recursion_from_A
 use Rattle.std.proofs.lemmas.Map.Text.{is_eq-slice_cmp}
 use Rattle.std.proofs.lemmas.Slice.Eq.{bytes_eq-Decides}
 use denote.Ref.{Bor}
-use Rattle.justfile_attribute_rules.specs.Keys.{AreKeyed, Given, IsInserted, KeyMap, key_text, text_order}
+use Rattle.justfile_attribute_rules.specs.Keys.{KeyMap}
+use Rattle.justfile_parse_attribute.specs.ArgumentKeys.{AreKeyed, Given, IsInserted, key_text, text_order}
 
 abbrev pub Stored : Type 0
 Stored = Bor (List ℕ) × Given
