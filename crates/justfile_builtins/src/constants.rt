@@ -1,8 +1,8 @@
 //! The built-in constants.
 ghost use Rattle.std.specs.Prelude.{◌≡◌};
+ghost use Rattle.std.specs.List.{list_any};
+ghost use Rattle.std.specs.Str.{bytes_eq};
 ghost use Rattle.justfile_builtins.specs.Constants.{is_constant};
-
-use crate::names::is_among;
 
 /// The names of all built-in constants, in order.
 pub static CONSTANTS: [&str; 29] = [
@@ -42,4 +42,11 @@ pub fn is_constant(name: &str) -> bool
     ensures { result ≡ is_constant name.now }
 {
     is_among(name, &CONSTANTS)
+}
+
+/// Whether the name is one of these.
+fn is_among(name: &str, names: &[&str]) -> bool
+    ensures { result ≡ list_any (λ known. bytes_eq name.now known.now) names.now }
+{
+    names.iter().any(|known| name == *known)
 }

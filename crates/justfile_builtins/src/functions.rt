@@ -1,8 +1,6 @@
 //! The built-in functions.
-ghost use Rattle.std.specs.Prelude.{◌≡◌};
-ghost use Rattle.justfile_builtins.specs.Functions.{arguments_of, takes_none, takes_one, takes_one_or_more, takes_one_or_two, takes_three, takes_two, takes_two_or_more};
-
-use crate::names::is_among;
+ghost use Rattle.std.specs.Prelude.{◌≡◌, map};
+ghost use Rattle.justfile_builtins.specs.Functions.{arguments_among, arguments_of};
 
 /// The numbers of arguments that a function takes.
 #[derive(Clone, Copy, Debug, PartialEq, Eq)]
@@ -13,201 +11,139 @@ pub struct Arguments {
     pub most: Option<usize>,
 }
 
-/// The names of all built-in functions, in order. Each that ends in `_directory` or in
-/// `_directory_native` is there with `_dir` in its place, too.
-pub static FUNCTIONS: [&str; 86] = [
-    "absolute_path",
-    "append",
-    "arch",
-    "blake3",
-    "blake3_file",
-    "cache_dir",
-    "cache_directory",
-    "canonicalize",
-    "capitalize",
-    "choose",
-    "clean",
-    "config_dir",
-    "config_directory",
-    "config_local_dir",
-    "config_local_directory",
-    "data_dir",
-    "data_directory",
-    "data_local_dir",
-    "data_local_directory",
-    "datetime",
-    "datetime_utc",
-    "encode_uri_component",
-    "env",
-    "env_var",
-    "env_var_or_default",
-    "error",
-    "executable_dir",
-    "executable_directory",
-    "extension",
-    "file_name",
-    "file_stem",
-    "home_dir",
-    "home_directory",
-    "invocation_dir",
-    "invocation_dir_native",
-    "invocation_directory",
-    "invocation_directory_native",
-    "is_dependency",
-    "join",
-    "just_executable",
-    "just_pid",
-    "justfile",
-    "justfile_dir",
-    "justfile_directory",
-    "kebabcase",
-    "lowercamelcase",
-    "lowercase",
-    "module_dir",
-    "module_directory",
-    "module_file",
-    "num_cpus",
-    "os",
-    "os_family",
-    "parent_dir",
-    "parent_directory",
-    "path_exists",
-    "prepend",
-    "quote",
-    "read",
-    "replace",
-    "replace_regex",
-    "require",
-    "semver_matches",
-    "sha256",
-    "sha256_file",
-    "shell",
-    "shoutykebabcase",
-    "shoutysnakecase",
-    "snakecase",
-    "source_dir",
-    "source_directory",
-    "source_file",
-    "style",
-    "titlecase",
-    "trim",
-    "trim_end",
-    "trim_end_match",
-    "trim_end_matches",
-    "trim_start",
-    "trim_start_match",
-    "trim_start_matches",
-    "uppercamelcase",
-    "uppercase",
-    "uuid",
-    "which",
-    "without_extension",
+/// No argument.
+const NONE: Arguments = Arguments {
+    least: 0,
+    most: Some(0),
+};
+
+/// One argument.
+const ONE: Arguments = Arguments {
+    least: 1,
+    most: Some(1),
+};
+
+/// Two arguments.
+const TWO: Arguments = Arguments {
+    least: 2,
+    most: Some(2),
+};
+
+/// Three arguments.
+const THREE: Arguments = Arguments {
+    least: 3,
+    most: Some(3),
+};
+
+/// One argument or two.
+const ONE_OR_TWO: Arguments = Arguments {
+    least: 1,
+    most: Some(2),
+};
+
+/// One argument or more.
+const ONE_OR_MORE: Arguments = Arguments {
+    least: 1,
+    most: None,
+};
+
+/// Two arguments or more.
+const TWO_OR_MORE: Arguments = Arguments {
+    least: 2,
+    most: None,
+};
+
+/// All built-in functions, by their names in order, with the numbers of arguments that each takes.
+/// Each name that ends in `_directory` or in `_directory_native` is there with `_dir` in its place,
+/// too.
+pub static FUNCTIONS: [(&str, Arguments); 86] = [
+    ("absolute_path", ONE),
+    ("append", TWO),
+    ("arch", NONE),
+    ("blake3", ONE),
+    ("blake3_file", ONE),
+    ("cache_dir", NONE),
+    ("cache_directory", NONE),
+    ("canonicalize", ONE),
+    ("capitalize", ONE),
+    ("choose", TWO),
+    ("clean", ONE),
+    ("config_dir", NONE),
+    ("config_directory", NONE),
+    ("config_local_dir", NONE),
+    ("config_local_directory", NONE),
+    ("data_dir", NONE),
+    ("data_directory", NONE),
+    ("data_local_dir", NONE),
+    ("data_local_directory", NONE),
+    ("datetime", ONE),
+    ("datetime_utc", ONE),
+    ("encode_uri_component", ONE),
+    ("env", ONE_OR_TWO),
+    ("env_var", ONE),
+    ("env_var_or_default", TWO),
+    ("error", ONE),
+    ("executable_dir", NONE),
+    ("executable_directory", NONE),
+    ("extension", ONE),
+    ("file_name", ONE),
+    ("file_stem", ONE),
+    ("home_dir", NONE),
+    ("home_directory", NONE),
+    ("invocation_dir", NONE),
+    ("invocation_dir_native", NONE),
+    ("invocation_directory", NONE),
+    ("invocation_directory_native", NONE),
+    ("is_dependency", NONE),
+    ("join", TWO_OR_MORE),
+    ("just_executable", NONE),
+    ("just_pid", NONE),
+    ("justfile", NONE),
+    ("justfile_dir", NONE),
+    ("justfile_directory", NONE),
+    ("kebabcase", ONE),
+    ("lowercamelcase", ONE),
+    ("lowercase", ONE),
+    ("module_dir", NONE),
+    ("module_directory", NONE),
+    ("module_file", NONE),
+    ("num_cpus", NONE),
+    ("os", NONE),
+    ("os_family", NONE),
+    ("parent_dir", ONE),
+    ("parent_directory", ONE),
+    ("path_exists", ONE),
+    ("prepend", TWO),
+    ("quote", ONE),
+    ("read", ONE),
+    ("replace", THREE),
+    ("replace_regex", THREE),
+    ("require", ONE),
+    ("semver_matches", TWO),
+    ("sha256", ONE),
+    ("sha256_file", ONE),
+    ("shell", ONE_OR_MORE),
+    ("shoutykebabcase", ONE),
+    ("shoutysnakecase", ONE),
+    ("snakecase", ONE),
+    ("source_dir", NONE),
+    ("source_directory", NONE),
+    ("source_file", NONE),
+    ("style", ONE),
+    ("titlecase", ONE),
+    ("trim", ONE),
+    ("trim_end", ONE),
+    ("trim_end_match", TWO),
+    ("trim_end_matches", TWO),
+    ("trim_start", ONE),
+    ("trim_start_match", TWO),
+    ("trim_start_matches", TWO),
+    ("uppercamelcase", ONE),
+    ("uppercase", ONE),
+    ("uuid", NONE),
+    ("which", ONE),
+    ("without_extension", ONE),
 ];
-
-/// Those that take no arguments.
-static WITHOUT_ARGUMENTS: [&str; 35] = [
-    "arch",
-    "cache_dir",
-    "cache_directory",
-    "config_dir",
-    "config_directory",
-    "config_local_dir",
-    "config_local_directory",
-    "data_dir",
-    "data_directory",
-    "data_local_dir",
-    "data_local_directory",
-    "executable_dir",
-    "executable_directory",
-    "home_dir",
-    "home_directory",
-    "invocation_dir",
-    "invocation_dir_native",
-    "invocation_directory",
-    "invocation_directory_native",
-    "is_dependency",
-    "just_executable",
-    "just_pid",
-    "justfile",
-    "justfile_dir",
-    "justfile_directory",
-    "module_dir",
-    "module_directory",
-    "module_file",
-    "num_cpus",
-    "os",
-    "os_family",
-    "source_dir",
-    "source_directory",
-    "source_file",
-    "uuid",
-];
-
-/// Those that take one argument.
-static OF_ONE: [&str; 37] = [
-    "absolute_path",
-    "blake3",
-    "blake3_file",
-    "canonicalize",
-    "capitalize",
-    "clean",
-    "datetime",
-    "datetime_utc",
-    "encode_uri_component",
-    "env_var",
-    "error",
-    "extension",
-    "file_name",
-    "file_stem",
-    "kebabcase",
-    "lowercamelcase",
-    "lowercase",
-    "parent_dir",
-    "parent_directory",
-    "path_exists",
-    "quote",
-    "read",
-    "require",
-    "sha256",
-    "sha256_file",
-    "shoutykebabcase",
-    "shoutysnakecase",
-    "snakecase",
-    "style",
-    "titlecase",
-    "trim",
-    "trim_end",
-    "trim_start",
-    "uppercamelcase",
-    "uppercase",
-    "which",
-    "without_extension",
-];
-
-/// Those that take two arguments.
-static OF_TWO: [&str; 9] = [
-    "append",
-    "choose",
-    "env_var_or_default",
-    "prepend",
-    "semver_matches",
-    "trim_end_match",
-    "trim_end_matches",
-    "trim_start_match",
-    "trim_start_matches",
-];
-
-/// Those that take three arguments.
-static OF_THREE: [&str; 2] = ["replace", "replace_regex"];
-
-/// Those that take one argument or two.
-static OF_ONE_OR_TWO: [&str; 1] = ["env"];
-
-/// Those that take one argument or more.
-static OF_ONE_OR_MORE: [&str; 1] = ["shell"];
-
-/// Those that take two arguments or more.
-static OF_TWO_OR_MORE: [&str; 1] = ["join"];
 
 /// Returns the numbers of arguments that the built-in function with this name takes, or `None` if
 /// there is none.
@@ -215,96 +151,15 @@ static OF_TWO_OR_MORE: [&str; 1] = ["join"];
 pub fn function_arguments(name: &str) -> Option<Arguments>
     ensures { result ≡ arguments_of name.now }
 {
-    if takes_none(name) {
-        return Some(Arguments {
-            least: 0,
-            most: Some(0),
-        });
-    }
-    if takes_one(name) {
-        return Some(Arguments {
-            least: 1,
-            most: Some(1),
-        });
-    }
-    if takes_two(name) {
-        return Some(Arguments {
-            least: 2,
-            most: Some(2),
-        });
-    }
-    if takes_three(name) {
-        return Some(Arguments {
-            least: 3,
-            most: Some(3),
-        });
-    }
-    if takes_one_or_two(name) {
-        return Some(Arguments {
-            least: 1,
-            most: Some(2),
-        });
-    }
-    if takes_one_or_more(name) {
-        return Some(Arguments {
-            least: 1,
-            most: None,
-        });
-    }
-    if takes_two_or_more(name) {
-        return Some(Arguments {
-            least: 2,
-            most: None,
-        });
-    }
-    None
+    arguments_among(name, &FUNCTIONS)
 }
 
-/// Whether the function with this name is among those that take no arguments.
-fn takes_none(name: &str) -> bool
-    ensures { result ≡ takes_none name.now }
+/// Returns the numbers of arguments that the first of these functions with this name takes.
+fn arguments_among(name: &str, functions: &[(&str, Arguments)]) -> Option<Arguments>
+    ensures { result ≡ arguments_among name.now (map (λ f. (f.0.now, f.1)) functions.now) }
 {
-    is_among(name, &WITHOUT_ARGUMENTS)
-}
-
-/// Whether the function with this name is among those that take one argument.
-fn takes_one(name: &str) -> bool
-    ensures { result ≡ takes_one name.now }
-{
-    is_among(name, &OF_ONE)
-}
-
-/// Whether the function with this name is among those that take two arguments.
-fn takes_two(name: &str) -> bool
-    ensures { result ≡ takes_two name.now }
-{
-    is_among(name, &OF_TWO)
-}
-
-/// Whether the function with this name is among those that take three arguments.
-fn takes_three(name: &str) -> bool
-    ensures { result ≡ takes_three name.now }
-{
-    is_among(name, &OF_THREE)
-}
-
-/// Whether the function with this name is among those that take one argument or two.
-fn takes_one_or_two(name: &str) -> bool
-    ensures { result ≡ takes_one_or_two name.now }
-{
-    is_among(name, &OF_ONE_OR_TWO)
-}
-
-/// Whether the function with this name is among those that take one argument or more.
-fn takes_one_or_more(name: &str) -> bool
-    ensures { result ≡ takes_one_or_more name.now }
-{
-    is_among(name, &OF_ONE_OR_MORE)
-}
-
-/// Whether the function with this name is among those that take two arguments or more.
-fn takes_two_or_more(name: &str) -> bool
-    ensures { result ≡ takes_two_or_more name.now }
-{
-    is_among(name, &OF_TWO_OR_MORE)
+    functions
+        .iter()
+        .find(|function| name == function.0)
+        .map(|function| function.1)
 }

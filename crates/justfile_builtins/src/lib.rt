@@ -5,7 +5,6 @@
 pub mod constants;
 pub mod functions;
 pub mod laws;
-mod names;
 
 pub use crate::constants::{CONSTANTS, is_constant};
 pub use crate::functions::{Arguments, FUNCTIONS, function_arguments};
