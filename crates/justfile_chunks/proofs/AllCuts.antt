@@ -244,30 +244,24 @@ module _ {I J X F : Type 0} (P : I → X → F → Type 0) (Q : J → X → F �
       (λ h. ((e.0 x f).0 h.0, m.0 h.1), λ h. ((e.0 x f).1 h.0, m.1 h.1))
   each_same [] (j ∷ js) e xs fs = absurd e
   each_same (i ∷ is) [] e xs fs = absurd e
-  each_same [] [] e (x ∷ xs) fs = (λ h. absurd h, λ h. absurd h)
-  each_same [] [] e [] (f ∷ fs) = (λ h. absurd h, λ h. absurd h)
-  each_same (i ∷ is) (j ∷ js) e [] fs = (λ h. absurd h, λ h. absurd h)
-  each_same (i ∷ is) (j ∷ js) e (x ∷ xs) [] = (λ h. absurd h, λ h. absurd h)
+  each_same _ _ e _ _ = (λ h. absurd h, λ h. absurd h)
+
+with_each : {I J X F : Type 0} (P : I → List X → List F → Type 0) (Q : J → List X → List F → Type 0) (is : List I) (js : List J) (items : List X) (features : List F)
+    → ((xs : List (List X)) (fs : List (List F)) → Each P is xs fs → Each Q js xs fs) → ChunksHave P is items features → ChunksHave Q js items features
+with_each P Q is js items features f h = record {
+  each_items = h.each_items;
+  each_features = h.each_features;
+  have = f h.each_items h.each_features h.have;
+  items_are = h.items_are;
+  features_are = h.features_are;
+}
 
 pub have_same : {I J X F : Type 0} (P : I → List X → List F → Type 0) (Q : J → List X → List F → Type 0) (is : List I) (js : List J)
     → AllZip (λ i j. (xs : List X) (fs : List F) → P i xs fs ↔ Q j xs fs) is js → (items : List X) (features : List F)
     → ChunksHave P is items features ↔ ChunksHave Q js items features
-have_same P Q is js e items features = (
-  λ h. record {
-    each_items = h.each_items;
-    each_features = h.each_features;
-    have = (each_same P Q is js e h.each_items h.each_features).0 h.have;
-    items_are = h.items_are;
-    features_are = h.features_are;
-  },
-  λ h. record {
-    each_items = h.each_items;
-    each_features = h.each_features;
-    have = (each_same P Q is js e h.each_items h.each_features).1 h.have;
-    items_are = h.items_are;
-    features_are = h.features_are;
-  },
-)
+have_same P Q is js e items features =
+    let same = each_same P Q is js e in
+    (with_each P Q is js items features (λ xs fs. (same xs fs).0), with_each Q P js is items features (λ xs fs. (same xs fs).1))
 
 -- what follows of each two
 pub zip_over : {I J : Type 0} {R S : I → J → Type 0} → ((i : I) (j : J) → R i j → S i j) → (is : List I) (js : List J) → AllZip R is js → AllZip S is js
