@@ -2,6 +2,7 @@
 use Rattle.std.proofs.Common.{◌≡◌, ◌∙◌, ℕ, ◌≤◌, Bool, true, false, cond, List, [], ◌∷◌, Option, Some, None, Result, Ok, Err, codes, refl, ap, subst}
 use Rattle.justfile_numbers.specs.declared.numerator.Numerator.{Numerator}
 use Rattle.justfile_token.specs.declared.token.Token.{Token}
+use Rattle.justfile_vocabulary.specs.Keyword.{keyword_text}
 use Rattle.justfile_vocabulary.specs.declared.token_kind.TokenKind.TheVariants as kinds
 use Rattle.justfile_model.specs.Readers.PartReader as parts
 use Rattle.justfile_model.specs.Readers.PartReader.{if_follows}
@@ -13,7 +14,8 @@ use Rattle.justfile_model.specs.Trees.Tree.{OrderedItem}
 use Rattle.justfile_parse_item.specs.ItemTable as reader
 use Rattle.justfile_parse_item.specs.ItemTable.{ReadItem}
 use Rattle.justfile_parse_item.specs.MethodResults.{ParsesUncounted}
-use Rattle.justfile_parse_item.specs.ConstructKeywords.{KeywordTaken, by_keyword, taken_as, keyword_taken, after_keyword}
+use Rattle.justfile_parse_item.specs.ConstructKeywords.{Beginning, KeywordTaken, after_keyword, by_keyword, first_taken, keyword_taken, one_taken, taken_as}
+use Rattle.justfile_parse_item.specs.declared.construct.TheConstants.{BEGINNINGS}
 use Rattle.justfile_parse_item.specs.declared.construct.ConstructKeyword.{ConstructKeyword}
 use Rattle.justfile_parse_item.specs.declared.construct.ConstructKeyword.TheVariants as words
 use Rattle.justfile_parse_attribute.specs.AttributeTable.{Entries}
@@ -25,7 +27,7 @@ use Rattle.justfile_parse_expression.specs.declared.parser_state.ParserState.{Pa
 use Rattle.justfile_parse_base.specs.Counting.{ParsesCounted, counters_of, identifiers_left}
 use Rattle.justfile_parse_base.proofs.Fewer.{fewer}
 use Rattle.justfile_parse_base.proofs.HeaderErrors.{failed}
-use Rattle.justfile_parse_item_parts.specs.PartTable.{accept_keyword_before, peek_assignment, is_imported, is_module, is_set, line_is}
+use Rattle.justfile_parse_item_parts.specs.PartTable.{accept_keyword_before, follows, peek_assignment, is_imported, is_module, is_set, line_is}
 use Rattle.justfile_expression.specs.LeafTree.{Leaf}
 
 abbrev Taken : Type 0
@@ -97,21 +99,14 @@ unfolding HasFewer LeavesFewer
 either_fewer s word None rest h k = k
 either_fewer s word (Some x) rest h k = h
 
-some_fewer : (s : State) → LeavesFewer s (keyword_taken s)
-unfolding keyword_taken LeavesFewer
-some_fewer s =
-    either_fewer s words.Alias _ _ (before_fewer (codes "alias") peek_assignment s)
-    (either_fewer s words.Eager _ _ (before_fewer (codes "eager") peek_assignment s)
-    (either_fewer s words.Export _ _ (before_fewer (codes "export") peek_assignment s)
-    (either_fewer s words.Unexport _ _ (before_fewer (codes "unexport") (line_is (kinds.Identifier ∷ [])) s)
-    (either_fewer s words.Import _ _ (before_fewer (codes "import") is_imported s)
-    (either_fewer s words.Mod _ _ (before_fewer (codes "mod") is_module s)
-    (either_fewer s words.Set _ None (before_fewer (codes "set") is_set s)
-    tt))))))
+some_fewer : (s : State) (rows : List Beginning) → LeavesFewer s (first_taken rows s)
+unfolding LeavesFewer
+some_fewer s [] = tt
+some_fewer s (r ∷ rs) = either_fewer s r.0 (one_taken r s) (first_taken rs s) (before_fewer (keyword_text r.1) (follows r.2) s) (some_fewer s rs)
 
 pub keyword_fewer : (s : State) (word : ConstructKeyword) (rest : State) → keyword_taken s ≡ Some (word, rest) → identifiers_left rest ≤ identifiers_left s
-unfolding LeavesFewer
-keyword_fewer s word rest h = subst (LeavesFewer s) h (some_fewer s)
+unfolding LeavesFewer keyword_taken
+keyword_fewer s word rest h = subst (LeavesFewer s) h (some_fewer s BEGINNINGS)
 
 -- ---- a construct that takes no number
 

@@ -8,7 +8,7 @@ pub mod CounterSteps
 pub mod CounterBounds
 pub mod Pushes
 pub mod ReadEquations
-pub mod NoKeyword
+pub mod FirstWord
 pub mod Recipes
 pub mod Seen
 pub mod SeenAttributes

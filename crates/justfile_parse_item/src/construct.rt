@@ -5,7 +5,7 @@ ghost use Rattle.justfile_parse_item.specs.ItemTable as reader;
 ghost use Rattle.justfile_parse_item.specs.MethodResults.{CountersMoved};
 ghost use Rattle.justfile_parse_item.specs.Pushes.{AppendsItem, last_tree};
 ghost use Rattle.justfile_parse_item.specs.DerivedFields.{HaveDerivedPairFields};
-ghost use Rattle.justfile_parse_item.specs.ConstructKeywords.{begins_keyword, can_be_keyword, has_keyword_length, keyword_taken, after_keyword};
+ghost use Rattle.justfile_parse_item.specs.ConstructKeywords.{after_keyword, beginning_of, keyword_taken};
 ghost use Rattle.justfile_parse_attribute.specs.Attributes.{entries_of};
 ghost use Rattle.justfile_parse_base.specs.ParseErrors.{ParsesRuled};
 ghost use Rattle.justfile_parse_expression.specs.MethodResults.{Takes};
@@ -41,6 +41,33 @@ pub(crate) enum ConstructKeyword {
     Set,
     Unexport,
 }
+
+/// The keywords that constructs begin with, and what has to follow each.
+static BEGINNINGS: [(ConstructKeyword, Keyword, Lookahead); 7] = [
+    (
+        ConstructKeyword::Alias,
+        Keyword::Alias,
+        Lookahead::Assignment,
+    ),
+    (
+        ConstructKeyword::Eager,
+        Keyword::Eager,
+        Lookahead::Assignment,
+    ),
+    (
+        ConstructKeyword::Export,
+        Keyword::Export,
+        Lookahead::Assignment,
+    ),
+    (
+        ConstructKeyword::Unexport,
+        Keyword::Unexport,
+        Lookahead::Line,
+    ),
+    (ConstructKeyword::Import, Keyword::Import, Lookahead::Import),
+    (ConstructKeyword::Mod, Keyword::Mod, Lookahead::Module),
+    (ConstructKeyword::Set, Keyword::Set, Lookahead::Set),
+];
 
 /// Parses a construct with its attributes, and appends it. Requires that no expression is open.
 #[tactic(auto, using(crate::proofs::CounterSteps::unmoved), unfolding(justfile_model::specs::Readers::Reader::construct))]
@@ -108,9 +135,9 @@ fn parse_content<'src, X: Expander>(
     }
 }
 
-/// Takes the keyword that the construct begins with, if it begins with one. Tests first whether the
-/// word can be such a keyword: in most constructs it can't.
-#[tactic(auto, using(crate::proofs::NoKeyword::unnamed, crate::proofs::NoKeyword::unlike))]
+/// Takes the keyword that the construct begins with, if it begins with one. A keyword is an
+/// ordinary name unless what follows it fits.
+#[tactic(auto, using(crate::proofs::FirstWord::unnamed, crate::proofs::FirstWord::other_word))]
 fn accept_construct_keyword<X: Expander>(
     parser: &mut ParserState<'_, '_, X>,
 ) -> Option<ConstructKeyword>
@@ -119,73 +146,19 @@ fn accept_construct_keyword<X: Expander>(
     ensures moves { Moves result parser.old parser.new }
 {
     let word = parser.probe_if(TokenKind::Identifier)?;
-    if !can_be_keyword(word.0.lexeme()) {
-        return None;
-    }
-    accept_any_keyword(parser)
+    let (construct, keyword, lookahead) = find_beginning(word.0.lexeme())?;
+    accept_keyword_before(parser, keyword, lookahead)?;
+    Some(construct)
 }
 
-/// Whether the first byte and the length of a word are those of a keyword that a construct begins
-/// with.
-#[inline(always)]
-fn can_be_keyword(word: &str) -> bool
-    ensures { result ≡ can_be_keyword word.now }
+/// Returns the row of this word, if it is one of the keywords.
+fn find_beginning(word: &str) -> Option<(ConstructKeyword, Keyword, Lookahead)>
+    ensures { result ≡ beginning_of word.now }
 {
-    match word.as_bytes() {
-        [first, ..] => begins_keyword(*first) && has_keyword_length(word.len()),
-        [] => false,
-    }
-}
-
-/// Whether a keyword that a construct begins with has this first byte.
-#[inline(always)]
-fn begins_keyword(first: u8) -> bool
-    ensures { result ≡ begins_keyword first }
-{
-    first == b'a'
-        || first == b'e'
-        || first == b'i'
-        || first == b'm'
-        || first == b's'
-        || first == b'u'
-}
-
-/// Whether a keyword that a construct begins with has this length.
-#[inline(always)]
-fn has_keyword_length(length: usize) -> bool
-    ensures { result ≡ has_keyword_length length }
-{
-    length == 3 || length == 5 || length == 6 || length == 8
-}
-
-/// Takes the keyword that the construct begins with, if it begins with one. A keyword is an
-/// ordinary name unless what follows it fits.
-#[tactic(auto, unfolding(crate::specs::ConstructKeywords::keyword_taken))]
-fn accept_any_keyword<X: Expander>(parser: &mut ParserState<'_, '_, X>) -> Option<ConstructKeyword>
-    ensures takes { Takes result (state_of X.answer parser.new)
-        (keyword_taken (state_of X.answer parser.old)) }
-    ensures moves { Moves result parser.old parser.new }
-{
-    if let Some(_alias) = accept_keyword_before(parser, Keyword::Alias, Lookahead::Assignment) {
-        return Some(ConstructKeyword::Alias);
-    }
-    if let Some(_eager) = accept_keyword_before(parser, Keyword::Eager, Lookahead::Assignment) {
-        return Some(ConstructKeyword::Eager);
-    }
-    if let Some(_export) = accept_keyword_before(parser, Keyword::Export, Lookahead::Assignment) {
-        return Some(ConstructKeyword::Export);
-    }
-    if let Some(_unexport) = accept_keyword_before(parser, Keyword::Unexport, Lookahead::Line) {
-        return Some(ConstructKeyword::Unexport);
-    }
-    if let Some(_import) = accept_keyword_before(parser, Keyword::Import, Lookahead::Import) {
-        return Some(ConstructKeyword::Import);
-    }
-    if let Some(_mod) = accept_keyword_before(parser, Keyword::Mod, Lookahead::Module) {
-        return Some(ConstructKeyword::Mod);
-    }
-    accept_keyword_before(parser, Keyword::Set, Lookahead::Set)?;
-    Some(ConstructKeyword::Set)
+    BEGINNINGS
+        .iter()
+        .copied()
+        .find(|row| word == row.1.lexeme())
 }
 
 /// Parses a construct after its attributes and this keyword, and appends it.
