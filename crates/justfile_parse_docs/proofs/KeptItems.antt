@@ -2,19 +2,17 @@
 use Rattle.std.proofs.Common.{◌≡◌, ◌∙◌, ℕ, ◌+◌, ◌-◌, ◌<◌, ◌≤◌, ◌⊎◌, inl, inr, Bool, true, false, cond, All, List, [], ◌∷◌, ◌++◌, drop, length, map, get_or, set, take, Option, Some, None, reverse, refl, sym, ap, subst, arith}
 use Rattle.std.specs.List.{swap, take-map}
 use Rattle.std.proofs.Math.Nat.{eq-or-lt_of_le}
-use Rattle.std.proofs.Math.Seq.{drop-length}
-use Rattle.std.proofs.lemmas.List.{drop_more, drop-set-lt, get_or-set_same, length-map, length-reverse, length-set, length-take, length-take-le, map-append, take-append-drop, take-append-le, take-set, take-set-le, take_more_set}
+use Rattle.std.proofs.lemmas.List.{drop_all, drop_more, drop-set-lt, get_or-set_same, length-map, length-reverse, length-set, length-take, length-take-le, map-append, take-append-drop, take-append-le, take-set, take-set-le, take_more_set}
 use Rattle.std.proofs.lemmas.List.Edits.{swap_is}
 use Rattle.std.proofs.lemmas.List.Elements.{All-set, All-take}
 use Rattle.std.proofs.lemmas.List.Sorted.{All-permutation, IsPermutation-swap}
 use Rattle.justfile_item.specs.declared.item.Item.{Item}
 use Rattle.justfile_item.specs.declared.item.Item.TheVariants as items
-use Rattle.justfile_model.specs.Grammars.Docs.{Nothing, documented, item_with_doc, redocumented}
+use Rattle.justfile_model.specs.Grammars.Docs.{item_with_doc, redocumented}
 use Rattle.justfile_model.specs.Grammars.Files.{sets_doc}
 use Rattle.justfile_model.specs.Trees.Tree as tree
 use Rattle.justfile_parse_docs.specs.Docs.{LeafItem, doc_before, doc_first, doc_taken, is_line_end, item_can_take_doc, taken_docs, with_doc, with_item, with_items}
 use Rattle.justfile_parse_docs.proofs.DocSteps.{line_end}
-use Rattle.justfile_parse_docs.proofs.TakenDocs.{from_first}
 use Rattle.justfile_parse_item.specs.Tree.{item_tree}
 use Rattle.justfile_parse_item.specs.DerivedFields.{HaveDerivedFields, HasDerivedItemFields}
 
@@ -166,8 +164,5 @@ none_taken i found h = ap (doc_taken i) h
 
 -- ---- when none are left
 
-pub all_taken : (all now : List Item) (kept n : ℕ) → n ≡ length now → taken_docs kept n now ≡ with_items [] (map item_tree all)
-    → map item_tree (take kept now) ≡ documented sets_doc Nothing (map item_tree all)
-all_taken all now kept n e so_far =
-    ap (λ (l : List Item). with_items (map item_tree (take kept now)) (map item_tree l)) (sym (ap (λ (m : ℕ). drop m now) e ∙ drop-length now))
-    ∙ so_far ∙ from_first (map item_tree all)
+pub all_taken : (now : List Item) (kept n : ℕ) → length now ≤ n → (all : List LeafItem) → taken_docs kept n now ≡ all → map item_tree (take kept now) ≡ all
+all_taken now kept n end all so_far = ap (λ (l : List Item). with_items (map item_tree (take kept now)) (map item_tree l)) (sym (drop_all n now end)) ∙ so_far

@@ -1,3 +1,5 @@
 pub mod DocSteps
+pub mod DocumentedLines
 pub mod KeptItems
+pub mod Loop
 pub mod TakenDocs

@@ -1,1 +1,2 @@
 pub mod Docs
+pub mod ReadItems

@@ -5,7 +5,7 @@ ghost use Rattle.std.specs.Option.{is_some, option_map};
 ghost use Rattle.justfile_attribute_set.specs.AttributeSet.{attributes_of};
 ghost use Rattle.justfile_attribute_set.specs.Attributes.{has_kind};
 ghost use Rattle.justfile_vocabulary.specs.declared.attribute_kind.AttributeKind.TheVariants as kinds;
-ghost use Rattle.justfile_model.specs.Grammars.Docs.{doc_in, documented, item_with_doc};
+ghost use Rattle.justfile_model.specs.Grammars.Docs.{doc_in, item_with_doc};
 ghost use Rattle.justfile_model.specs.Grammars.Docs as before;
 ghost use Rattle.justfile_model.specs.Grammars.Files.{sets_doc};
 ghost use Rattle.justfile_item.specs.declared.item.Item.TheVariants as variants;
@@ -18,33 +18,24 @@ use justfile_item::Item;
 use justfile_vocabulary::AttributeKind;
 use std::alloc::{AllocError, Global};
 
-/// Moves comments into the docs of the items after them, and returns the items that remain.
+/// Moves the comment before each item from `count` on into its doc. The items before these have
+/// theirs already.
 ///
 /// # Errors
 ///
 /// `AllocError` if memory runs out.
-pub fn take_docs<'src>(
+pub(crate) fn take_docs(
     alloc: Global,
-    mut items: Vec<Item<'src>>,
-) -> Result<Vec<Item<'src>>, AllocError>
-    requires { HaveDerivedFields items.items }
-    ensures trees { IfOk result (λ docs. map item_tree docs.items
-        ≡ documented sets_doc before.Nothing (map item_tree items.entry.items)) }
-    ensures fields { IfOk result (λ docs. HaveDerivedFields docs.items) }
-{
-    set_docs(alloc, &mut items)?;
-    Ok(items)
-}
-
-/// Moves the comment before each item into its doc.
-fn set_docs(alloc: Global, items: &mut Vec<Item<'_>>) -> Result<(), AllocError>
+    items: &mut Vec<Item<'_>>,
+    count: usize,
+) -> Result<(), AllocError>
     requires { HaveDerivedFields items.old.items }
     ensures trees { OnOk result (map item_tree items.new.items
-        ≡ documented sets_doc before.Nothing (map item_tree items.old.items)) }
+        ≡ taken_docs count count items.old.items) }
     ensures fields { OnOk result (HaveDerivedFields items.new.items) }
 {
-    let mut kept = 0;
-    for index in 0..items.len() {
+    let mut kept = count;
+    for index in count..items.len() {
         kept = keep_item(alloc, items, kept, index)?;
     }
     items.truncate(kept);
@@ -79,8 +70,17 @@ fn make_line_end(item: &mut Item<'_>)
 {
     match item {
         Item::Newline => {}
-        _ => *item = Item::Newline,
+        _ => set_line_end(item),
     }
+}
+
+/// Replaces an item by a line end. It is a function of its own, since the locals for what is dropped
+/// are cleared wherever it is inlined.
+#[inline(never)]
+fn set_line_end(item: &mut Item<'_>)
+    ensures { item.new ≡ variants.Newline }
+{
+    *item = Item::Newline;
 }
 
 /// Does what `keep_item` does for an item that isn't a line end: swaps it with the item at its new

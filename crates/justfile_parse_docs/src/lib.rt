@@ -1,6 +1,7 @@
-//! The docs of recipes and modules: how the comments before them are taken.
+//! From tokens to the items of a file, each with its doc: the comment before it.
 #![tactic(auto)]
 
 mod docs;
+mod items;
 
-pub use crate::docs::take_docs;
+pub use crate::items::parse_items;

@@ -16,10 +16,10 @@ ghost use Rattle.justfile_parse_item.specs.MethodResults.{CountersMoved};
 ghost use Rattle.justfile_parse_file.specs.ErrorFaults.{IsFaultOfError};
 ghost use Rattle.justfile_parse_item.specs.DerivedFields.{HaveDerivedFields};
 ghost use Rattle.justfile_parse_expression.specs.Significant.{significant_of};
-ghost use Rattle.justfile_parse_item.specs.Tree.{item_tree};
 ghost use Rattle.justfile_parse_expression.specs.View.{state_of};
 ghost use Rattle.justfile_parse_expression.specs.declared.expression_error.SyntaxError.TheVariants.{Unexpected};
-ghost use Rattle.justfile_parse_base.specs.Counting.{counters_of, ParsesCounted};
+ghost use Rattle.justfile_parse_base.specs.Counting.{counters_of};
+ghost use Rattle.justfile_parse_docs.specs.ReadItems.{ReadsDocumented};
 
 use crate::unstable::with_unstable;
 use justfile_ast::Ast;
@@ -28,10 +28,9 @@ use justfile_item::Item;
 use justfile_lex::Lexer;
 use justfile_numbers::{Numerator, Version};
 use justfile_parse_base::ParseError;
-use justfile_parse_docs::take_docs;
+use justfile_parse_docs::parse_items;
 use justfile_parse_expression::significant::{SignificantToken, significant};
-use justfile_parse_expression::{ExpectedTokens, ExpressionError, ParserState, SyntaxError};
-use justfile_parse_item::parse_items;
+use justfile_parse_expression::{ExpectedTokens, ExpressionError, SyntaxError, ParserState};
 use justfile_token::{
     CompileError, CompileErrorKind, CompileResult, Expander, Fault, Modulepath, Namepath, Source,
     Token,
@@ -178,8 +177,7 @@ fn parse_significant<'src, X: Expander>(
     })
 }
 
-/// Parses the items of a file from the table of its tokens, and gives recipes and modules their
-/// docs. Also returns the uses of features.
+/// Parses the items of a file from the table of its tokens. Also returns the uses of features.
 fn parse_table<'run, 'src, X: Expander>(
     alloc: Global,
     file_depth: u32,
@@ -209,7 +207,7 @@ fn parse_table<'run, 'src, X: Expander>(
         limit,
     );
     match parse_file(&mut parser, numerator) {
-        Ok(items) => Ok((take_docs(alloc, items)?, parser.list_features)),
+        Ok(items) => Ok((items, parser.list_features)),
         Err(error) => Err(make_fault(
             alloc,
             tokens,
@@ -220,16 +218,16 @@ fn parse_table<'run, 'src, X: Expander>(
     }
 }
 
-/// Parses the items of a file, which may begin with a byte order mark. Requires that no expression
+/// Parses the items of a file, with docs, which may begin with a byte order mark. Requires that no expression
 /// is open.
-#[tactic(auto, using(justfile_parse_item::proofs::Loop::file_is))]
+#[tactic(auto, using(justfile_parse_docs::proofs::Loop::file_is))]
 fn parse_file<'src, X: Expander>(
     parser: &mut ParserState<'_, 'src, X>,
     numerator: &mut Numerator,
 ) -> Result<Vec<Item<'src>>, ParseError<'src>>
     requires { (state_of X.answer parser.old).depth ≡ 0 }
-    ensures reads { ParsesCounted X.answer (λ items. map item_tree items.items) result numerator.new
-        parser.old parser.new (reader.file (counters_of numerator.old)) }
+    ensures reads { ReadsDocumented result numerator.new (state_of X.answer parser.new)
+        (reader.file (counters_of numerator.old) (state_of X.answer parser.old)) }
     ensures fields { IfOk result (λ items. HaveDerivedFields items.items) }
     ensures moved { CountersMoved numerator.old numerator.new
         (identifiers (map significant_of (state_of X.answer parser.old).left)) }

@@ -3,7 +3,6 @@ pub mod Constructs
 pub mod Hashes
 pub mod ItemErrors
 pub mod Lines
-pub mod Loop
 pub mod CounterSteps
 pub mod CounterBounds
 pub mod Pushes

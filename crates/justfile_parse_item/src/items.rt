@@ -1,4 +1,4 @@
-//! The items of a file, and the numbers that they get.
+//! The lines of a file, and the numbers that their items get.
 ghost use Rattle.std.specs.Prelude.{◌≡◌, ◌∷◌, ◌++◌, [], IfOk, IsTrue, OnOk, codes, map, nat_eq};
 ghost use Rattle.std.specs.List.{starts_with};
 ghost use Rattle.std.specs.Str.{trim_end};
@@ -28,41 +28,13 @@ use justfile_token::{Expander, Token};
 use justfile_vocabulary::TokenKind;
 use std::alloc::AllocError;
 
-/// In most files an item has this many tokens or more, line ends among the items counted. The list
-/// of items begins with room by it.
-const TOKENS_OF_AN_ITEM: usize = 8;
-
-/// Parses the items up to the end of the file. Requires that no expression is open.
+/// Refuses tokens after the end of the file.
 ///
 /// # Errors
 ///
-/// A `ParseError` if the rest of the table isn't a file, if the counter of bindings or of recipes
-/// has reached its maximum and a number is needed, or if memory runs out.
-#[tactic(auto, using(crate::proofs::CounterSteps::unmoved, crate::proofs::Loop::moved, crate::proofs::Loop::moved_on))]
-pub fn parse_items<'src, X: Expander>(
-    parser: &mut ParserState<'_, 'src, X>,
-    numerator: &mut Numerator,
-) -> Result<Vec<Item<'src>>, ParseError<'src>>
-    requires { (state_of X.answer parser.old).depth ≡ 0 }
-    ensures reads { ParsesCounted X.answer (λ items. map item_tree items.items) result numerator.new
-        parser.old parser.new (reader.items (counters_of numerator.old)) }
-    ensures fields { IfOk result (λ items. HaveDerivedFields items.items) }
-    ensures moved { CountersMoved numerator.old numerator.new
-        (identifiers (map significant_of (state_of X.answer parser.old).left)) }
-{
-    let mut items = Vec::with_capacity(parser.alloc, parser.tokens.len() / TOKENS_OF_AN_ITEM)?;
-    'lines: loop {
-        if let Some(_end) = parser.accept(TokenKind::Eof) {
-            expect_nothing(parser)?;
-            return Ok(items);
-        }
-        parse_line(parser, &mut items, numerator)?;
-    }
-}
-
-/// Refuses tokens after the end of the file.
+/// An `ExpressionError` if a token is left.
 #[tactic(auto, unfolding(crate::specs::ItemTable::read_nothing, justfile_model::specs::Readers::ReaderState::refused))]
-fn expect_nothing<'src, X: Expander>(
+pub fn expect_nothing<'src, X: Expander>(
     parser: &ParserState<'_, 'src, X>,
 ) -> Result<(), ExpressionError<'src>>
     ensures { Parses X.answer (λ nothing. nothing) result parser.now parser.now
@@ -74,10 +46,15 @@ fn expect_nothing<'src, X: Expander>(
     }
 }
 
-/// Parses a line, or an item of several lines, and appends its items. Requires that no expression
-/// is open.
+/// Parses a line, or an item of several lines, and appends its items, without docs. Requires that
+/// no expression is open.
+///
+/// # Errors
+///
+/// A `ParseError` if no line comes next, if the counter of bindings or of recipes has reached its
+/// maximum and a number is needed, or if memory runs out.
 #[tactic(auto, using(crate::proofs::Lines::line_blank, crate::proofs::CounterSteps::unmoved, crate::proofs::DerivedItemFields::newline_fields))]
-fn parse_line<'src, X: Expander>(
+pub fn parse_line<'src, X: Expander>(
     parser: &mut ParserState<'_, 'src, X>,
     items: &mut Vec<Item<'src>>,
     numerator: &mut Numerator,

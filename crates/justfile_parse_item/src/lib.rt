@@ -1,4 +1,4 @@
-//! From tokens to the items of a file, in their order and without docs.
+//! From tokens to the items of a line, without docs.
 #![tactic(auto)]
 
 mod accept;
@@ -11,4 +11,4 @@ mod recipe;
 mod short_item;
 mod source;
 
-pub use crate::items::parse_items;
+pub use crate::items::{expect_nothing, parse_line};

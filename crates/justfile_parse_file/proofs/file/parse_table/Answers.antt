@@ -18,9 +18,10 @@ returns-in-Ok-clause-ok g c =
     let A = g.X.Expander.answer in
     let p = c.parse_file.new.parser in
     let run : Run = record { conditions = conditions_of A c.args.expander.now c.args.current c.args.limit; table = c.args.tokens.now; file_depth = c.args.file_depth; import_offsets = c.args.import_offsets.now } in
-    let P : State → Type 0 = λ s. reader.file (counters_of c.args.numerator.now) s ≡ Ok ((map item_tree c.in-Ok.items.items, counters_of c.parse_file.new.numerator), state_of A p) in
-    read_of run.conditions run.conditions.limit (omega arith) run.table run.file_depth run.import_offsets c.args.numerator.now c.parse_file.new.numerator c.in-Ok.items.items c.in_ok-take_docs-in-Ok.field-0.items p.list_features.items (state_of A p)
-    (subst P c.new-parser.ensures c.in-Ok.ensures.reads) (noted_is A p) c.in_ok-take_docs-in-Ok.ensures.trees c.in_ok-take_docs-in-Ok.ensures.fields
+    let found = c.in-Ok.ensures.reads in
+    let P : State → Type 0 = λ s. reader.file (counters_of c.args.numerator.now) s ≡ Ok ((map item_tree found.plain, counters_of c.parse_file.new.numerator), state_of A p) in
+    read_of run.conditions run.conditions.limit (omega arith) run.table run.file_depth run.import_offsets c.args.numerator.now c.parse_file.new.numerator found.plain c.in-Ok.items.items p.list_features.items (state_of A p)
+    (subst P c.new-parser.ensures found.read) (noted_is A p) found.documents c.in-Ok.ensures.fields
 
 pub returns-clause-err : goal.returns-clause-err
 returns-clause-err g c =

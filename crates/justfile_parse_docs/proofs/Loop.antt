@@ -1,5 +1,6 @@
 -- The loop over the lines of a file.
 use Rattle.std.proofs.Common.{◌≡◌, ℕ, ◌+◌, ◌<◌, ◌≤◌, List, [], ◌∷◌, ◌++◌, length, map, Some, None, Ok, Err, refl, sym, ap, ◌∙◌, arith}
+use Rattle.std.proofs.lemmas.List.{map-append}
 use Rattle.justfile_numbers.specs.Numerator.{bindings_of, constants_of, recipes_of}
 use Rattle.justfile_numbers.specs.declared.numerator.Numerator.{Numerator}
 use Rattle.justfile_token.specs.declared.token.Token.{Token}
@@ -16,7 +17,6 @@ use Rattle.justfile_parse_base.specs.ParseErrors.{IsParseError}
 use Rattle.justfile_parse_item.specs.MethodResults.{CountersMoved}
 use Rattle.justfile_parse_expression.specs.MethodResults.{IsExpressionError, literal_read_error, read_error_at}
 use Rattle.justfile_parse_item.specs.Tree.{item_tree}
-use Rattle.justfile_parse_item.specs.DerivedFields.{HaveDerivedFields, KeepsDerivedFields}
 use Rattle.justfile_expression.specs.LeafTree.{Leaf}
 use Rattle.justfile_parse_base.specs.declared.parse_error.ParseError.{ParseError}
 use Rattle.justfile_parse_expression.specs.Significant.{TableEntry}
@@ -27,14 +27,13 @@ use Rattle.justfile_model.proofs.Readers.ReadingSteps as steps
 use Rattle.justfile_model.proofs.Readers.ReadingSteps.{known}
 use Rattle.justfile_parse_base.proofs.HeaderErrors.{failed}
 use Rattle.justfile_parse_item.proofs.CounterBounds.{line_moves}
-use Rattle.justfile_parse_item.proofs.DerivedItemFields.{none_fields, then_fields}
 use Rattle.justfile_parse_base.specs.Counting.{counters_of, identifiers_left}
 
 abbrev Items : Type 0
 Items = List (OrderedItem Leaf Token ℕ)
 
 -- what is read after items
-taken : (done all : Items) (m : Counters) (rest : State) (found : ReadItems) → after_numbered done found ≡ Ok ((all, m), rest) → (more : Items) × (found ≡ Ok ((more, m), rest)) × (done ++ more ≡ all)
+pub taken : (done all : Items) (m : Counters) (rest : State) (found : ReadItems) → after_numbered done found ≡ Ok ((all, m), rest) → (more : Items) × (found ≡ Ok ((more, m), rest)) × (done ++ more ≡ all)
 unfolding after_numbered
 taken done all m rest (Ok x) h =
     let pair : ◌≡◌ {A = (Items × Counters) × State} ((done ++ x.0.0, x.0.1), x.1) ((all, m), rest) = inside _ _ h in (
@@ -47,7 +46,7 @@ taken done all m rest (Ok x) h =
     inside a b h = cc
 taken done all m rest (Err e) h = cc
 
-refused_first : (done : Items) (e : ReadError) (found : ReadItems) → after_numbered done found ≡ Err e → found ≡ Err e
+pub refused_first : (done : Items) (e : ReadError) (found : ReadItems) → after_numbered done found ≡ Err e → found ≡ Err e
 unfolding after_numbered
 refused_first done e (Ok x) h = cc
 refused_first done e (Err f) h = ap (λ (g : ReadError). Err g) (inside f e h)
@@ -56,11 +55,8 @@ refused_first done e (Err f) h = ap (λ (g : ReadError). Err g) (inside f e h)
     inside a b h = cc
 
 -- a line takes a token
-pub item_line_shrinks : (q : State) (first next : Numerator) (done new : List file.Item) (rest : State)
-    → after_numbered (map item_tree done) (line (counters_of first) q) ≡ Ok ((map item_tree new, counters_of next), rest) → length rest.left < length q.left
-item_line_shrinks q first next done new rest value =
-    let t = taken (map item_tree done) (map item_tree new) (counters_of next) rest (line (counters_of first) q) value in
-    (steps.past q (line (counters_of first) q) ((t.0, counters_of next), rest) (laws.line_goes leaves attribute_leaves (counters_of first) q) t.1).0
+pub line_shrinks : (q : State) (n m : Counters) (more : Items) (rest : State) → line n q ≡ Ok ((more, m), rest) → length rest.left < length q.left
+line_shrinks q n m more rest value = (steps.past q (line n q) ((more, m), rest) (laws.line_goes leaves attribute_leaves n q) value).0
 
 -- from one place to another these items were read
 pub record IsReadTo (s q : State) (first next : Numerator) (done : List file.Item) : Type 0 where
@@ -70,42 +66,40 @@ pub record IsReadTo (s q : State) (first next : Numerator) (done : List file.Ite
   pub recipes_least : recipes_of first ≤ recipes_of next
   pub most : bindings_of next + recipes_of next + identifiers_left q ≤ bindings_of first + recipes_of first + identifiers_left s
   pub constants : constants_of next ≡ constants_of first
-  pub fields : HaveDerivedFields done
 
 pub begins : (s : State) (first : Numerator) → s.depth ≡ 0 → IsReadTo s s first first []
-begins s first none = record { depth = none; read = laws.numbered_begin (items (counters_of first) s); least = omega arith; recipes_least = omega arith; most = omega arith; constants = refl; fields = none_fields }
+begins s first none = record { depth = none; read = laws.numbered_begin (items (counters_of first) s); least = omega arith; recipes_least = omega arith; most = omega arith; constants = refl }
 
 module _ (s q : State) (first next : Numerator) (done : List file.Item) (so_far : IsReadTo s q first next done) where
   pub moved : CountersMoved first next (identifiers_left s)
   moved = record { least = so_far.least; recipes_least = so_far.recipes_least; most_is = omega (arith, so_far.most); constants = so_far.constants }
 
   module _ (none : accept kinds.Eof q ≡ None) where
-    pub goes_on : (then : Numerator) (new : List file.Item) (rest : State) → after_numbered (map item_tree done) (line (counters_of next) q) ≡ Ok ((map item_tree new, counters_of then), rest) → KeepsDerivedFields done new → IsReadTo s rest first then new
-    goes_on then new rest value keeps =
-        let t = taken (map item_tree done) (map item_tree new) (counters_of then) rest (line (counters_of next) q) value in
-        let moves = line_moves (counters_of next) q so_far.depth t.0 (counters_of then) rest t.1 in
-        let past = known {X = (Items × Counters) × State} ((t.0, counters_of then), rest) (λ x. length x.1.left < length q.left × (x.1.depth ≡ q.depth) × (x.1.run ≡ q.run)) t.1 (laws.line_goes leaves attribute_leaves (counters_of next) q) in
+    pub goes_on : (then : Numerator) (more : List file.Item) (rest : State) → line (counters_of next) q ≡ Ok ((map item_tree more, counters_of then), rest) → IsReadTo s rest first then (done ++ more)
+    goes_on then more rest value =
+        let trees = map item_tree more in
+        let moves = line_moves (counters_of next) q so_far.depth trees (counters_of then) rest value in
+        let past = known {X = (Items × Counters) × State} ((trees, counters_of then), rest) (λ x. length x.1.left < length q.left × (x.1.depth ≡ q.depth) × (x.1.run ≡ q.run)) value (laws.line_goes leaves attribute_leaves (counters_of next) q) in
         record {
           depth = past.1 ∙ so_far.depth;
           read =
-              ap (λ (l : Items). after_numbered l (items (counters_of then) rest)) (sym t.2)
-              ∙ sym (laws.items_go_on leaves attribute_leaves (map item_tree done) (counters_of next) q t.0 (counters_of then) rest none t.1)
+              ap (λ (l : Items). after_numbered l (items (counters_of then) rest)) (map-append item_tree done more)
+              ∙ sym (laws.items_go_on leaves attribute_leaves (map item_tree done) (counters_of next) q trees (counters_of then) rest none value)
               ∙ so_far.read;
           least = omega (arith, so_far.least, moves.least);
           recipes_least = omega (arith, so_far.recipes_least, moves.recipes_least);
           most = omega (arith, so_far.most, moves.most);
           constants = moves.constants ∙ so_far.constants;
-          fields = then_fields done new so_far.fields keeps;
         }
 
-    fails : (e : ReadError) → after_numbered (map item_tree done) (line (counters_of next) q) ≡ Err e → items (counters_of first) s ≡ Err e
-    fails e h = sym so_far.read ∙ laws.items_fail leaves attribute_leaves (map item_tree done) (counters_of next) q e none (refused_first (map item_tree done) e (line (counters_of next) q) h)
+    fails : (e : ReadError) → line (counters_of next) q ≡ Err e → items (counters_of first) s ≡ Err e
+    fails e h = sym so_far.read ∙ laws.items_fail leaves attribute_leaves (map item_tree done) (counters_of next) q e none h
 
     -- a line is refused, or no number is left for it
     pub errs : (error : ParseError) (left : State) (wanting : ReadError)
-        → IsParseError error left (after_numbered (map item_tree done) (line (counters_of next) q) ≡ Err wanting) (after_numbered (map item_tree done) (line (counters_of next) q))
+        → IsParseError error left (line (counters_of next) q ≡ Err wanting) (line (counters_of next) q)
         → IsParseError error left (items (counters_of first) s ≡ Err wanting) (items (counters_of first) s)
-    errs error left wanting h = failed (after_numbered (map item_tree done) (line (counters_of next) q)) (items (counters_of first) s) fails error left _ _ (fails wanting) h
+    errs error left wanting h = failed (line (counters_of next) q) (items (counters_of first) s) fails error left _ _ (fails wanting) h
 
     -- where a line moved the numerator, so is the file's
     pub moved_on : (then : Numerator) → CountersMoved next then (identifiers_left q) → CountersMoved first then (identifiers_left s)

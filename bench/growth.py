@@ -1,0 +1,60 @@
+#!/usr/bin/env python3
+"""Shows how a formatter grows with its text, on the 40 kinds of justfiles of ratio.py: growth.py FORMATTER FOLDER
+
+FORMATTER is a path, or a command with arguments, of a program that formats its standard input. Writes
+the texts into the folder, one after the other, and prints a row for each: its bytes, the instructions, the
+peak of memory and the processor seconds of the shorter text, and how many times that the text of twice the
+size takes; and at last where these ratios are the greatest.
+
+Instructions are those of one run on 100 and on 200 KB, as valgrind counts them. Memory and time are the
+least of seven runs on 1 and on 2 MB. The start of the program is included.
+"""
+import os
+import shlex
+import sys
+
+from ratio import COUNTED, RUNS, TIMED, counted, kinds, run, write
+
+WHAT = ("instructions", "memory", "time")
+
+
+def measured(formatter, path, text, size):
+    """The bytes of a text, and the memory in KB and the seconds that it takes."""
+    write(path, text(size))
+    runs = [run(formatter, path) for _ in range(RUNS)]
+    return os.path.getsize(path), min(kilobytes for _, kilobytes in runs), min(seconds for seconds, _ in runs)
+
+
+def growth(formatter, path, text):
+    """What a text of 1 MB takes, and the ratios for the text of twice its size."""
+    instructions = []
+    for size in (COUNTED, 2 * COUNTED):
+        write(path, text(size))
+        instructions.append(counted(formatter, path))
+    size, memory, seconds = measured(formatter, path, text, TIMED)
+    _, twice_memory, twice_seconds = measured(formatter, path, text, 2 * TIMED)
+    os.remove(path)
+    ratios = (instructions[1] / instructions[0], twice_memory / memory, twice_seconds / max(seconds, 0.0001))
+    return (size, instructions[0], memory, seconds), ratios
+
+
+def main():
+    formatter = shlex.split(sys.argv[1])
+    os.makedirs(sys.argv[2], exist_ok=True)
+    path = os.path.join(sys.argv[2], "text")
+    print("| justfile | bytes | instructions at 100 KB | times at 200 KB | MB at 1 MB | times | seconds | times |")
+    print("|---|---:|---:|---:|---:|---:|---:|---:|")
+    found = {}
+    for name, text in kinds().items():
+        (size, instructions, memory, seconds), found[name] = growth(formatter, path, text)
+        more = found[name]
+        row = (name, f"{size:,}", f"{instructions:,}", more[0], memory / 1024, more[1], seconds, more[2])
+        print("| %s | %s | %s | %.2f | %.1f | %.2f | %.3f | %.2f |" % row, flush=True)
+    print()
+    for at, what in enumerate(WHAT):
+        name = max(found, key=lambda name: found[name][at])
+        print("The most %s: %.2f times, on %s." % (what, found[name][at], name))
+
+
+if __name__ == "__main__":
+    main()
