@@ -40,14 +40,13 @@ def lines(files):
 
 
 def sizes(crate):
-    """A crate's functions, lines of code, of tests, of definitions and of proofs, and wrong bodies."""
+    """A crate's functions, and its lines of code, of tests, of definitions and of proofs."""
     tests = [path for path in CRATES.glob(f"{crate}/src/**/*.rt") if "tests" in (*path.parts, path.stem)]
     code = [path for path in CRATES.glob(f"{crate}/src/**/*.rt") if path not in tests]
     function = re.compile(r"^\s*(?:pub(?:\([^)]*\))? )?(?:const )?fn \w", re.M)
     functions = sum(len(function.findall(path.read_text())) for path in code)
-    edits = len(list(CRATES.glob(f"{crate}/must-fail/*.edit")))
     specs, proofs = (CRATES.glob(f"{crate}/{folder}/**/*.antt") for folder in ("specs", "proofs"))
-    return [functions, *map(lines, (code, tests, specs, proofs)), edits]
+    return [functions, *map(lines, (code, tests, specs, proofs))]
 
 
 def table(head, rows):
@@ -77,11 +76,11 @@ def size_table(times):
     """The sizes of each crate, and the processor's seconds of its proof, with its tests, and of its wrong bodies."""
     rows, each = {}, {crate: sizes(crate) for crate in NAMES}
     each["all"] = [sum(column) for column in zip(*each.values())]
-    for crate, (functions, code, tests, specs, proofs, edits) in each.items():
+    for crate, (functions, code, tests, specs, proofs) in each.items():
         proof, test, bodies = (seconds_of(crate, part, times) for part in PARTS)
         sums = f"{code}{f' + {tests}' * (tests > 0)}", f"{proof}{f' + {test}' * bool(test)}"
-        rows[crate] = [str(functions), sums[0], str(specs), str(proofs), str(edits), sums[1], bodies]
-    return table(("crate", "functions", "code", "definitions", "proofs", "wrong bodies", "s: proof", "bodies"), rows)
+        rows[crate] = [str(functions), sums[0], str(specs), str(proofs), sums[1], bodies]
+    return table(("crate", "functions", "code", "definitions", "proofs", "s: proof", "s: wrong bodies"), rows)
 
 
 def seconds_of(crate, part, times):
