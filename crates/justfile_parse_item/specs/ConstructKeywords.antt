@@ -1,5 +1,5 @@
 -- The keyword that a construct begins with, and what is read after it.
-use Rattle.std.specs.Prelude.{ℕ, List, [], ◌∷◌, Option, Some, None}
+use Rattle.std.specs.Prelude.{ℕ, true, false, List, [], ◌∷◌, Option, Some, None}
 use Rattle.std.specs.List.{find}
 use Rattle.std.specs.Str.{bytes_eq}
 use Rattle.justfile_vocabulary.specs.Keyword.{keyword_text}
