@@ -7,7 +7,8 @@ use Rattle.std.proofs.lemmas.List.Elements.{All-append, All-nil, All-push}
 use Rattle.justfile_vocabulary.specs.declared.item_kind.ItemKind.{ItemKind}
 use Rattle.justfile_item.specs.declared.item.Item.{Item}
 use Rattle.justfile_recovery.specs.Places.{LiesIn}
-use Rattle.justfile_survey.specs.Seen.{Adds, PlacesIn, Seen, item_seen, seen}
+use Rattle.justfile_survey.specs.Items.{item_seen}
+use Rattle.justfile_survey.specs.Seen.{Adds, PlacesIn, Seen, seen}
 use Rattle.justfile_survey.specs.declared.surveys.SurveyedItem.{SurveyedItem}
 
 module _ (n : ℕ) where
@@ -49,7 +50,3 @@ module _ (n : ℕ) where
   alone new old views none a =
       let is : new ≡ a.more = a.is ∙ ap (λ xs. xs ++ a.more) none in
       (ap (map seen) is ∙ a.views_are, subst (All (PlacesIn n)) (sym is) a.places)
-
-  -- all items are in the text if the old ones were
-  pub still_in : (new old : List SurveyedItem) (views : List Seen) → All (PlacesIn n) old → Adds n new old views → All (PlacesIn n) new
-  still_in new old views all a = subst (All (PlacesIn n)) (sym a.is) (All-append (PlacesIn n) old a.more all a.places)

@@ -11,7 +11,8 @@ use Rattle.justfile_parse.specs.Parsing.{HasNoTree, IsTreeless}
 use Rattle.justfile_canonical.specs.Root.{HasNoRoot, IsRoot, conditions}
 use Rattle.justfile_recovery.specs.Places.{LiesIn}
 use Rattle.justfile_survey.specs.Seen.{PlacesIn, seen}
-use Rattle.justfile_survey.specs.Surveys.{IsFound, IsJustfile, IsOfFault, IsRefused, IsSurvey, IsWhole, Says, Shows, TellsWhy, BeginsWith}
+use Rattle.justfile_survey.specs.Parts.{BeginsWith, ErrorsIn}
+use Rattle.justfile_survey.specs.Surveys.{IsFound, IsJustfile, IsOfFault, IsRefused, IsSurvey, IsWhole, Says, Shows, TellsWhy}
 use Rattle.justfile_survey.specs.declared.surveys.Survey.{Survey}
 use Rattle.justfile_survey.specs.declared.surveys.SurveyedError.{SurveyedError}
 use Rattle.justfile_survey.specs.declared.whole.Whole.{Whole}
@@ -51,14 +52,14 @@ pub same_fault : {E : Type 0} (fault other : Fault) (r : Result Whole E) → fau
 same_fault fault other r same is = subst (λ f. IfOk r (IsRefused f)) (sym same) is
 
 -- a survey that begins with the error of the text
-pub told : (path text : List ℕ) (s : Survey) (first : SurveyedError) → TellsWhy path text first → BeginsWith (length text) first s → IsSurvey path text s
+pub told : (path text : List ℕ) (s : Survey) (first : SurveyedError) → TellsWhy path text first → BeginsWith path text first s → IsSurvey path text s
 told path text s first why begins = record {
-  found = subst (IsFound path text s.items.items) (sym begins.is) why;
-  items_in = begins.items;
+  found = subst (IsFound path text s.items.items) (sym begins.is) (why, begins.of_parts);
+  items_in = begins.places;
   errors_in = begins.errors;
 }
 
-pub told_if_ok : {E : Type 0} (path text : List ℕ) (first : SurveyedError) (r : Result Survey E) → TellsWhy path text first → IfOk r (BeginsWith (length text) first)
+pub told_if_ok : {E : Type 0} (path text : List ℕ) (first : SurveyedError) (r : Result Survey E) → TellsWhy path text first → IfOk r (BeginsWith path text first)
     → IfOk r (IsSurvey path text)
 told_if_ok path text first (Ok s) why begins = told path text s first why begins
 told_if_ok path text first (Err e) why begins = tt
@@ -69,5 +70,5 @@ pub faultless : (path text : List ℕ) (s : Survey) → s.errors.items ≡ [] �
 faultless path text s none shows places = record {
   found = subst (IsFound path text s.items.items) (sym none) shows;
   items_in = places;
-  errors_in = subst (All (λ (e : SurveyedError). LiesIn (length text) e.span)) (sym none) (All-nil (λ (e : SurveyedError). LiesIn (length text) e.span));
+  errors_in = subst (ErrorsIn (length text) 100) (sym none) (record { places = All-nil (λ (e : SurveyedError). LiesIn (length text) e.span); few = omega arith });
 }

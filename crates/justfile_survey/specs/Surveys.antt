@@ -1,17 +1,16 @@
 -- The survey of a text.
 use Rattle.std.specs.Prelude.{◌≡◌, ℕ, ◌+◌, List, [], ◌∷◌, map, length, All, Option, IfSome, string_bytes, codes}
-use Rattle.std.specs.List.{flat_map}
 use Rattle.justfile_token.specs.Messages.{message_text}
-use Rattle.justfile_token.specs.declared.compile_error.CompileError.{CompileError}
 use Rattle.justfile_token.specs.declared.fault.Fault.{Fault}
 use Rattle.justfile_token.specs.declared.fault.Fault.TheVariants.{Compile, Memory, Numbers}
 use Rattle.justfile_ast.specs.declared.ast.Ast.{Ast}
 use Rattle.justfile_canonical.specs.Root.{HasNoRoot, IsRoot}
 use Rattle.justfile_recovery.specs.Places.{LiesIn}
 use Rattle.justfile_spans.specs.Spans.{span}
-use Rattle.justfile_survey.specs.Seen.{PlacesIn, Seen, item_seen, seen}
+use Rattle.justfile_survey.specs.Items.{file_seen}
+use Rattle.justfile_survey.specs.Parts.{AreOfParts, ErrorsIn}
+use Rattle.justfile_survey.specs.Seen.{PlacesIn, Seen, seen}
 use Rattle.justfile_survey.specs.declared.errors.Refusal.{Refusal}
-use Rattle.justfile_survey.specs.declared.recovery.Found.{Found}
 use Rattle.justfile_survey.specs.declared.surveys.Survey.{Survey}
 use Rattle.justfile_survey.specs.declared.surveys.SurveyedError.{SurveyedError}
 use Rattle.justfile_survey.specs.declared.surveys.SurveyedItem.{SurveyedItem}
@@ -22,7 +21,7 @@ use Rattle.justfile_survey.specs.declared.whole.Whole.TheVariants as wholes
 pub record Shows (path text : List ℕ) (views : List Seen) : Type 0 where
   pub ast : Ast
   pub root : IsRoot path text ast
-  pub views_are : views ≡ flat_map item_seen ast.items.items
+  pub views_are : views ≡ file_seen ast
 
 -- the error is at these offsets, at this line and column, with this message
 pub record Says (e : SurveyedError) (start end line column : ℕ) (message : List ℕ) : Type 0 where
@@ -45,7 +44,7 @@ pub record TellsWhy (path text : List ℕ) (s : SurveyedError) : Type 0 where
 
 -- the items of a file of a text of this length
 abbrev pub IsJustfile : (length : ℕ) → Ast → Whole → Type 0
-IsJustfile length ast (wholes.Justfile items) = (map seen items.items ≡ flat_map item_seen ast.items.items) × All (PlacesIn length) items.items
+IsJustfile length ast (wholes.Justfile items) = (map seen items.items ≡ file_seen ast) × All (PlacesIn length) items.items
 IsJustfile length ast (wholes.Refused error) = ⊥
 
 -- the error for a fault
@@ -53,34 +52,23 @@ abbrev pub IsRefused : Fault → Whole → Type 0
 IsRefused fault (wholes.Justfile items) = ⊥
 IsRefused fault (wholes.Refused error) = IsOfFault fault error
 
+-- the refusal of a part of a text of this length is in it
+abbrev pub IsRefusalIn : (length : ℕ) → Option Refusal → Type 0
+IsRefusalIn length refusal = IfSome refusal (λ r. LiesIn length r.error.span)
+
 -- what a text is as a whole
 abbrev pub IsWhole : (path text : List ℕ) → Whole → Type 0
 IsWhole path text (wholes.Justfile items) = Shows path text (map seen items.items) × All (PlacesIn (length text)) items.items
 IsWhole path text (wholes.Refused error) = TellsWhy path text error × LiesIn (length text) error.span
 
--- Without errors the text is a justfile, and the survey shows its items. Otherwise it is none, and the first error tells why.
+-- Without errors the text is a justfile, and the survey shows its items. Otherwise it is none, the first error tells why, and the survey
+-- shows the items of parts of the text.
 abbrev pub IsFound : (path text : List ℕ) → List SurveyedItem → List SurveyedError → Type 0
 IsFound path text items [] = Shows path text (map seen items)
-IsFound path text items (first ∷ others) = TellsWhy path text first
+IsFound path text items (first ∷ others) = TellsWhy path text first × AreOfParts path text (length text) (map seen items)
 
--- The survey of a text: what it found, and all its places lie in the text.
+-- The survey of a text: what it found. All its places lie in the text, and it has at most 100 errors.
 pub record IsSurvey (path text : List ℕ) (s : Survey) : Type 0 where
   pub found : IsFound path text s.items.items s.errors.items
   pub items_in : All (PlacesIn (length text)) s.items.items
-  pub errors_in : All (λ (e : SurveyedError). LiesIn (length text) e.span) s.errors.items
-
--- what was found in the parts of a text of this length lies in it
-pub record AreIn (length : ℕ) (found : Found) : Type 0 where
-  pub items : All (PlacesIn length) found.items.items
-  pub errors : All (λ (e : SurveyedError). LiesIn length e.span) found.errors.items
-
--- the refusal of a part of a text of this length is in it
-abbrev pub IsRefusalIn : (length : ℕ) → Option Refusal → Type 0
-IsRefusalIn length refusal = IfSome refusal (λ r. LiesIn length r.error.span)
-
--- the error is the first one, and all places lie in a text of this length
-pub record BeginsWith (length : ℕ) (first : SurveyedError) (s : Survey) : Type 0 where
-  pub others : List SurveyedError
-  pub is : s.errors.items ≡ first ∷ others
-  pub items : All (PlacesIn length) s.items.items
-  pub errors : All (λ (e : SurveyedError). LiesIn length e.span) s.errors.items
+  pub errors_in : ErrorsIn (length text) 100 s.errors.items

@@ -2,7 +2,8 @@
 ghost use Rattle.std.specs.Prelude.{◌∷◌, [], IfSome, OnOk, length};
 ghost use Rattle.justfile_recovery.specs.Places.{LiesIn};
 ghost use Rattle.std.specs.List.{flat_map};
-ghost use Rattle.justfile_survey.specs.Seen.{Adds, import_seen, item_seen, named_seen, seen_of};
+ghost use Rattle.justfile_survey.specs.Items.{import_seen, item_seen, named_seen, seen_of};
+ghost use Rattle.justfile_survey.specs.Seen.{Adds};
 
 use crate::part::Part;
 use crate::surveys::SurveyedItem;

@@ -1,7 +1,8 @@
 //! Parsing a part of a text by itself.
-ghost use Rattle.std.specs.Prelude.{IfOk, IfSome, OnOk, All, length};
+ghost use Rattle.std.specs.Prelude.{◌≡◌, IfOk, length};
 ghost use Rattle.justfile_recovery.specs.Places.{LiesIn};
-ghost use Rattle.justfile_survey.specs.Seen.{PlacesIn};
+ghost use Rattle.justfile_spans.specs.Spans.{text_from_feed};
+ghost use Rattle.justfile_survey.specs.Parts.{AddsFile, Parses};
 ghost use Rattle.justfile_survey.specs.Surveys.{IsRefusalIn};
 
 use crate::errors::{Refusal, refusal_of_part};
@@ -49,6 +50,7 @@ struct Piece<'a> {
 
 /// Parses a part of a text, from the line feed before it on, and adds its items. Returns why it is
 /// refused, if it is.
+#[tactic(auto, using(crate::proofs::Parsed::within))]
 pub(crate) fn parse(
     source: Source<'_>,
     alloc: Global,
@@ -56,19 +58,17 @@ pub(crate) fn parse(
     cut: Cut,
     items: &mut Vec<SurveyedItem>,
 ) -> Result<Option<Refusal>, AllocError>
-    requires { All (PlacesIn (length source.text.now)) items.old.items }
-    ensures items { OnOk result
-        (All (PlacesIn (length source.entry.text.now)) items.new.items) }
-    ensures refusal { IfOk result (IsRefusalIn (length source.entry.text.now)) }
+    requires { LiesIn (length source.text.now) part }
+    ensures { IfOk result (Parses source.entry.path.now source.entry.text.now part.entry
+        items.new.items items.old.items) }
 {
-    let lines = span_in(source.text.len(), part.start, part.end);
-    let end = without_blank_lines(source.text.as_bytes(), lines.start, lines.end);
-    let base = lines.start.saturating_sub(1);
+    let end = without_blank_lines(source.text.as_bytes(), part.start, part.end);
+    let base = part.start.saturating_sub(1);
     match source.text.get(base..end) {
         None => Ok(None),
         Some(parsed) => {
             let lines = Span {
-                start: lines.start,
+                start: part.start,
                 end,
             };
             let piece = Piece {
@@ -84,15 +84,16 @@ pub(crate) fn parse(
 }
 
 /// Parses a part of a text, and adds its items. Returns why it is refused, if it is.
+#[tactic(auto, using(crate::proofs::Parsed::of_file, crate::proofs::Parsed::of_refusal))]
 fn parse_piece(
     piece: Piece<'_>,
     alloc: Global,
     items: &mut Vec<SurveyedItem>,
 ) -> Result<Option<Refusal>, AllocError>
-    requires { All (PlacesIn (length piece.source.text.now)) items.old.items }
-    ensures items { OnOk result
-        (All (PlacesIn (length piece.entry.source.text.now)) items.new.items) }
-    ensures refusal { IfOk result (IsRefusalIn (length piece.entry.source.text.now)) }
+    requires inside { LiesIn (length piece.source.text.now) piece.lines }
+    requires parsed { piece.parsed.now ≡ text_from_feed piece.source.text.now piece.lines }
+    ensures { IfOk result (Parses piece.entry.source.path.now piece.entry.source.text.now
+        piece.entry.lines items.new.items items.old.items) }
 {
     match parse_root(alloc, piece.source.path, piece.parsed) {
         Ok(mut ast) => add_items(&mut ast, alloc, piece, items),
@@ -101,17 +102,14 @@ fn parse_piece(
 }
 
 /// Adds the items of the file of a part.
-#[tactic(auto, using(crate::proofs::Added::still_in))]
 fn add_items(
     ast: &mut Ast<'_>,
     alloc: Global,
     piece: Piece<'_>,
     items: &mut Vec<SurveyedItem>,
 ) -> Result<Option<Refusal>, AllocError>
-    requires { All (PlacesIn (length piece.source.text.now)) items.old.items }
-    ensures items { OnOk result
-        (All (PlacesIn (length piece.entry.source.text.now)) items.new.items) }
-    ensures refusal { IfOk result (IsRefusalIn (length piece.entry.source.text.now)) }
+    ensures { IfOk result (AddsFile (length piece.entry.source.text.now) items.new.items
+        items.old.items ast.old) }
 {
     let extents = extents_of(piece, alloc)?;
     let part = Part {

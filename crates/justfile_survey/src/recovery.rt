@@ -1,7 +1,7 @@
 //! Going on after an error: the parts of a text are parsed one by one.
-ghost use Rattle.std.specs.Prelude.{◌≡◌, ◌<◌, IfOk, IfSome, OnOk, length};
+ghost use Rattle.std.specs.Prelude.{◌≡◌, ◌<◌, ◌≤◌, ◌⊎◌, IfOk, OnOk, length};
 ghost use Rattle.justfile_recovery.specs.Places.{LiesIn};
-ghost use Rattle.justfile_survey.specs.Surveys.{AreIn, BeginsWith};
+ghost use Rattle.justfile_survey.specs.Parts.{BeginsWith, ErrorsIn, GoesOn, IsFoundBefore};
 
 use crate::errors::Refusal;
 use crate::parsing::{Cut, Source, parse};
@@ -24,13 +24,19 @@ const TRIES: usize = 20;
 pub(crate) struct Found {
     pub(crate) items: Vec<SurveyedItem>,
     pub(crate) errors: Vec<SurveyedError>,
+    pub(crate) course: Course,
+}
+
+/// What is kept on the way through the parts of a text.
+#[derive(Clone, Copy)]
+pub(crate) struct Course {
     /// The offset of the error of the text, until a part is refused.
-    pub(crate) cause: Option<usize>,
+    cause: Option<usize>,
     /// The number of bytes that may still be parsed again.
-    pub(crate) spare: usize,
+    spare: usize,
     /// An offset, and the number of line feeds before it.
-    pub(crate) counted: usize,
-    pub(crate) feeds: usize,
+    counted: usize,
+    feeds: usize,
 }
 
 /// Surveys the parts of a text that is refused for this error.
@@ -42,15 +48,18 @@ pub(crate) fn survey_parts(
     error: SurveyedError,
 ) -> Result<Survey, AllocError>
     requires { LiesIn (length text.now) error.span }
-    ensures { IfOk result (BeginsWith (length text.now) error) }
+    ensures { IfOk result (BeginsWith path.now text.now error) }
 {
-    let mut found = Found {
-        items: Vec::new(alloc),
-        errors: Vec::new(alloc),
+    let course = Course {
         cause: Some(error.span.start),
         spare: text.len(),
         counted: 0,
         feeds: 0,
+    };
+    let mut found = Found {
+        items: Vec::new(alloc),
+        errors: Vec::new(alloc),
+        course,
     };
     let source = Source {
         path,
@@ -58,46 +67,46 @@ pub(crate) fn survey_parts(
         feeds: 0,
     };
     go_through(source, alloc, &mut found)?;
-    put_first(error, text, found)
+    put_first(error, path, text, found)
 }
 
 /// Returns the survey with an error before those of the parts.
 #[tactic(auto, using(crate::proofs::Kept::with_first))]
-fn put_first(error: SurveyedError, text: &str, found: Found) -> Result<Survey, AllocError>
+fn put_first(
+    error: SurveyedError,
+    path: &str,
+    text: &str,
+    found: Found,
+) -> Result<Survey, AllocError>
     requires first { LiesIn (length text.now) error.span }
-    requires parts { AreIn (length text.now) found }
-    ensures { IfOk result (BeginsWith (length text.now) error) }
+    requires parts { IsFoundBefore path.now text.now (length text.now) found }
+    ensures { IfOk result (BeginsWith path.now text.now error) }
 {
     let Found {
         items,
         mut errors,
-        cause: _,
-        spare: _,
-        counted: _,
-        feeds: _,
+        course: _,
     } = found;
     errors.insert(0, error)?;
     Ok(Survey { items, errors })
 }
 
 /// Surveys all parts.
+#[tactic(auto, using(crate::proofs::Kept::to_the_end))]
 fn go_through(source: Source<'_>, alloc: Global, found: &mut Found) -> Result<(), AllocError>
-    requires { AreIn (length source.text.now) found.old }
-    ensures { OnOk result (AreIn (length source.entry.text.now) found.new) }
+    requires { IsFoundBefore source.path.now source.text.now 0 found.old }
+    ensures { let text = source.entry.text.now in
+        OnOk result (IsFoundBefore source.entry.path.now text (length text) found.new) }
 {
-    let length = source.text.len();
     let mut at = 0;
-    for _part in 0..length {
-        if at >= length {
-            return Ok(());
-        }
+    while at < source.text.len() {
         at = take(source, alloc, at, found)?;
     }
     Ok(())
 }
 
 /// Surveys the part that begins at an offset. Returns where to go on.
-#[tactic(auto, using(crate::proofs::Kept::with_items))]
+#[tactic(auto, using(crate::proofs::Kept::parsed))]
 fn take(
     source: Source<'_>,
     alloc: Global,
@@ -105,13 +114,15 @@ fn take(
     found: &mut Found,
 ) -> Result<usize, AllocError>
     requires inside { start < length source.text.now }
-    requires parts { AreIn (length source.text.now) found.old }
-    ensures { OnOk result (AreIn (length source.entry.text.now) found.new) }
+    requires parts { IsFoundBefore source.path.now source.text.now start found.old }
+    ensures parts { IfOk result
+        (λ next. IsFoundBefore source.entry.path.now source.entry.text.now next found.new) }
+    ensures forward { IfOk result (λ next. start < next) }
 {
     let here = Source {
         path: source.path,
         text: source.text,
-        feeds: count_feeds(source.text, start, found),
+        feeds: count_feeds(source.text, start, &mut found.course),
     };
     let end = part_end(source.text.as_bytes(), start);
     let part = Span { start, end };
@@ -122,17 +133,13 @@ fn take(
 }
 
 /// Returns the number of line feeds before the byte before an offset.
-#[tactic(auto, using(crate::proofs::Kept::unchanged))]
-fn count_feeds(text: &str, start: usize, found: &mut Found) -> usize
-    requires { AreIn (length text.now) found.old }
-    ensures { AreIn (length text.now) found.new }
-{
+fn count_feeds(text: &str, start: usize, course: &mut Course) -> usize {
     let base = start.saturating_sub(1);
-    if let Some(passed) = text.as_bytes().get(found.counted..base) {
-        found.feeds = found.feeds.saturating_add(line_feeds(passed));
-        found.counted = base;
+    if let Some(passed) = text.as_bytes().get(course.counted..base) {
+        course.feeds = course.feeds.saturating_add(line_feeds(passed));
+        course.counted = base;
     }
-    found.feeds
+    course.feeds
 }
 
 /// Goes on after a part that is refused. Returns from where on.
@@ -143,9 +150,13 @@ fn go_on(
     refusal: Refusal,
     found: &mut Found,
 ) -> Result<usize, AllocError>
-    requires parts { AreIn (length source.text.now) found.old }
+    requires inside { LiesIn (length source.text.now) part }
+    requires some { part.start < part.end }
     requires error { LiesIn (length source.text.now) refusal.error.span }
-    ensures { OnOk result (AreIn (length source.entry.text.now) found.new) }
+    requires parts { IsFoundBefore source.path.now source.text.now part.start found.old }
+    ensures parts { IfOk result
+        (λ next. IsFoundBefore source.entry.path.now source.entry.text.now next found.new) }
+    ensures forward { IfOk result (λ next. part.entry.start < next) }
 {
     if refusal.ends_early {
         if let Some(end) = parse_longer(source, alloc, part, found)? {
@@ -155,8 +166,9 @@ fn go_on(
     leave(source, alloc, part, refusal.error, found)
 }
 
-/// Leaves a part that is refused for this error. Returns where to go on.
-#[tactic(auto, using(crate::proofs::Kept::unchanged))]
+/// Leaves a part that is refused for this error, after the lines before the error. Returns where to
+/// go on.
+#[tactic(auto, using(crate::proofs::Kept::reported))]
 fn leave(
     source: Source<'_>,
     alloc: Global,
@@ -164,90 +176,86 @@ fn leave(
     error: SurveyedError,
     found: &mut Found,
 ) -> Result<usize, AllocError>
-    requires parts { AreIn (length source.text.now) found.old }
+    requires inside { LiesIn (length source.text.now) part }
+    requires some { part.start < part.end }
     requires error { LiesIn (length source.text.now) error.span }
-    ensures { OnOk result (AreIn (length source.entry.text.now) found.new) }
+    requires parts { IsFoundBefore source.path.now source.text.now part.start found.old }
+    ensures parts { IfOk result
+        (λ next. IsFoundBefore source.entry.path.now source.entry.text.now next found.new) }
+    ensures forward { IfOk result (λ next. part.entry.start < next) }
 {
     let bytes = source.text.as_bytes();
-    let at = error.span.start;
-    parse_before(source, alloc, part, at, found)?;
+    let at = error.span.start.max(part.start);
+    let line = line_start(bytes, at.min(part.end)).max(part.start);
+    let before = Span {
+        start: part.start,
+        end: line,
+    };
+    parse_before(source, alloc, before, found)?;
     report(source.text, part.start, error, found)?;
-    let after = at.max(part.start).saturating_add(1);
-    let next = next_start(bytes, after.min(bytes.len()));
-    Ok(within_spare(next, part.end, found))
+    let next = next_start(bytes, at.saturating_add(1).min(bytes.len()));
+    Ok(within_spare(next, part.end, &mut found.course))
 }
 
 /// Returns the next offset at which an item may begin, or the end of the part if that is after the
 /// offset and too much would be parsed again.
-fn within_spare(next: usize, end: usize, found: &mut Found) -> usize
-    ensures items { found.new.items ≡ found.old.items }
-    ensures errors { found.new.errors ≡ found.old.errors }
+fn within_spare(next: usize, end: usize, course: &mut Course) -> usize
+    ensures forward { next ≤ result }
+    ensures within { (result ≡ next) ⊎ (result ≡ end) }
 {
     let again = end.saturating_sub(next);
-    if again > found.spare {
+    if again > course.spare {
         return end;
     }
-    found.spare -= again;
+    course.spare -= again;
     next
 }
 
-/// Parses the lines of a part before the line of an offset, if there are some.
-#[tactic(auto, using(crate::proofs::Kept::with_items))]
+/// Parses the lines of a part before the line of its error, if there are some.
+#[tactic(auto, using(crate::proofs::Kept::parsed, crate::proofs::Kept::later))]
 fn parse_before(
     source: Source<'_>,
     alloc: Global,
-    part: Span,
-    offset: usize,
+    lines: Span,
     found: &mut Found,
 ) -> Result<(), AllocError>
-    requires { AreIn (length source.text.now) found.old }
-    ensures { OnOk result (AreIn (length source.entry.text.now) found.new) }
+    requires inside { LiesIn (length source.text.now) lines }
+    requires parts { IsFoundBefore source.path.now source.text.now lines.start found.old }
+    ensures { OnOk result
+        (IsFoundBefore source.entry.path.now source.entry.text.now lines.entry.end found.new) }
 {
-    let bytes = source.text.as_bytes();
-    let start = part.start;
-    let end = line_start(bytes, offset.min(bytes.len()));
-    if end <= start {
-        return Ok(());
+    if lines.start < lines.end {
+        let _ = parse(source, alloc, lines, Cut::Whole, &mut found.items)?;
     }
-    let _ = parse(
-        source,
-        alloc,
-        Span { start, end },
-        Cut::Whole,
-        &mut found.items,
-    )?;
     Ok(())
 }
 
 /// Parses what begins with a part and goes on over the next ones, such as a literal of several
 /// lines. Returns where it ends.
-#[tactic(auto, using(crate::proofs::Kept::with_items, crate::proofs::Kept::unchanged))]
+#[tactic(auto, using(crate::proofs::Kept::parsed))]
 fn parse_longer(
     source: Source<'_>,
     alloc: Global,
     part: Span,
     found: &mut Found,
 ) -> Result<Option<usize>, AllocError>
-    requires { AreIn (length source.text.now) found.old }
-    ensures { OnOk result (AreIn (length source.entry.text.now) found.new) }
+    requires inside { LiesIn (length source.text.now) part }
+    requires parts { IsFoundBefore source.path.now source.text.now part.start found.old }
+    ensures { IfOk result
+        (GoesOn source.entry.path.now source.entry.text.now part.entry found.new) }
 {
     let bytes = source.text.as_bytes();
-    let start = part.start;
     let mut size = FIRST_TRY;
     for _round in 0..TRIES {
         let end = next_start(bytes, part.end.saturating_add(size).min(bytes.len()));
-        let count = end.saturating_sub(start);
-        if end <= part.end || found.spare < count {
+        let longer = Span {
+            start: part.start,
+            end,
+        };
+        if end <= part.end || !take_spare(end - part.start, &mut found.course) {
             return Ok(None);
         }
-        found.spare -= count;
-        match parse(
-            source,
-            alloc,
-            Span { start, end },
-            Cut::Chunks,
-            &mut found.items,
-        )? {
+        match parse(source, alloc, longer, Cut::Chunks, &mut found.items)? {
             None => return Ok(Some(end)),
             Some(refusal) => {
                 if !refusal.ends_early || end == bytes.len() {
@@ -260,9 +268,18 @@ fn parse_longer(
     Ok(None)
 }
 
+/// Whether this many bytes may be parsed again. If so, they are taken off those that may.
+fn take_spare(count: usize, course: &mut Course) -> bool {
+    if count > course.spare {
+        return false;
+    }
+    course.spare -= count;
+    true
+}
+
 /// Parses what begins with a part and goes on up to where an item may begin before an offset.
 /// Returns where it ends.
-#[tactic(auto, using(crate::proofs::Kept::with_items))]
+#[tactic(auto, using(crate::proofs::Kept::parsed))]
 fn parse_up_to(
     source: Source<'_>,
     alloc: Global,
@@ -270,11 +287,12 @@ fn parse_up_to(
     offset: usize,
     found: &mut Found,
 ) -> Result<Option<usize>, AllocError>
-    requires { AreIn (length source.text.now) found.old }
-    ensures { OnOk result (AreIn (length source.entry.text.now) found.new) }
+    requires inside { LiesIn (length source.text.now) part }
+    requires parts { IsFoundBefore source.path.now source.text.now part.start found.old }
+    ensures { IfOk result
+        (GoesOn source.entry.path.now source.entry.text.now part.entry found.new) }
 {
     let bytes = source.text.as_bytes();
-    let start = part.start;
     if offset <= part.end || offset > bytes.len() {
         return Ok(None);
     }
@@ -282,13 +300,11 @@ fn parse_up_to(
     if end <= part.end {
         return Ok(None);
     }
-    match parse(
-        source,
-        alloc,
-        Span { start, end },
-        Cut::Chunks,
-        &mut found.items,
-    )? {
+    let longer = Span {
+        start: part.start,
+        end,
+    };
+    match parse(source, alloc, longer, Cut::Chunks, &mut found.items)? {
         None => Ok(Some(end)),
         Some(_) => Ok(None),
     }
@@ -297,19 +313,20 @@ fn parse_up_to(
 /// Adds the error of a part that begins at an offset, unless there are enough. That of the first
 /// part that is refused is left out if the error of the text isn't before that part: both have one
 /// cause.
-#[tactic(auto, using(crate::proofs::Kept::unchanged, crate::proofs::Kept::with_error))]
+#[tactic(auto, using(crate::proofs::Kept::with_error))]
 fn report(
     text: &str,
     start: usize,
     error: SurveyedError,
     found: &mut Found,
 ) -> Result<(), AllocError>
-    requires parts { AreIn (length text.now) found.old }
     requires error { LiesIn (length text.now) error.span }
-    ensures { OnOk result (AreIn (length text.now) found.new) }
+    requires errors { ErrorsIn (length text.now) 99 found.old.errors.items }
+    ensures items { found.new.items ≡ found.old.items }
+    ensures errors { OnOk result (ErrorsIn (length text.now) 99 found.new.errors.items) }
 {
-    let has_cause = found.cause.is_some_and(|offset| offset >= start);
-    found.cause = None;
+    let has_cause = found.course.cause.is_some_and(|offset| offset >= start);
+    found.course.cause = None;
     if !has_cause && found.errors.len() < MOST_ERRORS {
         found.errors.push(error)?;
     }

@@ -1,6 +1,7 @@
 use Rattle.std.proofs.Common.{length, take}
 use Rattle.std.specs.List.{flat_map}
-use Rattle.justfile_survey.specs.Seen.{Adds, item_seen}
+use Rattle.justfile_survey.specs.Items.{item_seen}
+use Rattle.justfile_survey.specs.Seen.{Adds}
 use Rattle.justfile_survey.proofs.items.push_items.Given as goal
 
 abbrev pub invariant-loop-item : goal.invariant-loop-item
