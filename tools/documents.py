@@ -12,6 +12,7 @@
 - No line of prose or of code has more than 120 characters, and no row of a table more than 400.
 - All documents together have at most so many words. The last line that is printed says how many they have.
 - Each source of a crate begins with a line `//!`, which says what it has.
+- Each definition and each lemma is cited (uncited.py).
 
 Prints what it finds, and the words of all documents; ends with 1 if it found something. With --write it rewrites the
 figures of docs/SIZES.md: its table, how the times were measured, and the longest chain of crates, the times from
@@ -26,6 +27,7 @@ from subprocess import run
 sys.dont_write_bytecode = True
 import clauses  # noqa: E402
 import figures  # noqa: E402
+import uncited  # noqa: E402
 from figures import NAMES, TOP, halves  # noqa: E402
 
 LONGEST = {"line": 120, "row of a table": 400}
@@ -270,6 +272,12 @@ def check_heads():
             yield f"{file}: no line //! at its head"
 
 
+def check_citations():
+    """What nothing cites: a reader would ask what it is for."""
+    for it in uncited.uncited():
+        yield f"crates/{it}: nothing cites it"
+
+
 def check_document(file, text):
     """What is wrong with a document apart from its figures."""
     prose, blocks = halves(text)
@@ -285,6 +293,7 @@ def check_document(file, text):
 def main():
     found = list(figures.check({it: (TOP / it).read_text() for it in DOCUMENTS}, "--write" in sys.argv))
     found.extend([*clauses.check(), *check_heads()])
+    found.extend(check_citations())
     for file in DOCUMENTS:
         found.extend(check_document(file, (TOP / file).read_text()))
     words = sum(len((TOP / it).read_text().split()) for it in DOCUMENTS)

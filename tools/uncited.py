@@ -6,7 +6,7 @@ or by its path, as in `using(crate::proofs::Rest::marked_end)`. Lines that only 
 comments. Answers to goals have the names of the goals, and examples are there to be read: the files Answers.antt and
 Invariants.antt of proofs/, and files whose names end in Examples, cite but are not listed.
 
-It only lists: a definition may still be worth keeping, for readers or as the subject of a law.
+tools/documents.py fails on what this lists.
 """
 import re
 import sys
@@ -54,7 +54,8 @@ def cited_by_path(text, crate):
         yield "Rattle." + ".".join([crate if head == "crate" else head, *parts[:-1]]), parts[-1]
 
 
-def main():
+def uncited():
+    """Each definition and lemma that nothing cites, after its file."""
     paths = (path for part in ("specs", "proofs") for path in sorted(CRATES.glob(f"*/{part}/**/*.antt")))
     cited, files = set(), [File(path) for path in paths]
     for file in files:
@@ -71,7 +72,12 @@ def main():
             outside = any((module(file.path), name) in cited for name in owned)
             within = any(owned & found for other, found in inside.items() if other != unit)
             if is_listed(file.path, unit) and not outside and not within:
-                print(f"{file.path.relative_to(CRATES)}: {unit}")
+                yield f"{file.path.relative_to(CRATES)}: {unit}"
+
+
+def main():
+    for it in uncited():
+        print(it)
     return 0
 
 

@@ -54,34 +54,7 @@ enabled_entries set =
 
 literal_set : (s : Setting) → indentation_literal (keyword_of s) (value_of s) ≡ option_map token_by (indentation_set s)
 literal_set (settings.AllowDuplicateRecipes value) = refl
-literal_set (settings.AllowDuplicateVariables value) = refl
-literal_set (settings.DefaultList value) = refl
-literal_set (settings.DefaultScript value) = refl
-literal_set (settings.DotenvCommand value) = refl
-literal_set (settings.DotenvFilename value) = refl
-literal_set (settings.DotenvLoad value) = refl
-literal_set (settings.DotenvOverride value) = refl
-literal_set (settings.DotenvPath value) = refl
-literal_set (settings.DotenvRequired value) = refl
-literal_set (settings.Export value) = refl
-literal_set (settings.Fallback value) = refl
-literal_set (settings.Guards value) = refl
-literal_set (settings.IgnoreComments value) = refl
-literal_set (settings.Indentation literal indentation) = refl
-literal_set (settings.Lazy value) = refl
-literal_set (settings.Lists value) = refl
-literal_set (settings.MinimumVersion literal) = refl
-literal_set (settings.NoCd value) = refl
-literal_set (settings.NoExitMessage value) = refl
-literal_set (settings.PositionalArguments value) = refl
-literal_set (settings.Quiet value) = refl
-literal_set (settings.ScriptInterpreter interpreter) = refl
-literal_set (settings.Shell interpreter) = refl
-literal_set (settings.Tempdir value) = refl
-literal_set (settings.Unstable value) = refl
-literal_set (settings.WindowsPowerShell value) = refl
-literal_set (settings.WindowsShell interpreter) = refl
-literal_set (settings.WorkingDirectory value) = refl
+literal_set _ = refl
 
 -- the same if a test holds; otherwise both are `None`
 if_enabled : (b : Bool) (s : Setting) → (if b then indentation_literal (keyword_of s) (value_of s) else None) ≡ option_map token_by (if b then indentation_set s else None)
@@ -121,34 +94,7 @@ IsTextOf p = indentation_text p.1 ≡ string_bytes p.0.cooked
 
 text_set : (s : Setting) → HasDerivedSettingFields s → IfSome (indentation_set s) IsTextOf
 text_set (settings.Indentation literal indentation) whole = whole
-text_set (settings.AllowDuplicateRecipes value) whole = tt
-text_set (settings.AllowDuplicateVariables value) whole = tt
-text_set (settings.DefaultList value) whole = tt
-text_set (settings.DefaultScript value) whole = tt
-text_set (settings.DotenvCommand value) whole = tt
-text_set (settings.DotenvFilename value) whole = tt
-text_set (settings.DotenvLoad value) whole = tt
-text_set (settings.DotenvOverride value) whole = tt
-text_set (settings.DotenvPath value) whole = tt
-text_set (settings.DotenvRequired value) whole = tt
-text_set (settings.Export value) whole = tt
-text_set (settings.Fallback value) whole = tt
-text_set (settings.Guards value) whole = tt
-text_set (settings.IgnoreComments value) whole = tt
-text_set (settings.Lazy value) whole = tt
-text_set (settings.Lists value) whole = tt
-text_set (settings.MinimumVersion literal) whole = tt
-text_set (settings.NoCd value) whole = tt
-text_set (settings.NoExitMessage value) whole = tt
-text_set (settings.PositionalArguments value) whole = tt
-text_set (settings.Quiet value) whole = tt
-text_set (settings.ScriptInterpreter interpreter) whole = tt
-text_set (settings.Shell interpreter) whole = tt
-text_set (settings.Tempdir value) whole = tt
-text_set (settings.Unstable value) whole = tt
-text_set (settings.WindowsPowerShell value) whole = tt
-text_set (settings.WindowsShell interpreter) whole = tt
-text_set (settings.WorkingDirectory value) whole = tt
+text_set _ whole = tt
 
 text_enabled : (b : Bool) (s : Setting) → HasDerivedSettingFields s → IfSome (if b then indentation_set s else None) IsTextOf
 text_enabled true s whole = text_set s whole
@@ -159,16 +105,8 @@ found_holds Q None found h k = k
 found_holds Q (Some p) found h k = h
 
 text_item : (i : Item) → HasDerivedFieldsOfSetting i → IfSome (item_indentation i) IsTextOf
-text_item (items.Alias a) whole = tt
-text_item (items.Assignment a) whole = tt
-text_item (items.Comment text) whole = tt
-text_item (items.Function f) whole = tt
-text_item (items.Import attributes optional relative) whole = tt
-text_item (items.Module attributes doc name optional relative) whole = tt
-text_item items.Newline whole = tt
-text_item (items.Recipe r) whole = tt
 text_item (items.Setting s) whole = text_enabled (are_enabled (attributes_of s.attributes)) s.value whole
-text_item (items.Unexport attributes name) whole = tt
+text_item _ whole = tt
 
 -- a property of every literal and indentation that an item sets is a property of the first ones
 pub first_holds : (Q : StringLiteral × Indentation → Type 0) (all : List Item) → All (λ i. IfSome (item_indentation i) Q) all → IfSome (items_indentation all) Q

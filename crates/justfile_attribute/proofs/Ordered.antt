@@ -32,7 +32,8 @@ use Rattle.justfile_expression.specs.SeenKeys.{key_seen, quoted_seen}
 use Rattle.justfile_expression.specs.declared.expression.Expression.{Expression}
 use Rattle.justfile_attribute.specs.Attribute.{attribute_by, attribute_of, leaf_attribute_of, literal_leaf, quoted_by, option_by, property_by, bound_by}
 use Rattle.justfile_attribute.specs.New.{HasDerivedAttributeFields}
-use Rattle.justfile_attribute.specs.Order.{attribute_content_cmp, by_content, case_keys, case_kind, content_key, count_key, expression_key, literal_key, name_key, text_key}
+use Rattle.justfile_attribute.specs.Form.{case_kind}
+use Rattle.justfile_attribute.specs.Order.{attribute_content_cmp, by_content, case_keys, content_key, count_key, expression_key, literal_key, name_key, text_key}
 use Rattle.justfile_attribute_rules.specs.ArgumentRules.{IsNamedAs}
 use Rattle.justfile_attribute.specs.declared.attribute.Attribute.{Attribute}
 use Rattle.justfile_attribute.specs.declared.attribute.Attribute.TheVariants as attributes

@@ -13,8 +13,9 @@ use Rattle.justfile_model.specs.Trees.Tree.{Expr, Quoted, OptionName, Property, 
 use Rattle.justfile_expression.specs.Expression.{expr_of, literal_tok}
 use Rattle.justfile_expression.specs.LeafTree.{Leaf, Literal, leaf_tree_of, literal_of}
 use Rattle.justfile_expression.specs.declared.expression.Expression.{Expression}
+use Rattle.justfile_attribute.specs.Form as forms
+use Rattle.justfile_attribute.specs.Form.{Form, case_kind, form_of}
 use Rattle.justfile_attribute.specs.declared.attribute.Attribute.{Attribute}
-use Rattle.justfile_attribute.specs.declared.attribute.Attribute.TheVariants as attributes
 use Rattle.justfile_attribute.specs.declared.interpreter.Interpreter.{Interpreter}
 
 -- by functions for the trees of expressions, the leaves of literals, and what a tree keeps of other tokens
@@ -46,9 +47,19 @@ module _ {A B : Type 0} (expression : Expression → Expr A B) (leaf : StringLit
   script_by None = tree.Plain kinds.Script
   script_by (Some interpreter) = tree.Texts kinds.Script (quoted_by interpreter.command ∷ map quoted_by interpreter.arguments.items)
 
-  abbrev pub attribute_by : Attribute → tree.Attribute A B
-  attribute_by attributes.Android = tree.Plain kinds.Android
-  attribute_by (attributes.Arg flag help help_property long long_key max max_key min min_key multiple name pattern short short_key value) =
+  -- an attribute of this kind
+  abbrev pub formed_by : AttributeKind → Form → tree.Attribute A B
+  formed_by kind forms.Plain = tree.Plain kind
+  formed_by kind (forms.Optional value) = single_by kind value
+  formed_by kind (forms.Single value) = tree.Single kind (expression value.value)
+  formed_by kind (forms.Literal literal) = tree.Texts kind (quoted_by literal ∷ [])
+  formed_by kind (forms.Literals literals) = tree.Texts kind (map quoted_by literals)
+  formed_by kind (forms.Env key value) = tree.Env (expression key.value) (expression value.value)
+  formed_by kind (forms.Signals signals) = tree.Signals signals
+  formed_by kind (forms.Cache extra inputs outputs) = tree.Cache (option_map (λ (e : Box Expression). expression e.value) extra)
+      (option_map (λ (e : Box Expression). expression e.value) inputs) (option_map (λ (e : Box Expression). expression e.value) outputs)
+  formed_by kind (forms.Script interpreter) = script_by interpreter
+  formed_by kind (forms.Arg flag help help_property long long_key max max_key min min_key multiple name pattern short short_key value) =
       tree.Arg (record {
         flag = option_map position flag;
         help = option_map property_by help_property;
@@ -61,35 +72,9 @@ module _ {A B : Type 0} (expression : Expression → Expr A B) (leaf : StringLit
         short = option_by short_key short;
         value = option_map (λ (e : Box Expression). expression e.value) value;
       })
-  attribute_by (attributes.Cache extra inputs outputs) = tree.Cache (option_map (λ (e : Box Expression). expression e.value) extra)
-      (option_map (λ (e : Box Expression). expression e.value) inputs) (option_map (λ (e : Box Expression). expression e.value) outputs)
-  attribute_by (attributes.Confirm value) = single_by kinds.Confirm value
-  attribute_by (attributes.Continue signals) = tree.Signals signals.keys
-  attribute_by attributes.Default = tree.Plain kinds.Default
-  attribute_by (attributes.Doc value) = single_by kinds.Doc value
-  attribute_by attributes.Dragonfly = tree.Plain kinds.Dragonfly
-  attribute_by (attributes.Env key value) = tree.Env (expression key.value) (expression value.value)
-  attribute_by attributes.ExitMessage = tree.Plain kinds.ExitMessage
-  attribute_by (attributes.Extension literal) = tree.Texts kinds.Extension (quoted_by literal ∷ [])
-  attribute_by attributes.Freebsd = tree.Plain kinds.Freebsd
-  attribute_by (attributes.Group literal) = tree.Texts kinds.Group (quoted_by literal ∷ [])
-  attribute_by attributes.Linux = tree.Plain kinds.Linux
-  attribute_by attributes.Macos = tree.Plain kinds.Macos
-  attribute_by (attributes.Metadata literals) = tree.Texts kinds.Metadata (map quoted_by literals.items)
-  attribute_by attributes.Netbsd = tree.Plain kinds.Netbsd
-  attribute_by attributes.NoCd = tree.Plain kinds.NoCd
-  attribute_by attributes.NoExitMessage = tree.Plain kinds.NoExitMessage
-  attribute_by attributes.NoQuiet = tree.Plain kinds.NoQuiet
-  attribute_by attributes.Openbsd = tree.Plain kinds.Openbsd
-  attribute_by attributes.Parallel = tree.Plain kinds.Parallel
-  attribute_by attributes.PositionalArguments = tree.Plain kinds.PositionalArguments
-  attribute_by attributes.Private = tree.Plain kinds.Private
-  attribute_by (attributes.Script interpreter) = script_by interpreter
-  attribute_by attributes.Shell = tree.Plain kinds.Shell
-  attribute_by (attributes.Timestamp value) = single_by kinds.Timestamp value
-  attribute_by attributes.Unix = tree.Plain kinds.Unix
-  attribute_by attributes.Windows = tree.Plain kinds.Windows
-  attribute_by (attributes.WorkingDirectory value) = tree.Single kinds.WorkingDirectory (expression value.value)
+
+  abbrev pub attribute_by : Attribute → tree.Attribute A B
+  attribute_by a = formed_by (case_kind a) (form_of a)
 
 -- a literal as a leaf of the parser's trees
 abbrev pub literal_leaf : StringLiteral → Leaf

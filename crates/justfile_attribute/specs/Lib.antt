@@ -7,6 +7,7 @@ pub mod Print
 pub mod Resolved
 pub mod Equal
 pub mod Expressions
+pub mod Form
 pub mod Interpreter
 pub mod InterpreterOrder
 pub mod Interpreters

@@ -14,8 +14,9 @@ use Rattle.justfile_model.specs.Trees.Tree as tree
 use Rattle.justfile_model.specs.Trees.Tree.{Attribute, Expr, Quoted}
 use Rattle.justfile_expression.specs.LeafViews.{views_leaves}
 use Rattle.justfile_expression.specs.LeafTree.{Leaf}
+use Rattle.justfile_attribute.specs.Form as forms
+use Rattle.justfile_attribute.specs.Form.{Form, form_of}
 use Rattle.justfile_attribute.specs.declared.attribute.Attribute as code
-use Rattle.justfile_attribute.specs.declared.attribute.Attribute.TheVariants as attributes
 use Rattle.justfile_attribute_rules.specs.ArgumentRules.{IsNamedAs}
 use Rattle.justfile_attribute_rules.specs.Made.{signals_made}
 
@@ -51,36 +52,10 @@ with_known known made = do
 
 -- a kind without rules of its own, besides the number and the form of its arguments: each but `arg`, `cache` and `continue`
 abbrev pub has_no_own_rules : AttributeKind → Bool
-has_no_own_rules kinds.Android = true
 has_no_own_rules kinds.Arg = false
 has_no_own_rules kinds.Cache = false
-has_no_own_rules kinds.Confirm = true
 has_no_own_rules kinds.Continue = false
-has_no_own_rules kinds.Default = true
-has_no_own_rules kinds.Doc = true
-has_no_own_rules kinds.Dragonfly = true
-has_no_own_rules kinds.Env = true
-has_no_own_rules kinds.ExitMessage = true
-has_no_own_rules kinds.Extension = true
-has_no_own_rules kinds.Freebsd = true
-has_no_own_rules kinds.Group = true
-has_no_own_rules kinds.Linux = true
-has_no_own_rules kinds.Macos = true
-has_no_own_rules kinds.Metadata = true
-has_no_own_rules kinds.Netbsd = true
-has_no_own_rules kinds.NoCd = true
-has_no_own_rules kinds.NoExitMessage = true
-has_no_own_rules kinds.NoQuiet = true
-has_no_own_rules kinds.Openbsd = true
-has_no_own_rules kinds.Parallel = true
-has_no_own_rules kinds.PositionalArguments = true
-has_no_own_rules kinds.Private = true
-has_no_own_rules kinds.Script = true
-has_no_own_rules kinds.Shell = true
-has_no_own_rules kinds.Timestamp = true
-has_no_own_rules kinds.Unix = true
-has_no_own_rules kinds.Windows = true
-has_no_own_rules kinds.WorkingDirectory = true
+has_no_own_rules _ = true
 
 -- the derived fields of an `arg` attribute: those that its tree doesn't show
 pub record HasDerivedArgumentFields (help : Option (String Global)) (name : StringLiteral) (long_key : Option Name) (long : Option StringLiteral)
@@ -93,36 +68,19 @@ pub record HasDerivedArgumentFields (help : Option (String Global)) (name : Stri
   pub min_keyed : is_some min_key ≡ is_some min
   pub max_keyed : is_some max_key ≡ is_some max
 
+abbrev pub HasDerivedFormFields : Form → Type 0
+HasDerivedFormFields forms.Plain = Unit {0}
+HasDerivedFormFields (forms.Optional value) = Unit {0}
+HasDerivedFormFields (forms.Single value) = Unit {0}
+HasDerivedFormFields (forms.Literal literal) = Unit {0}
+HasDerivedFormFields (forms.Literals literals) = Unit {0}
+HasDerivedFormFields (forms.Env name value) = Unit {0}
+HasDerivedFormFields (forms.Signals signals) = Unit {0}
+HasDerivedFormFields (forms.Cache extra inputs outputs) = Unit {0}
+HasDerivedFormFields (forms.Script interpreter) = Unit {0}
+HasDerivedFormFields (forms.Arg flag help help_property long long_key max max_key min min_key multiple name pattern short short_key value) =
+    HasDerivedArgumentFields help name long_key long short_key short min_key min max_key max
+
 -- the derived fields of an attribute are right
 abbrev pub HasDerivedAttributeFields : code.Attribute → Type 0
-HasDerivedAttributeFields (attributes.Arg flag help help_property long long_key max max_key min min_key multiple name pattern short short_key value) =
-    HasDerivedArgumentFields help name long_key long short_key short min_key min max_key max
-HasDerivedAttributeFields attributes.Android = Unit {0}
-HasDerivedAttributeFields (attributes.Cache extra inputs outputs) = Unit {0}
-HasDerivedAttributeFields (attributes.Confirm value) = Unit {0}
-HasDerivedAttributeFields (attributes.Continue signals) = Unit {0}
-HasDerivedAttributeFields attributes.Default = Unit {0}
-HasDerivedAttributeFields (attributes.Doc value) = Unit {0}
-HasDerivedAttributeFields attributes.Dragonfly = Unit {0}
-HasDerivedAttributeFields (attributes.Env key value) = Unit {0}
-HasDerivedAttributeFields attributes.ExitMessage = Unit {0}
-HasDerivedAttributeFields (attributes.Extension literal) = Unit {0}
-HasDerivedAttributeFields attributes.Freebsd = Unit {0}
-HasDerivedAttributeFields (attributes.Group literal) = Unit {0}
-HasDerivedAttributeFields attributes.Linux = Unit {0}
-HasDerivedAttributeFields attributes.Macos = Unit {0}
-HasDerivedAttributeFields (attributes.Metadata literals) = Unit {0}
-HasDerivedAttributeFields attributes.Netbsd = Unit {0}
-HasDerivedAttributeFields attributes.NoCd = Unit {0}
-HasDerivedAttributeFields attributes.NoExitMessage = Unit {0}
-HasDerivedAttributeFields attributes.NoQuiet = Unit {0}
-HasDerivedAttributeFields attributes.Openbsd = Unit {0}
-HasDerivedAttributeFields attributes.Parallel = Unit {0}
-HasDerivedAttributeFields attributes.PositionalArguments = Unit {0}
-HasDerivedAttributeFields attributes.Private = Unit {0}
-HasDerivedAttributeFields (attributes.Script interpreter) = Unit {0}
-HasDerivedAttributeFields attributes.Shell = Unit {0}
-HasDerivedAttributeFields (attributes.Timestamp value) = Unit {0}
-HasDerivedAttributeFields attributes.Unix = Unit {0}
-HasDerivedAttributeFields attributes.Windows = Unit {0}
-HasDerivedAttributeFields (attributes.WorkingDirectory value) = Unit {0}
+HasDerivedAttributeFields a = HasDerivedFormFields (form_of a)

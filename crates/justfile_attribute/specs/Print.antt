@@ -13,8 +13,9 @@ use Rattle.justfile_token.specs.declared.token.Token.{Token}
 use Rattle.justfile_model.specs.Printed.Printing.{fixed_text}
 use Rattle.justfile_expression.specs.Text.{text_of}
 use Rattle.justfile_expression.specs.declared.expression.Expression.{Expression}
+use Rattle.justfile_attribute.specs.Form as forms
+use Rattle.justfile_attribute.specs.Form.{Form, form_of}
 use Rattle.justfile_attribute.specs.declared.attribute.Attribute.{Attribute}
-use Rattle.justfile_attribute.specs.declared.attribute.Attribute.TheVariants as attributes
 use Rattle.justfile_attribute.specs.declared.interpreter.Interpreter.{Interpreter}
 use Rattle.justfile_attribute.specs.declared.part.Part.{Part}
 use Rattle.justfile_attribute.specs.declared.part.Value.{Value}
@@ -107,39 +108,22 @@ arg_slots name long_key long short_key short pattern value flag multiple min max
     ∷ property_slot (codes "pattern=") pattern ∷ value_slot (codes "value=") value ∷ flag_slot (codes "flag") flag ∷ flag_slot (codes "multiple") multiple
     ∷ number_slot (codes "min=") min ∷ number_slot (codes "max=") max ∷ property_slot (codes "help=") help ∷ []
 
+abbrev pub form_slots : Form → Slots
+form_slots forms.Plain = []
+form_slots (forms.Optional value) = single_slots value
+form_slots (forms.Single value) = positional value.value ∷ []
+form_slots (forms.Literal literal) = literal_slot literal ∷ []
+form_slots (forms.Literals literals) = map literal_slot literals
+form_slots (forms.Env key value) = positional key.value ∷ positional value.value ∷ []
+form_slots (forms.Signals signals) = map signal_slot signals
+form_slots (forms.Cache extra inputs outputs) = cache_slots extra inputs outputs
+form_slots (forms.Script interpreter) = script_slots interpreter
+form_slots (forms.Arg flag help property long long_key max max_key min min_key multiple name pattern short short_key value) =
+    arg_slots name long_key long short_key short pattern value flag multiple min max property
+
 -- the slots of an attribute
 abbrev pub slots : Attribute → Slots
-slots attributes.Android = []
-slots (attributes.Arg flag help property long long_key max max_key min min_key multiple name pattern short short_key value) =
-    arg_slots name long_key long short_key short pattern value flag multiple min max property
-slots (attributes.Cache extra inputs outputs) = cache_slots extra inputs outputs
-slots (attributes.Confirm value) = single_slots value
-slots (attributes.Continue signals) = map signal_slot signals.keys
-slots attributes.Default = []
-slots (attributes.Doc value) = single_slots value
-slots attributes.Dragonfly = []
-slots (attributes.Env key value) = positional key.value ∷ positional value.value ∷ []
-slots attributes.ExitMessage = []
-slots (attributes.Extension literal) = literal_slot literal ∷ []
-slots attributes.Freebsd = []
-slots (attributes.Group literal) = literal_slot literal ∷ []
-slots attributes.Linux = []
-slots attributes.Macos = []
-slots (attributes.Metadata literals) = map literal_slot literals.items
-slots attributes.Netbsd = []
-slots attributes.NoCd = []
-slots attributes.NoExitMessage = []
-slots attributes.NoQuiet = []
-slots attributes.Openbsd = []
-slots attributes.Parallel = []
-slots attributes.PositionalArguments = []
-slots attributes.Private = []
-slots (attributes.Script interpreter) = script_slots interpreter
-slots attributes.Shell = []
-slots (attributes.Timestamp value) = single_slots value
-slots attributes.Unix = []
-slots attributes.Windows = []
-slots (attributes.WorkingDirectory value) = positional value.value ∷ []
+slots a = form_slots (form_of a)
 
 -- ---- the printed text
 

@@ -4,7 +4,7 @@ ghost use Rattle.std.specs.List.{AllZip};
 ghost use Rattle.justfile_token.specs.StringLiteral.{IsSameLiteral};
 ghost use Rattle.justfile_token.specs.Copies.{IsSameIfPresent, IsSameText};
 ghost use Rattle.justfile_vocabulary.specs.declared.attribute_kind.AttributeKind.TheVariants as kinds;
-ghost use Rattle.justfile_attribute.specs.Order.{case_kind};
+ghost use Rattle.justfile_attribute.specs.Form.{case_kind};
 ghost use Rattle.justfile_attribute.specs.Copies.{IsSameAttribute, IsSameInterpreter, IsSameProperty, unboxed};
 ghost use Rattle.justfile_attribute.specs.declared.attribute.Attribute.TheVariants as attributes;
 

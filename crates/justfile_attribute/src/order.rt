@@ -7,7 +7,8 @@ ghost use Rattle.justfile_vocabulary.specs.contracts.attribute_kind.AttributeKin
 ghost use Rattle.justfile_vocabulary.specs.declared.attribute_kind.AttributeKind.TheVariants as kinds;
 ghost use Rattle.justfile_model.specs.Trees.ContentLeaf.{content_cmp};
 ghost use Rattle.justfile_model.specs.Trees.Key.{keys_cmp, end, next, keys_of, option_key, row};
-ghost use Rattle.justfile_attribute.specs.Order.{attribute_content_cmp, boxed_key, by_content, case_keys, case_kind, count_key, expression_key, interpreter_key, literal_key, name_key, property_key, signal_key, text_key, token_key};
+ghost use Rattle.justfile_attribute.specs.Form.{case_kind};
+ghost use Rattle.justfile_attribute.specs.Order.{attribute_content_cmp, boxed_key, by_content, case_keys, count_key, expression_key, interpreter_key, literal_key, name_key, property_key, signal_key, text_key, token_key};
 
 use crate::attribute::Attribute;
 use crate::interpreter::Interpreter;

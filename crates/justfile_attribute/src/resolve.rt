@@ -1,6 +1,6 @@
 //! Resolution of the variables in attributes.
 ghost use Rattle.std.specs.Prelude.{◌≡◌};
-ghost use Rattle.justfile_attribute.specs.Order.{case_kind};
+ghost use Rattle.justfile_attribute.specs.Form.{case_kind};
 ghost use Rattle.justfile_attribute.specs.Resolved.{IsResolvedAttribute, IsResolvedProperty};
 ghost use Rattle.justfile_expression.specs.Resolved.{number_of};
 ghost use Rattle.justfile_vocabulary.specs.declared.attribute_kind.AttributeKind.TheVariants as kinds;

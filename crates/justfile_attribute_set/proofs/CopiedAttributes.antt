@@ -13,12 +13,13 @@ use Rattle.justfile_model.specs.Trees.Tree as tree
 use Rattle.justfile_model.specs.Trees.Tree.{Expr, Quoted}
 use Rattle.justfile_expression.specs.LeafTree.{Leaf, Literal, leaf_tree_of}
 use Rattle.justfile_expression.specs.declared.expression.Expression.{Expression}
-use Rattle.justfile_attribute.specs.Attribute.{bound_by, leaf_attribute_of, literal_leaf, option_by, property_by, quoted_by, script_by, single_by}
+use Rattle.justfile_attribute.specs.Attribute.{bound_by, formed_by, leaf_attribute_of, literal_leaf, option_by, property_by, quoted_by, script_by, single_by}
 use Rattle.justfile_token.specs.Copies.{IsSameIfPresent}
 use Rattle.justfile_expression.specs.Copies.{IsSameBoxed}
-use Rattle.justfile_attribute.specs.Copies.{IsSameAttribute, IsSameInterpreter, IsSameProperty}
+use Rattle.justfile_attribute.specs.Copies.{IsSameAttribute, IsSameForm, IsSameInterpreter, IsSameProperty}
+use Rattle.justfile_attribute.specs.Form as forms
+use Rattle.justfile_attribute.specs.Form.{Form, case_kind, form_of}
 use Rattle.justfile_attribute.specs.declared.attribute.Attribute.{Attribute}
-use Rattle.justfile_attribute.specs.declared.attribute.Attribute.TheVariants as attributes
 use Rattle.justfile_attribute.specs.declared.interpreter.Interpreter.{Interpreter}
 use Rattle.justfile_attribute_set.proofs.CopiedTrees.{same_literal, same_tree}
 
@@ -103,10 +104,22 @@ same_script (Some copy) (Some original) same =
 same_script None (Some original) same = absurd same
 same_script (Some copy) None same = absurd same
 
-pub same_attribute_tree : (copy original : Attribute) → IsSameAttribute copy original → leaf_attribute_of copy ≡ leaf_attribute_of original
-same_attribute_tree attributes.Android attributes.Android same = refl
-same_attribute_tree (attributes.Arg flag help property long long_key max max_key min min_key multiple name pattern short short_key value)
-    (attributes.Arg flag' help' property' long' long_key' max' max_key' min' min_key' multiple' name' pattern' short' short_key' value')
+abbrev formed : AttributeKind → Form → tree.Attribute Leaf Token
+formed = formed_by leaf_tree_of literal_leaf position
+
+same_form : (kind : AttributeKind) (copy original : Form) → IsSameForm copy original → formed kind copy ≡ formed kind original
+same_form kind forms.Plain forms.Plain same = refl
+same_form kind (forms.Optional copy) (forms.Optional original) same = same_single kind copy original same
+same_form kind (forms.Single copy) (forms.Single original) same = ap (tree.Single kind) (same_boxed copy original same)
+same_form kind (forms.Literal copy) (forms.Literal original) same = λ i. tree.Texts kind (same_quoted copy original same i ∷ [])
+same_form kind (forms.Literals copies) (forms.Literals originals) same = ap (tree.Texts kind) (same_maps IsSameLiteral quoted same_quoted copies originals same)
+same_form kind (forms.Env name value) (forms.Env name' value') same = λ i. tree.Env (same_boxed name name' same.0 i) (same_boxed value value' same.1 i)
+same_form kind (forms.Signals copy) (forms.Signals original) same = ap tree.Signals same
+same_form kind (forms.Cache extra inputs outputs) (forms.Cache extra' inputs' outputs') same =
+    λ i. tree.Cache (same_expressions extra extra' same.0 i) (same_expressions inputs inputs' same.1 i) (same_expressions outputs outputs' same.2 i)
+same_form kind (forms.Script copy) (forms.Script original) same = same_script copy original same
+same_form kind (forms.Arg flag help property long long_key max max_key min min_key multiple name pattern short short_key value)
+    (forms.Arg flag' help' property' long' long_key' max' max_key' min' min_key' multiple' name' pattern' short' short_key' value')
     same =
     λ i. tree.Arg (record {
       flag = option_map position (same.0 i);
@@ -120,33 +133,8 @@ same_attribute_tree (attributes.Arg flag help property long long_key max max_key
       short = same_option short_key short_key' short short' same.13 same.12 i;
       value = same_expressions value value' same.14 i;
     })
-same_attribute_tree (attributes.Cache extra inputs outputs) (attributes.Cache extra' inputs' outputs') same =
-    λ i. tree.Cache (same_expressions extra extra' same.0 i) (same_expressions inputs inputs' same.1 i) (same_expressions outputs outputs' same.2 i)
-same_attribute_tree (attributes.Confirm copy) (attributes.Confirm original) same = same_single kinds.Confirm copy original same
-same_attribute_tree (attributes.Continue copy) (attributes.Continue original) same = ap tree.Signals same
-same_attribute_tree attributes.Default attributes.Default same = refl
-same_attribute_tree (attributes.Doc copy) (attributes.Doc original) same = same_single kinds.Doc copy original same
-same_attribute_tree attributes.Dragonfly attributes.Dragonfly same = refl
-same_attribute_tree (attributes.Env name value) (attributes.Env name' value') same = λ i. tree.Env (same_boxed name name' same.0 i) (same_boxed value value' same.1 i)
-same_attribute_tree attributes.ExitMessage attributes.ExitMessage same = refl
-same_attribute_tree (attributes.Extension copy) (attributes.Extension original) same = λ i. tree.Texts kinds.Extension (same_quoted copy original same i ∷ [])
-same_attribute_tree attributes.Freebsd attributes.Freebsd same = refl
-same_attribute_tree (attributes.Group copy) (attributes.Group original) same = λ i. tree.Texts kinds.Group (same_quoted copy original same i ∷ [])
-same_attribute_tree attributes.Linux attributes.Linux same = refl
-same_attribute_tree attributes.Macos attributes.Macos same = refl
-same_attribute_tree (attributes.Metadata copy) (attributes.Metadata original) same = ap (tree.Texts kinds.Metadata) (same_maps IsSameLiteral quoted same_quoted copy.items original.items same)
-same_attribute_tree attributes.Netbsd attributes.Netbsd same = refl
-same_attribute_tree attributes.NoCd attributes.NoCd same = refl
-same_attribute_tree attributes.NoExitMessage attributes.NoExitMessage same = refl
-same_attribute_tree attributes.NoQuiet attributes.NoQuiet same = refl
-same_attribute_tree attributes.Openbsd attributes.Openbsd same = refl
-same_attribute_tree attributes.Parallel attributes.Parallel same = refl
-same_attribute_tree attributes.PositionalArguments attributes.PositionalArguments same = refl
-same_attribute_tree attributes.Private attributes.Private same = refl
-same_attribute_tree (attributes.Script copy) (attributes.Script original) same = same_script copy original same
-same_attribute_tree attributes.Shell attributes.Shell same = refl
-same_attribute_tree (attributes.Timestamp copy) (attributes.Timestamp original) same = same_single kinds.Timestamp copy original same
-same_attribute_tree attributes.Unix attributes.Unix same = refl
-same_attribute_tree attributes.Windows attributes.Windows same = refl
-same_attribute_tree (attributes.WorkingDirectory copy) (attributes.WorkingDirectory original) same = ap (tree.Single kinds.WorkingDirectory) (same_boxed copy original same)
-same_attribute_tree _ _ same = absurd same
+same_form kind _ _ same = absurd same
+
+pub same_attribute_tree : (copy original : Attribute) → IsSameAttribute copy original → leaf_attribute_of copy ≡ leaf_attribute_of original
+same_attribute_tree copy original same =
+    ap (λ kind. formed kind (form_of copy)) same.kind ∙ same_form (case_kind original) (form_of copy) (form_of original) same.fields

@@ -8,7 +8,7 @@ use Rattle.justfile_model.specs.Lists.Order.{in_order}
 use Rattle.justfile_model.proofs.Lists.OrderMaps.{in_order_map}
 use Rattle.justfile_attribute.specs.declared.attribute.Attribute.{Attribute}
 use Rattle.justfile_attribute_set.specs.AttributeSet.{AttributeSet, entries_with_comments, pairs_of, written_of}
-use Rattle.justfile_attribute_set.specs.Pairs.{CommentedName, NamedPair, Pair, commented_cmp, named, pair_cmp, same_attributes, same_commented, with_comment}
+use Rattle.justfile_attribute_set.specs.Pairs.{CommentedName, NamedPair, Pair, commented_cmp, named, pair_cmp, same_attributes, same_commented, commented_name}
 use Rattle.justfile_written.specs.Written.{commented, uncommented}
 use Rattle.justfile_written.specs.declared.written.Written.{Written}
 
@@ -42,7 +42,7 @@ named_again : (pairs : List NamedPair) → map named (map uncommented pairs) ≡
 named_again [] = refl
 named_again (p ∷ ps) = ap (λ l. p ∷ l) (named_again ps)
 
-commented_again : (entries : List CommentedName) → map with_comment (map commented entries) ≡ entries
+commented_again : (entries : List CommentedName) → map commented_name (map commented entries) ≡ entries
 commented_again [] = refl
 commented_again (e ∷ es) = ap (λ l. e ∷ l) (commented_again es)
 
@@ -63,7 +63,7 @@ pub entries_in_order : (set : AttributeSet) (entries : List CommentedName)
     → written_of set ≡ in_order pair_cmp (kept_last same_attributes (map commented entries))
     → entries_with_comments set ≡ in_order commented_cmp (kept_last same_commented entries)
 entries_in_order set entries e =
-    ap (map with_comment) (e ∙ ordered_commented entries) ∙ commented_again (in_order commented_cmp (kept_last same_commented entries))
+    ap (map commented_name) (e ∙ ordered_commented entries) ∙ commented_again (in_order commented_cmp (kept_last same_commented entries))
 
 -- the name of the pair that is found is the one that is found among the names
 module _ (test : Attribute → Bool) where

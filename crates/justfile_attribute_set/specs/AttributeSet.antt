@@ -15,7 +15,7 @@ use Rattle.justfile_model.specs.Trees.Tree.{Entry}
 use Rattle.justfile_expression.specs.LeafTree.{Leaf}
 use Rattle.justfile_attribute.specs.declared.attribute.Attribute.{Attribute}
 use Rattle.justfile_attribute_set.specs.Keys.{firsts}
-use Rattle.justfile_attribute_set.specs.Pairs.{CommentedName, NamedPair, Pair, entry_of, leaf_entry_of, named, with_comment}
+use Rattle.justfile_attribute_set.specs.Pairs.{CommentedName, NamedPair, Pair, entry_of, leaf_entry_of, named, commented_name}
 use Rattle.justfile_attribute_set.specs.contracts.pair_set.AttributeContentOrder.TheImpl.{ghosts as content_order}
 use Rattle.justfile_attribute_set.specs.declared.pair_set.PairSet.{PairSet}
 use Rattle.justfile_written.specs.declared.written.Written.{Written}
@@ -33,7 +33,7 @@ pairs_of set = map named (written_of set)
 
 -- the same as a list of triples
 abbrev pub entries_with_comments : AttributeSet → List CommentedName
-entries_with_comments set = map with_comment (written_of set)
+entries_with_comments set = map commented_name (written_of set)
 
 -- the attributes in order
 abbrev pub attributes_of : AttributeSet → List Attribute

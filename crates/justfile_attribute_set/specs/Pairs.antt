@@ -30,19 +30,19 @@ named p = (p.0, p.1.name)
 abbrev pub CommentedName : Type 0
 CommentedName = Attribute × Name × Option Comment
 
-abbrev pub with_comment : Pair → CommentedName
-with_comment p = (p.0, p.1.name, p.1.comment)
+abbrev pub commented_name : Pair → CommentedName
+commented_name p = (p.0, p.1.name, p.1.comment)
 
 -- the text of the comment, if there is one
-abbrev pub comment_text : Written → Option (List ℕ)
-comment_text written = option_copied written.comment
+abbrev pub copied_comment : Written → Option (List ℕ)
+copied_comment written = option_copied written.comment
 
 -- the entry of a pair, with all fields of the parser's leaves
 abbrev pub leaf_entry_of : Pair → Entry Leaf Token
-leaf_entry_of p = record { name = p.1.name.token; attribute = leaf_attribute_of p.0; comment = comment_text p.1 }
+leaf_entry_of p = record { name = p.1.name.token; attribute = leaf_attribute_of p.0; comment = copied_comment p.1 }
 
 abbrev pub entry_of : Pair → Entry Tok Tok
-entry_of p = record { name = tok_of p.1.name.token; attribute = attribute_of p.0; comment = comment_text p.1 }
+entry_of p = record { name = tok_of p.1.name.token; attribute = attribute_of p.0; comment = copied_comment p.1 }
 
 -- the order of pairs by the content of their attributes
 abbrev pub pair_cmp : {V : Type 0} → Attribute × V → Attribute × V → Ordering

@@ -43,34 +43,7 @@ module _ (IsToken : Token → Type 0) where
 
   holds_set : (s : Setting) → IsFilledSetting unchanged IsToken s → IfSome (indentation_set s) MatchesLiteral
   holds_set (settings.Indentation literal indentation) given = holds_literal literal indentation given.0 given.1
-  holds_set (settings.AllowDuplicateRecipes value) given = tt
-  holds_set (settings.AllowDuplicateVariables value) given = tt
-  holds_set (settings.DefaultList value) given = tt
-  holds_set (settings.DefaultScript value) given = tt
-  holds_set (settings.DotenvCommand value) given = tt
-  holds_set (settings.DotenvFilename value) given = tt
-  holds_set (settings.DotenvLoad value) given = tt
-  holds_set (settings.DotenvOverride value) given = tt
-  holds_set (settings.DotenvPath value) given = tt
-  holds_set (settings.DotenvRequired value) given = tt
-  holds_set (settings.Export value) given = tt
-  holds_set (settings.Fallback value) given = tt
-  holds_set (settings.Guards value) given = tt
-  holds_set (settings.IgnoreComments value) given = tt
-  holds_set (settings.Lazy value) given = tt
-  holds_set (settings.Lists value) given = tt
-  holds_set (settings.MinimumVersion literal) given = tt
-  holds_set (settings.NoCd value) given = tt
-  holds_set (settings.NoExitMessage value) given = tt
-  holds_set (settings.PositionalArguments value) given = tt
-  holds_set (settings.Quiet value) given = tt
-  holds_set (settings.ScriptInterpreter interpreter) given = tt
-  holds_set (settings.Shell interpreter) given = tt
-  holds_set (settings.Tempdir value) given = tt
-  holds_set (settings.Unstable value) given = tt
-  holds_set (settings.WindowsPowerShell value) given = tt
-  holds_set (settings.WindowsShell interpreter) given = tt
-  holds_set (settings.WorkingDirectory value) given = tt
+  holds_set _ given = tt
 
   holds_if : (b : Bool) (s : Setting) → IsFilledSetting unchanged IsToken s → IfSome (if b then indentation_set s else None) MatchesLiteral
   holds_if true s given = holds_set s given
@@ -78,16 +51,8 @@ module _ (IsToken : Token → Type 0) where
 
   module _ (depth : ℕ) (offsets : List ℕ) where
     holds_item : (i : Item) → IsFilledItem unchanged IsToken depth offsets i → IfSome (item_indentation i) MatchesLiteral
-    holds_item (items.Alias a) given = tt
-    holds_item (items.Assignment a) given = tt
-    holds_item (items.Comment text) given = tt
-    holds_item (items.Function f) given = tt
-    holds_item (items.Import attributes optional relative) given = tt
-    holds_item (items.Module attributes doc name optional relative) given = tt
-    holds_item items.Newline given = tt
-    holds_item (items.Recipe r) given = tt
     holds_item (items.Setting s) given = holds_if (are_enabled (attributes_of s.attributes)) s.value given.value
-    holds_item (items.Unexport attributes name) given = tt
+    holds_item _ given = tt
 
     holds_first : (o found : Option (StringLiteral × Indentation)) → IfSome o MatchesLiteral → IfSome found MatchesLiteral → IfSome (or_else o found) MatchesLiteral
     holds_first None found h k = k

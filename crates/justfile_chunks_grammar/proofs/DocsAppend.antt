@@ -1,7 +1,7 @@
 -- Docs of items and of others after them: they are taken apart, unless the items end in the doc of the construct that begins the others.
 use Rattle.std.proofs.Common.{◌≡◌, ◌∙◌, ℕ, Bool, true, false, cond, not, ◌&&◌, List, [], ◌∷◌, ◌++◌, Option, Some, None, refl, ap}
 use Rattle.justfile_model.specs.Grammars.Docs.{Before, LineEnd, Nothing, Other, after, can_take_doc, comment_taken, doc_in, doc_or_comment, documented, item_with_doc, redocumented, taken}
-use Rattle.justfile_model.specs.Trees.Tree.{Alias, Assignment, Comment, Construct, Content, Function, Import, Item, Module, Newline, Recipe, Setting, Unexport}
+use Rattle.justfile_model.specs.Trees.Tree.{Comment, Construct, Content, Item, Module, Newline, Recipe}
 
 -- the items don't begin with a construct
 abbrev pub BeginsNoConstruct : {A B C S D : Type 0} → List (Item A B C S D) → Type 0
@@ -47,14 +47,9 @@ module _ {A B C S D : Type 0} (has_doc : D → Bool) where
   -- a construct has one doc at most
   no_second : (attributes : D) (doc other : List ℕ) (content : Content A B C S)
       → item_with_doc has_doc doc (Construct attributes (redocumented (Some other) content)) ≡ None
-  no_second attributes doc other (Alias parts) = refl
-  no_second attributes doc other (Assignment parts) = refl
-  no_second attributes doc other (Function parts) = refl
-  no_second attributes doc other (Import parts) = refl
   no_second attributes doc other (Module parts) = never (not (has_doc attributes)) _
   no_second attributes doc other (Recipe parts) = never (not (has_doc attributes)) _
-  no_second attributes doc other (Setting parts) = refl
-  no_second attributes doc other (Unexport name) = refl
+  no_second attributes doc other _ = refl
 
   refuses_wanted : (t doc : List ℕ) (b : Bool) (attributes : D) (content : Content A B C S) (items : List (Item A B C S D))
       → Refuses (doc_or_comment has_doc t (Construct attributes content) items (cond b (Some (Construct attributes (redocumented (Some doc) content))) None))

@@ -134,21 +134,11 @@ module _ (offset line : ℕ) where
 
     cooked_moved : (l : Literal Tok) → view.cooked (over_literal move l) ≡ view.cooked l
     cooked_moved (literals.Plain t) = refl
-    cooked_moved (literals.Expanded t) = refl
-    cooked_moved (literals.Command t) = refl
-    cooked_moved (literals.Single t) = refl
-    cooked_moved (literals.Start t) = refl
-    cooked_moved (literals.Continue s t) = refl
-    cooked_moved (literals.End s t) = refl
+    cooked_moved _ = refl
 
     content_moved : (l : Literal Tok) → view.literal_content (over_literal move l) ≡ view.literal_content l
     content_moved (literals.Plain t) = refl
-    content_moved (literals.Expanded t) = refl
-    content_moved (literals.Command t) = refl
-    content_moved (literals.Single t) = refl
-    content_moved (literals.Start t) = refl
-    content_moved (literals.Continue s t) = refl
-    content_moved (literals.End s t) = refl
+    content_moved _ = refl
 
     sees : SameView move move view view
     sees = record { bytes = λ t. refl; place = λ t. refl; cooked = cooked_moved; value = λ l. ap literal_value (content_moved l) }
@@ -236,12 +226,7 @@ module _ (offset line : ℕ) where
 
   literal_lexeme : (l : Literal Tok) → over_literal lexeme (over_literal move l) ≡ over_literal lexeme l
   literal_lexeme (literals.Plain t) = refl
-  literal_lexeme (literals.Expanded t) = refl
-  literal_lexeme (literals.Command t) = refl
-  literal_lexeme (literals.Single t) = refl
-  literal_lexeme (literals.Start t) = refl
-  literal_lexeme (literals.Continue s t) = refl
-  literal_lexeme (literals.End s t) = refl
+  literal_lexeme _ = refl
 
   lexemes_moved : (ls : List (Literal Tok)) → map (over_literal lexeme) (map (over_literal move) ls) ≡ map (over_literal lexeme) ls
   lexemes_moved [] = refl

@@ -3,15 +3,14 @@ use Rattle.std.proofs.Common.{◌≡◌, ℕ, Bool, true, false, List, [], ◌�
 use Rattle.std.specs.Option.{option_map}
 use denote.Enum.Declared.{tag_of}
 use Rattle.justfile_vocabulary.specs.contracts.attribute_kind.AttributeKind as attribute_kinds
-use Rattle.justfile_vocabulary.specs.declared.attribute_kind.AttributeKind.{AttributeKind}
-use Rattle.justfile_vocabulary.specs.declared.attribute_kind.AttributeKind.TheVariants as attributes
 use Rattle.justfile_vocabulary.specs.declared.token_kind.TokenKind.TheVariants as kinds
+use Rattle.justfile_model.specs.Meanings.AttributeKinds.{TextsForm, ApartForm, RowForm, CommandForm, is_optional, kind_form}
 use Rattle.justfile_model.specs.Grammars.Expressions.{operator_kind}
 use Rattle.justfile_model.specs.LiteralTexts.Literals as literals
 use Rattle.justfile_model.specs.LiteralTexts.Literals.{Expansions, string_of}
 use Rattle.justfile_model.specs.Lexing.Tok.{Tok}
 use Rattle.justfile_model.specs.Trees.ConditionalOperator.{operator_sign}
-use Rattle.justfile_model.specs.Trees.ContentKeys.{name_key, position_key, literal_key, expr_key, exprs_keys, parts_keys, quoted_key, option_name_key, word_key, own_name_key, property_key, bound_number_key, bound_word_key, rules_keys, texts_keys, is_optional, single_keys, attribute_keys, attribute_key, entry_cmp}
+use Rattle.justfile_model.specs.Trees.ContentKeys.{name_key, position_key, literal_key, expr_key, exprs_keys, parts_keys, quoted_key, option_name_key, word_key, own_name_key, property_key, bound_number_key, bound_word_key, rules_keys, texts_keys, single_keys, attribute_keys, attribute_key, entry_cmp}
 use Rattle.justfile_model.specs.Trees.ContentLeaf.{ContentLeaf, operator, content_cmp}
 use Rattle.justfile_model.specs.Trees.ExpressionCases.{case_node}
 use Rattle.justfile_model.specs.Trees.Key.{Key, leaf, node, end, next, row, keys_of, absent_key, present_key, option_key, key_cmp}
@@ -129,16 +128,16 @@ module _ (offset line : ℕ) (expander : Expansions) where
       (next (option_name_is a.name a.short i)
       (next (own_name_is (codes "short") a.short i) (next (value_is a.value i) end))))))))))))))
 
-  texts_are : (kind : AttributeKind) (qs : List (Quoted Tok)) → texts_keys view kind qs ≡ texts_keys view kind (map (over_quoted {B = Tok} move move) qs)
-  texts_are attributes.Script [] = refl
-  texts_are attributes.Script (q ∷ qs) = λ i. next (present_key (row (next (quoted_is q i) (next (row (all_quoted qs i)) end)))) end
-  texts_are attributes.Metadata qs = λ i. next (row (all_quoted qs i)) end
-  texts_are kind qs = all_quoted qs
+  texts_are : (form : TextsForm) (qs : List (Quoted Tok)) → texts_keys view form qs ≡ texts_keys view form (map (over_quoted {B = Tok} move move) qs)
+  texts_are CommandForm [] = refl
+  texts_are CommandForm (q ∷ qs) = λ i. next (present_key (row (next (quoted_is q i) (next (row (all_quoted qs i)) end)))) end
+  texts_are RowForm qs = λ i. next (row (all_quoted qs i)) end
+  texts_are ApartForm qs = all_quoted qs
 
   keys_are : (a : Attribute Tok Tok) → attribute_keys view a ≡ attribute_keys view (over_attribute move move a)
   keys_are (tree.Plain kind) = refl
-  keys_are (tree.Single kind value) = ap (single_keys view (is_optional view kind)) (expr_is value)
-  keys_are (tree.Texts kind texts) = texts_are kind texts
+  keys_are (tree.Single kind value) = ap (single_keys view (is_optional kind)) (expr_is value)
+  keys_are (tree.Texts kind texts) = texts_are (kind_form kind).texts texts
   keys_are (tree.Env key value) = λ i. next (expr_is key i) (next (expr_is value i) end)
   keys_are (tree.Signals signals) = refl
   keys_are (tree.Cache extra inputs outputs) = λ i. next (value_is extra i) (next (value_is inputs i) (next (value_is outputs i) end))

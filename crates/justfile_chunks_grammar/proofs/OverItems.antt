@@ -6,7 +6,7 @@ use Rattle.justfile_model.specs.Grammars.Docs.{Before, LineEnd, Other, comment_t
 use Rattle.justfile_model.specs.Grammars.Files.{argument_literals, if_both, written_literals}
 use Rattle.justfile_model.specs.LiteralTexts.Literals.{over_literal}
 use Rattle.justfile_model.specs.Trees.Tree as tree
-use Rattle.justfile_model.specs.Trees.Tree.{Alias, Argument, Assignment, Comment, Construct, Content, Dependency, DependencyArgument, Function, Header, Import, Item, Module, Newline, Recipe, Setting, Unexport, WrittenAttribute, over_argument, over_content, over_dependency, over_dependency_argument, over_header, over_item, over_line, over_written_attribute, starless, starless_argument, starless_dependency, starless_header}
+use Rattle.justfile_model.specs.Trees.Tree.{Argument, Assignment, Comment, Construct, Content, Dependency, DependencyArgument, Header, Item, Module, Newline, Recipe, WrittenAttribute, over_argument, over_content, over_dependency, over_dependency_argument, over_header, over_item, over_line, over_written_attribute, starless, starless_argument, starless_dependency, starless_header}
 use Rattle.justfile_model.proofs.Derivations.Leaves.{expr_over}
 use Rattle.justfile_model.proofs.Lists.Mapped.{flat_mapped, map_both, option_both}
 
@@ -19,25 +19,14 @@ module _ {A B C S D A' B' C' S' D' : Type 0} (f : A → A') (g : B → B') (h : 
 
   can_take_over : (attributes : D) (content : Content A B C S)
       → can_take_doc other (m attributes) (over_content f g h k content) ≡ can_take_doc has_doc attributes content
-  can_take_over attributes (Assignment parts) = refl
-  can_take_over attributes (Alias parts) = refl
-  can_take_over attributes (Function parts) = refl
-  can_take_over attributes (Import parts) = refl
-  can_take_over attributes (Setting parts) = refl
-  can_take_over attributes (Unexport name) = refl
   can_take_over attributes (Module parts) = ap (λ b. true && not b && not (is_some parts.doc)) (same attributes)
   can_take_over attributes (Recipe parts) = ap (λ b. true && not b && not (is_some parts.doc)) (same attributes)
+  can_take_over attributes _ = refl
 
   redocumented_over : (doc : Option (List ℕ)) (content : Content A B C S)
       → redocumented doc (over_content f g h k content) ≡ over_content f g h k (redocumented doc content)
   redocumented_over doc (Assignment parts) = refl
-  redocumented_over doc (Alias parts) = refl
-  redocumented_over doc (Function parts) = refl
-  redocumented_over doc (Import parts) = refl
-  redocumented_over doc (Module parts) = refl
-  redocumented_over doc (Setting parts) = refl
-  redocumented_over doc (Unexport name) = refl
-  redocumented_over doc (Recipe parts) = refl
+  redocumented_over doc _ = refl
 
   with_doc_over : (doc : List ℕ) (attributes : D) (content : Content A B C S)
       → item_with_doc other doc (over (Construct attributes content)) ≡ option_map over (item_with_doc has_doc doc (Construct attributes content))
@@ -114,15 +103,9 @@ module _ {A B S A' B' S' : Type 0} (f : A → A') (g : B → B') (k : S → S') 
 
 module _ {A B C S A' B' C' S' : Type 0} (f : A → A') (g : B → B') (h : C → C') (k : S → S') where
   pub content_over : (c : Content A B C S) → starless (over_content f g h k c) ≡ over_content f g h same_star (starless c)
-  content_over (Assignment parts) = refl
-  content_over (Alias parts) = refl
-  content_over (Function parts) = refl
-  content_over (Import parts) = refl
-  content_over (Module parts) = refl
-  content_over (Setting parts) = refl
-  content_over (Unexport name) = refl
   content_over (Recipe parts) =
       λ i. Recipe (record { doc = parts.doc; header = header_over f g k parts.header i; comment = parts.comment; body = map (over_line f g h) parts.body })
+  content_over _ = refl
 
 pub both_mapped : {X Y : Type 0} (f : X → Y) (o : Option X) (others : Option (List X))
     → if_both (option_map f o) (option_map (map f) others) ≡ option_map (map f) (if_both o others)

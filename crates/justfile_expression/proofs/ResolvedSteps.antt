@@ -1,5 +1,4 @@
 -- Resolution along right sides: what the loops keep.
-use mathlib.Core.Bool.{true≢false}
 use Rattle.std.proofs.Common.{◌≡◌, ◌∙◌, ℕ, ◌<◌, List, Option, None, Some, IfSome, is_some, true, false, refl, sym, ap, subst}
 use Rattle.justfile_numbers.specs.declared.number.Number.{Number}
 use Rattle.justfile_expression.specs.Children.{optional_expression}
@@ -7,21 +6,6 @@ use Rattle.justfile_expression.specs.Resolved.{IsResolved, IsResolvedOptional}
 use Rattle.justfile_expression.specs.ResolvedSteps.{IsExchanged, IsResolvedLeft, rejoined, with_right}
 use Rattle.justfile_expression.specs.RightSides.{right_side}
 use Rattle.justfile_expression.specs.declared.expression.Expression.{Expression, And', Assert', Backtick, Call', Comparison', Concatenation', Conditional', FormatString', Group', Join', List', ListConcatenation', Not', Or', StringLiteral, Variable, None', Some', size-Expression}
-
-nothing : {P : Type 0} → false ≡ true → P
-nothing h = absurd (true≢false (sym h))
-
--- parents without a right side are none
-pub no_parents : (parents e : Expression) → is_some (right_side parents) ≡ false → rejoined parents e ≡ e
-no_parents (And' p l q r) e h = nothing (sym h)
-no_parents (Comparison' p l o q r t) e h = nothing (sym h)
-no_parents (Concatenation' p l o q r) e h = nothing (sym h)
-no_parents (Conditional' p c q b (Some' s o)) e h = nothing (sym h)
-no_parents (Join' l o q r) e h = nothing (sym h)
-no_parents (ListConcatenation' p l o q r) e h = nothing (sym h)
-no_parents (Not' p r) e h = nothing (sym h)
-no_parents (Or' p l q r) e h = nothing (sym h)
-no_parents parents e h = refl
 
 -- the innermost parent and its own parents
 next_parent : (parent others e : Expression) → is_some (right_side parent) ≡ true → rejoined (with_right parent others) e ≡ rejoined others (with_right parent e)
@@ -33,7 +17,7 @@ next_parent (Join' l o q r) others e h = refl
 next_parent (ListConcatenation' p l o q r) others e h = refl
 next_parent (Not' p r) others e h = refl
 next_parent (Or' p l q r) others e h = refl
-next_parent parent others e h = nothing h
+next_parent parent others e h = cc
 
 -- the same with the right side of the innermost parent as its own parents
 within : (parents e : Expression) → IfSome (right_side parents) (λ others. rejoined others (with_right parents e) ≡ rejoined parents e)
@@ -49,7 +33,7 @@ within parents e = tt
 
 join_within : (right : Option Expression) (parents e new other : Expression) → is_some right ≡ true → IsExchanged parents e new other right
     → IfSome right (λ others. rejoined others (with_right parents e) ≡ rejoined parents e) → rejoined other new ≡ rejoined parents e
-join_within None parents e new other h is law = nothing h
+join_within None parents e new other h is law = cc
 join_within (Some right) parents e new other h is law = (λ i. rejoined (is.1 i) (is.0 i)) ∙ law
 
 -- an expression is joined with its innermost parent
@@ -59,7 +43,7 @@ join_one parents e new other h is = join_within (right_side parents) parents e n
 -- the measure falls from an expression to its right side
 right_smaller : (right : Option Expression) (e new other old_other : Expression) (n : ℕ) → is_some right ≡ true → IsExchanged e old_other new other right
     → IfSome right (λ r. size-Expression r < n) → size-Expression other < n
-right_smaller None e new other old_other n h is less = nothing h
+right_smaller None e new other old_other n h is less = cc
 right_smaller (Some right) e new other old_other n h is less = subst (λ (x : Expression). size-Expression x < n) (sym is.1) less
 
 pub exchanged_smaller : (e old_other new other : Expression) (n : ℕ) → is_some (right_side e) ≡ true → IsExchanged e old_other new other (right_side e)
@@ -91,7 +75,7 @@ module _ (numbers : (name : List ℕ) → Option Number) where
   resolved_with (And' p l q r) (And' p' l' q' r') right left is h = (left.0, subst (IsResolved numbers right) left.1 is)
   resolved_with (Comparison' p l o q r t) (Comparison' p' l' o' q' r' t') right left is h = (left.0, left.1, subst (IsResolved numbers right) left.2 is, left.3)
   resolved_with (Concatenation' p l o q r) (Concatenation' p' l' o' q' r') right left is h = (left.0, left.1, subst (IsResolved numbers right) left.2 is)
-  resolved_with (Conditional' p c q b None') (Conditional' p' c' q' b' o') right left is h = nothing h
+  resolved_with (Conditional' p c q b None') (Conditional' p' c' q' b' o') right left is h = cc
   resolved_with (Conditional' p c q b (Some' s o)) (Conditional' p' c' q' b' o') right left is h = (left.0, left.1, subst (IsResolvedOptional numbers (Some' s right)) left.2 is)
   resolved_with (Join' l o q r) (Join' l' o' q' r') right left is h = (left.0, left.1, subst (IsResolved numbers right) left.2 is)
   resolved_with (ListConcatenation' p l o q r) (ListConcatenation' p' l' o' q' r') right left is h = (left.0, left.1, subst (IsResolved numbers right) left.2 is)
@@ -101,15 +85,15 @@ module _ (numbers : (name : List ℕ) → Option Number) where
 
   -- there is no right side
   pub resolved_alone : (e original : Expression) → IsResolvedLeft numbers e original → is_some (right_side original) ≡ false → IsResolved numbers e original
-  resolved_alone (And' p l q r) (And' p' l' q' r') left h = nothing (sym h)
-  resolved_alone (Comparison' p l o q r t) (Comparison' p' l' o' q' r' t') left h = nothing (sym h)
-  resolved_alone (Concatenation' p l o q r) (Concatenation' p' l' o' q' r') left h = nothing (sym h)
+  resolved_alone (And' p l q r) (And' p' l' q' r') left h = cc
+  resolved_alone (Comparison' p l o q r t) (Comparison' p' l' o' q' r' t') left h = cc
+  resolved_alone (Concatenation' p l o q r) (Concatenation' p' l' o' q' r') left h = cc
   resolved_alone (Conditional' p c q b o) (Conditional' p' c' q' b' None') left h = (left.0, left.1, subst (λ w. IsResolvedOptional numbers w None') (sym left.2) tt)
-  resolved_alone (Conditional' p c q b o) (Conditional' p' c' q' b' (Some' s o')) left h = nothing (sym h)
-  resolved_alone (Join' l o q r) (Join' l' o' q' r') left h = nothing (sym h)
-  resolved_alone (ListConcatenation' p l o q r) (ListConcatenation' p' l' o' q' r') left h = nothing (sym h)
-  resolved_alone (Not' p e) (Not' p' e') left h = nothing (sym h)
-  resolved_alone (Or' p l q r) (Or' p' l' q' r') left h = nothing (sym h)
+  resolved_alone (Conditional' p c q b o) (Conditional' p' c' q' b' (Some' s o')) left h = cc
+  resolved_alone (Join' l o q r) (Join' l' o' q' r') left h = cc
+  resolved_alone (ListConcatenation' p l o q r) (ListConcatenation' p' l' o' q' r') left h = cc
+  resolved_alone (Not' p e) (Not' p' e') left h = cc
+  resolved_alone (Or' p l q r) (Or' p' l' q' r') left h = cc
   resolved_alone e original left h = left
 
   -- the parents of the right side: the resolved expression, and its own parents
@@ -118,7 +102,7 @@ module _ (numbers : (name : List ℕ) → Option Number) where
 
   within_one : (right : Option Expression) (e original parents new other whole : Expression) → is_some right ≡ true → right_side e ≡ right → IsResolvedLeft numbers e original
       → IsExchanged e parents new other right → IsWithin parents original whole → IsWithin new other whole
-  within_one None e original parents new other whole h same left is all = nothing h
+  within_one None e original parents new other whole h same left is all = cc
   within_one (Some right) e original parents new other whole h same left is all = λ w resolved.
       subst (λ (x : Expression). IsResolved numbers x whole)
       (sym (ap (λ (x : Expression). rejoined x w) is.0 ∙ next_parent e parents w (ap is_some same)))

@@ -9,8 +9,6 @@ use Rattle.justfile_token.specs.declared.string_kind.StringDelimiter.{StringDeli
 use Rattle.justfile_token.specs.declared.string_kind.StringDelimiter.TheVariants as delimiters
 use Rattle.justfile_model.specs.declared.conditional_operator.ConditionalOperator.{ConditionalOperator}
 use Rattle.justfile_model.specs.declared.conditional_operator.ConditionalOperator.TheVariants as operators
-use Rattle.justfile_vocabulary.specs.declared.attribute_kind.AttributeKind.{AttributeKind}
-use Rattle.justfile_vocabulary.specs.declared.attribute_kind.AttributeKind.TheVariants as attributes
 use Rattle.justfile_vocabulary.specs.declared.format_string_part.FormatStringPart.{FormatStringPart}
 use Rattle.justfile_vocabulary.specs.declared.format_string_part.FormatStringPart.TheVariants as parts
 use Rattle.justfile_vocabulary.specs.declared.signal.Signal.{Signal}
@@ -58,10 +56,3 @@ signals_in_order = signals.Hangup ∷ signals.Interrupt ∷ signals.Quit ∷ []
 
 abbrev pub features_in_order : List UnstableFeature
 features_in_order = features.CachedRecipes ∷ features.ListsSetting ∷ features.UserDefinedFunctions ∷ []
-
-abbrev pub attributes_in_order : List AttributeKind
-attributes_in_order = attributes.Android ∷ attributes.Arg ∷ attributes.Cache ∷ attributes.Confirm ∷ attributes.Continue ∷ attributes.Default ∷
-    attributes.Doc ∷ attributes.Dragonfly ∷ attributes.Env ∷ attributes.ExitMessage ∷ attributes.Extension ∷ attributes.Freebsd ∷ attributes.Group ∷
-    attributes.Linux ∷ attributes.Macos ∷ attributes.Metadata ∷ attributes.Netbsd ∷ attributes.NoCd ∷ attributes.NoExitMessage ∷ attributes.NoQuiet ∷
-    attributes.Openbsd ∷ attributes.Parallel ∷ attributes.PositionalArguments ∷ attributes.Private ∷ attributes.Script ∷ attributes.Shell ∷
-    attributes.Timestamp ∷ attributes.Unix ∷ attributes.Windows ∷ attributes.WorkingDirectory ∷ []

@@ -27,7 +27,7 @@ ghost use Rattle.justfile_model.specs.Trees.ContentLeaf.{string_kind_cmp};
 ghost use Rattle.justfile_model.specs.contracts.conditional_operator.ConditionalOperatorOrd.TheImpl as operator_order;
 ghost use Rattle.justfile_model.specs.contracts.conditional_operator.ConditionalOperatorPartialEq.TheImpl as operator_equality;
 ghost use Rattle.justfile_model.specs.contracts.parameter_kind.ParameterKindPartialEq.TheImpl as parameter_equality;
-ghost use Rattle.justfile_expression.specs.Cases.{IsExact, IsOrderOf, attributes_in_order, delimiters_in_order, features_in_order, kinds_in_order, operators_in_order, parts_in_order, signals_in_order};
+ghost use Rattle.justfile_expression.specs.Cases.{IsExact, IsOrderOf, delimiters_in_order, features_in_order, kinds_in_order, operators_in_order, parts_in_order, signals_in_order};
 ghost use Rattle.justfile_expression.specs.Content.{content_key, expression_content_cmp};
 ghost use Rattle.justfile_expression.specs.Equal.{AreCompared, case_index, delimiter_eq, indentation_eq, switch_eq, token_eq};
 ghost use Rattle.justfile_expression.specs.Leaf.{literal_cmp, token_cmp};
@@ -37,6 +37,7 @@ ghost use Rattle.justfile_expression.specs.contracts.list_operator.ListOperatorP
 ghost use Rattle.justfile_expression.specs.contracts.order.ExpressionOrd.TheImpl as expression_order;
 ghost use Rattle.justfile_expression.specs.contracts.order.ExpressionPartialEq.TheImpl as expression_equality;
 ghost use Rattle.justfile_expression.specs.declared.expression.Expression.{Expression};
+ghost use Rattle.justfile_vocabulary.specs.AttributeKind.{attribute_kinds};
 ghost use Rattle.justfile_vocabulary.specs.contracts.attribute_kind.AttributeKindOrd.TheImpl as attribute_order;
 ghost use Rattle.justfile_vocabulary.specs.contracts.attribute_kind.AttributeKindPartialEq.TheImpl as attribute_equality;
 ghost use Rattle.justfile_vocabulary.specs.contracts.byte_class.ByteClassPartialEq.TheImpl as class_equality;
@@ -69,7 +70,7 @@ pub fn cases_ordered()
     ensures operators { IsOrderOf operator_equality.eq-value.it operator_order.cmp-value.it
         operators_in_order }
     ensures attributes { IsOrderOf attribute_equality.eq-value.it attribute_order.cmp-value.it
-        attributes_in_order }
+        attribute_kinds }
     ensures signals { IsOrderOf signal_equality.eq-value.it signal_order.cmp-value.it
         signals_in_order }
     ensures features { IsOrderOf feature_equality.eq-value.it feature_order.cmp-value.it

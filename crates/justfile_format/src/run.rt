@@ -12,7 +12,7 @@ ghost use Rattle.justfile_writing.specs.Formatting.{FormatsBeginning};
 
 use crate::input::{decode, read_all};
 use justfile_writing::failure::{Failure, report};
-use justfile_writing::formatting::{format_text, format_to};
+use justfile_writing::formatting::{format_input, format_to};
 use std::alloc::Global;
 use std::io::{Read, Write};
 
@@ -151,6 +151,6 @@ fn check<R: Read>(alloc: Global, reader: &mut R) -> Result<bool, Failure>
 {
     let bytes = read_all(alloc, reader)?;
     let source = decode(&bytes)?;
-    let canonical = format_text(alloc, source)?;
+    let canonical = format_input(alloc, source)?;
     Ok(source == canonical.as_str())
 }

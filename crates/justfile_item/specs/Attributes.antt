@@ -6,8 +6,9 @@ use Rattle.justfile_token.specs.declared.name.Name.{Name}
 use Rattle.justfile_token.specs.declared.string_literal.StringLiteral.{StringLiteral}
 use Rattle.justfile_model.specs.Printed.Printing.{entries_text, entry_text}
 use Rattle.justfile_model.specs.Trees.Tree.{Entry, lexeme, nothing, over_entry}
+use Rattle.justfile_attribute.specs.Form as forms
+use Rattle.justfile_attribute.specs.Form.{Form, form_of}
 use Rattle.justfile_attribute.specs.declared.attribute.Attribute.{Attribute}
-use Rattle.justfile_attribute.specs.declared.attribute.Attribute.TheVariants as attributes
 use Rattle.justfile_attribute.specs.declared.interpreter.Interpreter.{Interpreter}
 use Rattle.justfile_attribute_set.specs.AttributeSet.{AttributeSet, attributes_of, entries_of, written_of}
 use Rattle.justfile_attribute_set.specs.Pairs.{Pair, entry_of}
@@ -53,40 +54,23 @@ property_cooked p = boxed_cooked p.1
 abbrev pub script_cooked : Interpreter StringLiteral → List (List ℕ)
 script_cooked i = literal_cooked i.command ++ flat_map literal_cooked i.arguments.items
 
--- the texts of an attribute's literals, in the order of printing
-abbrev pub attribute_cooked : Attribute → List (List ℕ)
-attribute_cooked (attributes.Arg flag help help_property long long_key max max_key min min_key multiple name pattern short short_key value) =
+abbrev pub form_cooked : Form → List (List ℕ)
+form_cooked forms.Plain = []
+form_cooked (forms.Optional value) = optional boxed_cooked value
+form_cooked (forms.Single value) = boxed_cooked value
+form_cooked (forms.Literal literal) = literal_cooked literal
+form_cooked (forms.Literals literals) = flat_map literal_cooked literals
+form_cooked (forms.Env key value) = boxed_cooked key ++ boxed_cooked value
+form_cooked (forms.Signals signals) = []
+form_cooked (forms.Cache extra inputs outputs) = optional boxed_cooked extra ++ optional boxed_cooked inputs ++ optional boxed_cooked outputs
+form_cooked (forms.Script interpreter) = optional script_cooked interpreter
+form_cooked (forms.Arg flag help help_property long long_key max max_key min min_key multiple name pattern short short_key value) =
     literal_cooked name ++ option_cooked long_key long ++ option_cooked short_key short ++ optional property_cooked pattern ++ optional boxed_cooked value
     ++ optional property_cooked help_property
-attribute_cooked (attributes.Cache extra inputs outputs) = optional boxed_cooked extra ++ optional boxed_cooked inputs ++ optional boxed_cooked outputs
-attribute_cooked (attributes.Confirm value) = optional boxed_cooked value
-attribute_cooked (attributes.Doc value) = optional boxed_cooked value
-attribute_cooked (attributes.Env key value) = boxed_cooked key ++ boxed_cooked value
-attribute_cooked (attributes.Extension literal) = literal_cooked literal
-attribute_cooked (attributes.Group literal) = literal_cooked literal
-attribute_cooked (attributes.Metadata literals) = flat_map literal_cooked literals.items
-attribute_cooked (attributes.Script interpreter) = optional script_cooked interpreter
-attribute_cooked (attributes.Timestamp value) = optional boxed_cooked value
-attribute_cooked (attributes.WorkingDirectory value) = boxed_cooked value
-attribute_cooked attributes.Android = []
-attribute_cooked (attributes.Continue signals) = []
-attribute_cooked attributes.Default = []
-attribute_cooked attributes.Dragonfly = []
-attribute_cooked attributes.ExitMessage = []
-attribute_cooked attributes.Freebsd = []
-attribute_cooked attributes.Linux = []
-attribute_cooked attributes.Macos = []
-attribute_cooked attributes.Netbsd = []
-attribute_cooked attributes.NoCd = []
-attribute_cooked attributes.NoExitMessage = []
-attribute_cooked attributes.NoQuiet = []
-attribute_cooked attributes.Openbsd = []
-attribute_cooked attributes.Parallel = []
-attribute_cooked attributes.PositionalArguments = []
-attribute_cooked attributes.Private = []
-attribute_cooked attributes.Shell = []
-attribute_cooked attributes.Unix = []
-attribute_cooked attributes.Windows = []
+
+-- the texts of an attribute's literals, in the order of printing
+abbrev pub attribute_cooked : Attribute → List (List ℕ)
+attribute_cooked a = form_cooked (form_of a)
 
 -- the texts of the literals of a set's attributes, in order
 abbrev pub attributes_cooked : AttributeSet → List (List ℕ)

@@ -2,7 +2,7 @@
 ghost use Rattle.std.specs.Prelude.{◌≡◌, ◌++◌, IfOk, codes};
 ghost use Rattle.std.specs.List.{list_all};
 ghost use Rattle.justfile_vocabulary.specs.Indentation.{indentation_text};
-ghost use Rattle.justfile_model.specs.Printed.Printing.{fixed_text, header_text, line_text, body_text, printable_fragments, printable_body};
+ghost use Rattle.justfile_model.specs.Printed.Printing.{fixed_text, header_text, body_line_text, body_text, printable_fragments, printable_body};
 ghost use Rattle.justfile_token.specs.Sink.{Puts};
 ghost use Rattle.justfile_line.specs.Body.{fragment_shapes, line_shape, line_shapes};
 ghost use Rattle.justfile_item.specs.Copies.{IsSameRecipe};
@@ -182,7 +182,7 @@ fn write_next_line<S: Sink>(
 ) -> Result<(), S::Fault>
     ensures { Puts S.took S.failed sink.old result
         (fixed_text (codes "\n")
-        ++ line_text (indentation_text indentation) (line_shape line.now)) sink.new }
+        ++ body_line_text (indentation_text indentation) (line_shape line.now)) sink.new }
 {
     put_piece("\n", sink)?;
     write_line(line, indentation, sink)?;

@@ -1,6 +1,6 @@
 //! Comments at the ends of lines.
 ghost use Rattle.std.specs.Option.{option_copied};
-ghost use Rattle.justfile_model.specs.Printed.Printing.{comment_text};
+ghost use Rattle.justfile_model.specs.Printed.Printing.{after_line_text};
 ghost use Rattle.justfile_token.specs.Sink.{Puts};
 
 use crate::put::put_piece;
@@ -9,7 +9,7 @@ use justfile_token::Sink;
 /// Writes a space and a comment, or nothing if there is none.
 pub fn write_comment<S: Sink>(comment: Option<&str>, sink: &mut S) -> Result<(), S::Fault>
     ensures { Puts S.took S.failed sink.old result
-        (comment_text (option_copied comment.entry)) sink.new }
+        (after_line_text (option_copied comment.entry)) sink.new }
 {
     match comment {
         None => Ok(()),

@@ -5,7 +5,7 @@ use Rattle.std.specs.List.{flat_map, list_all, slice_get}
 use Rattle.std.specs.Option.{option_and_then}
 use Rattle.std.proofs.lemmas.List.Folds.{flat_map-map}
 use Rattle.justfile_model.specs.Trees.Tree.{over_fragment, over_line, lexeme, nothing}
-use Rattle.justfile_model.specs.Printed.Printing.{fixed_text, fragment_text, line_text, body_text, ends_in_return, printable_fragments, printable_body}
+use Rattle.justfile_model.specs.Printed.Printing.{fixed_text, fragment_text, body_line_text, body_text, ends_in_return, printable_fragments, printable_body}
 use Rattle.justfile_line.specs.declared.fragment.Fragment.{Fragment}
 use Rattle.justfile_line.specs.declared.fragment.Fragment.TheVariants.{Interpolation, Text}
 use Rattle.justfile_line.specs.declared.line.Line.{Line}
@@ -16,10 +16,10 @@ pub fragments_parts : (fragments : List Fragment) → fragments_text fragments �
 fragments_parts fragments = flat_map-map fragment_text (over_fragment lexeme nothing) (map fragment_of fragments) ∙ flat_map-map (λ f. fragment_text (over_fragment lexeme nothing f)) fragment_of fragments
 
 pub body_parts : (indentation : List ℕ) (lines : List Line)
-    → body_text indentation (line_shapes lines) ≡ flat_map (λ l. fixed_text (codes "\n") ++ line_text indentation (line_shape l)) lines
+    → body_text indentation (line_shapes lines) ≡ flat_map (λ l. fixed_text (codes "\n") ++ body_line_text indentation (line_shape l)) lines
 body_parts indentation lines =
-    flat_map-map (λ l. fixed_text (codes "\n") ++ line_text indentation l) (over_line lexeme nothing nothing) (map body_line_of lines)
-    ∙ flat_map-map (λ l. fixed_text (codes "\n") ++ line_text indentation (over_line lexeme nothing nothing l)) body_line_of lines
+    flat_map-map (λ l. fixed_text (codes "\n") ++ body_line_text indentation l) (over_line lexeme nothing nothing) (map body_line_of lines)
+    ∙ flat_map-map (λ l. fixed_text (codes "\n") ++ body_line_text indentation (over_line lexeme nothing nothing l)) body_line_of lines
 
 -- a text at the end of a line doesn't end in a carriage return
 abbrev pub printable_end : Option (List ℕ) → Bool

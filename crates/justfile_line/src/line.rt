@@ -3,7 +3,7 @@ ghost use Rattle.std.specs.Prelude.{◌≡◌, ◌↔◌, IfOk, IsTrue};
 ghost use Rattle.std.specs.List.{Contains};
 ghost use Rattle.std.specs.Option.{option_copied};
 ghost use Rattle.justfile_vocabulary.specs.Indentation.{indentation_text};
-ghost use Rattle.justfile_model.specs.Printed.Printing.{ends_in_return, line_text, printable_fragments};
+ghost use Rattle.justfile_model.specs.Printed.Printing.{ends_in_return, body_line_text, printable_fragments};
 ghost use Rattle.justfile_token.specs.Sink.{Puts};
 ghost use Rattle.justfile_line.specs.Copies.{IsSameLine};
 ghost use Rattle.justfile_line.specs.Body.{fragment_shapes, fragments_text, line_shape};
@@ -158,7 +158,7 @@ pub fn write_line<S: Sink>(
     sink: &mut S,
 ) -> Result<(), S::Fault>
     ensures { Puts S.took S.failed sink.old result
-        (line_text (indentation_text indentation) (line_shape line.now)) sink.new }
+        (body_line_text (indentation_text indentation) (line_shape line.now)) sink.new }
 {
     if line.is_empty() {
         return Ok(());

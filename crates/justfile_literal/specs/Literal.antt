@@ -13,7 +13,7 @@ use Rattle.justfile_token.specs.declared.string_kind.StringKind.{StringKind}
 use Rattle.justfile_token.specs.declared.string_literal.StringLiteral.{StringLiteral}
 use Rattle.justfile_token.specs.declared.token.Token.{Token}
 use Rattle.justfile_model.specs.LiteralTexts.EscapeFault.{escape_fault_of}
-use Rattle.justfile_model.specs.LiteralTexts.Literals.{Expansions, LiteralFault, Escape, Refused, Shebang, cooked_text, string_of, front_len, end_len, format_text}
+use Rattle.justfile_model.specs.LiteralTexts.Literals.{Expansions, LiteralFault, Escape, Refused, Shebang, cooked_text, string_of, front_len, end_len, cooked_format_text}
 
 -- the lexeme has `front` bytes before its text and `end` bytes after it, and the bytes next to the text are ASCII
 abbrev pub is_framed : (front end : ℕ) → List ℕ → Bool
@@ -64,7 +64,7 @@ is_part kind part = is_framed (front_len kind part) (end_len kind part)
 -- the token as a part of a format string
 pub record IsPartOf (kind : StringKind) (part : FormatStringPart) (token : Token) (literal : StringLiteral) : Type 0 where
   pub token_is : literal.token ≡ token
-  pub cooked : format_text kind part (lexeme_of token) ≡ Ok (string_bytes literal.cooked)
+  pub cooked : cooked_format_text kind part (lexeme_of token) ≡ Ok (string_bytes literal.cooked)
   pub expand_is : literal.expand ≡ false
   pub kind_is : literal.kind ≡ kind
   pub part_is : literal.part ≡ Some part

@@ -1,7 +1,7 @@
 //! The texts of parts of format strings.
 ghost use Rattle.std.specs.Prelude.{◌≡◌, IfErr, IfOk, IsTrue, Ok, string_bytes};
 ghost use Rattle.justfile_token.specs.Token.{lexeme_of};
-ghost use Rattle.justfile_model.specs.LiteralTexts.Literals.{between, end_len, format_text, front_len, unescaped_braces};
+ghost use Rattle.justfile_model.specs.LiteralTexts.Literals.{between, end_len, cooked_format_text, front_len, unescaped_braces};
 ghost use Rattle.justfile_literal.specs.Literal.{IsPartOf, IsTextFault, is_part};
 
 use crate::cook::replace_escapes;
@@ -28,7 +28,7 @@ pub fn format_part<'src>(
     requires { IsTrue (is_part kind part (lexeme_of token)) }
     ensures ok { IfOk result (IsPartOf kind part token.entry) }
     ensures err { IfErr result
-        (IsTextFault (format_text kind part (lexeme_of token.entry)) token.entry) }
+        (IsTextFault (cooked_format_text kind part (lexeme_of token.entry)) token.entry) }
 {
     Ok(StringLiteral {
         cooked: read_part_text(alloc, token, kind, part)?,
@@ -48,10 +48,10 @@ fn read_part_text<'src>(
     part: FormatStringPart,
 ) -> CompileResult<'src, String>
     requires { IsTrue (is_part kind part (lexeme_of token)) }
-    ensures ok { IfOk result (λ text. format_text kind part (lexeme_of token.entry)
+    ensures ok { IfOk result (λ text. cooked_format_text kind part (lexeme_of token.entry)
         ≡ Ok (string_bytes text)) }
     ensures err { IfErr result
-        (IsTextFault (format_text kind part (lexeme_of token.entry)) token.entry) }
+        (IsTextFault (cooked_format_text kind part (lexeme_of token.entry)) token.entry) }
 {
     let text = unescape_braces(alloc, strip_delimiters(token.lexeme(), kind, part))?;
     replace_escapes(alloc, token, kind, text)

@@ -1,5 +1,6 @@
 -- What holds for each derivation: its length, its kinds of tokens, and how it moves to other tokens, projections and limits.
 pub mod AttributeProgress
+pub mod Beginnings
 pub mod Carry
 pub mod CarryAttributes
 pub mod CarryExpressions

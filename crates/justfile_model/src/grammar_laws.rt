@@ -1,7 +1,9 @@
 //! Laws of the grammar. Each is the contract of a function with an empty body.
 ghost use Rattle.std.specs.Prelude.{◌≡◌, ◌<◌, ◌≤◌, ◌⊎◌, ℕ, ◌+◌, Bool, IsTrue, List, length, map, slice_index, Option, Some, IfSome, Ok, Err};
-ghost use Rattle.std.specs.Option.{option_map};
+ghost use Rattle.std.specs.Option.{is_some, option_map};
 ghost use Rattle.justfile_vocabulary.specs.Indentation.{IsIndentation};
+ghost use Rattle.justfile_vocabulary.specs.Keyword.{is_setting_name};
+ghost use Rattle.justfile_vocabulary.specs.declared.keyword.Keyword.{Keyword};
 ghost use Rattle.justfile_model.specs.Grammars.Conditions.{Conditions, with_expander, with_limit};
 ghost use Rattle.justfile_model.specs.Meanings.Enabled.{indentation_of};
 ghost use Rattle.justfile_model.specs.Grammars.Expressions.{BelowLimit, PastLimitAt};
@@ -10,6 +12,7 @@ ghost use Rattle.justfile_model.specs.Grammars.Files.{FileTree, FileDerives, Num
 ghost use Rattle.justfile_model.specs.Grammars.Grammar.{File};
 ghost use Rattle.justfile_model.specs.Lexing.Lexed.{Lexed};
 ghost use Rattle.justfile_model.specs.LiteralTexts.Literals.{Literal, Expansions, Within, AreCookedTexts, restricted_to, string_text};
+ghost use Rattle.justfile_model.specs.Grammars.Settings.{setting_form};
 ghost use Rattle.justfile_model.specs.Grammars.Need.{DerivesUnder, IsNeed};
 ghost use Rattle.justfile_model.specs.Printed.NormalShape.{normal};
 ghost use Rattle.justfile_model.specs.Printed.Printing.{printable, text};
@@ -225,4 +228,9 @@ pub fn numbers_rise()
     ensures { (first : ℕ) (numbers : List ℕ) → NumbersFrom first numbers → (i j : ℕ) → i < j
         → j < length numbers
         → slice_index numbers i < slice_index numbers j }
+{}
+
+/// A keyword is the name of a setting exactly if that setting has a form.
+pub fn setting_names()
+    ensures { (k : Keyword) → is_setting_name k ≡ is_some (setting_form k) }
 {}

@@ -5,7 +5,6 @@ use Rattle.justfile_attribute.specs.declared.attribute.Attribute.{Attribute}
 use Rattle.justfile_attribute_rules.specs.Made.{IsRefusedBy}
 use Rattle.justfile_vocabulary.specs.AttributeKind.{kind_named, takes_keys}
 use Rattle.justfile_vocabulary.specs.declared.attribute_kind.AttributeKind.{AttributeKind}
-use Rattle.justfile_token.specs.declared.compile_error.CompileError.{CompileError}
 use Rattle.justfile_token.specs.declared.name.Name.{Name}
 use Rattle.justfile_token.specs.declared.fault.Fault.{Fault}
 use Rattle.justfile_token.specs.declared.fault.Fault.TheVariants as faults
@@ -18,16 +17,15 @@ use Rattle.justfile_model.specs.Readers.NewAttribute as new
 use Rattle.justfile_model.specs.Readers.NewAttribute.{Made, check_repeated, new_attribute, new_entry}
 use Rattle.justfile_model.specs.Readers.ReaderState as reading
 use Rattle.justfile_model.specs.Readers.ReaderState.{◌>>=◌, choose}
-use Rattle.justfile_model.specs.Meanings.Rules.{Rule}
 use Rattle.justfile_model.specs.Trees.Tree as tree
 use Rattle.justfile_model.specs.Trees.Tree.{Argument, Entry, bare_entry}
 use Rattle.justfile_model.proofs.Readers.AttributeReading as laws
 use Rattle.justfile_parse_attribute.specs.AttributeTable as r
 use Rattle.justfile_parse_attribute.specs.AttributeTable.{Arguments, meaning_in, meaning_kept, then_last}
 use Rattle.justfile_parse_base.specs.SharedTable.{view_of}
-use Rattle.justfile_parse_attribute.specs.AddedAttributes.{AddsEntry, ChecksLast, IsAdded}
+use Rattle.justfile_parse_attribute.specs.AddedAttributes.{Adds, ChecksLast, IsAdded, bare_at}
 use Rattle.justfile_parse_attribute.specs.Attributes.{entry_of_pair}
-use Rattle.justfile_parse_base.specs.ParseErrors.{IsParseError, IsErrorOfFault, IsErrorOfRead}
+use Rattle.justfile_parse_base.specs.ParseErrors.{IsParseError, IsErrorOfFault}
 use Rattle.justfile_parse_expression.specs.MethodResults.{read_error_at}
 use Rattle.justfile_parse_attribute.specs.AttributeTable.{Entries}
 use Rattle.justfile_parse_expression.specs.TableReader.{Read, State, accept, expect, leaves}
@@ -158,8 +156,8 @@ module _ (pairs : List (Attribute × Written)) (name : Name) (kind : AttributeKi
   entry_refused fault h = made_first attribute_made checked fault h
 
   -- an attribute that is made and checked is the entry's
-  pub entry_checked : (result : Result (Unit {0}) Fault) (later : List (Attribute × Written)) → IsAdded attribute_made name pairs later → ChecksLast result later
-      → AddsEntry result entry_made name pairs later
+  pub entry_checked : (result : Result (Unit {0}) Fault) (later : List (Attribute × Written)) → IsAdded leaf_attribute_of attribute_made name pairs later → ChecksLast result later
+      → Adds (bare_at name) result entry_made name pairs later
   unfolding ChecksLast
   entry_checked (Err fault) later h checks =
       let e = uncommented (h.attribute, name) in
@@ -169,12 +167,12 @@ module _ (pairs : List (Attribute × Written)) (name : Name) (kind : AttributeKi
       record { attribute = h.attribute; is_made = rw (h.is_made, checks pairs e h.added) refl; added = h.added }
 
   -- reading stops where no entry is added, and goes on otherwise
-  pub entry_fails : (fault : Fault) (error : ParseError) (later : List (Attribute × Written)) → AddsEntry (Err fault) entry_made name pairs later → IsErrorOfFault error fault
+  pub entry_fails : (fault : Fault) (error : ParseError) (later : List (Attribute × Written)) → Adds (bare_at name) (Err fault) entry_made name pairs later → IsErrorOfFault error fault
       → IsParseError error s ⊥ (r.one_made before name.token kind all s)
   unfolding r.one_made
   entry_fails fault error later h fails = refused_fails entry_made _ fault error s fails h
 
-  pub entry_last : (later : List (Attribute × Written)) → AddsEntry (Ok tt) entry_made name pairs later → r.one_made before name.token kind all s ≡ Ok (map entry_of_pair later, s)
+  pub entry_last : (later : List (Attribute × Written)) → Adds (bare_at name) (Ok tt) entry_made name pairs later → r.one_made before name.token kind all s ≡ Ok (map entry_of_pair later, s)
   unfolding r.one_made
   entry_last later h =
       let a = h.attribute in

@@ -393,10 +393,10 @@ commented_known labels comment old new h known = λ text. rw h
     ((known text).0 ∙ sym (all_commented arg_label text comment old), (known text).1 ∙ sym (all_commented group_label text comment old))
 
 -- what was known before one was added
-pub known_before : (labels : Labels) (made : Made Token LeafAttribute) (name : Name) (old later : List Pair) → AreKnown labels (map entry_of_pair old) → IsAdded made name old later → AreKnownBefore labels later
+pub known_before : (labels : Labels) (made : Made Token LeafAttribute) (name : Name) (old later : List Pair) → AreKnown labels (map entry_of_pair old) → IsAdded leaf_attribute_of made name old later → AreKnownBefore labels later
 known_before labels made name old later known h = record { before = old; last = uncommented (h.attribute, name); is = h.added; known = known }
 
-pub begins_added : (made : Made Token LeafAttribute) (name : Name) (old later : List Pair) → IsAdded made name old later → take (length old) later ≡ old
+pub begins_added : (made : Made Token LeafAttribute) (name : Name) (old later : List Pair) → IsAdded leaf_attribute_of made name old later → take (length old) later ≡ old
 begins_added made name old later h = ap (take (length old)) h.added ∙ take-append_seam old (uncommented (h.attribute, name) ∷ [])
 
 pub begins_same : (old later : List Pair) → later ≡ old → take (length old) later ≡ old

@@ -143,5 +143,5 @@ module _ (result : Result (Unit {0}) Fault) (pairs : List (Attribute × Written)
 -- ---- what is made is added
 
 module _ (made : Made Token LeafAttribute) (name : Name) (before : List (Attribute × Written)) where
-  pub made_added : (a : Attribute) (later : List (Attribute × Written)) → made ≡ Ok (leaf_attribute_of a) → later ≡ before ++ uncommented (a, name) ∷ [] → IsAdded made name before later
+  pub made_added : (a : Attribute) (later : List (Attribute × Written)) → made ≡ Ok (leaf_attribute_of a) → later ≡ before ++ uncommented (a, name) ∷ [] → IsAdded leaf_attribute_of made name before later
   made_added a later e h = record { attribute = a; is_made = e; added = h }

@@ -7,7 +7,6 @@ use Rattle.justfile_token.specs.declared.fault.Fault.{Fault}
 use Rattle.justfile_token.specs.declared.name.Name.{Name}
 use Rattle.justfile_token.specs.declared.token.Token.{Token}
 use Rattle.justfile_model.specs.Readers.NewAttribute.{Made, check_repeated}
-use Rattle.justfile_model.specs.Trees.Tree as tree
 use Rattle.justfile_model.specs.Trees.Tree.{Entry, bare_entry}
 use Rattle.justfile_parse_attribute.specs.Attributes.{entry_of_pair}
 use Rattle.justfile_expression.specs.LeafViews.{views_leaves}
@@ -15,29 +14,22 @@ use Rattle.justfile_expression.specs.LeafTree.{Leaf}
 use Rattle.justfile_written.specs.Written.{uncommented}
 use Rattle.justfile_written.specs.declared.written.Written.{Written}
 
--- The attribute that was made is appended, with its name and without a comment.
-pub record IsAdded (made : Made Token (tree.Attribute Leaf Token)) (name : Name) (old new : List (Attribute × Written)) : Type 0 where
+-- An attribute is appended, with its name and without a comment. What was made is the view of it.
+pub record IsAdded {X : Type 0} (view : Attribute → X) (made : Made Token X) (name : Name) (old new : List (Attribute × Written)) : Type 0 where
   pub attribute : Attribute
-  pub is_made : made ≡ Ok (leaf_attribute_of attribute)
+  pub is_made : made ≡ Ok (view attribute)
   pub added : new ≡ old ++ uncommented (attribute, name) ∷ []
 
--- The attribute is added, or refused by the same rule.
-abbrev pub Adds : Result (Unit {0}) Fault → Made Token (tree.Attribute Leaf Token) → Name → (old new : List (Attribute × Written)) → Type 0
-Adds (Ok added) made name old new = IsAdded made name old new
-Adds (Err fault) made name old new = IsRefusedBy made fault
+-- An attribute is added, or refused by the same rule.
+abbrev pub Adds : {X : Type 0} → (Attribute → X) → Result (Unit {0}) Fault → Made Token X → Name → (old new : List (Attribute × Written)) → Type 0
+Adds view (Ok added) made name old new = IsAdded view made name old new
+Adds view (Err fault) made name old new = IsRefusedBy made fault
+
+-- the entry of an attribute with this name and without a comment
+abbrev pub bare_at : Name → Attribute → Entry Leaf Token
+bare_at name attribute = bare_entry name.token (leaf_attribute_of attribute)
 
 -- The last attribute is allowed after those before it, or is refused by the same rule.
 unfoldable pub ChecksLast : Result (Unit {0}) Fault → List (Attribute × Written) → Type 0
 ChecksLast result pairs = (before : List (Attribute × Written)) (last : Attribute × Written) → pairs ≡ before ++ last ∷ []
     → Makes (λ (u : Unit {0}). u) result (check_repeated views_leaves (map entry_of_pair before) (entry_of_pair last))
-
--- The entry that was made is that of the appended attribute, with its name and without a comment.
-pub record IsEntryAdded (made : Made Token (Entry Leaf Token)) (name : Name) (old new : List (Attribute × Written)) : Type 0 where
-  pub attribute : Attribute
-  pub is_made : made ≡ Ok (bare_entry name.token (leaf_attribute_of attribute))
-  pub added : new ≡ old ++ uncommented (attribute, name) ∷ []
-
--- The entry is added, or refused by the same rule.
-abbrev pub AddsEntry : Result (Unit {0}) Fault → Made Token (Entry Leaf Token) → Name → (old new : List (Attribute × Written)) → Type 0
-AddsEntry (Ok added) made name old new = IsEntryAdded made name old new
-AddsEntry (Err fault) made name old new = IsRefusedBy made fault

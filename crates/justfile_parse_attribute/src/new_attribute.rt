@@ -37,7 +37,7 @@ pub(crate) fn add_attribute<'src>(
     kind: AttributeKind,
     arguments: Arguments<'src>,
 ) -> CompileResult<'src>
-    ensures added { Adds result (new.new_attribute views_leaves name.entry.token
+    ensures added { Adds leaf_attribute_of result (new.new_attribute views_leaves name.entry.token
         kind (by_position (arguments_of arguments.entry)) (by_key (arguments_of arguments.entry)))
         name.entry attributes.old.items attributes.new.items }
     ensures fields { OnOk result
@@ -66,7 +66,7 @@ fn push_plain<'src>(
     kind: AttributeKind,
 ) -> CompileResult<'src>
     requires { IsTrue (takes_no_arguments kind) }
-    ensures added { Adds result (Ok (tree.Plain kind)) name.entry
+    ensures added { Adds leaf_attribute_of result (Ok (tree.Plain kind)) name.entry
         attributes.old.items attributes.new.items }
     ensures fields { OnOk result
         (KeepsDerivedPairFields attributes.old.items attributes.new.items) }

@@ -2,7 +2,7 @@
 ghost use Rattle.std.specs.Prelude.{◌≡◌};
 ghost use Rattle.justfile_model.specs.Meanings.Meaning.{by_key, by_position};
 ghost use Rattle.justfile_model.specs.Readers.NewAttribute.{new_entry};
-ghost use Rattle.justfile_parse_attribute.specs.AddedAttributes.{AddsEntry};
+ghost use Rattle.justfile_parse_attribute.specs.AddedAttributes.{Adds, bare_at};
 ghost use Rattle.justfile_parse_attribute.specs.Attributes.{arguments_of, entries_of};
 ghost use Rattle.justfile_parse_attribute.specs.Labels.{AreKnown, KnowsLabels, prop_known};
 ghost use Rattle.justfile_parse_attribute.specs.DerivedAttributeFields.{KeepsPairs};
@@ -33,7 +33,7 @@ impl<'src> ReadAttributes<'src> {
     ghost use Rattle.std.specs.Prelude.{◌≡◌, [], OnOk};
     ghost use Rattle.justfile_model.specs.Meanings.Meaning.{by_key, by_position};
     ghost use Rattle.justfile_model.specs.Readers.NewAttribute.{new_entry};
-    ghost use Rattle.justfile_parse_attribute.specs.AddedAttributes.{AddsEntry};
+    ghost use Rattle.justfile_parse_attribute.specs.AddedAttributes.{Adds, bare_at};
     ghost use Rattle.justfile_parse_attribute.specs.Attributes.{arguments_of, entries_of};
     ghost use Rattle.justfile_parse_attribute.specs.DerivedAttributeFields.{KeepsDerivedPairFields};
     ghost use Rattle.justfile_expression.specs.LeafViews.{views_leaves};
@@ -63,7 +63,7 @@ impl<'src> ReadAttributes<'src> {
         kind: AttributeKind,
         arguments: Arguments<'src>,
     ) -> CompileResult<'src>
-        ensures added { AddsEntry result
+        ensures added { Adds (bare_at name.entry) result
             (new_entry views_leaves (entries_of self.old.pairs.items) name.entry.token kind
             (by_position (arguments_of arguments.entry)) (by_key (arguments_of arguments.entry)))
             name.entry self.old.pairs.items self.new.pairs.items }
@@ -119,7 +119,7 @@ fn push_checked<'src>(
     arguments: Arguments<'src>,
 ) -> CompileResult<'src>
     requires { AreKnown labels.old (entries_of pairs.old.items) }
-    ensures added { AddsEntry result (new_entry views_leaves (entries_of pairs.old.items)
+    ensures added { Adds (bare_at name.entry) result (new_entry views_leaves (entries_of pairs.old.items)
         name.entry.token kind (by_position (arguments_of arguments.entry))
         (by_key (arguments_of arguments.entry))) name.entry pairs.old.items pairs.new.items }
     ensures keeps { KeepsPairs pairs.old.items pairs.new.items }

@@ -62,14 +62,9 @@ not_twice entries content doc false = refl
 
 has_doc_already : (entries : List (Entry Leaf Token)) (content : Content Leaf Token ℕ (Unit {0})) (doc other : List ℕ)
     → item_with_doc sets_doc other (Construct entries (redocumented (Some doc) content)) ≡ None
-has_doc_already entries (tree.Alias parts) doc other = refl
-has_doc_already entries (tree.Assignment parts) doc other = refl
-has_doc_already entries (tree.Function parts) doc other = refl
-has_doc_already entries (tree.Import parts) doc other = refl
 has_doc_already entries (tree.Module parts) doc other = not_twice entries (redocumented (Some doc) (tree.Module parts)) other (sets_doc entries)
 has_doc_already entries (tree.Recipe parts) doc other = not_twice entries (redocumented (Some doc) (tree.Recipe parts)) other (sets_doc entries)
-has_doc_already entries (tree.Setting parts) doc other = refl
-has_doc_already entries (tree.Unexport name) doc other = refl
+has_doc_already entries _ doc other = refl
 
 -- what begins with a comment takes no doc
 comment_takes_none : (b : Before) (text : List ℕ) (items : Items) → TakesNone (taken sets_doc b (Comment text) items)

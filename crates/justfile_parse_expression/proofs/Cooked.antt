@@ -20,7 +20,7 @@ use Rattle.justfile_model.specs.Readers.ReaderState.{NotCooked}
 use Rattle.justfile_parse_expression.specs.TableReader as reader
 use Rattle.justfile_parse_expression.specs.TableReader.{ReadError, State, leaves, part_by, string_leaf}
 use Rattle.justfile_model.specs.LiteralTexts.Literals as literal
-use Rattle.justfile_model.specs.LiteralTexts.Literals.{Expansions, LiteralFault, Unasked, cooked_text, format_text, string_of, string_text}
+use Rattle.justfile_model.specs.LiteralTexts.Literals.{Expansions, LiteralFault, Unasked, cooked_text, cooked_format_text, string_of, string_text}
 use Rattle.justfile_model.specs.Trees.Tree as tree
 use Rattle.justfile_parse_expression.specs.Fault.{IsLiteralFault, is_literal_kind, literal_fault}
 use Rattle.justfile_parse_expression.specs.Literal.{is_delimited, is_sound}
@@ -130,6 +130,6 @@ module _ {X : Type 0} (answer : X → List ℕ → Result (List ℕ) (List ℕ))
     unfolding part_by leaves
     part_given l is = rw (is.cooked, is.expand_is, is.kind_is, is.part_is, is.token_is) refl
 
-    pub part_refused : (fault : Fault) (stop : ExpressionError) → IsTextFault (format_text kind part (lexeme_of entry.0)) entry.0 fault → IsErrorOfLiteral stop fault → IsExpressionError stop (state_of answer p) ⊥ (part_by kind part (entry, state_of answer p))
+    pub part_refused : (fault : Fault) (stop : ExpressionError) → IsTextFault (cooked_format_text kind part (lexeme_of entry.0)) entry.0 fault → IsErrorOfLiteral stop fault → IsExpressionError stop (state_of answer p) ⊥ (part_by kind part (entry, state_of answer p))
     unfolding part_by
-    part_refused fault stop h is = text_refused _ (state_of answer p) (format_text kind part (lexeme_of entry.0)) entry fault stop h is
+    part_refused fault stop h is = text_refused _ (state_of answer p) (cooked_format_text kind part (lexeme_of entry.0)) entry fault stop h is

@@ -12,7 +12,7 @@ use Rattle.justfile_token.specs.declared.token.Token.{Token}
 use Rattle.justfile_vocabulary.specs.declared.token_kind.TokenKind.TheVariants as kinds
 use Rattle.justfile_literal.specs.Literal.{is_part}
 use Rattle.justfile_model.specs.Grammars.Expressions as grammar
-use Rattle.justfile_model.specs.LiteralTexts.Literals.{LiteralFault, format_text}
+use Rattle.justfile_model.specs.LiteralTexts.Literals.{LiteralFault, cooked_format_text}
 use Rattle.justfile_model.specs.Lexing.Tok.{tok_of}
 use Rattle.justfile_model.specs.Trees.Tree.{Expr, Last, Continue}
 use Rattle.justfile_parse_expression.specs.FormatStrings.{AreEnded, IsEnded, IsEndedAt, IsEndedPastExpression, IsEndedFrom}
@@ -163,7 +163,7 @@ module _ (k : StringKind) where
 
   continue_goes : (start : List ℕ) (s : State) (x : TableEntry × State) → IsEndedPastExpression k s.depth (map significant_of x.1.left) × (x.1.depth ≡ s.depth) → GoesOn s (part_by (kind_of start) string_parts.Continue x >>= flagged false)
   unfolding part_by
-  continue_goes start s x = text_goes _ s x (format_text (kind_of start) string_parts.Continue (lexeme_of x.0.0))
+  continue_goes start s x = text_goes _ s x (cooked_format_text (kind_of start) string_parts.Continue (lexeme_of x.0.0))
 
   after_part : (start : List ℕ) (s : State) → IsEndedAt k s → GoesOn s (part start s)
   after_part start s h = subst (GoesOn s) (sym (part_is start s)) (by_continue (accept kinds.FormatStringContinue s) (accepted kinds.FormatStringContinue s))

@@ -7,7 +7,7 @@ use Rattle.justfile_token.specs.declared.token.Token.{Token}
 use Rattle.justfile_vocabulary.specs.declared.token_kind.TokenKind.{TokenKind}
 use Rattle.justfile_vocabulary.specs.declared.token_kind.TokenKind.TheVariants as kinds
 use Rattle.justfile_model.specs.Grammars.Expressions.{front}
-use Rattle.justfile_model.specs.LiteralTexts.Literals.{LiteralFault, cooked_text, format_text, string_of}
+use Rattle.justfile_model.specs.LiteralTexts.Literals.{LiteralFault, cooked_text, cooked_format_text, string_of}
 use Rattle.justfile_model.specs.Trees.Tree as t
 use Rattle.justfile_model.specs.Trees.Tree.{Expr, Parts}
 use Rattle.justfile_model.specs.Readers.ExpressionReader as expressions
@@ -88,7 +88,7 @@ string_is expand x = made_of_text _ (t.StringLiteral expand) x (cooked_text (lea
 
 pub single_is : (x : TableEntry × State) → whole_format_string x ≡ (part_by (kind_of (lexeme_of x.0.0)) string_parts.Single x >>= then_made t.FormatLiteral)
 unfolding expressions.whole_format_string expressions.cooked part_by leaves
-single_is x = made_of_text _ t.FormatLiteral x (format_text (kind_of (lexeme_of x.0.0)) string_parts.Single (lexeme_of x.0.0))
+single_is x = made_of_text _ t.FormatLiteral x (cooked_format_text (kind_of (lexeme_of x.0.0)) string_parts.Single (lexeme_of x.0.0))
 
 pub part_is : (start : List ℕ) (s : State) → part start s
     ≡ choose {X = Read (Leaf × Bool)} (accept kinds.FormatStringContinue s)
@@ -97,8 +97,8 @@ pub part_is : (start : List ℕ) (s : State) → part start s
 unfolding expressions.part expressions.cooked part_by leaves
 part_is start s =
     choose_alike (accept kinds.FormatStringContinue s) _ _ _ _
-    (bind_alike (expect kinds.FormatStringEnd s) _ _ (λ x. made_of_text _ (λ (l : Leaf). (l, true)) x (format_text (kind_of start) string_parts.End (lexeme_of x.0.0))))
-    (λ x. made_of_text _ (λ (l : Leaf). (l, false)) x (format_text (kind_of start) string_parts.Continue (lexeme_of x.0.0)))
+    (bind_alike (expect kinds.FormatStringEnd s) _ _ (λ x. made_of_text _ (λ (l : Leaf). (l, true)) x (cooked_format_text (kind_of start) string_parts.End (lexeme_of x.0.0))))
+    (λ x. made_of_text _ (λ (l : Leaf). (l, false)) x (cooked_format_text (kind_of start) string_parts.Continue (lexeme_of x.0.0)))
 
 abbrev begun : Expr Leaf Token → Parts Leaf Token → Leaf → Expr Leaf Token
 begun e ps leaf = t.FormatString leaf e ps

@@ -12,7 +12,7 @@ use Rattle.justfile_vocabulary.specs.declared.token_kind.TokenKind.{TokenKind}
 use Rattle.justfile_vocabulary.specs.declared.token_kind.TokenKind.TheVariants as kinds
 use Rattle.justfile_model.specs.LiteralTexts.Literals as literals
 use Rattle.justfile_model.specs.Grammars.Conditions.{Conditions}
-use Rattle.justfile_model.specs.LiteralTexts.Literals.{format_text}
+use Rattle.justfile_model.specs.LiteralTexts.Literals.{cooked_format_text}
 use Rattle.justfile_model.specs.Trees.Tree as tree
 use Rattle.justfile_model.specs.Trees.Tree.{Expr}
 use Rattle.justfile_model.specs.Grammars.Features.{called, uncompared}
@@ -142,7 +142,7 @@ literal = expressions.literal leaves
 -- a part of a format string with delimiters of a kind
 unfoldable pub part_by : StringKind → FormatStringPart → TableEntry × State → Read Leaf
 part_by kind part x =
-    expressions.by_text leaves (λ text. Literal (record { token = x.0.0; cooked = text; expand = false; kind = kind; part = Some part })) x (format_text kind part (lexeme_of x.0.0))
+    expressions.by_text leaves (λ text. Literal (record { token = x.0.0; cooked = text; expand = false; kind = kind; part = Some part })) x (cooked_format_text kind part (lexeme_of x.0.0))
 
 abbrev pub part : (start : List ℕ) → State → Read (Leaf × Bool)
 part = expressions.part leaves

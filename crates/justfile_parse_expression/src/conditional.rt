@@ -94,7 +94,7 @@ impl<'run, 'src, X: Expander> ParserState<'run, 'src, X> {
         };
         let Some(word) = self.accept_keyword(Keyword::If) else {
             let otherwise = self.parse_last_branch()?;
-            return self.end_else(condition, then, otherwise);
+            return self.make_conditional(condition, then, otherwise);
         };
         Ok(Branch::Next(Link::Branch { condition, then }, word))
     }
@@ -117,7 +117,7 @@ impl<'run, 'src, X: Expander> ParserState<'run, 'src, X> {
     }
 
     /// Makes a conditional whose `else` branch is in braces.
-    fn end_else(
+    fn make_conditional(
         &self,
         condition: Box<Expression<'src>>,
         then: Box<Expression<'src>>,

@@ -1,6 +1,5 @@
 -- The derived values of the other parts of items: they remain if more tokens are allowed, and the texts of their literals are right.
 use Rattle.std.proofs.Common.{ℕ, List, [], ◌∷◌, ◌++◌, All, Option, Some, None, sym, subst}
-use Rattle.std.specs.Global.{Box}
 use Rattle.std.specs.List.{flat_map}
 use Rattle.std.specs.Option.{option_map}
 use Rattle.std.proofs.lemmas.List.{append-nil}
@@ -41,21 +40,21 @@ module _ (expander : Expansions) (P Q : Token → Type 0) (weaker : (t : Token) 
   pub given_numbered : (xs : List (Name × Number)) → All (IsFilledNumbered expander P) xs → All (IsFilledNumbered expander Q) xs
   given_numbered = All-weaker (IsFilledNumbered expander P) (IsFilledNumbered expander Q) (λ x h. weaker x.0.token h)
 
-  given_command : (i : Box (Interpreter Expression)) → IsFilledCommandLine expander P i → IsFilledCommandLine expander Q i
+  given_command : (i : Interpreter Expression) → IsFilledCommandLine expander P i → IsFilledCommandLine expander Q i
   given_command i h =
-      (expression i.value.command h.0, All-weaker (IsFilledExpression expander P) (IsFilledExpression expander Q) expression i.value.arguments.items h.1)
+      (expression i.command h.0, All-weaker (IsFilledExpression expander P) (IsFilledExpression expander Q) expression i.arguments.items h.1)
 
   pub given_setting : (s : Setting) → IsFilledSetting expander P s → IsFilledSetting expander Q s
-  given_setting (settings.DotenvCommand value) h = expression value.value h
-  given_setting (settings.DotenvFilename value) h = expression value.value h
-  given_setting (settings.DotenvPath value) h = expression value.value h
+  given_setting (settings.DotenvCommand value) h = expression value h
+  given_setting (settings.DotenvFilename value) h = expression value h
+  given_setting (settings.DotenvPath value) h = expression value h
   given_setting (settings.Indentation literal indentation) h = (given_literal literal h.0, h.1)
   given_setting (settings.MinimumVersion literal) h = given_literal literal h
   given_setting (settings.ScriptInterpreter i) h = given_command i h
   given_setting (settings.Shell i) h = given_command i h
-  given_setting (settings.Tempdir value) h = expression value.value h
+  given_setting (settings.Tempdir value) h = expression value h
   given_setting (settings.WindowsShell i) h = given_command i h
-  given_setting (settings.WorkingDirectory value) h = expression value.value h
+  given_setting (settings.WorkingDirectory value) h = expression value h
   given_setting _ h = tt
 
 -- ---- the texts of literals
@@ -82,21 +81,21 @@ module _ (expander : Expansions) (P : Token → Type 0) (expression_cooks : (e :
       joined_cook expander (expr_literals (expr_of e)) _ (expr_cooked e) _ (expression_cooks e (All-head (IsFilledExpression expander P) e es all))
       (expressions_cook es (All-tail (IsFilledExpression expander P) e es all))
 
-  command_cooks : (i : Box (Interpreter Expression)) → IsFilledCommandLine expander P i
-      → Cook (expr_literals (expr_of i.value.command) ++ exprs_literals (exprs_of i.value.arguments.items)) (interpreter_cooked i)
+  command_cooks : (i : Interpreter Expression) → IsFilledCommandLine expander P i
+      → Cook (expr_literals (expr_of i.command) ++ exprs_literals (exprs_of i.arguments.items)) (interpreter_cooked i)
   command_cooks i h =
-      joined_cook expander (expr_literals (expr_of i.value.command)) _ (expr_cooked i.value.command) _ (expression_cooks i.value.command h.0)
-      (expressions_cook i.value.arguments.items h.1)
+      joined_cook expander (expr_literals (expr_of i.command)) _ (expr_cooked i.command) _ (expression_cooks i.command h.0)
+      (expressions_cook i.arguments.items h.1)
 
   pub setting_cooks : (s : Setting) → IsFilledSetting expander P s → Cook (setting_literals (value_of s)) (setting_cooked s)
-  setting_cooks (settings.DotenvCommand value) h = expression_cooks value.value h
-  setting_cooks (settings.DotenvFilename value) h = expression_cooks value.value h
-  setting_cooks (settings.DotenvPath value) h = expression_cooks value.value h
+  setting_cooks (settings.DotenvCommand value) h = expression_cooks value h
+  setting_cooks (settings.DotenvFilename value) h = expression_cooks value h
+  setting_cooks (settings.DotenvPath value) h = expression_cooks value h
   setting_cooks (settings.Indentation literal indentation) h = relative_cooks literal h.0
   setting_cooks (settings.MinimumVersion literal) h = relative_cooks literal h
   setting_cooks (settings.ScriptInterpreter i) h = command_cooks i h
   setting_cooks (settings.Shell i) h = command_cooks i h
-  setting_cooks (settings.Tempdir value) h = expression_cooks value.value h
+  setting_cooks (settings.Tempdir value) h = expression_cooks value h
   setting_cooks (settings.WindowsShell i) h = command_cooks i h
-  setting_cooks (settings.WorkingDirectory value) h = expression_cooks value.value h
+  setting_cooks (settings.WorkingDirectory value) h = expression_cooks value h
   setting_cooks _ h = tt

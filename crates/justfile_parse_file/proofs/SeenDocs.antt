@@ -55,57 +55,27 @@ module _ {A B C S : Type 0} where
   -- with another doc, a construct takes a doc as before
   still_takes : (doc : Option (List ℕ)) (content : Content A B C S) → takes_doc (redocumented doc content) ≡ takes_doc content
   still_takes doc (tree.Alias parts) = refl
-  still_takes doc (tree.Assignment parts) = refl
-  still_takes doc (tree.Function parts) = refl
-  still_takes doc (tree.Import parts) = refl
-  still_takes doc (tree.Module parts) = refl
-  still_takes doc (tree.Recipe parts) = refl
-  still_takes doc (tree.Setting parts) = refl
-  still_takes doc (tree.Unexport name) = refl
+  still_takes doc _ = refl
 
   -- it has that doc, if it takes one
   doc_given : (doc : Option (List ℕ)) (content : Content A B C S) → doc_of (redocumented doc content) ≡ cond (takes_doc content) doc None
   doc_given doc (tree.Alias parts) = refl
-  doc_given doc (tree.Assignment parts) = refl
-  doc_given doc (tree.Function parts) = refl
-  doc_given doc (tree.Import parts) = refl
-  doc_given doc (tree.Module parts) = refl
-  doc_given doc (tree.Recipe parts) = refl
-  doc_given doc (tree.Setting parts) = refl
-  doc_given doc (tree.Unexport name) = refl
+  doc_given doc _ = refl
 
   -- the last doc counts
   given_again : (doc other : Option (List ℕ)) (content : Content A B C S) → redocumented doc (redocumented other content) ≡ redocumented doc content
   given_again doc other (tree.Alias parts) = refl
-  given_again doc other (tree.Assignment parts) = refl
-  given_again doc other (tree.Function parts) = refl
-  given_again doc other (tree.Import parts) = refl
-  given_again doc other (tree.Module parts) = refl
-  given_again doc other (tree.Recipe parts) = refl
-  given_again doc other (tree.Setting parts) = refl
-  given_again doc other (tree.Unexport name) = refl
+  given_again doc other _ = refl
 
   -- with its own doc it is as it was
   own_doc : (content : Content A B C S) → redocumented (doc_of content) content ≡ content
   own_doc (tree.Alias parts) = refl
-  own_doc (tree.Assignment parts) = refl
-  own_doc (tree.Function parts) = refl
-  own_doc (tree.Import parts) = refl
-  own_doc (tree.Module parts) = refl
-  own_doc (tree.Recipe parts) = refl
-  own_doc (tree.Setting parts) = refl
-  own_doc (tree.Unexport name) = refl
+  own_doc _ = refl
 
   -- a doc takes no number
   count_kept : (n : Counters) (doc : Option (List ℕ)) (content : Content A B C S) → count_content n (redocumented doc content) ≡ count_content n content
   count_kept n doc (tree.Alias parts) = refl
-  count_kept n doc (tree.Assignment parts) = refl
-  count_kept n doc (tree.Function parts) = refl
-  count_kept n doc (tree.Import parts) = refl
-  count_kept n doc (tree.Module parts) = refl
-  count_kept n doc (tree.Recipe parts) = refl
-  count_kept n doc (tree.Setting parts) = refl
-  count_kept n doc (tree.Unexport name) = refl
+  count_kept n doc _ = refl
 
 -- items, each with its doc or without
 abbrev LeafItem : Type 0

@@ -1,7 +1,6 @@
 -- The other parts of items of the code (paths of files, parameters of functions, values of settings) correspond to what the definitions
 -- read.
 use Rattle.std.proofs.Common.{◌≡◌, ℕ, ◌+◌, List, [], ◌∷◌, ◌++◌, map, All, Option, Some, None, refl, ap}
-use Rattle.std.specs.Global.{Box}
 use Rattle.std.specs.Option.{option_map}
 use Rattle.std.proofs.lemmas.List.Elements.{All-cons, All-nil}
 use Rattle.justfile_attribute.specs.declared.interpreter.Interpreter.{Interpreter}
@@ -22,13 +21,13 @@ use Rattle.justfile_model.proofs.Readers.Counters.{after_parameters}
 use Rattle.justfile_model.proofs.Relations.Related as a
 use Rattle.justfile_model.proofs.Relations.Related.{AlikeAll, AlikeNames, AlikeOption, AlikeQuoted, AlikeValue}
 use Rattle.justfile_setting.specs.LeafSetting.{leaf_value_of}
-use Rattle.justfile_setting.specs.Setting.{HasDerivedSettingFields, boxed_by, interpreter_by, literal_by, value_of}
+use Rattle.justfile_setting.specs.Setting.{HasDerivedSettingFields, expression_by, interpreter_by, literal_by, value_of}
 use Rattle.justfile_setting.specs.declared.setting.Setting.{Setting}
 use Rattle.justfile_setting.specs.declared.setting.Setting.TheVariants as settings
 use Rattle.justfile_expression.specs.Expression.{expr_of, exprs_of, literal_tok}
 use Rattle.justfile_expression.specs.LeafTree.{Leaf, Literal, Named, leaf_tree_of, literal_of, trees_of}
 use Rattle.justfile_expression.specs.declared.expression.Expression.{Expression}
-use Rattle.justfile_parse_item.specs.Filled.{IsFilledBoxed, IsFilledCommandLine, IsFilledExpression, IsFilledLiteral, IsFilledNumbered, IsFilledPath, IsFilledSetting}
+use Rattle.justfile_parse_item.specs.Filled.{IsFilledCommandLine, IsFilledExpression, IsFilledLiteral, IsFilledNumbered, IsFilledPath, IsFilledSetting}
 use Rattle.justfile_attribute_rules.specs.Made.{quoted_leaf}
 use Rattle.justfile_parse_item.specs.Tree.{numbered_leaf}
 use Rattle.justfile_parse_expression.proofs.Seen as table
@@ -100,9 +99,9 @@ module _ (conditions : Conditions) (bound : ℕ) (IsToken : Token → Type 0) (f
       let y = expressions_seen es hs in
       ((λ i. tree.more (x.same i) (y.0 i)), All-cons (IsFilledExpression conditions.expander IsToken) e es x.given y.1)
 
-  boxed_seen : (e : Box Expression) {v : SettingValue Tok Tok} → AlikeValue seen (boxed_by leaf_tree_of trees_of (λ l. Literal (literal_of l)) e) v
-      → (v ≡ boxed_by expr_of exprs_of literal_tok e) × IsFilledBoxed conditions.expander IsToken e
-  boxed_seen e (a.value h) = let x = seeing.seen_expression conditions bound IsToken file_depth import_offsets e.value h in (ap tree.Value x.same, x.given)
+  value_seen : (e : Expression) {v : SettingValue Tok Tok} → AlikeValue seen (expression_by leaf_tree_of trees_of (λ l. Literal (literal_of l)) e) v
+      → (v ≡ expression_by expr_of exprs_of literal_tok e) × IsFilledExpression conditions.expander IsToken e
+  value_seen e (a.value h) = let x = seeing.seen_expression conditions bound IsToken file_depth import_offsets e h in (ap tree.Value x.same, x.given)
 
   literal_seen : (l : strings.StringLiteral) {v : SettingValue Tok Tok} → AlikeValue seen (literal_by leaf_tree_of trees_of (λ l. Literal (literal_of l)) l) v
       → (v ≡ literal_by expr_of exprs_of literal_tok l) × IsFilledLiteral conditions.expander IsToken l
@@ -110,11 +109,11 @@ module _ (conditions : Conditions) (bound : ℕ) (IsToken : Token → Type 0) (f
       let x = seeing.string_seen conditions bound IsToken file_depth import_offsets lexeme l t h in
       (ap (λ (k : Tok). tree.Value (tree.StringLiteral l.expand k)) x.1, x.0)
 
-  command_seen : (i : Box (Interpreter Expression)) {v : SettingValue Tok Tok} → AlikeValue seen (interpreter_by leaf_tree_of trees_of (λ l. Literal (literal_of l)) i) v
+  command_seen : (i : Interpreter Expression) {v : SettingValue Tok Tok} → AlikeValue seen (interpreter_by leaf_tree_of trees_of (λ l. Literal (literal_of l)) i) v
       → (v ≡ interpreter_by expr_of exprs_of literal_tok i) × IsFilledCommandLine conditions.expander IsToken i
   command_seen i (a.interpreter h hs) =
-      let x = seeing.seen_expression conditions bound IsToken file_depth import_offsets i.value.command h in
-      let y = expressions_seen i.value.arguments.items hs in
+      let x = seeing.seen_expression conditions bound IsToken file_depth import_offsets i.command h in
+      let y = expressions_seen i.arguments.items hs in
       ((λ j. tree.Interpreter (x.same j) (y.0 j)), (x.given, y.1))
 
   -- a setting, by the tree of its value
@@ -127,11 +126,11 @@ module _ (conditions : Conditions) (bound : ℕ) (IsToken : Token → Type 0) (f
   setting_seen (settings.AllowDuplicateVariables value) a.truth = record { same = refl; given = λ fields. tt }
   setting_seen (settings.DefaultList value) a.truth = record { same = refl; given = λ fields. tt }
   setting_seen (settings.DefaultScript value) a.truth = record { same = refl; given = λ fields. tt }
-  setting_seen (settings.DotenvCommand value) h = let x = boxed_seen value h in record { same = x.0; given = λ fields. x.1 }
-  setting_seen (settings.DotenvFilename value) h = let x = boxed_seen value h in record { same = x.0; given = λ fields. x.1 }
+  setting_seen (settings.DotenvCommand value) h = let x = value_seen value h in record { same = x.0; given = λ fields. x.1 }
+  setting_seen (settings.DotenvFilename value) h = let x = value_seen value h in record { same = x.0; given = λ fields. x.1 }
   setting_seen (settings.DotenvLoad value) a.truth = record { same = refl; given = λ fields. tt }
   setting_seen (settings.DotenvOverride value) a.truth = record { same = refl; given = λ fields. tt }
-  setting_seen (settings.DotenvPath value) h = let x = boxed_seen value h in record { same = x.0; given = λ fields. x.1 }
+  setting_seen (settings.DotenvPath value) h = let x = value_seen value h in record { same = x.0; given = λ fields. x.1 }
   setting_seen (settings.DotenvRequired value) a.truth = record { same = refl; given = λ fields. tt }
   setting_seen (settings.Export value) a.truth = record { same = refl; given = λ fields. tt }
   setting_seen (settings.Fallback value) a.truth = record { same = refl; given = λ fields. tt }
@@ -147,8 +146,8 @@ module _ (conditions : Conditions) (bound : ℕ) (IsToken : Token → Type 0) (f
   setting_seen (settings.Quiet value) a.truth = record { same = refl; given = λ fields. tt }
   setting_seen (settings.ScriptInterpreter i) h = let x = command_seen i h in record { same = x.0; given = λ fields. x.1 }
   setting_seen (settings.Shell i) h = let x = command_seen i h in record { same = x.0; given = λ fields. x.1 }
-  setting_seen (settings.Tempdir value) h = let x = boxed_seen value h in record { same = x.0; given = λ fields. x.1 }
+  setting_seen (settings.Tempdir value) h = let x = value_seen value h in record { same = x.0; given = λ fields. x.1 }
   setting_seen (settings.Unstable value) a.truth = record { same = refl; given = λ fields. tt }
   setting_seen (settings.WindowsPowerShell value) a.truth = record { same = refl; given = λ fields. tt }
   setting_seen (settings.WindowsShell i) h = let x = command_seen i h in record { same = x.0; given = λ fields. x.1 }
-  setting_seen (settings.WorkingDirectory value) h = let x = boxed_seen value h in record { same = x.0; given = λ fields. x.1 }
+  setting_seen (settings.WorkingDirectory value) h = let x = value_seen value h in record { same = x.0; given = λ fields. x.1 }

@@ -1,3 +1,4 @@
+pub mod CopiedValues
 pub mod Dependencies
 pub mod Firsts
 pub mod HeaderFewer

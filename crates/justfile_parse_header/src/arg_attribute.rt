@@ -5,11 +5,9 @@ ghost use Rattle.justfile_attribute.specs.Attribute.{leaf_attribute_of};
 ghost use Rattle.justfile_parse_header.specs.Arguments.{HasBoundKeys, rules_by};
 ghost use Rattle.justfile_parse_header.specs.Options.{bound_token, bound_key_of, long_in, sets_flag, sets_multiple, short_in, option_in};
 ghost use Rattle.justfile_parse_header.specs.ArgAttribute.{IsArgAttribute};
-ghost use Rattle.justfile_parse_header.specs.Tree.{value_tree};
-ghost use Rattle.justfile_expression.specs.LeafTree.{leaf_tree_of};
 
 use justfile_attribute::Attribute;
-use justfile_expression::Expression;
+use justfile_expression::{Expression, copy_optional};
 use justfile_token::{Name, StringLiteral, Token};
 use std::alloc::{AllocError, Global};
 
@@ -27,6 +25,7 @@ pub(crate) struct ArgAttribute<'src> {
 
 /// Returns a copy of what an `arg` attribute sets for its parameter, or the defaults if there is no
 /// such attribute.
+#[tactic(auto, using(crate::proofs::CopiedValues::same_value))]
 pub(crate) fn copy_arg_attribute<'src>(
     alloc: Global,
     attribute: Option<&Attribute<'src>>,
@@ -45,7 +44,7 @@ pub(crate) fn copy_arg_attribute<'src>(
             ..
         } => {
             let long = copy_long(alloc, attribute)?;
-            let value = copy_value(alloc, value)?;
+            let value = copy_optional(alloc, value)?;
             Ok(ArgAttribute {
                 flag: is_flag(attribute),
                 long,
@@ -205,28 +204,4 @@ fn find_option<'run, 'src>(
         Some(literal) => Some((literal.cooked.as_str(), literal.token)),
         None => None,
     }
-}
-
-/// Returns a copy of a value that may be absent.
-fn copy_value<'src>(
-    alloc: Global,
-    value: &Option<Box<Expression<'src>>>,
-) -> Result<Option<Box<Expression<'src>>>, AllocError>
-    ensures { IfOk result (λ copy. value_tree copy ≡ value_tree value.now) }
-{
-    match value {
-        Some(value) => Ok(Some(copy_expression(alloc, value)?)),
-        None => Ok(None),
-    }
-}
-
-/// Returns a copy of an expression, in a box.
-fn copy_expression<'src>(
-    alloc: Global,
-    expression: &Expression<'src>,
-) -> Result<Box<Expression<'src>>, AllocError>
-    ensures { IfOk result (λ copy. leaf_tree_of copy.value ≡ leaf_tree_of expression.now) }
-{
-    let copy = expression.clone(alloc)?;
-    Ok(Box::new(alloc, copy)?)
 }

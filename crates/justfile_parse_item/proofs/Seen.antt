@@ -21,7 +21,7 @@ use Rattle.justfile_attribute_set.specs.Pairs.{Pair}
 use Rattle.justfile_model.specs.Meanings.Meaning.{entries_of}
 use Rattle.justfile_model.specs.Trees.LeafView.{views_tokens}
 use Rattle.justfile_model.specs.LiteralTexts.Literals as literals
-use Rattle.justfile_model.specs.LiteralTexts.Literals.{cooked_text, format_text, string_of, token_of}
+use Rattle.justfile_model.specs.LiteralTexts.Literals.{cooked_text, cooked_format_text, string_of, token_of}
 use Rattle.justfile_model.specs.Lexing.Tok.{Tok, tok_of}
 use Rattle.justfile_model.specs.Trees.Tree as tree
 use Rattle.justfile_model.specs.Trees.Tree.{BodyLine, Entry, Expr, Exprs, Parts, WrittenAttribute}
@@ -134,7 +134,7 @@ module _ (conditions : Conditions) (bound : ℕ) (IsToken : Token → Type 0) (f
 
   -- a part of a format string
   part_seen : (l : strings.StringLiteral) (kind : StringKind) (part : FormatStringPart) (token : Token) (text : List ℕ) → Literal (literal_of l) ≡ Literal (record { token = token; cooked = text; expand = false; kind = kind; part = Some part }) → IsToken token
-      → format_text kind part (lexeme_of token) ≡ Ok text → IsFilledPart IsToken kind part l × (tok_of token ≡ tok_of l.token)
+      → cooked_format_text kind part (lexeme_of token) ≡ Ok text → IsFilledPart IsToken kind part l × (tok_of token ≡ tok_of l.token)
   part_seen l kind part token text is among cooked =
       let same : literal_of l ≡ record { token = token; cooked = text; expand = false; kind = kind; part = Some part } = ap (text_in (literal_of l)) is in
       let here : token ≡ l.token = ap (λ (x : LiteralText). x.token) (sym same) in (
@@ -142,7 +142,7 @@ module _ (conditions : Conditions) (bound : ℕ) (IsToken : Token → Type 0) (f
           among = subst IsToken here among;
           is = record {
             token_is = refl;
-            cooked = ap (λ (t : Token). format_text kind part (lexeme_of t)) (sym here) ∙ cooked ∙ ap (λ (x : LiteralText). Ok x.cooked) (sym same);
+            cooked = ap (λ (t : Token). cooked_format_text kind part (lexeme_of t)) (sym here) ∙ cooked ∙ ap (λ (x : LiteralText). Ok x.cooked) (sym same);
             expand_is = ap (λ (x : LiteralText). x.expand) same;
             kind_is = ap (λ (x : LiteralText). x.kind) same;
             part_is = ap (λ (x : LiteralText). x.part) same;
@@ -160,7 +160,7 @@ module _ (conditions : Conditions) (bound : ℕ) (IsToken : Token → Type 0) (f
   -- how it is asked, by the token's own lexeme
   single_seen : (lexeme : List ℕ) (l : strings.StringLiteral) (tok : Tok) → IsLiteralLeaf (literals.Single lexeme) (Literal (literal_of l)) tok → IsFilledPart IsToken (kind_of (lexeme_of l.token)) string_parts.Single l × (tok ≡ tok_of l.token)
   single_seen lexeme l tok h =
-      let cooked : format_text (kind_of lexeme) string_parts.Single (lexeme_of h.token) ≡ Ok h.text = ap (format_text (kind_of lexeme) string_parts.Single) (sym h.lexeme) ∙ h.cooked in
+      let cooked : cooked_format_text (kind_of lexeme) string_parts.Single (lexeme_of h.token) ≡ Ok h.text = ap (cooked_format_text (kind_of lexeme) string_parts.Single) (sym h.lexeme) ∙ h.cooked in
       let x = part_seen l (kind_of lexeme) string_parts.Single h.token h.text h.is h.among cooked in
       let kind : kind_of lexeme ≡ kind_of (lexeme_of l.token) = ap kind_of (h.lexeme ∙ ap lexeme_of (ap (token_in l.token) (sym h.is))) in
       (subst (λ (k : StringKind). IsFilledPart IsToken k string_parts.Single l) kind x.0, h.tok_is ∙ x.1)
@@ -168,20 +168,20 @@ module _ (conditions : Conditions) (bound : ℕ) (IsToken : Token → Type 0) (f
   start_seen : (lexeme : List ℕ) (l : strings.StringLiteral) (tok : Tok) → IsLiteralLeaf (literals.Start lexeme) (Literal (literal_of l)) tok
       → IsFilledPart IsToken (kind_of (lexeme_of l.token)) string_parts.Start l × (tok ≡ tok_of l.token) × (lexeme ≡ lexeme_of l.token)
   start_seen lexeme l tok h =
-      let cooked : format_text (kind_of lexeme) string_parts.Start (lexeme_of h.token) ≡ Ok h.text = ap (format_text (kind_of lexeme) string_parts.Start) (sym h.lexeme) ∙ h.cooked in
+      let cooked : cooked_format_text (kind_of lexeme) string_parts.Start (lexeme_of h.token) ≡ Ok h.text = ap (cooked_format_text (kind_of lexeme) string_parts.Start) (sym h.lexeme) ∙ h.cooked in
       let x = part_seen l (kind_of lexeme) string_parts.Start h.token h.text h.is h.among cooked in
       let same : lexeme ≡ lexeme_of l.token = h.lexeme ∙ ap lexeme_of (ap (token_in l.token) (sym h.is)) in
       (subst (λ (k : StringKind). IsFilledPart IsToken k string_parts.Start l) (ap kind_of same) x.0, h.tok_is ∙ x.1, same)
 
   end_seen : (start lexeme : List ℕ) (l : strings.StringLiteral) (tok : Tok) → IsLiteralLeaf (literals.End start lexeme) (Literal (literal_of l)) tok → IsFilledPart IsToken (kind_of start) string_parts.End l × (tok ≡ part_tok l)
   end_seen start lexeme l tok h =
-      let cooked : format_text (kind_of start) string_parts.End (lexeme_of h.token) ≡ Ok h.text = ap (format_text (kind_of start) string_parts.End) (sym h.lexeme) ∙ h.cooked in
+      let cooked : cooked_format_text (kind_of start) string_parts.End (lexeme_of h.token) ≡ Ok h.text = ap (cooked_format_text (kind_of start) string_parts.End) (sym h.lexeme) ∙ h.cooked in
       let x = part_seen l (kind_of start) string_parts.End h.token h.text h.is h.among cooked in
       (x.0, h.tok_is ∙ x.1 ∙ sym (later_tok l (kind_of start) x.0))
 
   continue_seen : (start lexeme : List ℕ) (l : strings.StringLiteral) (tok : Tok) → IsLiteralLeaf (literals.Continue start lexeme) (Literal (literal_of l)) tok → IsFilledPart IsToken (kind_of start) string_parts.Continue l × (tok ≡ part_tok l)
   continue_seen start lexeme l tok h =
-      let cooked : format_text (kind_of start) string_parts.Continue (lexeme_of h.token) ≡ Ok h.text = ap (format_text (kind_of start) string_parts.Continue) (sym h.lexeme) ∙ h.cooked in
+      let cooked : cooked_format_text (kind_of start) string_parts.Continue (lexeme_of h.token) ≡ Ok h.text = ap (cooked_format_text (kind_of start) string_parts.Continue) (sym h.lexeme) ∙ h.cooked in
       let x = part_seen l (kind_of start) string_parts.Continue h.token h.text h.is h.among cooked in
       (x.0, h.tok_is ∙ x.1 ∙ sym (between_tok l (kind_of start) x.0))
 

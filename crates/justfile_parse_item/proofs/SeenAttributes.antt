@@ -2,9 +2,9 @@
 use Rattle.std.proofs.Common.{IfSome, ◌≡◌, ℕ, Bool, true, false, List, [], ◌∷◌, map, All, Option, Some, None, refl, sym, ap, subst, ◌∙◌}
 use Rattle.std.specs.Global.{Box}
 use Rattle.std.specs.Option.{option_map}
-use Rattle.justfile_attribute.specs.Attribute.{attribute_of, bound_by, leaf_attribute_of, literal_leaf, option_by, property_by, quoted_by, single_by}
-use Rattle.justfile_attribute.specs.declared.attribute.Attribute.{Attribute}
-use Rattle.justfile_attribute.specs.declared.attribute.Attribute.TheVariants as attributes
+use Rattle.justfile_attribute.specs.Attribute.{bound_by, formed_by, literal_leaf, option_by, property_by, quoted_by, script_by, single_by}
+use Rattle.justfile_attribute.specs.Form as forms
+use Rattle.justfile_attribute.specs.Form.{Form, case_kind, form_of}
 use Rattle.justfile_attribute.specs.declared.interpreter.Interpreter.{Interpreter}
 use Rattle.justfile_attribute_set.specs.AttributeSet.{AttributeSet, leaf_entries_of, written_of}
 use Rattle.justfile_attribute_set.specs.AttributeSet as sets
@@ -47,7 +47,7 @@ use Rattle.justfile_leaves.specs.LeafContent.{token_content}
 use Rattle.justfile_expression.specs.LeafViews.{leaf_cooked, leaf_literal, leaf_token, views_leaves}
 use Rattle.justfile_expression.specs.LeafTree.{Leaf, leaf_tree_of}
 use Rattle.justfile_expression.specs.declared.expression.Expression.{Expression}
-use Rattle.justfile_parse_item.specs.Filled.{IsFilledAttribute, IsFilledBoxed, IsFilledCount, IsFilledLiteral, IsFilledOption, IsFilledProperty}
+use Rattle.justfile_parse_item.specs.Filled.{IsFilledBoxed, IsFilledCount, IsFilledForm, IsFilledLiteral, IsFilledOption, IsFilledProperty}
 use Rattle.justfile_parse_expression.specs.TableReader as reader
 use Rattle.justfile_parse_item.specs.ItemTable.{attribute_leaves}
 use Rattle.justfile_parse_expression.specs.TableReader.{leaves}
@@ -131,10 +131,10 @@ module _ (conditions : Conditions) (bound : ℕ) (IsToken : Token → Type 0) (f
   bound_seen name (Some key) None absent = (refl, tt)
   bound_seen name None None absent = (refl, tt)
 
-  -- an attribute, by what it means
-  record SeenAttribute (at : Attribute) (t : tree.Attribute Tok Tok) : Type 0 where
-    same : t ≡ attribute_of at
-    given : IsFilledAttribute conditions.expander IsToken at
+  -- an attribute of this kind and form, by what it means
+  record SeenForm (kind : AttributeKind) (form : Form) (t : tree.Attribute Tok Tok) : Type 0 where
+    same : t ≡ formed_by expr_of literal_tok tok_of kind form
+    given : IsFilledForm conditions.expander IsToken form
 
   single_seen_by : (kind : AttributeKind) (o : Option (Box Expression)) {t : tree.Attribute Tok Tok} → AlikeAttribute seen (single_by leaf_tree_of literal_leaf own kind o) t
       → (t ≡ single_by expr_of literal_tok tok_of kind o) × IfSome o (IsFilledBoxed conditions.expander IsToken)
@@ -149,17 +149,33 @@ module _ (conditions : Conditions) (bound : ℕ) (IsToken : Token → Type 0) (f
       → (t ≡ tree.Texts kind (quoted_by expr_of literal_tok tok_of l ∷ [])) × IsFilledLiteral conditions.expander IsToken l
   text_seen kind l (texts k (a.cons h a.nil)) = let x = quoted_seen l h in ((λ i. tree.Texts kind (x.0 i ∷ [])), x.1)
 
-  script_seen : (o : Option (Interpreter strings.StringLiteral)) {t : tree.Attribute Tok Tok} → AlikeAttribute seen (leaf_attribute_of (attributes.Script o)) t
-      → SeenAttribute (attributes.Script o) t
-  script_seen None (plain kind) = record { same = refl; given = tt }
-  script_seen (Some i) (texts kind (a.cons h hs)) =
+  script_seen : (kind : AttributeKind) (o : Option (Interpreter strings.StringLiteral)) {t : tree.Attribute Tok Tok}
+      → AlikeAttribute seen (script_by leaf_tree_of literal_leaf own o) t → SeenForm kind (forms.Script o) t
+  script_seen kind None (plain k) = record { same = refl; given = tt }
+  script_seen kind (Some i) (texts k (a.cons h hs)) =
       let x = quoted_seen i.command h in
       let y = quoted_row i.arguments.items hs in
       record { same = λ j. tree.Texts kinds.Script (x.0 j ∷ y.0 j); given = (x.1, y.1) }
 
-  seen_attribute : (at : Attribute) {t : tree.Attribute Tok Tok} → AlikeAttribute seen (leaf_attribute_of at) t → SeenAttribute at t
-  seen_attribute attributes.Android (plain kind) = record { same = refl; given = tt }
-  seen_attribute (attributes.Arg flag help help_property long long_key max max_key min min_key multiple name pattern short short_key value) (arg h) =
+  seen_form : (kind : AttributeKind) (form : Form) {t : tree.Attribute Tok Tok} → AlikeAttribute seen (formed_by leaf_tree_of literal_leaf own kind form) t
+      → SeenForm kind form t
+  seen_form kind forms.Plain (plain k) = record { same = refl; given = tt }
+  seen_form kind (forms.Optional value) h = let x = single_seen_by kind value h in record { same = x.0; given = x.1 }
+  seen_form kind (forms.Single value) (single k h) = let x = value_seen value _ h in record { same = ap (tree.Single kind) x.0; given = x.1 }
+  seen_form kind (forms.Literal literal) h = let x = text_seen kind literal h in record { same = x.0; given = x.1 }
+  seen_form kind (forms.Literals given) h = let x = texts_seen kind given h in record { same = x.0; given = x.1 }
+  seen_form kind (forms.Env key value) (env k v) =
+      let x = value_seen key _ k in
+      let y = value_seen value _ v in
+      record { same = λ i. tree.Env (x.0 i) (y.0 i); given = (x.1, y.1) }
+  seen_form kind (forms.Signals given) (signals s) = record { same = refl; given = tt }
+  seen_form kind (forms.Cache extra inputs outputs) (cache x i o) =
+      let e = optional_seen extra x in
+      let n = optional_seen inputs i in
+      let u = optional_seen outputs o in
+      record { same = λ j. tree.Cache (e.0 j) (n.0 j) (u.0 j); given = (e.1, n.1, u.1) }
+  seen_form kind (forms.Script interpreter) h = script_seen kind interpreter h
+  seen_form kind (forms.Arg flag help help_property long long_key max max_key min min_key multiple name pattern short short_key value) (arg h) =
       let f = positions_seen flag h.flag in
       let p = properties_seen help_property h.help in
       let l = option_seen long_key long h.long in
@@ -185,48 +201,13 @@ module _ (conditions : Conditions) (bound : ℕ) (IsToken : Token → Type 0) (f
         });
         given = (f.1, p.1, l.1, x.1, n.1, m.1, q.1, t.1, s.1, v.1);
       }
-  seen_attribute (attributes.Cache extra inputs outputs) (cache x i o) =
-      let e = optional_seen extra x in
-      let n = optional_seen inputs i in
-      let u = optional_seen outputs o in
-      record { same = λ j. tree.Cache (e.0 j) (n.0 j) (u.0 j); given = (e.1, n.1, u.1) }
-  seen_attribute (attributes.Confirm value) h = let x = single_seen_by kinds.Confirm value h in record { same = x.0; given = x.1 }
-  seen_attribute (attributes.Continue given) (signals s) = record { same = refl; given = tt }
-  seen_attribute attributes.Default (plain kind) = record { same = refl; given = tt }
-  seen_attribute (attributes.Doc value) h = let x = single_seen_by kinds.Doc value h in record { same = x.0; given = x.1 }
-  seen_attribute attributes.Dragonfly (plain kind) = record { same = refl; given = tt }
-  seen_attribute (attributes.Env key value) (env k v) =
-      let x = value_seen key _ k in
-      let y = value_seen value _ v in
-      record { same = λ i. tree.Env (x.0 i) (y.0 i); given = (x.1, y.1) }
-  seen_attribute attributes.ExitMessage (plain kind) = record { same = refl; given = tt }
-  seen_attribute (attributes.Extension literal) h = let x = text_seen kinds.Extension literal h in record { same = x.0; given = x.1 }
-  seen_attribute attributes.Freebsd (plain kind) = record { same = refl; given = tt }
-  seen_attribute (attributes.Group literal) h = let x = text_seen kinds.Group literal h in record { same = x.0; given = x.1 }
-  seen_attribute attributes.Linux (plain kind) = record { same = refl; given = tt }
-  seen_attribute attributes.Macos (plain kind) = record { same = refl; given = tt }
-  seen_attribute (attributes.Metadata ls) h = let x = texts_seen kinds.Metadata ls.items h in record { same = x.0; given = x.1 }
-  seen_attribute attributes.Netbsd (plain kind) = record { same = refl; given = tt }
-  seen_attribute attributes.NoCd (plain kind) = record { same = refl; given = tt }
-  seen_attribute attributes.NoExitMessage (plain kind) = record { same = refl; given = tt }
-  seen_attribute attributes.NoQuiet (plain kind) = record { same = refl; given = tt }
-  seen_attribute attributes.Openbsd (plain kind) = record { same = refl; given = tt }
-  seen_attribute attributes.Parallel (plain kind) = record { same = refl; given = tt }
-  seen_attribute attributes.PositionalArguments (plain kind) = record { same = refl; given = tt }
-  seen_attribute attributes.Private (plain kind) = record { same = refl; given = tt }
-  seen_attribute (attributes.Script interpreter) h = script_seen interpreter h
-  seen_attribute attributes.Shell (plain kind) = record { same = refl; given = tt }
-  seen_attribute (attributes.Timestamp value) h = let x = single_seen_by kinds.Timestamp value h in record { same = x.0; given = x.1 }
-  seen_attribute attributes.Unix (plain kind) = record { same = refl; given = tt }
-  seen_attribute attributes.Windows (plain kind) = record { same = refl; given = tt }
-  seen_attribute (attributes.WorkingDirectory value) (single kind h) = let x = value_seen value _ h in record { same = ap (tree.Single kinds.WorkingDirectory) x.0; given = x.1 }
 
   abbrev IsFilledPair : Pair → Type 0
   IsFilledPair = seeing.IsFilledPair conditions bound IsToken file_depth import_offsets
 
   pair_seen : (p : Pair) (e : Entry Tok Tok) → AlikeEntry seen (leaf_entry_of p) e → (e ≡ entry_of p) × IsFilledPair p
   pair_seen p e h =
-      let x = seen_attribute p.0 h.attribute in
+      let x = seen_form (case_kind p.0) (form_of p.0) h.attribute in
       ((λ i. record { name = sym h.name.is i; attribute = x.same i; comment = sym h.comment i }), (h.name.among, x.given))
 
   -- the attributes of a set

@@ -1,8 +1,9 @@
 -- The derived values: what the parser adds to the parts of a tree besides their tokens.
 use Rattle.std.specs.Prelude.{IfSome, ◌≡◌, ◌≤◌, ◌↔◌, ◌⊎◌, ℕ, ◌+◌, length, map, Bool, false, List, Option, Some, None, Ok, IsSomeAnd, IsTrue, string_bytes, Contains, All}
+use Rattle.justfile_attribute.specs.Form as forms
+use Rattle.justfile_attribute.specs.Form.{Form, form_of}
 use Rattle.justfile_attribute.specs.New.{HasDerivedAttributeFields}
 use Rattle.justfile_attribute.specs.declared.attribute.Attribute.{Attribute}
-use Rattle.justfile_attribute.specs.declared.attribute.Attribute.TheVariants as attributes
 use Rattle.justfile_attribute.specs.declared.interpreter.Interpreter.{Interpreter}
 use Rattle.justfile_attribute_set.specs.AttributeSet.{AttributeSet, attributes_of, written_of}
 use Rattle.justfile_attribute_set.specs.Attributes.{has_kind}
@@ -146,43 +147,25 @@ module _ (expander : Expansions) (IsToken : Token → Type 0) where
   abbrev pub IsFilledInterpreter : Interpreter literals.StringLiteral → Type 0
   IsFilledInterpreter i = IsFilledLiteral expander IsToken i.command × All (IsFilledLiteral expander IsToken) i.arguments.items
 
-  -- The attribute's keys and the tokens of its expressions and literals are tokens that `IsToken` allows, and the literals have their
-  -- texts.
-  abbrev pub IsFilledAttribute : Attribute → Type 0
-  IsFilledAttribute (attributes.Arg flag help help_property long long_key max max_key min min_key multiple name pattern short short_key value) =
+  -- The keys of what an attribute holds and the tokens of its expressions and literals are tokens that `IsToken` allows, and the literals
+  -- have their texts.
+  abbrev pub IsFilledForm : Form → Type 0
+  IsFilledForm forms.Plain = Unit {0}
+  IsFilledForm (forms.Optional value) = IfSome value IsFilledBoxed
+  IsFilledForm (forms.Single value) = IsFilledBoxed value
+  IsFilledForm (forms.Literal literal) = IsFilledLiteral expander IsToken literal
+  IsFilledForm (forms.Literals given) = All (IsFilledLiteral expander IsToken) given
+  IsFilledForm (forms.Env key value) = IsFilledBoxed key × IsFilledBoxed value
+  IsFilledForm (forms.Signals signals) = Unit {0}
+  IsFilledForm (forms.Cache extra inputs outputs) = IfSome extra IsFilledBoxed × IfSome inputs IsFilledBoxed × IfSome outputs IsFilledBoxed
+  IsFilledForm (forms.Script interpreter) = IfSome interpreter IsFilledInterpreter
+  IsFilledForm (forms.Arg flag help help_property long long_key max max_key min min_key multiple name pattern short short_key value) =
       IfSome flag IsToken × IfSome help_property IsFilledProperty × IsFilledOption long_key long × IsFilledCount max_key max
       × IsFilledCount min_key min × IfSome multiple IsToken × IsFilledLiteral expander IsToken name × IfSome pattern IsFilledProperty
       × IsFilledOption short_key short × IfSome value IsFilledBoxed
-  IsFilledAttribute (attributes.Cache extra inputs outputs) =
-      IfSome extra IsFilledBoxed × IfSome inputs IsFilledBoxed × IfSome outputs IsFilledBoxed
-  IsFilledAttribute (attributes.Confirm value) = IfSome value IsFilledBoxed
-  IsFilledAttribute (attributes.Doc value) = IfSome value IsFilledBoxed
-  IsFilledAttribute (attributes.Env key value) = IsFilledBoxed key × IsFilledBoxed value
-  IsFilledAttribute (attributes.Extension literal) = IsFilledLiteral expander IsToken literal
-  IsFilledAttribute (attributes.Group literal) = IsFilledLiteral expander IsToken literal
-  IsFilledAttribute (attributes.Metadata given) = All (IsFilledLiteral expander IsToken) given.items
-  IsFilledAttribute (attributes.Script interpreter) = IfSome interpreter IsFilledInterpreter
-  IsFilledAttribute (attributes.Timestamp value) = IfSome value IsFilledBoxed
-  IsFilledAttribute (attributes.WorkingDirectory value) = IsFilledBoxed value
-  IsFilledAttribute attributes.Android = Unit {0}
-  IsFilledAttribute (attributes.Continue signals) = Unit {0}
-  IsFilledAttribute attributes.Default = Unit {0}
-  IsFilledAttribute attributes.Dragonfly = Unit {0}
-  IsFilledAttribute attributes.ExitMessage = Unit {0}
-  IsFilledAttribute attributes.Freebsd = Unit {0}
-  IsFilledAttribute attributes.Linux = Unit {0}
-  IsFilledAttribute attributes.Macos = Unit {0}
-  IsFilledAttribute attributes.Netbsd = Unit {0}
-  IsFilledAttribute attributes.NoCd = Unit {0}
-  IsFilledAttribute attributes.NoExitMessage = Unit {0}
-  IsFilledAttribute attributes.NoQuiet = Unit {0}
-  IsFilledAttribute attributes.Openbsd = Unit {0}
-  IsFilledAttribute attributes.Parallel = Unit {0}
-  IsFilledAttribute attributes.PositionalArguments = Unit {0}
-  IsFilledAttribute attributes.Private = Unit {0}
-  IsFilledAttribute attributes.Shell = Unit {0}
-  IsFilledAttribute attributes.Unix = Unit {0}
-  IsFilledAttribute attributes.Windows = Unit {0}
+
+  abbrev pub IsFilledAttribute : Attribute → Type 0
+  IsFilledAttribute a = IsFilledForm (form_of a)
 
   -- The attributes of a construct have their derived values, each with the token of its name, and their derived fields are right.
   abbrev pub AreFilledAttributes : AttributeSet → Type 0
@@ -204,21 +187,21 @@ module _ (expander : Expansions) (IsToken : Token → Type 0) where
   IsFilledDependency d = All IsFilledName (names_in d.recipe) × All IsFilledArgument d.arguments.items
 
   -- The command and the arguments of an interpreter setting have their derived values.
-  abbrev pub IsFilledCommandLine : Box (Interpreter Expression) → Type 0
-  IsFilledCommandLine i = IsFilledExpression expander IsToken i.value.command × All (IsFilledExpression expander IsToken) i.value.arguments.items
+  abbrev pub IsFilledCommandLine : Interpreter Expression → Type 0
+  IsFilledCommandLine i = IsFilledExpression expander IsToken i.command × All (IsFilledExpression expander IsToken) i.arguments.items
 
   -- The literals of a setting have their texts. An indentation is that of its literal.
   abbrev pub IsFilledSetting : values.Setting → Type 0
-  IsFilledSetting (settings.DotenvCommand value) = IsFilledBoxed value
-  IsFilledSetting (settings.DotenvFilename value) = IsFilledBoxed value
-  IsFilledSetting (settings.DotenvPath value) = IsFilledBoxed value
+  IsFilledSetting (settings.DotenvCommand value) = IsFilledExpression expander IsToken value
+  IsFilledSetting (settings.DotenvFilename value) = IsFilledExpression expander IsToken value
+  IsFilledSetting (settings.DotenvPath value) = IsFilledExpression expander IsToken value
   IsFilledSetting (settings.Indentation literal indentation) = IsFilledLiteral expander IsToken literal × (indentation_text indentation ≡ string_bytes literal.cooked)
   IsFilledSetting (settings.MinimumVersion literal) = IsFilledLiteral expander IsToken literal
   IsFilledSetting (settings.ScriptInterpreter interpreter) = IsFilledCommandLine interpreter
   IsFilledSetting (settings.Shell interpreter) = IsFilledCommandLine interpreter
-  IsFilledSetting (settings.Tempdir value) = IsFilledBoxed value
+  IsFilledSetting (settings.Tempdir value) = IsFilledExpression expander IsToken value
   IsFilledSetting (settings.WindowsShell interpreter) = IsFilledCommandLine interpreter
-  IsFilledSetting (settings.WorkingDirectory value) = IsFilledBoxed value
+  IsFilledSetting (settings.WorkingDirectory value) = IsFilledExpression expander IsToken value
   IsFilledSetting (settings.AllowDuplicateRecipes value) = Unit {0}
   IsFilledSetting (settings.AllowDuplicateVariables value) = Unit {0}
   IsFilledSetting (settings.DefaultList value) = Unit {0}

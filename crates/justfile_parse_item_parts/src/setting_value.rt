@@ -128,7 +128,7 @@ fn parse_expression_setting<'src, X: Expander>(
 {
     parser.expect(TokenKind::ColonEquals)?;
     let value = parse_expression(parser)?;
-    Ok(Setting::from_expression(keyword, value))
+    Ok(Setting::from_expression(keyword, Box::into_inner(value)))
 }
 
 /// Parses a setting that takes a command with its arguments.
@@ -144,7 +144,7 @@ fn parse_interpreter_setting<'src, X: Expander>(
 {
     parser.expect(TokenKind::ColonEquals)?;
     let interpreter = parse_interpreter(parser)?;
-    Ok(Setting::from_interpreter(keyword, interpreter))
+    Ok(Setting::from_interpreter(keyword, Box::into_inner(interpreter)))
 }
 
 /// Parses a command with its arguments, in brackets.

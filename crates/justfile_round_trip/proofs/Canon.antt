@@ -8,7 +8,7 @@ use Rattle.justfile_model.specs.Trees.Tree as tree
 use Rattle.justfile_model.specs.Trees.Tree.{Expr, Or, And, Comparison, Concatenation, ListConcatenation, Join, Root, If, IfElse, Not, StringLiteral, FormatLiteral, FormatString, Backtick, Assert, AssertMessage, Variable, Call, Group, ListOf, Last, Continue, Text, Interpolation, BodyLine, Line, Content, OrderedItem}
 use Rattle.justfile_model.specs.Grammars.Features.{Noted}
 use Rattle.justfile_model.specs.Grammars.Expressions.{operator_kind}
-use Rattle.justfile_model.specs.Printed.Printing.{fixed_text, is_conditional, other_text, expr_text, exprs_text, parts_text, fragment_text, line_text, body_text}
+use Rattle.justfile_model.specs.Printed.Printing.{fixed_text, is_conditional, other_text, expr_text, exprs_text, parts_text, fragment_text, body_line_text, body_text}
 use Rattle.justfile_round_trip.proofs.LiteralTexts.LexedModes.{Mark, mark}
 
 -- What a shape is made of: expressions, fragments, lines of bodies, and items with their contents.
@@ -268,7 +268,7 @@ fragments_is : (fs : List Fragment) (more : List ℕ) → flat_map fragment_text
 fragments_is [] more = refl
 fragments_is (f ∷ fs) more = append_assoc (fragment_text f) (flat_map fragment_text fs) more ∙ fragment_is f (flat_map fragment_text fs ++ more) ∙ ap (fragment_on f) (fragments_is fs more)
 
-line_is : (ind : List ℕ) (l : Row) (more : List ℕ) → line_text ind l ++ more ≡ line_on ind l more
+line_is : (ind : List ℕ) (l : Row) (more : List ℕ) → body_line_text ind l ++ more ≡ line_on ind l more
 line_is ind (Line number []) more = refl
 line_is ind (Line number (f ∷ fs)) more = append_assoc ind (flat_map fragment_text (f ∷ fs)) more ∙ ap (λ l. ind ++ l) (fragments_is (f ∷ fs) more)
 
@@ -276,4 +276,4 @@ pub body_is : (ind : List ℕ) (ls : List Row) (more : List ℕ) → body_text i
 unfolding fixed_text
 body_is ind [] more = refl
 body_is ind (l ∷ ls) more =
-    ap (λ x. 10 ∷ x) (append_assoc (line_text ind l) (body_text ind ls) more ∙ line_is ind l (body_text ind ls ++ more) ∙ ap (line_on ind l) (body_is ind ls more))
+    ap (λ x. 10 ∷ x) (append_assoc (body_line_text ind l) (body_text ind ls) more ∙ line_is ind l (body_text ind ls ++ more) ∙ ap (line_on ind l) (body_is ind ls more))

@@ -7,7 +7,7 @@ use Rattle.justfile_model.specs.Grammars.Files.{sets_doc}
 use Rattle.justfile_model.specs.Lexing.Modes.{is_empty}
 use Rattle.justfile_model.specs.Printed.Printing.{doc_comment, shown_doc}
 use Rattle.justfile_model.specs.Printed.PrintedAttributes.{after_doc, doc_written, docs_written}
-use Rattle.justfile_model.specs.Trees.Tree.{Alias, Assignment, Comment, Construct, Function, Import, Module, Newline, Recipe, Setting, Shape, Unexport, bare_recipe}
+use Rattle.justfile_model.specs.Trees.Tree.{Comment, Construct, Module, Newline, Recipe, Shape, bare_recipe}
 use Rattle.justfile_model.proofs.Printed.DocComments.{doc_comment_ends, doc_comment_first}
 use Rattle.justfile_model.proofs.Printed.DocsText.{none_shown}
 use Rattle.justfile_model.proofs.Printed.PlainFiles.{InComment, IsPlain}
@@ -60,12 +60,7 @@ doc_put : (doc : List ℕ) (content : ShapeContent) (entries : List ShapeEntry) 
     ≡ Comment (doc_comment doc) ∷ Newline ∷ doc_written (Construct entries content) items
 doc_put doc (Module parts) entries items h = doc_before doc (Module parts) entries items h
 doc_put doc (Recipe parts) entries items h = doc_before doc (Recipe parts) entries items h
-doc_put doc (Alias parts) entries items h = cc
-doc_put doc (Assignment parts) entries items h = cc
-doc_put doc (Function parts) entries items h = cc
-doc_put doc (Import parts) entries items h = cc
-doc_put doc (Setting parts) entries items h = cc
-doc_put doc (Unexport name) entries items h = cc
+doc_put doc _ entries items h = cc
 
 module _ (limit : ℕ) where
   -- ---- a comment before items that are good

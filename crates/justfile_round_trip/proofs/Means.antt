@@ -42,13 +42,6 @@ same_dependencies [] = refl
 same_dependencies (d ∷ ds) = λ i. same_dependency d i ∷ same_dependencies ds i
 
 same_content : (content : ShapeContent) → starless content ≡ content
-same_content (tree.Assignment parts) = refl
-same_content (tree.Alias parts) = refl
-same_content (tree.Function parts) = refl
-same_content (tree.Import parts) = refl
-same_content (tree.Module parts) = refl
-same_content (tree.Setting parts) = refl
-same_content (tree.Unexport name) = refl
 same_content (tree.Recipe parts) = λ i. tree.Recipe (record {
   doc = parts.doc;
   header = record {
@@ -60,6 +53,7 @@ same_content (tree.Recipe parts) = λ i. tree.Recipe (record {
   };
   comment = parts.comment;
   body = parts.body;
+same_content _ = refl
 })
 
 module _ (view : LeafView (List ℕ) (Unit {0})) where

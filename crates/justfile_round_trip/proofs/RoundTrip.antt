@@ -97,14 +97,9 @@ times_over f feature (n ∷ ns) = ap (λ count. (if sameb the_type n.0 feature t
 -- ---- numbers
 
 content_numbers : (c : Content Tok Tok ℕ (Unit {0})) → content_bindings (over_content lexeme nothing nothing (λ star. star) c) ≡ content_bindings c
-content_numbers (tree.Alias parts) = refl
-content_numbers (tree.Assignment parts) = refl
 content_numbers (tree.Function parts) = length-map parts.parameters lexeme
-content_numbers (tree.Import parts) = refl
-content_numbers (tree.Module parts) = refl
 content_numbers (tree.Recipe parts) = length-map parts.header.parameters (over_parameter lexeme nothing)
-content_numbers (tree.Setting parts) = refl
-content_numbers (tree.Unexport name) = refl
+content_numbers _ = refl
 
 numbers : (t : Tree) → bindings (shape_of t) ≡ bindings t
 numbers [] = refl
@@ -114,13 +109,7 @@ numbers (Construct entries content ∷ t) = λ k. content_numbers content k + nu
 
 content_counts : (c : Content Tok Tok ℕ (Unit {0})) → content_recipes (over_content lexeme nothing nothing (λ star. star) c) ≡ content_recipes c
 content_counts (tree.Alias parts) = refl
-content_counts (tree.Assignment parts) = refl
-content_counts (tree.Function parts) = refl
-content_counts (tree.Import parts) = refl
-content_counts (tree.Module parts) = refl
-content_counts (tree.Recipe parts) = refl
-content_counts (tree.Setting parts) = refl
-content_counts (tree.Unexport name) = refl
+content_counts _ = refl
 
 counts : (t : Tree) → recipes (shape_of t) ≡ recipes t
 counts [] = refl

@@ -4,7 +4,7 @@ use Rattle.std.proofs.lemmas.Bool.{agree_below, agree_below_at, eq-eqb, ne_eqb, 
 use Rattle.std.proofs.lemmas.Simd.{map-map, mask_l-mod, length-chunk, get_or-chunk, first_set_mask_l}
 use Rattle.std.proofs.lemmas.List.{length-map}
 use Rattle.std.proofs.lemmas.List.Folds.{prefix_len-append}
-use Rattle.std.proofs.lemmas.List.Sums.{prefix_len-drop_all, prefix_len-drop_no, prefix_len-drop_yes, prefix_len-le-length, prefix_len_is, prefix_len_passes, prefix_len_stops}
+use Rattle.std.proofs.lemmas.List.Sums.{prefix_len-le-length, prefix_len_is, prefix_len_passes, prefix_len_stops}
 use Rattle.std.specs.List.{prefix_len}
 use Rattle.std.specs.Int.{w64, trailing_zeros}
 use lib.Lanes.{chunk, zip2, mask_l, top}
@@ -68,9 +68,6 @@ pub record IsRunTo (q : ℕ → Bool) (xs : List ℕ) (at : ℕ) : Type 0 where
   pub within : at ≤ length xs
   pub length_is : prefix_len q xs ≡ at + prefix_len q (drop at xs)
 
-pub run_start : (q : ℕ → Bool) (xs : List ℕ) → IsRunTo q xs 0
-run_start q xs = record { within = omega arith; length_is = omega arith }
-
 module _ (q : ℕ → Bool) (xs : List ℕ) (at n r : ℕ) (h : IsRunTo q xs at) (room : at + n ≤ length xs) (found : r ≡ prefix_len q (take n (drop at xs))) where
   front : length (take n (drop at xs)) ≡ n
   front = length-chunk at n xs room
@@ -94,17 +91,3 @@ module _ (q : ℕ → Bool) (xs : List ℕ) (at n r : ℕ) (h : IsRunTo q xs at)
       let same : r ≡ n = omega arith in
       let rest : prefix_len q (drop at xs) ≡ n + prefix_len q (drop (at + n) xs) = parts ∙ cond-true _ _ _ (eq-eqb r n same) in
       record { within = room; length_is = omega (arith, h.length_is, rest) }
-
--- read byte by byte
-module _ (q : ℕ → Bool) (xs : List ℕ) (at : ℕ) (h : IsRunTo q xs at) where
-  -- a byte that passes lengthens the run
-  pub run_byte : at < length xs → q (get_or xs at 0) ≡ true → IsRunTo q xs (at + 1)
-  run_byte inside passes = record { within = omega arith; length_is = omega (arith, h.length_is, prefix_len-drop_yes q xs at 0 inside passes) }
-
-  -- one that doesn't ends it
-  pub run_other : at < length xs → q (get_or xs at 0) ≡ false → at ≡ prefix_len q xs
-  run_other inside fails = omega (arith, h.length_is, prefix_len-drop_no q xs at 0 inside fails)
-
-  -- and so does the end of the text
-  pub run_all : length xs ≤ at → at ≡ prefix_len q xs
-  run_all end = omega (arith, h.length_is, prefix_len-drop_all q xs at end)

@@ -1,17 +1,10 @@
 -- Copies of settings.
 use Rattle.std.specs.Prelude.{◌≡◌}
-use Rattle.std.specs.Global.{Box}
 use Rattle.justfile_attribute.specs.Interpreters.{IsSameExpressionInterpreter}
-use Rattle.justfile_attribute.specs.declared.interpreter.Interpreter.{Interpreter}
 use Rattle.justfile_token.specs.StringLiteral.{IsSameLiteral}
-use Rattle.justfile_expression.specs.Copies.{IsSameBoxed}
-use Rattle.justfile_expression.specs.declared.expression.Expression.{Expression}
+use Rattle.justfile_expression.specs.Copies.{IsSameExpression}
 use Rattle.justfile_setting.specs.declared.setting.Setting.{Setting}
 use Rattle.justfile_setting.specs.declared.setting.Setting.TheVariants as settings
-
--- interpreters in boxes, compared by value
-abbrev pub IsSameBoxedInterpreter : (copy original : Box (Interpreter Expression)) → Type 0
-IsSameBoxedInterpreter copy original = IsSameExpressionInterpreter copy.value original.value
 
 -- a copy of a setting: the same case, and all fields are the same
 abbrev pub IsSameSetting : (copy original : Setting) → Type 0
@@ -19,11 +12,11 @@ IsSameSetting (settings.AllowDuplicateRecipes copy) (settings.AllowDuplicateReci
 IsSameSetting (settings.AllowDuplicateVariables copy) (settings.AllowDuplicateVariables original) = copy ≡ original
 IsSameSetting (settings.DefaultList copy) (settings.DefaultList original) = copy ≡ original
 IsSameSetting (settings.DefaultScript copy) (settings.DefaultScript original) = copy ≡ original
-IsSameSetting (settings.DotenvCommand copy) (settings.DotenvCommand original) = IsSameBoxed copy original
-IsSameSetting (settings.DotenvFilename copy) (settings.DotenvFilename original) = IsSameBoxed copy original
+IsSameSetting (settings.DotenvCommand copy) (settings.DotenvCommand original) = IsSameExpression copy original
+IsSameSetting (settings.DotenvFilename copy) (settings.DotenvFilename original) = IsSameExpression copy original
 IsSameSetting (settings.DotenvLoad copy) (settings.DotenvLoad original) = copy ≡ original
 IsSameSetting (settings.DotenvOverride copy) (settings.DotenvOverride original) = copy ≡ original
-IsSameSetting (settings.DotenvPath copy) (settings.DotenvPath original) = IsSameBoxed copy original
+IsSameSetting (settings.DotenvPath copy) (settings.DotenvPath original) = IsSameExpression copy original
 IsSameSetting (settings.DotenvRequired copy) (settings.DotenvRequired original) = copy ≡ original
 IsSameSetting (settings.Export copy) (settings.Export original) = copy ≡ original
 IsSameSetting (settings.Fallback copy) (settings.Fallback original) = copy ≡ original
@@ -37,11 +30,11 @@ IsSameSetting (settings.NoCd copy) (settings.NoCd original) = copy ≡ original
 IsSameSetting (settings.NoExitMessage copy) (settings.NoExitMessage original) = copy ≡ original
 IsSameSetting (settings.PositionalArguments copy) (settings.PositionalArguments original) = copy ≡ original
 IsSameSetting (settings.Quiet copy) (settings.Quiet original) = copy ≡ original
-IsSameSetting (settings.ScriptInterpreter copy) (settings.ScriptInterpreter original) = IsSameBoxedInterpreter copy original
-IsSameSetting (settings.Shell copy) (settings.Shell original) = IsSameBoxedInterpreter copy original
-IsSameSetting (settings.Tempdir copy) (settings.Tempdir original) = IsSameBoxed copy original
+IsSameSetting (settings.ScriptInterpreter copy) (settings.ScriptInterpreter original) = IsSameExpressionInterpreter copy original
+IsSameSetting (settings.Shell copy) (settings.Shell original) = IsSameExpressionInterpreter copy original
+IsSameSetting (settings.Tempdir copy) (settings.Tempdir original) = IsSameExpression copy original
 IsSameSetting (settings.Unstable copy) (settings.Unstable original) = copy ≡ original
 IsSameSetting (settings.WindowsPowerShell copy) (settings.WindowsPowerShell original) = copy ≡ original
-IsSameSetting (settings.WindowsShell copy) (settings.WindowsShell original) = IsSameBoxedInterpreter copy original
-IsSameSetting (settings.WorkingDirectory copy) (settings.WorkingDirectory original) = IsSameBoxed copy original
+IsSameSetting (settings.WindowsShell copy) (settings.WindowsShell original) = IsSameExpressionInterpreter copy original
+IsSameSetting (settings.WorkingDirectory copy) (settings.WorkingDirectory original) = IsSameExpression copy original
 IsSameSetting _ _ = ⊥

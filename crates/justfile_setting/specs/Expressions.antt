@@ -11,14 +11,14 @@ interpreter_expressions interpreter = interpreter.command ∷ interpreter.argume
 
 -- the expressions that a setting has directly, in the order of printing
 abbrev pub setting_expressions : Setting → List Expression
-setting_expressions (settings.DotenvCommand value) = value.value ∷ []
-setting_expressions (settings.DotenvFilename value) = value.value ∷ []
-setting_expressions (settings.DotenvPath value) = value.value ∷ []
-setting_expressions (settings.ScriptInterpreter interpreter) = interpreter_expressions interpreter.value
-setting_expressions (settings.Shell interpreter) = interpreter_expressions interpreter.value
-setting_expressions (settings.Tempdir value) = value.value ∷ []
-setting_expressions (settings.WindowsShell interpreter) = interpreter_expressions interpreter.value
-setting_expressions (settings.WorkingDirectory value) = value.value ∷ []
+setting_expressions (settings.DotenvCommand value) = value ∷ []
+setting_expressions (settings.DotenvFilename value) = value ∷ []
+setting_expressions (settings.DotenvPath value) = value ∷ []
+setting_expressions (settings.ScriptInterpreter interpreter) = interpreter_expressions interpreter
+setting_expressions (settings.Shell interpreter) = interpreter_expressions interpreter
+setting_expressions (settings.Tempdir value) = value ∷ []
+setting_expressions (settings.WindowsShell interpreter) = interpreter_expressions interpreter
+setting_expressions (settings.WorkingDirectory value) = value ∷ []
 setting_expressions (settings.AllowDuplicateRecipes value) = []
 setting_expressions (settings.AllowDuplicateVariables value) = []
 setting_expressions (settings.DefaultList value) = []

@@ -1,6 +1,5 @@
 -- The tree of a setting: the definitions' view of the code's type.
 use Rattle.std.specs.Prelude.{◌≡◌, ℕ, Bool, true, false, List, [], ◌∷◌, ◌++◌, Option, Some, None, string_bytes}
-use Rattle.std.specs.Global.{Box}
 use Rattle.std.specs.List.{flat_map}
 use Rattle.justfile_attribute.specs.declared.interpreter.Interpreter.{Interpreter}
 use Rattle.justfile_vocabulary.specs.Indentation.{indentation_text}
@@ -49,26 +48,25 @@ keyword_of (settings.WorkingDirectory value) = words.WorkingDirectory
 
 -- by functions for the trees of expressions and the leaves of literals
 module _ {A B : Type 0} (expression : Expression → Expr A B) (expressions : List Expression → Exprs A B) (leaf : StringLiteral → A) where
-  -- an expression in a box
-  abbrev pub boxed_by : Box Expression → SettingValue A B
-  boxed_by e = tree.Value (expression e.value)
+  abbrev pub expression_by : Expression → SettingValue A B
+  expression_by e = tree.Value (expression e)
 
   abbrev pub literal_by : StringLiteral → SettingValue A B
   literal_by l = tree.Value (tree.StringLiteral l.expand (leaf l))
 
-  abbrev pub interpreter_by : Box (Interpreter Expression) → SettingValue A B
-  interpreter_by i = tree.Interpreter (expression i.value.command) (expressions i.value.arguments.items)
+  abbrev pub interpreter_by : Interpreter Expression → SettingValue A B
+  interpreter_by i = tree.Interpreter (expression i.command) (expressions i.arguments.items)
 
   abbrev pub value_by : Setting → SettingValue A B
   value_by (settings.AllowDuplicateRecipes value) = tree.Truth value
   value_by (settings.AllowDuplicateVariables value) = tree.Truth value
   value_by (settings.DefaultList value) = tree.Truth value
   value_by (settings.DefaultScript value) = tree.Truth value
-  value_by (settings.DotenvCommand value) = boxed_by value
-  value_by (settings.DotenvFilename value) = boxed_by value
+  value_by (settings.DotenvCommand value) = expression_by value
+  value_by (settings.DotenvFilename value) = expression_by value
   value_by (settings.DotenvLoad value) = tree.Truth value
   value_by (settings.DotenvOverride value) = tree.Truth value
-  value_by (settings.DotenvPath value) = boxed_by value
+  value_by (settings.DotenvPath value) = expression_by value
   value_by (settings.DotenvRequired value) = tree.Truth value
   value_by (settings.Export value) = tree.Truth value
   value_by (settings.Fallback value) = tree.Truth value
@@ -84,11 +82,11 @@ module _ {A B : Type 0} (expression : Expression → Expr A B) (expressions : Li
   value_by (settings.Quiet value) = tree.Truth value
   value_by (settings.ScriptInterpreter interpreter) = interpreter_by interpreter
   value_by (settings.Shell interpreter) = interpreter_by interpreter
-  value_by (settings.Tempdir value) = boxed_by value
+  value_by (settings.Tempdir value) = expression_by value
   value_by (settings.Unstable value) = tree.Truth value
   value_by (settings.WindowsPowerShell value) = tree.Truth value
   value_by (settings.WindowsShell interpreter) = interpreter_by interpreter
-  value_by (settings.WorkingDirectory value) = boxed_by value
+  value_by (settings.WorkingDirectory value) = expression_by value
 
 -- the tree of a setting's value
 abbrev pub value_of : Setting → SettingValue Tok Tok
@@ -99,21 +97,21 @@ abbrev pub value_shape : Setting → SettingValue (List ℕ) (Unit {0})
 value_shape s = over_setting_value lexeme nothing (value_of s)
 
 -- the texts of the literals of an interpreter, in order
-abbrev pub interpreter_cooked : Box (Interpreter Expression) → List (List ℕ)
-interpreter_cooked i = expr_cooked i.value.command ++ flat_map expr_cooked i.value.arguments.items
+abbrev pub interpreter_cooked : Interpreter Expression → List (List ℕ)
+interpreter_cooked i = expr_cooked i.command ++ flat_map expr_cooked i.arguments.items
 
 -- the texts of a setting's literals, in order
 abbrev pub setting_cooked : Setting → List (List ℕ)
-setting_cooked (settings.DotenvCommand value) = expr_cooked value.value
-setting_cooked (settings.DotenvFilename value) = expr_cooked value.value
-setting_cooked (settings.DotenvPath value) = expr_cooked value.value
+setting_cooked (settings.DotenvCommand value) = expr_cooked value
+setting_cooked (settings.DotenvFilename value) = expr_cooked value
+setting_cooked (settings.DotenvPath value) = expr_cooked value
 setting_cooked (settings.Indentation literal indentation) = string_bytes literal.cooked ∷ []
 setting_cooked (settings.MinimumVersion literal) = string_bytes literal.cooked ∷ []
 setting_cooked (settings.ScriptInterpreter interpreter) = interpreter_cooked interpreter
 setting_cooked (settings.Shell interpreter) = interpreter_cooked interpreter
-setting_cooked (settings.Tempdir value) = expr_cooked value.value
+setting_cooked (settings.Tempdir value) = expr_cooked value
 setting_cooked (settings.WindowsShell interpreter) = interpreter_cooked interpreter
-setting_cooked (settings.WorkingDirectory value) = expr_cooked value.value
+setting_cooked (settings.WorkingDirectory value) = expr_cooked value
 setting_cooked (settings.AllowDuplicateRecipes value) = []
 setting_cooked (settings.AllowDuplicateVariables value) = []
 setting_cooked (settings.DefaultList value) = []

@@ -1,13 +1,10 @@
 //! Copies of settings.
 ghost use Rattle.std.specs.Prelude.{IfOk};
 ghost use Rattle.justfile_token.specs.StringLiteral.{IsSameLiteral};
-ghost use Rattle.justfile_attribute.specs.Interpreters.{IsSameExpressionInterpreter};
 ghost use Rattle.justfile_setting.specs.Copies.{IsSameSetting};
 ghost use Rattle.justfile_setting.specs.declared.setting.Setting.TheVariants as settings;
 
 use crate::setting::Setting;
-use justfile_attribute::Interpreter;
-use justfile_expression::{Expression, copy_boxed};
 use justfile_token::StringLiteral;
 use justfile_vocabulary::Indentation;
 use std::alloc::{AllocError, Global};
@@ -22,13 +19,11 @@ impl<'src> Setting<'src> {
             Setting::AllowDuplicateVariables(value) => Ok(Setting::AllowDuplicateVariables(*value)),
             Setting::DefaultList(value) => Ok(Setting::DefaultList(*value)),
             Setting::DefaultScript(value) => Ok(Setting::DefaultScript(*value)),
-            Setting::DotenvCommand(value) => Ok(Setting::DotenvCommand(copy_boxed(alloc, value)?)),
-            Setting::DotenvFilename(value) => Ok(Setting::DotenvFilename(copy_boxed(
-                alloc, value,
-            )?)),
+            Setting::DotenvCommand(value) => Ok(Setting::DotenvCommand(value.clone(alloc)?)),
+            Setting::DotenvFilename(value) => Ok(Setting::DotenvFilename(value.clone(alloc)?)),
             Setting::DotenvLoad(value) => Ok(Setting::DotenvLoad(*value)),
             Setting::DotenvOverride(value) => Ok(Setting::DotenvOverride(*value)),
-            Setting::DotenvPath(value) => Ok(Setting::DotenvPath(copy_boxed(alloc, value)?)),
+            Setting::DotenvPath(value) => Ok(Setting::DotenvPath(value.clone(alloc)?)),
             Setting::DotenvRequired(value) => Ok(Setting::DotenvRequired(*value)),
             Setting::Export(value) => Ok(Setting::Export(*value)),
             Setting::Fallback(value) => Ok(Setting::Fallback(*value)),
@@ -47,35 +42,18 @@ impl<'src> Setting<'src> {
             Setting::PositionalArguments(value) => Ok(Setting::PositionalArguments(*value)),
             Setting::Quiet(value) => Ok(Setting::Quiet(*value)),
             Setting::ScriptInterpreter(interpreter) => Ok(Setting::ScriptInterpreter(
-                copy_interpreter(alloc, interpreter)?,
+                interpreter.clone(alloc)?,
             )),
-            Setting::Shell(interpreter) => Ok(Setting::Shell(copy_interpreter(
-                alloc,
-                interpreter,
-            )?)),
-            Setting::Tempdir(value) => Ok(Setting::Tempdir(copy_boxed(alloc, value)?)),
+            Setting::Shell(interpreter) => Ok(Setting::Shell(interpreter.clone(alloc)?)),
+            Setting::Tempdir(value) => Ok(Setting::Tempdir(value.clone(alloc)?)),
             Setting::Unstable(value) => Ok(Setting::Unstable(*value)),
             Setting::WindowsPowerShell(value) => Ok(Setting::WindowsPowerShell(*value)),
-            Setting::WindowsShell(interpreter) => Ok(Setting::WindowsShell(copy_interpreter(
+            Setting::WindowsShell(interpreter) => Ok(Setting::WindowsShell(interpreter.clone(
                 alloc,
-                interpreter,
             )?)),
-            Setting::WorkingDirectory(value) => Ok(Setting::WorkingDirectory(copy_boxed(
-                alloc, value,
-            )?)),
+            Setting::WorkingDirectory(value) => Ok(Setting::WorkingDirectory(value.clone(alloc)?)),
         }
     }
-}
-
-/// Returns a copy of an interpreter in a box of its own.
-fn copy_interpreter<'src>(
-    alloc: Global,
-    interpreter: &Interpreter<Expression<'src>>,
-) -> Result<Box<Interpreter<Expression<'src>>>, AllocError>
-    ensures { IfOk result (λ copy. IsSameExpressionInterpreter copy.value interpreter.now) }
-{
-    let copy = interpreter.clone(alloc)?;
-    Ok(Box::new(alloc, copy)?)
 }
 
 /// Returns a copy of an `indentation` setting, given by its literal and its indentation.

@@ -98,10 +98,10 @@ impl<'src> Setting<'src> {
     }
 
     /// Returns a setting with an expression. Requires that the keyword's setting has this form.
-    pub fn from_expression(keyword: Keyword, value: Box<Expression<'src>>) -> Self
+    pub fn from_expression(keyword: Keyword, value: Expression<'src>) -> Self
         requires { forms.setting_form keyword ≡ Some forms.ExpressionForm }
         ensures keyword { keyword_of result ≡ keyword }
-        ensures value { leaf_value_of result ≡ tree.Value (leaf_tree_of value.entry.value) }
+        ensures value { leaf_value_of result ≡ tree.Value (leaf_tree_of value.entry) }
         ensures fields { HasDerivedSettingFields result }
     {
         match keyword {
@@ -115,15 +115,12 @@ impl<'src> Setting<'src> {
     }
 
     /// Returns a setting with an interpreter. Requires that the keyword's setting has this form.
-    pub fn from_interpreter(
-        keyword: Keyword,
-        interpreter: Box<Interpreter<Expression<'src>>>,
-    ) -> Self
+    pub fn from_interpreter(keyword: Keyword, interpreter: Interpreter<Expression<'src>>) -> Self
         requires { forms.setting_form keyword ≡ Some forms.InterpreterForm }
         ensures keyword { keyword_of result ≡ keyword }
         ensures value { leaf_value_of result
-            ≡ tree.Interpreter (leaf_tree_of interpreter.entry.value.command)
-            (trees_of interpreter.entry.value.arguments.items) }
+            ≡ tree.Interpreter (leaf_tree_of interpreter.entry.command)
+            (trees_of interpreter.entry.arguments.items) }
         ensures fields { HasDerivedSettingFields result }
     {
         match keyword {

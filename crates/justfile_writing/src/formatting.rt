@@ -31,7 +31,7 @@ const CAPACITY: usize = 8 * 1024;
 ///
 /// # Errors
 ///
-/// As for `format_text`, or a write fails. Unless a write fails, nothing is written.
+/// As for `format_input`, or a write fails. Unless a write fails, nothing is written.
 #[tactic(auto, using(crate::proofs::Failures::rejected, crate::proofs::Failures::unprintable, crate::proofs::Failures::numbers, crate::proofs::Failures::of_text_or_writing, crate::proofs::Files::formats, crate::proofs::Files::begins, crate::proofs::Files::never_rejected, crate::proofs::Files::unprinted, crate::proofs::Files::not_numbers, crate::proofs::Files::of_file))]
 pub fn format_to<W: Write>(alloc: Global, source: &str, writer: &mut W) -> Result<(), Failure>
     ensures ok { OnOk result (Formats source.now (W.contents writer.old) (W.contents writer.new)) }
@@ -122,7 +122,7 @@ fn print_all<W: Write>(
 ///
 /// The text isn't a justfile or can't be printed, or memory or numbers run out.
 #[tactic(auto, using(crate::proofs::Failures::rejected, crate::proofs::Failures::unprintable, crate::proofs::Failures::numbers, crate::proofs::Failures::of_text))]
-pub fn format_text(alloc: Global, source: &str) -> Result<String, Failure>
+pub fn format_input(alloc: Global, source: &str) -> Result<String, Failure>
     ensures ok { IfOk result (λ text. IsFormatted source.now (string_bytes text)) }
     ensures rejected { IfErr result (IfRejected (IsRejection source.now)) }
     ensures unprintable { result ≡ Err failures.NotPrintable → IsUnprintable source.now }

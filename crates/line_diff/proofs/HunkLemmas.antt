@@ -1,13 +1,11 @@
 -- Hunks, one after the other.
-use Rattle.std.proofs.Common.{◌≡◌, ◌≢◌, ℕ, ◌+◌, ◌-◌, ◌≤◌, ◌<◌, List, [], ◌∷◌, ◌++◌, length, map, take, drop, get_or, All, Any, false, Result, Ok, Err, OnOk, codes, nat_eq, is_ok, if◌then◌else◌, refl, sym, ap, subst, ◌∙◌, arith, append_assoc, append-nil}
+use Rattle.std.proofs.Common.{◌≡◌, ℕ, ◌+◌, ◌-◌, ◌≤◌, ◌<◌, List, [], ◌∷◌, ◌++◌, length, map, take, drop, get_or, All, Any, false, Result, Ok, Err, OnOk, codes, nat_eq, is_ok, if◌then◌else◌, refl, sym, ap, subst, ◌∙◌, arith, append_assoc, append-nil}
 use Rattle.std.specs.List.{HoldsAt, ends_with, flat_map}
 use Rattle.std.proofs.lemmas.Grind.{flat_map-append}
 use Rattle.std.proofs.lemmas.List.{drop-drop, get_or_default, get_or-drop, get_or-take, length-drop, length-map, length-take, take-append-drop}
 use Rattle.std.proofs.lemmas.List.Elements.{All-append, All-cons, All-head, All-nil, All-tail}
 use Rattle.line_diff.specs.declared.edits.Edit.{Edit}
 use Rattle.line_diff.specs.Edits.{IsChange, IsKept, new_lines, old_lines}
-use Rattle.line_diff.specs.Lines.{text_lines}
-use Rattle.line_diff.specs.Unified.{IsUnified, diff_text, header_text}
 use Rattle.line_diff.specs.Hunks.{AreHunks, HasChange, Hunk, ended_line, Leads, hunk_text, hunks_text}
 
 -- lines that are kept
@@ -28,9 +26,6 @@ pub record Reached (edits : List Edit) (from old_before new_before : ℕ) (text 
   pub is : text ≡ hunks_text hunks
   pub old_small : old_before ≤ from
   pub new_small : new_before ≤ from
-
-pub begins : (edits : List Edit) → Reached edits 0 0 0 []
-begins edits = record { hunks = []; leads = λ more h. h; changed = All-nil HasChange; is = refl; old_small = omega arith; new_small = omega arith }
 
 -- the edits from one place on are those up to another place, a hunk, and the rest
 cut : (edits : List Edit) (from start finish : ℕ) → from ≤ start → start ≤ finish
@@ -139,36 +134,3 @@ edit_written old mid now signed sign_text line tail ended e f g h =
     ∙ append_assoc (old ++ sign_text) line tail
     ∙ append_assoc old sign_text (line ++ tail)
     ∙ ap (λ (l : List ℕ). old ++ (sign_text ++ l)) h
-
--- the header, and the hunks, of which there is one
-with_hunks : (name bytes : List ℕ) (hunks : List Hunk) → bytes ≡ hunks_text hunks → 0 < length bytes → header_text name ++ bytes ≡ diff_text name hunks
-with_hunks name bytes [] e some = absurd (omega (arith, ap length e))
-with_hunks name bytes (h ∷ hs) e some = ap (λ (l : List ℕ). header_text name ++ l) e
-
-without_hunks : (name bytes : List ℕ) (hunks : List Hunk) → bytes ≡ hunks_text hunks → length bytes ≡ 0 → bytes ≡ diff_text name hunks
-without_hunks name bytes [] e none = e
-without_hunks name bytes (h ∷ hs) e none = absurd (omega (arith, ap length e))
-
-pub headed : (name old new text bytes header : List ℕ) (edits : List Edit) → AreHunks edits bytes → old_lines edits ≡ text_lines old
-    → new_lines edits ≡ text_lines new → old ≢ new → 0 < length bytes → header ≡ header_text name → text ≡ header ++ bytes → IsUnified name old new text
-headed name old new text bytes header edits h o n apart some e is = record {
-  hunks = h.hunks;
-  leads = rw (← o, ← n) h.leads;
-  changed = h.changed;
-  same = λ same. absurd (apart same);
-  is = is ∙ ap (λ (l : List ℕ). l ++ bytes) e ∙ with_hunks name bytes h.hunks h.is some;
-}
-
-pub unheaded : (name old new bytes : List ℕ) (edits : List Edit) → AreHunks edits bytes → old_lines edits ≡ text_lines old → new_lines edits ≡ text_lines new
-    → length bytes ≡ 0 → IsUnified name old new bytes
-unheaded name old new bytes edits h o n none = record {
-  hunks = h.hunks;
-  leads = rw (← o, ← n) h.leads;
-  changed = h.changed;
-  same = λ _. empty bytes none;
-  is = without_hunks name bytes h.hunks h.is none;
-}
-  where
-    empty : (bytes : List ℕ) → length bytes ≡ 0 → bytes ≡ []
-    empty [] none = refl
-    empty (b ∷ bs) none = absurd (omega arith)

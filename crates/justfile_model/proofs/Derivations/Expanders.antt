@@ -177,12 +177,7 @@ module _ (conditions : Conditions) (all : Expansions) (tokens : List Significant
 
   same_lexemes : (l : Literal (List ℕ)) → over_literal (λ x. x) l ≡ l
   same_lexemes (Plain t) = refl
-  same_lexemes (Expanded t) = refl
-  same_lexemes (Command t) = refl
-  same_lexemes (Single t) = refl
-  same_lexemes (Start t) = refl
-  same_lexemes (Continue s t) = refl
-  same_lexemes (End s t) = refl
+  same_lexemes _ = refl
 
   over_lexemes : (expander : Expansions) (ls : List (Literal (List ℕ))) (texts : List (List ℕ)) → AreCookedTexts expander ls texts
       → AreCookedTexts expander (map (over_literal (λ x. x)) ls) texts

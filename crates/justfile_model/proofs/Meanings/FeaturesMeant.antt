@@ -7,7 +7,7 @@ use Rattle.justfile_model.specs.Grammars.Features.{ConstructFeatures, Noted}
 use Rattle.justfile_model.specs.Grammars.Files.{all_features, entries_features, if_both, ordered, sets_doc, undocumented, with_entries}
 use Rattle.justfile_model.specs.Meanings.Meaning.{entries_of}
 use Rattle.justfile_model.specs.Trees.LeafView.{LeafView}
-use Rattle.justfile_model.specs.Trees.Tree.{Alias, Assignment, Comment, Construct, Content, Entry, Function, Import, Item, Module, Newline, OrderedItem, Recipe, Setting, Unexport, WrittenAttribute, WrittenItem, starless}
+use Rattle.justfile_model.specs.Trees.Tree.{Assignment, Comment, Construct, Content, Entry, Item, Newline, OrderedItem, WrittenAttribute, WrittenItem, starless}
 use Rattle.justfile_model.proofs.Lists.Binds.{never_some, some_back}
 
 -- the features of a construct by what its attributes mean
@@ -26,13 +26,7 @@ meant_features (Construct entries content ∷ items) (f ∷ fs) = content_featur
 
 starless_features : {A B C S : Type 0} (content : Content A B C S) (entries : List (Entry A B)) → entries_features (starless content) entries ≡ entries_features content entries
 starless_features (Assignment parts) entries = refl
-starless_features (Alias parts) entries = refl
-starless_features (Function parts) entries = refl
-starless_features (Import parts) entries = refl
-starless_features (Module parts) entries = refl
-starless_features (Setting parts) entries = refl
-starless_features (Unexport name) entries = refl
-starless_features (Recipe parts) entries = refl
+starless_features _ entries = refl
 
 module _ {A B C S : Type 0} (view : LeafView A B) where
   -- the others have these features
@@ -82,13 +76,7 @@ module _ {A B C S : Type 0} (view : LeafView A B) where
 redocumented_features : {A B C S : Type 0} (doc : Option (List ℕ)) (content : Content A B C S) (entries : List (Entry A B))
     → entries_features (redocumented doc content) entries ≡ entries_features content entries
 redocumented_features doc (Assignment parts) entries = refl
-redocumented_features doc (Alias parts) entries = refl
-redocumented_features doc (Function parts) entries = refl
-redocumented_features doc (Import parts) entries = refl
-redocumented_features doc (Module parts) entries = refl
-redocumented_features doc (Setting parts) entries = refl
-redocumented_features doc (Unexport name) entries = refl
-redocumented_features doc (Recipe parts) entries = refl
+redocumented_features doc _ entries = refl
 
 module _ {A B C S : Type 0} (has_doc : List (Entry A B) → Bool) where
   doc_same : (comment doc : List ℕ) (i : Item A B C S (List (Entry A B))) (items : List (Item A B C S (List (Entry A B)))) (fs : List (ConstructFeatures B))

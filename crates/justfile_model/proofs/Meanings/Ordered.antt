@@ -6,14 +6,14 @@ use Rattle.std.specs.Option.{option_map}
 use Rattle.justfile_model.specs.Meanings.AttributeRules.{of_some}
 use Rattle.justfile_model.specs.Grammars.Docs.{Nothing, documented}
 use Rattle.justfile_model.specs.Grammars.Features.{ConstructFeatures, over_features, over_noted}
-use Rattle.justfile_model.specs.Grammars.Files.{literals, content_bindings, item_bindings, bindings, content_recipes, item_recipes, recipes, ordered_item, if_both, with_entries, undocumented, ordered, sets_doc, entries_features, construct_features, all_features, item_broken, broken}
-use Rattle.justfile_model.specs.LiteralTexts.Literals.{Expansions, Literal}
+use Rattle.justfile_model.specs.Grammars.Files.{content_bindings, item_bindings, bindings, content_recipes, item_recipes, recipes, ordered_item, if_both, with_entries, undocumented, ordered, sets_doc, entries_features, construct_features, all_features, item_broken, broken}
+use Rattle.justfile_model.specs.LiteralTexts.Literals.{Expansions}
 use Rattle.justfile_model.specs.Meanings.Meaning.{entries_of}
 use Rattle.justfile_model.specs.Meanings.Rules.{over_broken}
 use Rattle.justfile_model.specs.Trees.LeafView.{LeafView, views_lexemes, views_tokens}
 use Rattle.justfile_model.specs.Lexing.Tok.{Tok}
 use Rattle.justfile_model.specs.Grammars.Conditions.{VersionNumbers}
-use Rattle.justfile_model.specs.Trees.Tree.{Alias, Assignment, Comment, Construct, Content, Dependency, DependencyArgument, Entry, Function, Header, Import, Module, Newline, OrderedItem, Recipe, Setting, Shape, Tree, Unexport, WrittenAttribute, WrittenItem, WrittenTree, item_shape_of, lexeme, nothing, over_content, over_dependency, over_dependency_argument, over_entry, over_header, over_item, over_line, over_written_attribute, shape_of, starless, starless_argument, starless_dependency, starless_header, written_shape_of}
+use Rattle.justfile_model.specs.Trees.Tree.{Assignment, Comment, Construct, Content, Dependency, DependencyArgument, Entry, Header, Newline, OrderedItem, Recipe, Shape, Tree, WrittenAttribute, WrittenItem, WrittenTree, item_shape_of, lexeme, nothing, over_content, over_dependency, over_dependency_argument, over_entry, over_header, over_item, over_line, over_written_attribute, shape_of, starless, starless_argument, starless_dependency, starless_header, written_shape_of}
 use Rattle.justfile_model.proofs.Lists.Binds.{never_some, some_back}
 use Rattle.justfile_model.proofs.Printed.DocsKept.{bindings_count, documented_counts, documented_shape, recipes_count}
 use Rattle.justfile_model.proofs.Derivations.Kinded.{KindedWritten}
@@ -78,23 +78,11 @@ module _ {A B C S : Type 0} (view : LeafView A B) where
 
 starless_bindings : {A B C S : Type 0} (c : Content A B C S) → content_bindings (starless c) ≡ content_bindings c
 starless_bindings (Assignment parts) = refl
-starless_bindings (Alias parts) = refl
-starless_bindings (Function parts) = refl
-starless_bindings (Import parts) = refl
-starless_bindings (Module parts) = refl
-starless_bindings (Setting parts) = refl
-starless_bindings (Unexport name) = refl
-starless_bindings (Recipe parts) = refl
+starless_bindings _ = refl
 
 starless_recipes : {A B C S : Type 0} (c : Content A B C S) → content_recipes (starless c) ≡ content_recipes c
 starless_recipes (Assignment parts) = refl
-starless_recipes (Alias parts) = refl
-starless_recipes (Function parts) = refl
-starless_recipes (Import parts) = refl
-starless_recipes (Module parts) = refl
-starless_recipes (Setting parts) = refl
-starless_recipes (Unexport name) = refl
-starless_recipes (Recipe parts) = refl
+starless_recipes _ = refl
 
 -- items that have a meaning
 module _ {A B C S : Type 0} (view : LeafView A B) where
@@ -162,14 +150,8 @@ module _ {A B S A' B' S' : Type 0} (f : A → A') (g : B → B') (k : S → S') 
 
 module _ {A B C S A' B' C' S' : Type 0} (f : A → A') (g : B → B') (h : C → C') (k : S → S') where
   content_over : (c : Content A B C S) → starless (over_content f g h k c) ≡ over_content f g h same_star (starless c)
-  content_over (Assignment parts) = refl
-  content_over (Alias parts) = refl
-  content_over (Function parts) = refl
-  content_over (Import parts) = refl
-  content_over (Module parts) = refl
-  content_over (Setting parts) = refl
-  content_over (Unexport name) = refl
   content_over (Recipe parts) = λ i. Recipe (record { doc = parts.doc; header = header_over f g k parts.header i; comment = parts.comment; body = map (over_line f g h) parts.body })
+  content_over _ = refl
 
 -- ---- a tree and its shape
 

@@ -1,36 +1,29 @@
 -- The rules that recipes break with other projections of their leaves, but the same view: the same rules, with the other projections; and
 -- the features of their attributes.
-use Rattle.std.proofs.Common.{◌≡◌, ◌∙◌, Bool, ◌||◌, List, [], ◌∷◌, ◌++◌, map, Option, Some, None, refl, sym, ap, subst}
-use Rattle.std.specs.List.{cons_option, filter_map, flat_map, list_any}
+use Rattle.std.proofs.Common.{◌≡◌, ◌∙◌, List, [], ◌∷◌, ◌++◌, map, Option, Some, None, refl, sym, ap, subst}
+use Rattle.std.specs.List.{cons_option, filter_map, flat_map}
 use Rattle.std.specs.Option.{option_map}
-use Rattle.justfile_vocabulary.specs.declared.attribute_kind.AttributeKind.{AttributeKind}
 use Rattle.justfile_vocabulary.specs.declared.list_feature.ListFeature.{ListFeature}
 use Rattle.justfile_vocabulary.specs.declared.list_feature.ListFeature.TheVariants as features
-use Rattle.justfile_model.specs.Meanings.AttributeKinds.{same_attribute}
 use Rattle.justfile_model.specs.Meanings.AttributeRules.{arg_rules, rules_in}
 use Rattle.justfile_model.specs.Grammars.Conditions.{VersionNumbers}
 use Rattle.justfile_model.specs.Meanings.ConstructRules.{construct_broken}
-use Rattle.justfile_model.specs.Trees.ContentKeys.{has_attribute, kind_of_attribute}
 use Rattle.justfile_model.specs.Grammars.Features.{bound_place, noted_at, over_noted, rules_features}
 use Rattle.justfile_model.specs.Grammars.Files.{entries_features}
 use Rattle.justfile_model.specs.Meanings.Meaning.{entries_of}
 use Rattle.justfile_model.specs.Meanings.Rules.{over_broken}
 use Rattle.justfile_model.specs.Trees.LeafView.{LeafView}
 use Rattle.justfile_model.specs.Trees.Tree as tree
-use Rattle.justfile_model.specs.Trees.Tree.{ArgumentRules, Attribute, Bound, Content, Dependency, DependencyArgument, Entry, Header, OptionName, Parameter, Quoted, WrittenAttribute, over_attribute, over_bound, over_content, over_dependency, over_dependency_argument, over_entry, over_expr, over_header, over_option, over_parameter, over_quoted, over_rules, over_written_attribute}
+use Rattle.justfile_model.specs.Trees.Tree.{ArgumentRules, Attribute, Bound, Content, Entry, WrittenAttribute, over_attribute, over_bound, over_content, over_entry, over_rules, over_written_attribute}
 use Rattle.justfile_model.proofs.Lists.Mapped.{flat_mapped}
 use Rattle.justfile_model.proofs.Lists.EachLaws.{AlikeOption}
 use Rattle.justfile_model.proofs.Relations.AlikeAttributes.{AlikeEntry}
 use Rattle.justfile_model.proofs.Relations.AlikeConstructRules.{construct_broken_alike}
 use Rattle.justfile_model.proofs.Relations.Graph.{SameView, broken_graph, content_graph, entries_graph, graph, sees_graph, written_graph}
 use Rattle.justfile_model.proofs.Relations.Related.{Each}
-use Rattle.justfile_model.proofs.Meanings.SameViewRules.{both_over, kind_over}
+use Rattle.justfile_model.proofs.Meanings.SameViewRules.{both_over}
 
 -- ---- options and lists
-
-any_over : {X Y : Type 0} (h : X → Y) (p : X → Bool) (q : Y → Bool) → ((x : X) → q (h x) ≡ p x) → (xs : List X) → list_any q (map h xs) ≡ list_any p xs
-any_over h p q same [] = refl
-any_over h p q same (x ∷ xs) = λ i. same x i || any_over h p q same xs i
 
 module _ {X Y Z W : Type 0} (h : X → Y) (k : Z → W) (p : X → Option Z) (q : Y → Option W) (same : (x : X) → q (h x) ≡ option_map k (p x)) where
   filter_map_over : (xs : List X) → filter_map q (map h xs) ≡ map k (filter_map p xs)
@@ -58,11 +51,6 @@ module _ {A B C D : Type 0} (f : A → C) (g : B → D) where
       filter_map_over (over_entry f g) (over_rules f g) (λ (e : Entry A B). rules_in e.attribute) (λ (e : Entry C D). rules_in e.attribute)
       (λ e. rules_in_over e.attribute) es
 
-  has_attribute_over : (kind : AttributeKind) (es : List (Entry A B)) → has_attribute kind (map (over_entry f g) es) ≡ has_attribute kind es
-  has_attribute_over kind es =
-      any_over (over_entry f g) (λ (e : Entry A B). same_attribute (kind_of_attribute e.attribute) kind)
-      (λ (e : Entry C D). same_attribute (kind_of_attribute e.attribute) kind) (λ e. ap (λ k. same_attribute k kind) (kind_over f g e.attribute)) es
-
   bound_place_over : (b : Option (Bound B)) → bound_place (option_map (over_bound f g) b) ≡ option_map g (bound_place b)
   bound_place_over None = refl
   bound_place_over (Some b) = refl
@@ -88,16 +76,10 @@ module _ {A B C D : Type 0} (f : A → C) (g : B → D) where
 
   pub entries_features_over : {Z S Z' S' : Type 0} (h : Z → Z') (k : S → S') (content : Content A B Z S) (es : List (Entry A B))
       → entries_features (over_content f g h k content) (map (over_entry f g) es) ≡ map (over_noted g) (entries_features content es)
-  entries_features_over h k (tree.Assignment parts) es = refl
-  entries_features_over h k (tree.Alias parts) es = refl
-  entries_features_over h k (tree.Function parts) es = refl
-  entries_features_over h k (tree.Import parts) es = refl
-  entries_features_over h k (tree.Module parts) es = refl
-  entries_features_over h k (tree.Setting parts) es = refl
-  entries_features_over h k (tree.Unexport name) es = refl
   entries_features_over h k (tree.Recipe parts) es =
       ap (flat_map rules_features) (arg_rules_over es)
       ∙ flat_mapped rules_features rules_features (over_rules f g) (over_noted g) rules_features_over (arg_rules es)
+  entries_features_over h k _ es = refl
 
 -- ---- the rules that constructs break
 

@@ -6,15 +6,14 @@ use Rattle.std.specs.Option.{option_map}
 use denote.Enum.Declared.{tag_of}
 use Rattle.justfile_vocabulary.specs.contracts.attribute_kind.AttributeKind as attribute_kinds
 use Rattle.justfile_token.specs.StringKind.{kind_of}
-use Rattle.justfile_vocabulary.specs.declared.attribute_kind.AttributeKind.{AttributeKind}
-use Rattle.justfile_vocabulary.specs.declared.attribute_kind.AttributeKind.TheVariants as attributes
 use Rattle.justfile_vocabulary.specs.declared.format_string_part.FormatStringPart.TheVariants as string_parts
 use Rattle.justfile_vocabulary.specs.declared.token_kind.TokenKind.{TokenKind}
 use Rattle.justfile_vocabulary.specs.declared.token_kind.TokenKind.TheVariants as kinds
+use Rattle.justfile_model.specs.Meanings.AttributeKinds.{TextsForm, ApartForm, RowForm, CommandForm, is_optional, kind_form}
 use Rattle.justfile_model.specs.Trees.ConditionalOperator.{operator_sign}
 use Rattle.justfile_model.specs.Grammars.Conditions.{VersionNumbers}
 use Rattle.justfile_model.specs.Meanings.ConstructRules.{construct_broken}
-use Rattle.justfile_model.specs.Trees.ContentKeys.{name_key, position_key, literal_key, expr_key, exprs_keys, parts_keys, quoted_key, option_name_key, word_key, own_name_key, property_key, bound_number_key, bound_word_key, rules_keys, texts_keys, is_optional, single_keys, attribute_keys, attribute_key, entry_cmp}
+use Rattle.justfile_model.specs.Trees.ContentKeys.{name_key, position_key, literal_key, expr_key, exprs_keys, parts_keys, quoted_key, option_name_key, word_key, own_name_key, property_key, bound_number_key, bound_word_key, rules_keys, texts_keys, single_keys, attribute_keys, attribute_key, entry_cmp}
 use Rattle.justfile_model.specs.Trees.ContentLeaf.{ContentLeaf, token, literal, literal_value, operator, text, unseen, content_cmp}
 use Rattle.justfile_model.specs.Grammars.Expressions.{operator_kind}
 use Rattle.justfile_model.specs.Trees.ExpressionCases.{case_node}
@@ -28,7 +27,7 @@ use Rattle.justfile_model.specs.Meanings.Rules.{over_broken}
 use Rattle.justfile_model.specs.Trees.LeafView.{LeafView, or_empty, views_tokens, views_lexemes}
 use Rattle.justfile_model.specs.Lexing.Tok.{Tok}
 use Rattle.justfile_model.specs.Trees.Tree as tree
-use Rattle.justfile_model.specs.Trees.Tree.{Expr, Exprs, Parts, Quoted, Argument, WrittenAttribute, OptionName, Property, Bound, ArgumentRules, Attribute, Entry, Content, over_expr, over_exprs, over_parts, over_quoted, over_option, over_property, over_bound, over_rules, over_attribute, over_entry, over_written_attribute, over_content, lexeme, nothing}
+use Rattle.justfile_model.specs.Trees.Tree.{Expr, Exprs, Parts, Quoted, WrittenAttribute, OptionName, Property, Bound, ArgumentRules, Attribute, Entry, Content, over_expr, over_exprs, over_parts, over_quoted, over_option, over_property, over_bound, over_rules, over_attribute, over_entry, over_written_attribute, over_content, lexeme, nothing}
 use Rattle.justfile_model.proofs.Derivations.Kinded.{IsSpelled, IsName, KindedExpr, KindedExprs, KindedParts, KindedWritten}
 use Rattle.justfile_model.proofs.Lists.OrderMaps.{in_order_map_where}
 use Rattle.justfile_model.proofs.Lists.Binds.{of_some_is, never_some}
@@ -46,21 +45,11 @@ module _ (expander : Expansions) where
 
   same_cooked : (l : Literal Tok) → lexemes.cooked (over_literal lexeme l) ≡ tokens.cooked l
   same_cooked (literals.Plain t) = refl
-  same_cooked (literals.Expanded t) = refl
-  same_cooked (literals.Command t) = refl
-  same_cooked (literals.Single t) = refl
-  same_cooked (literals.Start t) = refl
-  same_cooked (literals.Continue s t) = refl
-  same_cooked (literals.End s t) = refl
+  same_cooked _ = refl
 
   same_value : (l : Literal Tok) → literal_value (lexemes.literal_content (over_literal lexeme l)) ≡ literal_value (tokens.literal_content l)
   same_value (literals.Plain t) = refl
-  same_value (literals.Expanded t) = refl
-  same_value (literals.Command t) = refl
-  same_value (literals.Single t) = refl
-  same_value (literals.Start t) = refl
-  same_value (literals.Continue s t) = refl
-  same_value (literals.End s t) = refl
+  same_value _ = refl
 
   -- a shape is seen as the tree is
   pub seen : SameView lexeme nothing tokens lexemes
@@ -277,17 +266,17 @@ module _ (expander : Expansions) where
       (next (option_name_seen (codes "short") a.name a.short h.name h.short i)
       (next (own_name_seen (codes "short") a.short h.short i) (next (value_seen a.value h.value i) end))))))))))))))
 
-  texts_seen : (kind : AttributeKind) (qs : List (Quoted Tok)) → AllByRecursion KindedQuoted qs
-      → texts_keys tokens kind qs ≡ texts_keys lexemes kind (map (over_quoted {B = Tok} lexeme nothing) qs)
-  texts_seen attributes.Script [] h = refl
-  texts_seen attributes.Script (q ∷ qs) h = λ i. next (present_key (row (next (quoted_seen q h.0 i) (next (row (all_quoted_seen qs h.1 i)) end)))) end
-  texts_seen attributes.Metadata qs h = λ i. next (row (all_quoted_seen qs h i)) end
-  texts_seen kind qs h = all_quoted_seen qs h
+  texts_seen : (form : TextsForm) (qs : List (Quoted Tok)) → AllByRecursion KindedQuoted qs
+      → texts_keys tokens form qs ≡ texts_keys lexemes form (map (over_quoted {B = Tok} lexeme nothing) qs)
+  texts_seen CommandForm [] h = refl
+  texts_seen CommandForm (q ∷ qs) h = λ i. next (present_key (row (next (quoted_seen q h.0 i) (next (row (all_quoted_seen qs h.1 i)) end)))) end
+  texts_seen RowForm qs h = λ i. next (row (all_quoted_seen qs h i)) end
+  texts_seen ApartForm qs h = all_quoted_seen qs h
 
   keys_seen : (a : Attribute Tok Tok) → KindedMeaning a → attribute_keys tokens a ≡ attribute_keys lexemes (over_attribute lexeme nothing a)
   keys_seen (tree.Plain kind) h = refl
-  keys_seen (tree.Single kind value) h = ap (single_keys tokens (is_optional tokens kind)) (expr_seen value h)
-  keys_seen (tree.Texts kind texts) h = texts_seen kind texts h
+  keys_seen (tree.Single kind value) h = ap (single_keys tokens (is_optional kind)) (expr_seen value h)
+  keys_seen (tree.Texts kind texts) h = texts_seen (kind_form kind).texts texts h
   keys_seen (tree.Env key value) h = λ i. next (expr_seen key h.0 i) (next (expr_seen value h.1 i) end)
   keys_seen (tree.Signals signals) h = refl
   keys_seen (tree.Cache extra inputs outputs) h = λ i. next (value_seen extra h.0 i) (next (value_seen inputs h.1 i) (next (value_seen outputs h.2 i) end))

@@ -1,6 +1,6 @@
 -- What docs don't change: a count of items without their comments and docs is the same with docs as with comments in their place; and docs
 -- don't depend on the projections of tokens.
-use Rattle.std.proofs.Common.{◌≡◌, ◌∙◌, ℕ, ◌+◌, Bool, true, false, cond, not, ◌&&◌, ◌||◌, List, [], ◌∷◌, ◌++◌, map, Option, Some, None, is_some, refl, sym, ap, arith}
+use Rattle.std.proofs.Common.{◌≡◌, ◌∙◌, ℕ, ◌+◌, Bool, true, false, cond, not, ◌&&◌, ◌||◌, List, [], ◌∷◌, map, Option, Some, None, is_some, refl, sym, ap, arith}
 use Rattle.std.specs.List.{list_any}
 use Rattle.std.specs.Option.{option_map}
 use Rattle.justfile_vocabulary.specs.declared.attribute_kind.AttributeKind.{AttributeKind}
@@ -11,7 +11,7 @@ use Rattle.justfile_model.specs.Grammars.Docs.{Before, LineEnd, Other, comment_t
 use Rattle.justfile_model.specs.Grammars.Files.{bindings, content_bindings, content_recipes, recipes, sets_doc}
 use Rattle.justfile_model.specs.Printed.Printing.{printable, printable_content, shown_doc}
 use Rattle.justfile_model.specs.Printed.PrintedAttributes.{after_doc, docs_written}
-use Rattle.justfile_model.specs.Trees.Tree.{Alias, Assignment, Comment, Construct, Content, Entry, Function, Import, Item, Module, Newline, OrderedItem, Recipe, Setting, Tree, Unexport, lexeme, nothing, over_content, over_entry, over_item, shape_of}
+use Rattle.justfile_model.specs.Trees.Tree.{Assignment, Comment, Construct, Content, Entry, Item, Module, Newline, OrderedItem, Recipe, Tree, lexeme, nothing, over_content, over_entry, over_item, shape_of}
 use Rattle.justfile_model.proofs.Meanings.SameViewRules.{kind_over}
 
 -- ---- what counts constructs
@@ -79,23 +79,11 @@ module _ {A B C Z : Type 0} (count : List (OrderedItem A B C) → Z) (c : Counts
 
 same_bindings : {A B C S : Type 0} (content : Content A B C S) (doc : Option (List ℕ)) → content_bindings (redocumented doc content) ≡ content_bindings content
 same_bindings (Assignment parts) doc = refl
-same_bindings (Alias parts) doc = refl
-same_bindings (Function parts) doc = refl
-same_bindings (Import parts) doc = refl
-same_bindings (Module parts) doc = refl
-same_bindings (Setting parts) doc = refl
-same_bindings (Unexport name) doc = refl
-same_bindings (Recipe parts) doc = refl
+same_bindings _ doc = refl
 
 same_recipes : {A B C S : Type 0} (content : Content A B C S) (doc : Option (List ℕ)) → content_recipes (redocumented doc content) ≡ content_recipes content
 same_recipes (Assignment parts) doc = refl
-same_recipes (Alias parts) doc = refl
-same_recipes (Function parts) doc = refl
-same_recipes (Import parts) doc = refl
-same_recipes (Module parts) doc = refl
-same_recipes (Setting parts) doc = refl
-same_recipes (Unexport name) doc = refl
-same_recipes (Recipe parts) doc = refl
+same_recipes _ doc = refl
 
 module _ {A B C S D : Type 0} where
   -- a sum over constructs of a number that docs do not change
@@ -121,13 +109,7 @@ module _ {A B C S D : Type 0} where
 
 same_printable : {B C S : Type 0} (content : Content (List ℕ) B C S) (doc : Option (List ℕ)) → printable_content (redocumented doc content) ≡ printable_content content
 same_printable (Assignment parts) doc = refl
-same_printable (Alias parts) doc = refl
-same_printable (Function parts) doc = refl
-same_printable (Import parts) doc = refl
-same_printable (Module parts) doc = refl
-same_printable (Setting parts) doc = refl
-same_printable (Unexport name) doc = refl
-same_printable (Recipe parts) doc = refl
+same_printable _ doc = refl
 
 module _ {B C S D : Type 0} where
   pub printable_count : CountsConstructs {A = List ℕ} {B = B} {C = C} {S = S} {D = D} printable
@@ -147,25 +129,14 @@ module _ {A B C S D A' B' C' S' D' : Type 0} (f : A → A') (g : B → B') (h : 
   over = over_item f g h k m
 
   can_take_over : (attributes : D) (content : Content A B C S) → can_take_doc other (m attributes) (over_content f g h k content) ≡ can_take_doc has_doc attributes content
-  can_take_over attributes (Assignment parts) = refl
-  can_take_over attributes (Alias parts) = refl
-  can_take_over attributes (Function parts) = refl
-  can_take_over attributes (Import parts) = refl
-  can_take_over attributes (Setting parts) = refl
-  can_take_over attributes (Unexport name) = refl
   can_take_over attributes (Module parts) = ap (λ b. true && not b && not (is_some parts.doc)) (same attributes)
   can_take_over attributes (Recipe parts) = ap (λ b. true && not b && not (is_some parts.doc)) (same attributes)
+  can_take_over attributes _ = refl
 
   redocumented_over : (doc : Option (List ℕ)) (content : Content A B C S)
       → redocumented doc (over_content f g h k content) ≡ over_content f g h k (redocumented doc content)
   redocumented_over doc (Assignment parts) = refl
-  redocumented_over doc (Alias parts) = refl
-  redocumented_over doc (Function parts) = refl
-  redocumented_over doc (Import parts) = refl
-  redocumented_over doc (Module parts) = refl
-  redocumented_over doc (Setting parts) = refl
-  redocumented_over doc (Unexport name) = refl
-  redocumented_over doc (Recipe parts) = refl
+  redocumented_over doc _ = refl
 
   with_doc_over : (doc : List ℕ) (attributes : D) (content : Content A B C S)
       → item_with_doc other doc (over (Construct attributes content)) ≡ option_map over (item_with_doc has_doc doc (Construct attributes content))

@@ -5,7 +5,7 @@ use Rattle.justfile_model.specs.Trees.ContentKeys.{has_attribute}
 use Rattle.justfile_model.specs.Grammars.Docs.{doc_of, redocumented}
 use Rattle.justfile_model.specs.Printed.Printing.{content_text, doc_comment, doc_line, entries_text, fixed_text, if_some, item_end, item_text, shown_doc, text}
 use Rattle.justfile_model.specs.Printed.PrintedAttributes.{after_doc, docs_written}
-use Rattle.justfile_model.specs.Trees.Tree.{Alias, Assignment, Comment, Construct, Content, Entry, Function, Import, Module, Newline, OrderedItem, Recipe, Setting, Shape, Unexport}
+use Rattle.justfile_model.specs.Trees.Tree.{Assignment, Comment, Construct, Content, Entry, Newline, OrderedItem, Shape}
 
 abbrev ShapeContent : Type 0
 ShapeContent = Content (List ℕ) (Unit {0}) (Unit {0}) (Unit {0})
@@ -17,13 +17,7 @@ ShapeItem = OrderedItem (List ℕ) (Unit {0}) (Unit {0})
 
 undocumented_text : (content : ShapeContent) (indentation : List ℕ) → content_text (redocumented None content) indentation ≡ content_text content indentation
 undocumented_text (Assignment parts) indentation = refl
-undocumented_text (Alias parts) indentation = refl
-undocumented_text (Function parts) indentation = refl
-undocumented_text (Import parts) indentation = refl
-undocumented_text (Module parts) indentation = refl
-undocumented_text (Setting parts) indentation = refl
-undocumented_text (Unexport name) indentation = refl
-undocumented_text (Recipe parts) indentation = refl
+undocumented_text _ indentation = refl
 
 unshown : (b : Bool) (doc : Option (List ℕ)) → doc ≡ None → cond b None doc ≡ None
 unshown true doc e = refl
@@ -35,13 +29,7 @@ none_shown entries content e = unshown (has_attribute Doc entries) (doc_of conte
 
 none_left : {A B C S : Type 0} (content : Content A B C S) → doc_of (redocumented None content) ≡ None
 none_left (Assignment parts) = refl
-none_left (Alias parts) = refl
-none_left (Function parts) = refl
-none_left (Import parts) = refl
-none_left (Module parts) = refl
-none_left (Setting parts) = refl
-none_left (Unexport name) = refl
-none_left (Recipe parts) = refl
+none_left _ = refl
 
 bare_text : (entries : List (Entry (List ℕ) (Unit {0}))) (content : ShapeContent) (indentation : List ℕ)
     → item_text (Construct entries (redocumented None content)) indentation ≡ entries_text entries ++ content_text content indentation

@@ -1,6 +1,6 @@
 -- The indentation of a file depends on its shape only, and is the same for the normal form. The literal that sets it is an indentation.
-use Rattle.std.proofs.Common.{◌≡◌, ◌∙◌, ℕ, Bool, true, false, cond, not, ◌||◌, List, [], ◌∷◌, ◌++◌, map, Option, Some, None, Result, Ok, refl, sym, subst, ap}
-use Rattle.std.specs.Prelude.{IfSome, if◌then◌else◌}
+use Rattle.std.proofs.Common.{◌≡◌, ◌∙◌, ℕ, Bool, true, false, cond, not, ◌||◌, List, [], ◌∷◌, ◌++◌, map, Option, Some, None, Ok, refl, sym, ap}
+use Rattle.std.specs.Prelude.{IfSome}
 use Rattle.std.specs.Option.{option_map}
 use Rattle.justfile_vocabulary.proofs.IndentationLemmas.{indentation_read}
 use Rattle.justfile_vocabulary.specs.AttributeKind.{is_enabler_kind}
@@ -22,17 +22,17 @@ use Rattle.justfile_model.specs.Meanings.Meaning.{entries_of, quoted_text}
 use Rattle.justfile_model.specs.Printed.NormalShape.{normal}
 use Rattle.justfile_model.specs.Meanings.RecipeRules.{or_else}
 use Rattle.justfile_model.specs.Printed.PrintedAttributes.{rewritten_entries}
-use Rattle.justfile_model.specs.Meanings.Rules.{Broken, InvalidIndentation, SettingExpression, broken_if}
+use Rattle.justfile_model.specs.Meanings.Rules.{InvalidIndentation, broken_if}
 use Rattle.justfile_model.specs.Meanings.SettingRules.{literal_broken, setting_broken, text_broken}
 use Rattle.justfile_model.specs.Trees.LeafView.{text_or_none}
 use Rattle.justfile_model.specs.Lexing.SignificantTokens.{SignificantToken}
 use Rattle.justfile_model.specs.Trees.Tree as tree
-use Rattle.justfile_model.specs.Trees.Tree.{Comment, Construct, Content, Entry, Expr, Newline, OrderedItem, Quoted, SettingParts, SettingValue, Shape, Tree, lexeme, nothing, over_content, over_entry, over_item, over_setting_value, shape_of}
+use Rattle.justfile_model.specs.Trees.Tree.{Comment, Construct, Content, Entry, Newline, Quoted, SettingValue, Shape, Tree, lexeme, nothing, over_content, over_entry, over_setting_value, shape_of}
 use Rattle.justfile_model.proofs.Lists.Binds.{never_nil, nothing_in}
 use Rattle.justfile_model.proofs.Printed.DocsKept.{any_kind_over}
 use Rattle.justfile_model.proofs.Printed.Normal.{normal_seen}
 use Rattle.justfile_model.proofs.Printed.PrintedEntries.{sees}
-use Rattle.justfile_model.proofs.Printed.PrintedItems.{AllPrintAgain, PrintsAgain, ShapeItem, shape_again}
+use Rattle.justfile_model.proofs.Printed.PrintedItems.{AllPrintAgain, ShapeItem, shape_again}
 use Rattle.justfile_model.proofs.Printed.PrintedLiterals.{HasText, HaveTexts, parts, texts_are_there}
 
 -- ---- over other leaves
@@ -55,14 +55,8 @@ module _ {A C : Type 0} (f : A → C) where
 
 module _ {A B C S A' B' C' S' : Type 0} (f : A → A') (g : B → B') (h : C → C') (k : S → S') where
   content_over : (content : Content A B C S) → indentation_in (over_content f g h k content) ≡ option_map f (indentation_in content)
-  content_over (tree.Alias parts) = refl
-  content_over (tree.Assignment parts) = refl
-  content_over (tree.Function parts) = refl
-  content_over (tree.Import parts) = refl
-  content_over (tree.Module parts) = refl
-  content_over (tree.Recipe parts) = refl
   content_over (tree.Setting parts) = literal_over f g parts.keyword parts.value
-  content_over (tree.Unexport name) = refl
+  content_over _ = refl
 
 -- how a tree is indented is seen of its shape
 pub indentation_shape : (t : Tree) → indentation_of (shape_of t) ≡ option_map lexeme (indentation_of t)

@@ -52,14 +52,9 @@ module _ {A B C : Type 0} where
   -- ---- what is printed
 
   redocumented_same : (content : Content A B C (Unit {0})) (o : Option (List ℕ)) → doc_of content ≡ o → redocumented o content ≡ content
-  redocumented_same (Assignment parts) o e = refl
-  redocumented_same (Alias parts) o e = refl
-  redocumented_same (Function parts) o e = refl
-  redocumented_same (Import parts) o e = refl
-  redocumented_same (Setting parts) o e = refl
-  redocumented_same (Unexport name) o e = refl
   redocumented_same (Module parts) o e = λ i. Module (record { doc = sym e i; optional = parts.optional; name = parts.name; path = parts.path })
   redocumented_same (Recipe parts) o e = λ i. Recipe (record { doc = sym e i; header = parts.header; comment = parts.comment; body = parts.body })
+  redocumented_same _ o e = refl
 
   -- the doc is found again
   with_doc_again : (entries : List (Entry A B)) (content : Content A B C (Unit {0})) (doc : List ℕ) → shown_doc entries content ≡ doc_of content → doc_of content ≡ Some doc

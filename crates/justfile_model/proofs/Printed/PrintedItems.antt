@@ -12,7 +12,6 @@ use Rattle.justfile_model.specs.Meanings.Meaning.{entries_of}
 use Rattle.justfile_model.specs.Printed.NormalShape.{normal}
 use Rattle.justfile_model.specs.Printed.Printing.{shown_doc}
 use Rattle.justfile_model.specs.Printed.PrintedAttributes.{after_doc, docs_written, rewritten, rewritten_entries, rewritten_item}
-use Rattle.justfile_model.specs.Trees.LeafView.{LeafView}
 use Rattle.justfile_model.specs.Trees.Tree.{Alias, Assignment, Comment, Construct, Content, Dependency, DependencyArgument, Entry, Function, Import, Module, Newline, OrderedItem, Recipe, Setting, Shape, Unexport, WrittenItem, WrittenShape, starless, starless_argument, starless_dependency}
 use Rattle.justfile_model.proofs.Lists.Binds.{nothing_in, some_back}
 use Rattle.justfile_model.proofs.Lists.Mapped.{map_same, option_same}
@@ -46,13 +45,6 @@ module _ {A B : Type 0} where
   }
 
   pub content_starless : {C : Type 0} (c : Content A B C (Unit {0})) → starless c ≡ c
-  content_starless (Assignment parts) = refl
-  content_starless (Alias parts) = refl
-  content_starless (Function parts) = refl
-  content_starless (Import parts) = refl
-  content_starless (Module parts) = refl
-  content_starless (Setting parts) = refl
-  content_starless (Unexport name) = refl
   content_starless (Recipe parts) = λ i. Recipe (record {
     doc = parts.doc;
     header = record {
@@ -65,6 +57,7 @@ module _ {A B : Type 0} where
     comment = parts.comment;
     body = parts.body;
   })
+  content_starless _ = refl
 
 -- ---- each item
 

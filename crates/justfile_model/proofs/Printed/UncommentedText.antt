@@ -1,7 +1,7 @@
 -- If no attribute and no recipe has a comment, the printed text is the one that ignores comments.
 use Rattle.std.proofs.Common.{◌≡◌, ◌∙◌, ℕ, List, [], ◌∷◌, ◌++◌, None, append-nil, append_assoc, codes, refl, ap}
 use Rattle.justfile_model.specs.Printed.NormalShape.{after_newline, normal, normal_rest}
-use Rattle.justfile_model.specs.Printed.Printing.{attribute_text, body_text, comment_text, content_text, doc_line, entries_text, entry_text, fixed_text, header_text, if_some, item_end, item_text, shown_doc, text}
+use Rattle.justfile_model.specs.Printed.Printing.{attribute_text, body_text, after_line_text, content_text, doc_line, entries_text, entry_text, fixed_text, header_text, if_some, item_end, item_text, shown_doc, text}
 use Rattle.justfile_model.specs.Trees.Tree.{Alias, Assignment, Comment, Construct, Content, Entry, Function, Import, Module, Newline, OrderedItem, Recipe, Setting, Shape, Unexport}
 use Rattle.justfile_model.specs.Printed.Uncommented.{HasNoBodyComment, HasNoComments, HasNoEntryComments, HasNoItemComments, uncommented_content, uncommented_entries, uncommented_entry, uncommented_item, uncommented_text}
 
@@ -9,7 +9,7 @@ entry_same : (e : Entry (List ℕ) (Unit {0})) → e.comment ≡ None → entry_
 unfolding fixed_text
 entry_same e none =
     let a = attribute_text e.attribute in
-    ap (λ o. fixed_text (codes "[") ++ a ++ fixed_text (codes "]") ++ comment_text o ++ fixed_text (codes "\n")) none
+    ap (λ o. fixed_text (codes "[") ++ a ++ fixed_text (codes "]") ++ after_line_text o ++ fixed_text (codes "\n")) none
     ∙ ap (λ t. 91 ∷ t) (ap (λ t. t ++ codes "\n") (append-nil (a ++ codes "]")) ∙ append_assoc a (codes "]") (codes "\n"))
 
 entries_same : (entries : List (Entry (List ℕ) (Unit {0}))) → HasNoEntryComments entries → entries_text entries ≡ uncommented_entries entries
@@ -24,7 +24,7 @@ content_same (Function parts) indentation none = refl
 content_same (Import parts) indentation none = refl
 content_same (Module parts) indentation none = refl
 content_same (Recipe parts) indentation none =
-    ap (λ o. header_text parts.header ++ comment_text o ++ body_text indentation parts.body) none
+    ap (λ o. header_text parts.header ++ after_line_text o ++ body_text indentation parts.body) none
     ∙ ap (λ t. t ++ body_text indentation parts.body) (append-nil (header_text parts.header))
 content_same (Setting parts) indentation none = refl
 content_same (Unexport name) indentation none = refl

@@ -4,12 +4,12 @@ use Rattle.std.proofs.Common.{◌≡◌, ℕ, Bool, true, false, List, codes, Op
 use denote.Enum.Declared.{tag_of}
 use Rattle.justfile_vocabulary.specs.contracts.attribute_kind.AttributeKind as attribute_kinds
 use Rattle.justfile_vocabulary.specs.declared.attribute_kind.AttributeKind.{AttributeKind}
-use Rattle.justfile_vocabulary.specs.declared.attribute_kind.AttributeKind.TheVariants as attributes
 use Rattle.justfile_vocabulary.specs.declared.signal.Signal.{Signal}
 use Rattle.justfile_vocabulary.specs.declared.token_kind.TokenKind.{TokenKind}
 use Rattle.justfile_vocabulary.specs.declared.token_kind.TokenKind.TheVariants as kinds
+use Rattle.justfile_model.specs.Meanings.AttributeKinds.{TextsForm, ApartForm, RowForm, CommandForm, is_optional, kind_form}
 use Rattle.justfile_model.specs.Trees.ConditionalOperator.{operator_sign}
-use Rattle.justfile_model.specs.Trees.ContentKeys.{attribute_key, attribute_keys, bound_number_key, bound_word_key, entry_cmp, expr_key, exprs_keys, is_optional, kind_of_attribute, literal_key, option_name_key, own_name_key, parts_keys, property_key, quoted_key, rules_keys, single_keys, texts_keys, word_key}
+use Rattle.justfile_model.specs.Trees.ContentKeys.{attribute_key, attribute_keys, bound_number_key, bound_word_key, entry_cmp, expr_key, exprs_keys, kind_of_attribute, literal_key, option_name_key, own_name_key, parts_keys, property_key, quoted_key, rules_keys, single_keys, texts_keys, word_key}
 use Rattle.justfile_model.specs.Trees.ContentLeaf.{ContentLeaf, content_cmp, count, literal, literal_value, operator, text, token, unseen}
 use Rattle.justfile_model.specs.Grammars.Expressions.{operator_kind}
 use Rattle.justfile_model.specs.Trees.ExpressionCases.{case_node}
@@ -115,12 +115,7 @@ module _ {R T A B S D R' T' A' B' S' D' : Type 0} (rel : Relations R T A B S D R
 
   pub same_kind : {x : Attribute A B} {x' : Attribute A' B'} → AlikeAttribute x x' → kind_of_attribute x ≡ kind_of_attribute x'
   same_kind (plain kind) = refl
-  same_kind (single kind e) = refl
-  same_kind (texts kind qs) = refl
-  same_kind (env k v) = refl
-  same_kind (signals given) = refl
-  same_kind (cache x i o) = refl
-  same_kind (arg r) = refl
+  same_kind _ = refl
 
   pub quoted_alike : {e : Expr A B} {e' : Expr A' B'} → Alike rel e e' → AlikeOption (AlikeQuoted rel) (quoted e) (quoted e')
   quoted_alike (a.string lexeme l) = present (record { expanded = refl; lexeme = lexeme; token = l })
@@ -280,17 +275,17 @@ module _ {R T A B S D R' T' A' B' S' D' : Type 0} (rel : Relations R T A B S D R
         (next (number_is h.min i) (next (bound_is (codes "min") h.min i)
         (next (multiple i) (next (quoted_is h.name i) (next (pattern i) (next (short i) (next (own_short i) (next (value i) end))))))))))))))
 
-    texts_are : (kind : AttributeKind) {qs : List (Quoted A)} {qs' : List (Quoted A')} → Each (AlikeQuoted rel) qs qs'
-        → texts_keys view kind qs ≡ texts_keys view' kind qs'
-    texts_are attributes.Script a.nil = refl
-    texts_are attributes.Script (a.cons h hs) = λ i. next (present_key (row (next (quoted_is h i) (next (row (each_is hs i)) end)))) end
-    texts_are attributes.Metadata h = λ i. next (row (each_is h i)) end
-    texts_are kind h = each_is h
+    texts_are : (form : TextsForm) {qs : List (Quoted A)} {qs' : List (Quoted A')} → Each (AlikeQuoted rel) qs qs'
+        → texts_keys view form qs ≡ texts_keys view' form qs'
+    texts_are CommandForm a.nil = refl
+    texts_are CommandForm (a.cons h hs) = λ i. next (present_key (row (next (quoted_is h i) (next (row (each_is hs i)) end)))) end
+    texts_are RowForm h = λ i. next (row (each_is h i)) end
+    texts_are ApartForm h = each_is h
 
     attribute_keys_are : {x : Attribute A B} {x' : Attribute A' B'} → AlikeAttribute x x' → attribute_keys view x ≡ attribute_keys view' x'
     attribute_keys_are (plain kind) = refl
-    attribute_keys_are (single kind e) = λ i. single_keys view (is_optional view kind) (same_key e i)
-    attribute_keys_are (texts kind qs) = texts_are kind qs
+    attribute_keys_are (single kind e) = λ i. single_keys view (is_optional kind) (same_key e i)
+    attribute_keys_are (texts kind qs) = texts_are (kind_form kind).texts qs
     attribute_keys_are (env k v) = λ i. next (same_key k i) (next (same_key v i) end)
     attribute_keys_are (signals given) = refl
     attribute_keys_are (cache x i o) =

@@ -226,47 +226,11 @@ module _ {R T A B S D R' T' A' B' S' D' : Type 0} (rel : Relations R T A B S D R
 
   pub same_uncompared : {e : Expr A B} {e' : Expr A' B'} → Alike e e' → uncompared_feature e ≡ uncompared_feature e'
   same_uncompared (comparison l b r) = refl
-  same_uncompared (or l r) = refl
-  same_uncompared (and l r) = refl
-  same_uncompared (concatenation l b r) = refl
-  same_uncompared (list_concatenation l b r) = refl
-  same_uncompared (join l b r) = refl
-  same_uncompared (root b r) = refl
-  same_uncompared (if_only c e) = refl
-  same_uncompared (if_else c e o) = refl
-  same_uncompared (not e) = refl
-  same_uncompared (string l a) = refl
-  same_uncompared (format_literal l a) = refl
-  same_uncompared (format_string l a e ps) = refl
-  same_uncompared (backtick l a) = refl
-  same_uncompared (assert b c) = refl
-  same_uncompared (assert_message b c m) = refl
-  same_uncompared (variable a) = refl
-  same_uncompared (call a es) = refl
-  same_uncompared (group e) = refl
-  same_uncompared (list b es) = refl
+  same_uncompared _ = refl
 
   pub same_ends : {e : Expr A B} {e' : Expr A' B'} → Alike e e' → ends_open e ≡ ends_open e'
-  same_ends (if_only c e) = refl
   same_ends (if_else c e o) = same_ends o
-  same_ends (comparison l b r) = refl
-  same_ends (or l r) = refl
-  same_ends (and l r) = refl
-  same_ends (concatenation l b r) = refl
-  same_ends (list_concatenation l b r) = refl
-  same_ends (join l b r) = refl
-  same_ends (root b r) = refl
-  same_ends (not e) = refl
-  same_ends (string l a) = refl
-  same_ends (format_literal l a) = refl
-  same_ends (format_string l a e ps) = refl
-  same_ends (backtick l a) = refl
-  same_ends (assert b c) = refl
-  same_ends (assert_message b c m) = refl
-  same_ends (variable a) = refl
-  same_ends (call a es) = refl
-  same_ends (group e) = refl
-  same_ends (list b es) = refl
+  same_ends _ = refl
 
   pub same_body : {n : Counters} {i : Item A B ℕ S D} {i' : Item A' B' ℕ S' D'} → AlikeItem n i i' → has_body i ≡ has_body i'
   same_body newline = refl

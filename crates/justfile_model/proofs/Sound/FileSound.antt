@@ -42,6 +42,7 @@ use Rattle.justfile_model.proofs.Sound.PartSound.{IsOptionalPath, IsSet, after_c
 use Rattle.justfile_model.proofs.Readers.ReadingSteps.{after_test, known}
 use Rattle.justfile_model.proofs.Lists.Turns.{recursive_keeps}
 use Rattle.justfile_model.proofs.Readers.Steps.{AreNext, are_next, after_accept, after_bind, after_choose, after_expect, weaken}
+use Rattle.justfile_model.proofs.Derivations.Beginnings.{attributes_begin, block_begins, line_begins}
 use Rattle.justfile_model.proofs.Derivations.CookedTexts.{AllCook, fragments_cook, lines_cook, items_cook, trimmed_literals}
 use Rattle.justfile_model.proofs.Readers.Meets.{Met, nothing_met, both_met, all_met}
 use Rattle.justfile_model.proofs.Sound.ExpressionSound as e
@@ -97,38 +98,14 @@ module _ (conditions : Conditions) where
   starts a (a_line o) = of_line a o
   starts a (a_block b) = of_block a b
 
-  -- no word is `Eof`
-  no_word : {word : List ℕ} {t : SignificantToken} → IsKind kinds.Eof t → IsWord word t → ⊥
-  no_word {t = t} kind is = let kind2 : IsKind kinds.Identifier t = is.is_name in cc
-
-  -- no header begins with `Eof`
-  no_header : {h : Header Tok Tok Tok} {fs : List (Noted Tok)} {t : SignificantToken} {ts rest : Tokens} → IsKind kinds.Eof t → HeaderOf conditions h fs (t ∷ ts) rest → ⊥
-  no_header kind (headers.quiet kind2 h) = cc
-  no_header kind (headers.loud (headers.header kind2 ps ds)) = cc
-
   -- at `Eof` a line's end is the file's
   at_eof : {items : WrittenTree} {fs : List (ConstructFeatures Tok)} {t : SignificantToken} {rest : Tokens} → IsKind kinds.Eof t → Items items fs (t ∷ rest)
       → LineEnd items fs (t ∷ rest)
   at_eof kind (g.end kind2) = g.file_end kind2
   at_eof kind (g.blank kind2 more) = cc
   at_eof kind (g.comment kind2 more) = cc
-  at_eof kind (g.on_line (attributes_of.line kind2 b e others) o more) = cc
-  at_eof kind (g.on_line (attributes_of.none not) (g.alias is kind2 kind3 p) more) = absurd (no_word kind is)
-  at_eof kind (g.on_line (attributes_of.none not) (g.assignment kind2 kind3 e) more) = cc
-  at_eof kind (g.on_line (attributes_of.none not) (g.eager is kind2 kind3 e) more) = absurd (no_word kind is)
-  at_eof kind (g.on_line (attributes_of.none not) (g.export is kind2 kind3 e) more) = absurd (no_word kind is)
-  at_eof kind (g.on_line (attributes_of.none not) (g.function kind2 kind3 ns kind4 e) more) = cc
-  at_eof kind (g.on_line (attributes_of.none not) (g.import is p) more) = absurd (no_word kind is)
-  at_eof kind (g.on_line (attributes_of.none not) (g.optional_import is kind2 p) more) = absurd (no_word kind is)
-  at_eof kind (g.on_line (attributes_of.none not) (g.module_alone is kind2 ends) more) = absurd (no_word kind is)
-  at_eof kind (g.on_line (attributes_of.none not) (g.module_at is kind2 p) more) = absurd (no_word kind is)
-  at_eof kind (g.on_line (attributes_of.none not) (g.optional_module_alone is kind2 kind3 none) more) = absurd (no_word kind is)
-  at_eof kind (g.on_line (attributes_of.none not) (g.optional_module_at is kind2 kind3 p) more) = absurd (no_word kind is)
-  at_eof kind (g.on_line (attributes_of.none not) (g.setting is is2 form value) more) = absurd (no_word kind is)
-  at_eof kind (g.on_line (attributes_of.none not) (g.unexport is kind2 ends) more) = absurd (no_word kind is)
-  at_eof kind (g.on_line (attributes_of.none not) (g.header h) more) = absurd (no_header kind h)
-  at_eof kind (g.block (attributes_of.line kind2 b e others) o more) = cc
-  at_eof kind (g.block (attributes_of.none not) (g.recipe h first ls some) more) = absurd (no_header kind h)
+  at_eof kind (g.on_line a o more) = absurd ((attributes_begin a (line_begins o)).no_file_end kind)
+  at_eof kind (g.block a o more) = absurd ((attributes_begin a (block_begins o)).no_file_end kind)
 
   -- where a body ends, its last line does
   at_dedent : (ts : Tokens) → AreNext (kinds.Dedent ∷ []) ts → LineRest [] [] ts ts

@@ -126,8 +126,8 @@ end_len kind parts.Single = delimiter_len kind
 end_len kind parts.Start = 2
 
 -- the text of a part of a format string of this kind
-abbrev pub format_text : StringKind → FormatStringPart → List ℕ → Result (List ℕ) LiteralFault
-format_text kind part lexeme = part_text kind (between (front_len kind part) (end_len kind part) lexeme)
+abbrev pub cooked_format_text : StringKind → FormatStringPart → List ℕ → Result (List ℕ) LiteralFault
+cooked_format_text kind part lexeme = part_text kind (between (front_len kind part) (end_len kind part) lexeme)
 
 abbrev pub by_answer : Option (Result (List ℕ) (List ℕ)) → Result (List ℕ) LiteralFault
 by_answer None = Err Unasked
@@ -144,10 +144,10 @@ abbrev pub cooked_text : Expansions → Literal (List ℕ) → Result (List ℕ)
 cooked_text expander (Plain lexeme) = string_text lexeme
 cooked_text expander (Expanded lexeme) = expanded_text expander (string_text lexeme)
 cooked_text expander (Command lexeme) = if starts_with nat_eq (flush_text lexeme) (codes "#!") then Err Shebang else Ok (flush_text lexeme)
-cooked_text expander (Single lexeme) = format_text (kind_of lexeme) parts.Single lexeme
-cooked_text expander (Start lexeme) = format_text (kind_of lexeme) parts.Start lexeme
-cooked_text expander (Continue start lexeme) = format_text (kind_of start) parts.Continue lexeme
-cooked_text expander (End start lexeme) = format_text (kind_of start) parts.End lexeme
+cooked_text expander (Single lexeme) = cooked_format_text (kind_of lexeme) parts.Single lexeme
+cooked_text expander (Start lexeme) = cooked_format_text (kind_of lexeme) parts.Start lexeme
+cooked_text expander (Continue start lexeme) = cooked_format_text (kind_of start) parts.Continue lexeme
+cooked_text expander (End start lexeme) = cooked_format_text (kind_of start) parts.End lexeme
 
 -- these are the texts of the literals, in order
 abbrev pub AreCookedTexts : Expansions → List (Literal (List ℕ)) → List (List ℕ) → Type 0

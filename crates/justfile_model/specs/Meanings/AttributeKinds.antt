@@ -20,73 +20,107 @@ named_takes_keys (Some kind) = takes_keys kind
 abbrev pub name_takes_keys : List ℕ → Bool
 name_takes_keys name = named_takes_keys (kind_named name)
 
--- the keys that attributes of this kind can have; kinds other than these two take none
-abbrev pub known_keys : AttributeKind → List (List ℕ)
-known_keys Arg =
-    codes "long" ∷ codes "short" ∷ codes "pattern" ∷ codes "value" ∷ codes "flag" ∷ codes "multiple" ∷ codes "max" ∷ codes "min" ∷ codes "help" ∷ []
-known_keys Cache = codes "extra" ∷ codes "inputs" ∷ codes "outputs" ∷ []
-known_keys _ = []
+-- how an attribute holds its literals
+pub data TextsForm : Type 0 where
+  -- each in a field of its own
+  ApartForm : TextsForm
+  -- all in one field
+  RowForm : TextsForm
+  -- a command and its arguments in one field, which is absent if there are none
+  CommandForm : TextsForm
 
--- the positional arguments that attributes of a kind take
-pub record Positional : Type 0 where
+-- the arguments that attributes of a kind take, and how they are held
+pub record KindForm : Type 0 where
+  -- the least number of positional arguments
   pub least : ℕ
   -- the greatest number of them, if there is a limit
   pub most : Option ℕ
   -- they are arbitrary expressions; otherwise they are literals
   pub are_expressions : Bool
+  -- they are held in one field, which is absent if there are none
+  pub is_optional : Bool
+  -- how literals are held
+  pub texts : TextsForm
+  -- the keys of arguments by key
+  pub keys : List (List ℕ)
 
-abbrev pub no_arguments : Positional
-no_arguments = record { least = 0; most = Some 0; are_expressions = false }
+abbrev pub no_arguments : KindForm
+no_arguments = record { least = 0; most = Some 0; are_expressions = false; is_optional = false; texts = ApartForm; keys = [] }
 
-abbrev pub literals : (least : ℕ) (most : Option ℕ) → Positional
-literals least most = record { least = least; most = most; are_expressions = false }
+abbrev pub literals : (least : ℕ) (most : Option ℕ) (texts : TextsForm) → KindForm
+literals least most texts = record { least = least; most = most; are_expressions = false; is_optional = false; texts = texts; keys = [] }
 
-abbrev pub expressions : (least most : ℕ) → Positional
-expressions least most = record { least = least; most = Some most; are_expressions = true }
+abbrev pub optional_command : KindForm
+optional_command = record { least = 0; most = None; are_expressions = false; is_optional = true; texts = CommandForm; keys = [] }
 
-abbrev pub positional : AttributeKind → Positional
-positional Android = no_arguments
-positional Arg = literals 1 (Some 1)
-positional Cache = no_arguments
-positional Confirm = expressions 0 1
-positional Continue = literals 0 None
-positional Default = no_arguments
-positional Doc = expressions 0 1
-positional Dragonfly = no_arguments
-positional Env = expressions 2 2
-positional ExitMessage = no_arguments
-positional Extension = literals 1 (Some 1)
-positional Freebsd = no_arguments
-positional Group = literals 1 (Some 1)
-positional Linux = no_arguments
-positional Macos = no_arguments
-positional Metadata = literals 1 None
-positional Netbsd = no_arguments
-positional NoCd = no_arguments
-positional NoExitMessage = no_arguments
-positional NoQuiet = no_arguments
-positional Openbsd = no_arguments
-positional Parallel = no_arguments
-positional PositionalArguments = no_arguments
-positional Private = no_arguments
-positional Script = literals 0 None
-positional Shell = no_arguments
-positional Timestamp = expressions 0 1
-positional Unix = no_arguments
-positional Windows = no_arguments
-positional WorkingDirectory = expressions 1 1
+abbrev pub expressions : (count : ℕ) → KindForm
+expressions count = record { least = count; most = Some count; are_expressions = true; is_optional = false; texts = ApartForm; keys = [] }
+
+abbrev pub optional_expression : KindForm
+optional_expression = record { least = 0; most = Some 1; are_expressions = true; is_optional = true; texts = ApartForm; keys = [] }
+
+-- this many literals, and arguments by these keys
+abbrev pub keyed : (count : ℕ) (keys : List (List ℕ)) → KindForm
+keyed count keys = record { least = count; most = Some count; are_expressions = false; is_optional = false; texts = ApartForm; keys = keys }
+
+abbrev pub argument_keys : List (List ℕ)
+argument_keys =
+    codes "long" ∷ codes "short" ∷ codes "pattern" ∷ codes "value" ∷ codes "flag" ∷ codes "multiple" ∷ codes "max" ∷ codes "min" ∷ codes "help" ∷ []
+
+abbrev pub cache_keys : List (List ℕ)
+cache_keys = codes "extra" ∷ codes "inputs" ∷ codes "outputs" ∷ []
+
+abbrev pub kind_form : AttributeKind → KindForm
+kind_form Android = no_arguments
+kind_form Arg = keyed 1 argument_keys
+kind_form Cache = keyed 0 cache_keys
+kind_form Confirm = optional_expression
+kind_form Continue = literals 0 None ApartForm
+kind_form Default = no_arguments
+kind_form Doc = optional_expression
+kind_form Dragonfly = no_arguments
+kind_form Env = expressions 2
+kind_form ExitMessage = no_arguments
+kind_form Extension = literals 1 (Some 1) ApartForm
+kind_form Freebsd = no_arguments
+kind_form Group = literals 1 (Some 1) ApartForm
+kind_form Linux = no_arguments
+kind_form Macos = no_arguments
+kind_form Metadata = literals 1 None RowForm
+kind_form Netbsd = no_arguments
+kind_form NoCd = no_arguments
+kind_form NoExitMessage = no_arguments
+kind_form NoQuiet = no_arguments
+kind_form Openbsd = no_arguments
+kind_form Parallel = no_arguments
+kind_form PositionalArguments = no_arguments
+kind_form Private = no_arguments
+kind_form Script = optional_command
+kind_form Shell = no_arguments
+kind_form Timestamp = optional_expression
+kind_form Unix = no_arguments
+kind_form Windows = no_arguments
+kind_form WorkingDirectory = expressions 1
 
 -- the positional arguments are arbitrary expressions; those of the other kinds are literals
 abbrev pub takes_expressions : AttributeKind → Bool
-takes_expressions kind = (positional kind).are_expressions
+takes_expressions kind = (kind_form kind).are_expressions
 
 -- the least number of positional arguments
 abbrev pub least_count : AttributeKind → ℕ
-least_count kind = (positional kind).least
+least_count kind = (kind_form kind).least
 
 -- the greatest number of positional arguments, if there is a limit
 abbrev pub most_count : AttributeKind → Option ℕ
-most_count kind = (positional kind).most
+most_count kind = (kind_form kind).most
+
+-- without arguments an attribute of this kind still has a field, which is absent
+abbrev pub is_optional : AttributeKind → Bool
+is_optional kind = (kind_form kind).is_optional
+
+-- the keys that attributes of this kind can have
+abbrev pub known_keys : AttributeKind → List (List ℕ)
+known_keys kind = (kind_form kind).keys
 
 -- an item can have several attributes of this kind; no other kind is repeatable
 abbrev pub is_repeatable : AttributeKind → Bool

@@ -80,13 +80,13 @@ fragment_text (Text lexeme) = lexeme
 fragment_text (Interpolation value) = fixed_text (codes "{{ ") ++ expr_text value ++ fixed_text (codes " }}")
 
 -- a line of a body; an empty line isn't indented
-abbrev pub line_text : (indentation : List ℕ) → BodyLine (List ℕ) (Unit {0}) (Unit {0}) → List ℕ
-line_text indentation (Line number []) = []
-line_text indentation (Line number fragments) = indentation ++ flat_map fragment_text fragments
+abbrev pub body_line_text : (indentation : List ℕ) → BodyLine (List ℕ) (Unit {0}) (Unit {0}) → List ℕ
+body_line_text indentation (Line number []) = []
+body_line_text indentation (Line number fragments) = indentation ++ flat_map fragment_text fragments
 
 -- the lines of a body, each after a line feed
 abbrev pub body_text : (indentation : List ℕ) → List (BodyLine (List ℕ) (Unit {0}) (Unit {0})) → List ℕ
-body_text indentation = flat_map (λ line. fixed_text (codes "\n") ++ line_text indentation line)
+body_text indentation = flat_map (λ line. fixed_text (codes "\n") ++ body_line_text indentation line)
 
 abbrev pub if_some : {X : Type 0} → (X → List ℕ) → Option X → List ℕ
 if_some f None = []
@@ -164,13 +164,13 @@ abbrev pub attribute_text : Attribute (List ℕ) (Unit {0}) → List ℕ
 attribute_text a = fixed_text (attribute_name (kind_of_attribute a)) ++ parenthesized_arguments (attribute_arguments a)
 
 -- a space and the comment at the end of a line, if there is one
-abbrev pub comment_text : Option (List ℕ) → List ℕ
-comment_text None = []
-comment_text (Some comment) = fixed_text (codes " ") ++ comment
+abbrev pub after_line_text : Option (List ℕ) → List ℕ
+after_line_text None = []
+after_line_text (Some comment) = fixed_text (codes " ") ++ comment
 
 -- an attribute with its comment on a line of its own
 abbrev pub entry_text : Entry (List ℕ) (Unit {0}) → List ℕ
-entry_text e = fixed_text (codes "[") ++ attribute_text e.attribute ++ fixed_text (codes "]") ++ comment_text e.comment ++ fixed_text (codes "\n")
+entry_text e = fixed_text (codes "[") ++ attribute_text e.attribute ++ fixed_text (codes "]") ++ after_line_text e.comment ++ fixed_text (codes "\n")
 
 abbrev pub entries_text : List (Entry (List ℕ) (Unit {0})) → List ℕ
 entries_text = flat_map entry_text
@@ -252,7 +252,7 @@ abbrev pub setting_text : SettingParts (List ℕ) (Unit {0}) → List ℕ
 setting_text s = fixed_text (codes "set ") ++ s.name ++ setting_value_text s.value
 
 abbrev pub recipe_text : RecipeParts (List ℕ) (Unit {0}) (Unit {0}) (Unit {0}) → (indentation : List ℕ) → List ℕ
-recipe_text r indentation = header_text r.header ++ comment_text r.comment ++ body_text indentation r.body
+recipe_text r indentation = header_text r.header ++ after_line_text r.comment ++ body_text indentation r.body
 
 -- a construct without its doc and attributes
 abbrev pub content_text : Content (List ℕ) (Unit {0}) (Unit {0}) (Unit {0}) → (indentation : List ℕ) → List ℕ

@@ -9,7 +9,7 @@ use Rattle.justfile_vocabulary.specs.declared.attribute_kind.AttributeKind.{Attr
 use Rattle.justfile_vocabulary.specs.declared.attribute_kind.AttributeKind.TheVariants as attributes
 use Rattle.justfile_vocabulary.specs.declared.token_kind.TokenKind.{TokenKind}
 use Rattle.justfile_vocabulary.specs.declared.token_kind.TokenKind.TheVariants as kinds
-use Rattle.justfile_model.specs.Meanings.AttributeKinds.{same_attribute}
+use Rattle.justfile_model.specs.Meanings.AttributeKinds.{TextsForm, ApartForm, RowForm, CommandForm, is_optional, kind_form, same_attribute}
 use Rattle.justfile_model.specs.Trees.ConditionalOperator.{operator_sign}
 use Rattle.justfile_model.specs.Trees.ContentLeaf.{ContentLeaf, token, literal, operator, text, count, signal, unseen, content_cmp}
 use Rattle.justfile_model.specs.Grammars.Expressions.{operator_kind}
@@ -130,72 +130,12 @@ module _ {A B : Type 0} (view : LeafView A B) where
       (next (option_key (word_key (codes "multiple")) a.multiple) (next (quoted_key a.name) (next (option_key (property_key (codes "pattern")) a.pattern)
       (next (option_name_key a.name a.short) (next (own_name_key (codes "short") a.short) (next (option_key expr_key a.value) end))))))))))))))
 
-  -- the keys of literals; those of `script` are a command and its arguments
-  abbrev pub texts_keys : AttributeKind → List (Quoted A) → Keys ContentLeaf
-  texts_keys attributes.Android texts = keys_of quoted_key texts
-  texts_keys attributes.Arg texts = keys_of quoted_key texts
-  texts_keys attributes.Cache texts = keys_of quoted_key texts
-  texts_keys attributes.Confirm texts = keys_of quoted_key texts
-  texts_keys attributes.Continue texts = keys_of quoted_key texts
-  texts_keys attributes.Default texts = keys_of quoted_key texts
-  texts_keys attributes.Doc texts = keys_of quoted_key texts
-  texts_keys attributes.Dragonfly texts = keys_of quoted_key texts
-  texts_keys attributes.Env texts = keys_of quoted_key texts
-  texts_keys attributes.ExitMessage texts = keys_of quoted_key texts
-  texts_keys attributes.Extension texts = keys_of quoted_key texts
-  texts_keys attributes.Freebsd texts = keys_of quoted_key texts
-  texts_keys attributes.Group texts = keys_of quoted_key texts
-  texts_keys attributes.Linux texts = keys_of quoted_key texts
-  texts_keys attributes.Macos texts = keys_of quoted_key texts
-  texts_keys attributes.Metadata texts = next (row (keys_of quoted_key texts)) end
-  texts_keys attributes.Netbsd texts = keys_of quoted_key texts
-  texts_keys attributes.NoCd texts = keys_of quoted_key texts
-  texts_keys attributes.NoExitMessage texts = keys_of quoted_key texts
-  texts_keys attributes.NoQuiet texts = keys_of quoted_key texts
-  texts_keys attributes.Openbsd texts = keys_of quoted_key texts
-  texts_keys attributes.Parallel texts = keys_of quoted_key texts
-  texts_keys attributes.PositionalArguments texts = keys_of quoted_key texts
-  texts_keys attributes.Private texts = keys_of quoted_key texts
-  texts_keys attributes.Script [] = end
-  texts_keys attributes.Script (command ∷ arguments) = next (present_key (row (next (quoted_key command) (next (row (keys_of quoted_key arguments)) end)))) end
-  texts_keys attributes.Shell texts = keys_of quoted_key texts
-  texts_keys attributes.Timestamp texts = keys_of quoted_key texts
-  texts_keys attributes.Unix texts = keys_of quoted_key texts
-  texts_keys attributes.Windows texts = keys_of quoted_key texts
-  texts_keys attributes.WorkingDirectory texts = keys_of quoted_key texts
-
-  -- the kinds with an optional expression
-  abbrev pub is_optional : AttributeKind → Bool
-  is_optional attributes.Android = false
-  is_optional attributes.Arg = false
-  is_optional attributes.Cache = false
-  is_optional attributes.Confirm = true
-  is_optional attributes.Continue = false
-  is_optional attributes.Default = false
-  is_optional attributes.Doc = true
-  is_optional attributes.Dragonfly = false
-  is_optional attributes.Env = false
-  is_optional attributes.ExitMessage = false
-  is_optional attributes.Extension = false
-  is_optional attributes.Freebsd = false
-  is_optional attributes.Group = false
-  is_optional attributes.Linux = false
-  is_optional attributes.Macos = false
-  is_optional attributes.Metadata = false
-  is_optional attributes.Netbsd = false
-  is_optional attributes.NoCd = false
-  is_optional attributes.NoExitMessage = false
-  is_optional attributes.NoQuiet = false
-  is_optional attributes.Openbsd = false
-  is_optional attributes.Parallel = false
-  is_optional attributes.PositionalArguments = false
-  is_optional attributes.Private = false
-  is_optional attributes.Script = true
-  is_optional attributes.Shell = false
-  is_optional attributes.Timestamp = true
-  is_optional attributes.Unix = false
-  is_optional attributes.Windows = false
-  is_optional attributes.WorkingDirectory = false
+  -- the keys of literals, as they are held
+  abbrev pub texts_keys : TextsForm → List (Quoted A) → Keys ContentLeaf
+  texts_keys ApartForm texts = keys_of quoted_key texts
+  texts_keys RowForm texts = next (row (keys_of quoted_key texts)) end
+  texts_keys CommandForm [] = end
+  texts_keys CommandForm (command ∷ arguments) = next (present_key (row (next (quoted_key command) (next (row (keys_of quoted_key arguments)) end)))) end
 
   abbrev pub plain_keys : (optional : Bool) → Keys ContentLeaf
   plain_keys true = next absent_key end
@@ -208,7 +148,7 @@ module _ {A B : Type 0} (view : LeafView A B) where
   abbrev pub attribute_keys : Attribute A B → Keys ContentLeaf
   attribute_keys (tree.Plain kind) = plain_keys (is_optional kind)
   attribute_keys (tree.Single kind value) = single_keys (is_optional kind) (expr_key value)
-  attribute_keys (tree.Texts kind texts) = texts_keys kind texts
+  attribute_keys (tree.Texts kind texts) = texts_keys (kind_form kind).texts texts
   attribute_keys (tree.Env key value) = next (expr_key key) (next (expr_key value) end)
   attribute_keys (tree.Signals given) = next (row (keys_of (λ s. leaf (signal s)) given)) end
   attribute_keys (tree.Cache extra inputs outputs) = next (option_key expr_key extra) (next (option_key expr_key inputs) (next (option_key expr_key outputs) end))

@@ -4,7 +4,7 @@ use Rattle.std.specs.List.{flat_map}
 use Rattle.justfile_vocabulary.specs.declared.token_kind.TokenKind.TheVariants as kinds
 use Rattle.justfile_model.specs.Trees.Tree as tree
 use Rattle.justfile_model.specs.Trees.Tree.{WrittenAttribute, Positional, Bare, Keyed, Entry}
-use Rattle.justfile_model.specs.Printed.Printing.{comment_text, fixed_text, expr_text, argument_text, arguments_text, parenthesized_arguments, attribute_arguments, entry_text, entries_text}
+use Rattle.justfile_model.specs.Printed.Printing.{after_line_text, fixed_text, expr_text, argument_text, arguments_text, parenthesized_arguments, attribute_arguments, entry_text, entries_text}
 use Rattle.justfile_model.specs.Printed.PrintedAttributes.{rewritten_entry, rewritten_entries}
 use Rattle.justfile_round_trip.proofs.LiteralTexts.LexedModes.{Mark, mark}
 use Rattle.justfile_round_trip.proofs.Canon.{newline, word, paren_left, paren_right, comma, space, expr_on, expr_marks, expr_is, then}
@@ -117,7 +117,7 @@ unfolding fixed_text
 parenthesized_is [] more = refl
 parenthesized_is (a ∷ arguments) more = ap (λ t. 40 ∷ t) (append_assoc (arguments_text (a ∷ arguments)) (codes ")") more ∙ arguments_is a arguments (41 ∷ more))
 
-pub comment_is : (comment : Option (List ℕ)) (more : List ℕ) → comment_text comment ++ more ≡ comment_on comment more
+pub comment_is : (comment : Option (List ℕ)) (more : List ℕ) → after_line_text comment ++ more ≡ comment_on comment more
 unfolding fixed_text
 comment_is None more = refl
 comment_is (Some t) more = refl
@@ -128,8 +128,8 @@ entry_is e more =
     let name = (rewritten_entry e).name in
     let arguments = attribute_arguments e.attribute in
     let inside = name ++ parenthesized_arguments arguments in
-    ap (λ t. 91 ∷ t) (then ((inside ++ codes "]") ++ comment_text e.comment) (codes "\n") more refl
-    (then (inside ++ codes "]") (comment_text e.comment) _ (comment_is e.comment (10 ∷ more))
+    ap (λ t. 91 ∷ t) (then ((inside ++ codes "]") ++ after_line_text e.comment) (codes "\n") more refl
+    (then (inside ++ codes "]") (after_line_text e.comment) _ (comment_is e.comment (10 ∷ more))
     (then inside (codes "]") _ refl (then name (parenthesized_arguments arguments) _ (parenthesized_is arguments _) refl))))
 
 pub entries_is : (entries : List ShapeEntry) (more : List ℕ) → entries_text entries ++ more ≡ entries_on entries more

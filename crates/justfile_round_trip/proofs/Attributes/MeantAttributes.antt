@@ -67,38 +67,11 @@ word_good : (w : List ℕ) → is_word w ≡ true → all_ascii w ≡ true → G
 unfolding fixed_text
 word_good w h ascii = record { is_name = word_name w h; utf8 = subst IsUtf8 (append-nil w) (plain w [] ascii IsUtf8-nil) }
 
+-- the first clause makes the checker go through all kinds
 kind_good : (k : AttributeKind) → GoodName (fixed_text (attribute_name k))
 unfolding class_of
 kind_good attributes.Android = word_good (attribute_name attributes.Android) refl refl
-kind_good attributes.Arg = word_good (attribute_name attributes.Arg) refl refl
-kind_good attributes.Cache = word_good (attribute_name attributes.Cache) refl refl
-kind_good attributes.Confirm = word_good (attribute_name attributes.Confirm) refl refl
-kind_good attributes.Continue = word_good (attribute_name attributes.Continue) refl refl
-kind_good attributes.Default = word_good (attribute_name attributes.Default) refl refl
-kind_good attributes.Doc = word_good (attribute_name attributes.Doc) refl refl
-kind_good attributes.Dragonfly = word_good (attribute_name attributes.Dragonfly) refl refl
-kind_good attributes.Env = word_good (attribute_name attributes.Env) refl refl
-kind_good attributes.ExitMessage = word_good (attribute_name attributes.ExitMessage) refl refl
-kind_good attributes.Extension = word_good (attribute_name attributes.Extension) refl refl
-kind_good attributes.Freebsd = word_good (attribute_name attributes.Freebsd) refl refl
-kind_good attributes.Group = word_good (attribute_name attributes.Group) refl refl
-kind_good attributes.Linux = word_good (attribute_name attributes.Linux) refl refl
-kind_good attributes.Macos = word_good (attribute_name attributes.Macos) refl refl
-kind_good attributes.Metadata = word_good (attribute_name attributes.Metadata) refl refl
-kind_good attributes.Netbsd = word_good (attribute_name attributes.Netbsd) refl refl
-kind_good attributes.NoCd = word_good (attribute_name attributes.NoCd) refl refl
-kind_good attributes.NoExitMessage = word_good (attribute_name attributes.NoExitMessage) refl refl
-kind_good attributes.NoQuiet = word_good (attribute_name attributes.NoQuiet) refl refl
-kind_good attributes.Openbsd = word_good (attribute_name attributes.Openbsd) refl refl
-kind_good attributes.Parallel = word_good (attribute_name attributes.Parallel) refl refl
-kind_good attributes.PositionalArguments = word_good (attribute_name attributes.PositionalArguments) refl refl
-kind_good attributes.Private = word_good (attribute_name attributes.Private) refl refl
-kind_good attributes.Script = word_good (attribute_name attributes.Script) refl refl
-kind_good attributes.Shell = word_good (attribute_name attributes.Shell) refl refl
-kind_good attributes.Timestamp = word_good (attribute_name attributes.Timestamp) refl refl
-kind_good attributes.Unix = word_good (attribute_name attributes.Unix) refl refl
-kind_good attributes.Windows = word_good (attribute_name attributes.Windows) refl refl
-kind_good attributes.WorkingDirectory = word_good (attribute_name attributes.WorkingDirectory) refl refl
+kind_good kind = word_good (attribute_name kind) refl refl
 
 -- whether it takes keys is seen from its name
 keys_of_name : (k : AttributeKind) → name_takes_keys (fixed_text (attribute_name k)) ≡ takes_keys k

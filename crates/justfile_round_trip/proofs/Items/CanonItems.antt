@@ -4,7 +4,7 @@ use Rattle.justfile_token.specs.Path.{path_text}
 use Rattle.justfile_vocabulary.specs.declared.token_kind.TokenKind.TheVariants as kinds
 use Rattle.justfile_model.specs.Grammars.Docs.{doc_of}
 use Rattle.justfile_model.specs.Trees.Tree.{AliasParts, AssignmentParts, FunctionParts, ImportParts, ModuleParts, SettingParts, Alias, Assignment, Function, Import, Module, Recipe, Setting, Unexport, Comment, Newline, Construct, Shape, bare_recipe}
-use Rattle.justfile_model.specs.Printed.Printing.{comment_text, fixed_text, expr_text, body_text, doc_line, if_some, if_true, header_text, alias_text, assignment_text, function_text, import_text, module_text, setting_text, names_text, file_path_text, setting_value_text, entries_text, content_text, item_text, item_end, text}
+use Rattle.justfile_model.specs.Printed.Printing.{after_line_text, fixed_text, expr_text, body_text, doc_line, if_some, if_true, header_text, alias_text, assignment_text, function_text, import_text, module_text, setting_text, names_text, file_path_text, setting_value_text, entries_text, content_text, item_text, item_end, text}
 use Rattle.justfile_model.proofs.Printed.DocsText.{none_shown}
 use Rattle.justfile_round_trip.proofs.LiteralTexts.LexedModes.{Mark, mark}
 use Rattle.justfile_round_trip.proofs.Canon.{Row, ShapeContent, ShapeItem, paren_left, paren_right, space, newline, word, expr_on, expr_marks, body_on, body_marks, then, expr_is, body_is}
@@ -175,8 +175,8 @@ content_is ind (Function parts) more = function_is parts more
 content_is ind (Import parts) more = import_is parts more
 content_is ind (Module parts) more = module_is parts more
 content_is ind (Recipe parts) more =
-    then (header_text parts.header ++ comment_text parts.comment) (body_text ind parts.body) more (body_is ind parts.body more)
-    (then (header_text parts.header) (comment_text parts.comment) _ (comment_is parts.comment _) (header_is parts.header _))
+    then (header_text parts.header ++ after_line_text parts.comment) (body_text ind parts.body) more (body_is ind parts.body more)
+    (then (header_text parts.header) (after_line_text parts.comment) _ (comment_is parts.comment _) (header_is parts.header _))
 content_is ind (Setting parts) more = setting_is parts more
 content_is ind (Unexport name) more = unexport_is name more
 

@@ -124,13 +124,7 @@ module _ (feature : ListFeature) where
 
     redocumented_weight : (entries : List ShapeEntry) (content : ShapeContent) (doc : Option (List ℕ)) → content_weight entries (redocumented doc content) ≡ content_weight entries content
     redocumented_weight entries (tree.Assignment parts) doc = refl
-    redocumented_weight entries (tree.Alias parts) doc = refl
-    redocumented_weight entries (tree.Function parts) doc = refl
-    redocumented_weight entries (tree.Import parts) doc = refl
-    redocumented_weight entries (tree.Module parts) doc = refl
-    redocumented_weight entries (tree.Setting parts) doc = refl
-    redocumented_weight entries (tree.Unexport name) doc = refl
-    redocumented_weight entries (tree.Recipe parts) doc = refl
+    redocumented_weight entries _ doc = refl
 
     weight_counts : CountsConstructs shape_weight
     weight_counts = record {

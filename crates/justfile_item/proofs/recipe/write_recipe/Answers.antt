@@ -1,7 +1,7 @@
 use Rattle.std.proofs.Common.{◌≡◌, ℕ, List, ◌++◌, ap, subst}
 use Rattle.std.specs.Option.{option_copied}
 use Rattle.justfile_vocabulary.specs.Indentation.{indentation_text}
-use Rattle.justfile_model.specs.Printed.Printing.{body_text, comment_text, header_text}
+use Rattle.justfile_model.specs.Printed.Printing.{body_text, after_line_text, header_text}
 use Rattle.justfile_line.specs.Body.{line_shapes}
 use Rattle.justfile_line.specs.declared.line.Line.{Line}
 use Rattle.justfile_token.proofs.PutLemmas.{failed_at}
@@ -12,9 +12,9 @@ use Rattle.justfile_item.proofs.recipe.write_recipe.Goals as goal
 
 -- the written pieces are the text of the recipe
 written : (r : UnresolvedRecipe) (indentation : List ℕ) (lines : List Line) → lines ≡ r.body.items
-    → header_text (header_shape r) ++ comment_text (option_copied r.comment) ++ body_text indentation (line_shapes lines) ≡ unresolved_recipe_text r indentation
+    → header_text (header_shape r) ++ after_line_text (option_copied r.comment) ++ body_text indentation (line_shapes lines) ≡ unresolved_recipe_text r indentation
 written r indentation lines e =
-    ap (λ (l : List Line). header_text (header_shape r) ++ comment_text (option_copied r.comment) ++ body_text indentation (line_shapes l)) e
+    ap (λ (l : List Line). header_text (header_shape r) ++ after_line_text (option_copied r.comment) ++ body_text indentation (line_shapes l)) e
 
 pub returns-in_err-write_body : goal.returns-in_err-write_body
 returns-in_err-write_body g c =
