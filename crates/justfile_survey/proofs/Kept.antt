@@ -1,5 +1,5 @@
 -- What is found in the parts of a text.
-use Rattle.std.proofs.Common.{◌≡◌, ◌≤◌, ◌<◌, ℕ, List, [], ◌∷◌, ◌++◌, map, length, Option, Some, None, sym, ap, subst, arith, ◌∙◌, append-nil}
+use Rattle.std.proofs.Common.{◌≡◌, ◌≤◌, ◌<◌, ℕ, List, [], ◌∷◌, ◌++◌, map, length, Option, Some, None, refl, sym, ap, subst, arith, ◌∙◌}
 use Rattle.std.specs.Prelude.{All}
 use Rattle.std.proofs.lemmas.List.{map-append, length-append}
 use Rattle.std.proofs.lemmas.List.Elements.{All-append, All-cons, All-nil, All-push}
@@ -89,6 +89,13 @@ module _ (path text : List ℕ) where
       → part.start ≤ part.end → part.end ≤ b → b ≤ length text → Parses path text part new.items.items old.items.items r → IsFoundBefore path text b new
   parsed old new a b part None are errors from forward to within parses = added old new a b part are errors from forward to within parses
   parsed old new a b part (Some refusal) are errors from forward to within parses = later old new a b are parses.0 errors (omega (arith, from, forward, to)) within
+
+  -- a part was refused
+  pub refused : (old new : Found) (a : ℕ) (part : Span) (r : Option Refusal) (refusal : Refusal) → IsFoundBefore path text a old → new.errors.items ≡ old.errors.items
+      → r ≡ Some refusal → Parses path text part new.items.items old.items.items r → IsFoundBefore path text a new
+  refused old new a part r refusal are errors is parses =
+      let same : Parses path text part new.items.items old.items.items (Some refusal) = subst (Parses path text part new.items.items old.items.items) is parses in
+      later old new a a are same.0 errors (omega arith) are.within
 
   -- the survey with an error before the others
   pub with_first : (found : Found) (first : SurveyedError) (s : Survey) → IsFoundBefore path text (length text) found → LiesIn (length text) first.span

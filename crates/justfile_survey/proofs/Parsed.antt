@@ -11,14 +11,14 @@ use Rattle.justfile_survey.specs.Surveys.{IsRefusalIn}
 use Rattle.justfile_survey.specs.declared.errors.Refusal.{Refusal}
 use Rattle.justfile_survey.specs.declared.surveys.SurveyedItem.{SurveyedItem}
 
-module _ {E : Type 0} (path text : List ℕ) (new old : List SurveyedItem) where
+module _ (path text : List ℕ) (new old : List SurveyedItem) where
   -- the items of a file
   of_its_file : (part : Span) (ast : Ast) (r : Option Refusal) → LiesIn (length text) part → IsRoot path (text_from_feed text part) ast → AddsFile (length text) new old ast r
       → Parses path text part new old r
   of_its_file part ast None inside root adds = AddsPart.file part ast (omega arith) (omega arith) (record { inside = inside; root = root }) adds
   of_its_file part ast (Some refusal) inside root adds = absurd adds
 
-  pub of_file : (part : Span) (parsed : List ℕ) (ast : Ast) (r : Result (Option Refusal) E) → LiesIn (length text) part → parsed ≡ text_from_feed text part
+  pub of_file : {E : Type 0} (part : Span) (parsed : List ℕ) (ast : Ast) (r : Result (Option Refusal) E) → LiesIn (length text) part → parsed ≡ text_from_feed text part
       → IsRoot path parsed ast → IfOk r (AddsFile (length text) new old ast) → IfOk r (Parses path text part new old)
   of_file part parsed ast (Ok r) inside is root adds = of_its_file part ast r inside (subst (λ src. IsRoot path src ast) is root) adds
   of_file part parsed ast (Err e) inside is root adds = tt
@@ -28,7 +28,7 @@ module _ {E : Type 0} (path text : List ℕ) (new old : List SurveyedItem) where
   of_its_refusal part None same inside = AddsPart.none same
   of_its_refusal part (Some refusal) same inside = (same, inside)
 
-  pub of_refusal : (part : Span) (r : Result (Option Refusal) E) → new ≡ old → IfOk r (IsRefusalIn (length text)) → IfOk r (Parses path text part new old)
+  pub of_refusal : {E : Type 0} (part : Span) (r : Result (Option Refusal) E) → new ≡ old → IfOk r (IsRefusalIn (length text)) → IfOk r (Parses path text part new old)
   of_refusal part (Ok r) same inside = of_its_refusal part r same inside
   of_refusal part (Err e) same inside = tt
 
@@ -41,7 +41,7 @@ module _ {E : Type 0} (path text : List ℕ) (new old : List SurveyedItem) where
   within_it part lines None from to parses = in_part part lines from to parses
   within_it part lines (Some refusal) from to parses = parses
 
-  pub within : (part lines : Span) (r : Result (Option Refusal) E) → part.start ≤ lines.start → lines.end ≤ part.end → IfOk r (Parses path text lines new old)
+  pub within : {E : Type 0} (part lines : Span) (r : Result (Option Refusal) E) → part.start ≤ lines.start → lines.end ≤ part.end → IfOk r (Parses path text lines new old)
       → IfOk r (Parses path text part new old)
   within part lines (Ok r) from to parses = within_it part lines r from to parses
   within part lines (Err e) from to parses = tt

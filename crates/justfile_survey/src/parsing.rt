@@ -50,7 +50,6 @@ struct Piece<'a> {
 
 /// Parses a part of a text, from the line feed before it on, and adds its items. Returns why it is
 /// refused, if it is.
-#[tactic(auto, using(crate::proofs::Parsed::within))]
 pub(crate) fn parse(
     source: Source<'_>,
     alloc: Global,
@@ -59,7 +58,7 @@ pub(crate) fn parse(
     items: &mut Vec<SurveyedItem>,
 ) -> Result<Option<Refusal>, AllocError>
     requires { LiesIn (length source.text.now) part }
-    ensures { IfOk result (Parses source.entry.path.now source.entry.text.now part.entry
+    ensures { IfOk result (Parses source.entry.path.now source.entry.text.now part
         items.new.items items.old.items) }
 {
     let end = without_blank_lines(source.text.as_bytes(), part.start, part.end);

@@ -40,7 +40,6 @@ pub(crate) struct Course {
 }
 
 /// Surveys the parts of a text that is refused for this error.
-#[tactic(auto, using(crate::proofs::Kept::at_first))]
 pub(crate) fn survey_parts(
     alloc: Global,
     path: &str,
@@ -106,7 +105,6 @@ fn go_through(source: Source<'_>, alloc: Global, found: &mut Found) -> Result<()
 }
 
 /// Surveys the part that begins at an offset. Returns where to go on.
-#[tactic(auto, using(crate::proofs::Kept::parsed))]
 fn take(
     source: Source<'_>,
     alloc: Global,
@@ -156,7 +154,7 @@ fn go_on(
     requires parts { IsFoundBefore source.path.now source.text.now part.start found.old }
     ensures parts { IfOk result
         (λ next. IsFoundBefore source.entry.path.now source.entry.text.now next found.new) }
-    ensures forward { IfOk result (λ next. part.entry.start < next) }
+    ensures forward { IfOk result (λ next. part.start < next) }
 {
     if refusal.ends_early {
         if let Some(end) = parse_longer(source, alloc, part, found)? {
@@ -182,7 +180,7 @@ fn leave(
     requires parts { IsFoundBefore source.path.now source.text.now part.start found.old }
     ensures parts { IfOk result
         (λ next. IsFoundBefore source.entry.path.now source.entry.text.now next found.new) }
-    ensures forward { IfOk result (λ next. part.entry.start < next) }
+    ensures forward { IfOk result (λ next. part.start < next) }
 {
     let bytes = source.text.as_bytes();
     let at = error.span.start.max(part.start);
@@ -212,7 +210,7 @@ fn within_spare(next: usize, end: usize, course: &mut Course) -> usize
 }
 
 /// Parses the lines of a part before the line of its error, if there are some.
-#[tactic(auto, using(crate::proofs::Kept::parsed, crate::proofs::Kept::later))]
+#[tactic(auto, using(crate::proofs::Kept::later))]
 fn parse_before(
     source: Source<'_>,
     alloc: Global,
@@ -222,7 +220,7 @@ fn parse_before(
     requires inside { LiesIn (length source.text.now) lines }
     requires parts { IsFoundBefore source.path.now source.text.now lines.start found.old }
     ensures { OnOk result
-        (IsFoundBefore source.entry.path.now source.entry.text.now lines.entry.end found.new) }
+        (IsFoundBefore source.entry.path.now source.entry.text.now lines.end found.new) }
 {
     if lines.start < lines.end {
         let _ = parse(source, alloc, lines, Cut::Whole, &mut found.items)?;
@@ -232,7 +230,6 @@ fn parse_before(
 
 /// Parses what begins with a part and goes on over the next ones, such as a literal of several
 /// lines. Returns where it ends.
-#[tactic(auto, using(crate::proofs::Kept::parsed))]
 fn parse_longer(
     source: Source<'_>,
     alloc: Global,
@@ -242,7 +239,7 @@ fn parse_longer(
     requires inside { LiesIn (length source.text.now) part }
     requires parts { IsFoundBefore source.path.now source.text.now part.start found.old }
     ensures { IfOk result
-        (GoesOn source.entry.path.now source.entry.text.now part.entry found.new) }
+        (GoesOn source.entry.path.now source.entry.text.now part found.new) }
 {
     let bytes = source.text.as_bytes();
     let mut size = FIRST_TRY;
@@ -279,7 +276,6 @@ fn take_spare(count: usize, course: &mut Course) -> bool {
 
 /// Parses what begins with a part and goes on up to where an item may begin before an offset.
 /// Returns where it ends.
-#[tactic(auto, using(crate::proofs::Kept::parsed))]
 fn parse_up_to(
     source: Source<'_>,
     alloc: Global,
@@ -290,7 +286,7 @@ fn parse_up_to(
     requires inside { LiesIn (length source.text.now) part }
     requires parts { IsFoundBefore source.path.now source.text.now part.start found.old }
     ensures { IfOk result
-        (GoesOn source.entry.path.now source.entry.text.now part.entry found.new) }
+        (GoesOn source.entry.path.now source.entry.text.now part found.new) }
 {
     let bytes = source.text.as_bytes();
     if offset <= part.end || offset > bytes.len() {
