@@ -6,8 +6,7 @@ use Rattle.std.proofs.lemmas.List.Elements.{All-append, All-cons, All-nil, All-p
 use Rattle.justfile_recovery.specs.Places.{LiesIn}
 use Rattle.justfile_spans.specs.declared.span.Span.{Span}
 use Rattle.justfile_ast.specs.declared.ast.Ast.{Ast}
-use Rattle.justfile_survey.specs.Items.{file_seen}
-use Rattle.justfile_survey.specs.Parts.{AddsPart, AreOfParts, BeginsWith, ErrorsIn, IsFileOfPart, IsFoundBefore, Parses}
+use Rattle.justfile_survey.specs.Parts.{AddsPart, AreOfParts, BeginsWith, ErrorsIn, IsFileOfPart, IsFoundBefore, Parses, seen_in}
 use Rattle.justfile_survey.specs.Seen.{Adds, PlacesIn, Seen, seen}
 use Rattle.justfile_survey.specs.declared.errors.Refusal.{Refusal}
 use Rattle.justfile_survey.specs.declared.recovery.Found.{Found}
@@ -65,9 +64,9 @@ module _ (path text : List ℕ) where
 
   -- the items of a part were added
   with_items : (old new : Found) (a b : ℕ) (part : Span) (ast : Ast) → IsFoundBefore path text a old → new.errors.items ≡ old.errors.items → a ≤ part.start → part.end ≤ b
-      → b ≤ length text → IsFileOfPart path text part ast → Adds (length text) new.items.items old.items.items (file_seen ast) → IsFoundBefore path text b new
+      → b ≤ length text → IsFileOfPart path text part ast → Adds (length text) new.items.items old.items.items (seen_in text part ast) → IsFoundBefore path text b new
   with_items old new a b part ast are errors from to within is adds =
-      let views : map seen old.items.items ++ file_seen ast ≡ map seen new.items.items
+      let views : map seen old.items.items ++ seen_in text part ast ≡ map seen new.items.items
       = sym (ap (map seen) adds.is ∙ map-append seen old.items.items adds.more ∙ ap (λ xs. map seen old.items.items ++ xs) adds.views_are)
       in
       record {

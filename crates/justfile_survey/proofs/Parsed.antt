@@ -1,5 +1,5 @@
 -- What parsing a part of a text does.
-use Rattle.std.proofs.Common.{◌≡◌, ◌≤◌, ℕ, List, length, Option, Some, None, Result, Ok, Err, sym, subst, refl, arith}
+use Rattle.std.proofs.Common.{◌≡◌, ◌≤◌, ℕ, ◌-◌, List, length, Option, Some, None, Result, Ok, Err, sym, subst, refl, arith}
 use Rattle.std.specs.Prelude.{IfOk}
 use Rattle.justfile_ast.specs.declared.ast.Ast.{Ast}
 use Rattle.justfile_canonical.specs.Root.{IsRoot}
@@ -13,15 +13,16 @@ use Rattle.justfile_survey.specs.declared.surveys.SurveyedItem.{SurveyedItem}
 
 module _ (path text : List ℕ) (new old : List SurveyedItem) where
   -- the items of a file
-  of_its_file : (part : Span) (ast : Ast) (r : Option Refusal) → LiesIn (length text) part → IsRoot path (text_from_feed text part) ast → AddsFile (length text) new old ast r
+  of_its_file : (part : Span) (ast : Ast) (r : Option Refusal) → LiesIn (length text) part → IsRoot path (text_from_feed text part) ast → AddsFile (length text) (part.start - 1) new old ast r
       → Parses path text part new old r
   of_its_file part ast None inside root adds = AddsPart.file part ast (omega arith) (omega arith) (record { inside = inside; root = root }) adds
   of_its_file part ast (Some refusal) inside root adds = absurd adds
 
-  pub of_file : {E : Type 0} (part : Span) (parsed : List ℕ) (ast : Ast) (r : Result (Option Refusal) E) → LiesIn (length text) part → parsed ≡ text_from_feed text part
-      → IsRoot path parsed ast → IfOk r (AddsFile (length text) new old ast) → IfOk r (Parses path text part new old)
-  of_file part parsed ast (Ok r) inside is root adds = of_its_file part ast r inside (subst (λ src. IsRoot path src ast) is root) adds
-  of_file part parsed ast (Err e) inside is root adds = tt
+  pub of_file : {E : Type 0} (part : Span) (base : ℕ) (parsed : List ℕ) (ast : Ast) (r : Result (Option Refusal) E) → LiesIn (length text) part → base ≡ part.start - 1
+      → parsed ≡ text_from_feed text part → IsRoot path parsed ast → IfOk r (AddsFile (length text) base new old ast) → IfOk r (Parses path text part new old)
+  of_file part base parsed ast (Ok r) inside from is root adds =
+      of_its_file part ast r inside (subst (λ src. IsRoot path src ast) is root) (subst (λ b. AddsFile (length text) b new old ast r) from adds)
+  of_file part base parsed ast (Err e) inside from is root adds = tt
 
   -- none, and why
   of_its_refusal : (part : Span) (r : Option Refusal) → new ≡ old → IsRefusalIn (length text) r → Parses path text part new old r

@@ -1,5 +1,5 @@
 -- What is found in the parts of a text.
-use Rattle.std.specs.Prelude.{◌≡◌, ◌≤◌, ◌<◌, ℕ, List, [], ◌∷◌, ◌++◌, map, length, All, Option, None, Some}
+use Rattle.std.specs.Prelude.{◌≡◌, ◌≤◌, ◌<◌, ℕ, ◌-◌, List, [], ◌∷◌, ◌++◌, map, length, All, Option, None, Some}
 use Rattle.justfile_ast.specs.declared.ast.Ast.{Ast}
 use Rattle.justfile_canonical.specs.Root.{IsRoot}
 use Rattle.justfile_recovery.specs.Places.{LiesIn}
@@ -18,12 +18,16 @@ pub record IsFileOfPart (path text : List ℕ) (part : Span) (ast : Ast) : Type 
   pub inside : LiesIn (length text) part
   pub root : IsRoot path (text_from_feed text part) ast
 
+-- what is shown of the file of a part, whose offsets count from the byte before the part
+abbrev pub seen_in : (text : List ℕ) → Span → Ast → List Seen
+seen_in text part ast = file_seen (length text) (part.start - 1) ast
+
 -- This is shown of the items of parts of the text that are justfiles by themselves. No part begins before the end of the one before it, and
 -- the last one ends at this offset or before it.
 pub data AreOfParts (path text : List ℕ) : (end : ℕ) → List Seen → Type 0 where
   none : {end : ℕ} → AreOfParts path text end []
   more : {before end : ℕ} {views : List Seen} → AreOfParts path text before views → (part : Span) (ast : Ast) → before ≤ part.start → part.end ≤ end
-      → IsFileOfPart path text part ast → AreOfParts path text end (views ++ file_seen ast)
+      → IsFileOfPart path text part ast → AreOfParts path text end (views ++ seen_in text part ast)
 
 -- the errors lie in a text of this length, and are at most this many
 pub record ErrorsIn (length_of_text most : ℕ) (errors : List SurveyedError) : Type 0 where
@@ -41,7 +45,7 @@ pub record IsFoundBefore (path text : List ℕ) (end : ℕ) (found : Found) : Ty
 pub data AddsPart (path text : List ℕ) (part : Span) (new old : List SurveyedItem) : Type 0 where
   none : new ≡ old → AddsPart path text part new old
   file : (lines : Span) (ast : Ast) → part.start ≤ lines.start → lines.end ≤ part.end → IsFileOfPart path text lines ast
-      → Adds (length text) new old (file_seen ast) → AddsPart path text part new old
+      → Adds (length text) new old (seen_in text lines ast) → AddsPart path text part new old
 
 -- what parsing a part does: its items are appended, or it is refused for an error in the text
 abbrev pub Parses : (path text : List ℕ) → Span → (new old : List SurveyedItem) → Option Refusal → Type 0
@@ -49,9 +53,9 @@ Parses path text part new old None = AddsPart path text part new old
 Parses path text part new old (Some refusal) = (new ≡ old) × LiesIn (length text) refusal.error.span
 
 -- a file's items were appended, and there is no refusal
-abbrev pub AddsFile : (length : ℕ) (new old : List SurveyedItem) → Ast → Option Refusal → Type 0
-AddsFile length new old ast None = Adds length new old (file_seen ast)
-AddsFile length new old ast (Some refusal) = ⊥
+abbrev pub AddsFile : (length base : ℕ) (new old : List SurveyedItem) → Ast → Option Refusal → Type 0
+AddsFile length base new old ast None = Adds length new old (file_seen length base ast)
+AddsFile length base new old ast (Some refusal) = ⊥
 
 -- where to go on after a part: past its end, with what was found up to there; or nowhere, with what was found before it
 abbrev pub GoesOn : (path text : List ℕ) → Span → Found → Option ℕ → Type 0

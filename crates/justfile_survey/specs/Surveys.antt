@@ -21,7 +21,7 @@ use Rattle.justfile_survey.specs.declared.whole.Whole.TheVariants as wholes
 pub record Shows (path text : List ℕ) (views : List Seen) : Type 0 where
   pub ast : Ast
   pub root : IsRoot path text ast
-  pub views_are : views ≡ file_seen ast
+  pub views_are : views ≡ file_seen (length text) 0 ast
 
 -- the error is at these offsets, at this line and column, with this message
 pub record Says (e : SurveyedError) (start end line column : ℕ) (message : List ℕ) : Type 0 where
@@ -44,7 +44,7 @@ pub record TellsWhy (path text : List ℕ) (s : SurveyedError) : Type 0 where
 
 -- the items of a file of a text of this length
 abbrev pub IsJustfile : (length : ℕ) → Ast → Whole → Type 0
-IsJustfile length ast (wholes.Justfile items) = (map seen items.items ≡ file_seen ast) × All (PlacesIn length) items.items
+IsJustfile length ast (wholes.Justfile items) = (map seen items.items ≡ file_seen length 0 ast) × All (PlacesIn length) items.items
 IsJustfile length ast (wholes.Refused error) = ⊥
 
 -- the error for a fault

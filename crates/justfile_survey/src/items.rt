@@ -21,8 +21,8 @@ pub(crate) fn push_items(
     part: Part<'_>,
     found: &mut Vec<SurveyedItem>,
 ) -> Result<(), AllocError>
-    ensures { OnOk result (Adds (length part.entry.text.now) found.new.items found.old.items
-        (flat_map item_seen items.now)) }
+    ensures { let n = length part.entry.text.now in OnOk result (Adds n found.new.items
+        found.old.items (flat_map (item_seen n part.entry.base) items.now)) }
 {
     for item in items {
         push_item(item, alloc, part, found)?;
@@ -37,8 +37,8 @@ fn push_item(
     part: Part<'_>,
     found: &mut Vec<SurveyedItem>,
 ) -> Result<(), AllocError>
-    ensures { OnOk result (Adds (length part.entry.text.now) found.new.items found.old.items
-        (item_seen item.now)) }
+    ensures { let n = length part.entry.text.now in OnOk result (Adds n found.new.items
+        found.old.items (item_seen n part.entry.base item.now)) }
 {
     match item {
         Item::Import { relative, .. } => push_import(relative, alloc, part, found),
@@ -62,8 +62,8 @@ fn push_import(
     part: Part<'_>,
     found: &mut Vec<SurveyedItem>,
 ) -> Result<(), AllocError>
-    ensures { OnOk result (Adds (length part.entry.text.now) found.new.items found.old.items
-        (import_seen path.now)) }
+    ensures { let n = length part.entry.text.now in OnOk result (Adds n found.new.items
+        found.old.items (import_seen n part.entry.base path.now)) }
 {
     let name = path.cooked.as_str().to_string(alloc)?;
     let name_span = part.span_of(&path.token);
@@ -86,8 +86,8 @@ fn push_if_named(
     part: Part<'_>,
     found: &mut Vec<SurveyedItem>,
 ) -> Result<(), AllocError>
-    ensures { OnOk result (Adds (length part.entry.text.now) found.new.items found.old.items
-        (named_seen item.now)) }
+    ensures { let n = length part.entry.text.now in OnOk result (Adds n found.new.items
+        found.old.items (named_seen n part.entry.base item.now)) }
 {
     match item.name() {
         None => Ok(()),
@@ -104,8 +104,8 @@ fn push_named(
     part: Part<'_>,
     found: &mut Vec<SurveyedItem>,
 ) -> Result<(), AllocError>
-    ensures { OnOk result (Adds (length part.entry.text.now) found.new.items found.old.items
-        (seen_of item.now name.entry ∷ [])) }
+    ensures { let n = length part.entry.text.now in OnOk result (Adds n found.new.items
+        found.old.items (seen_of n part.entry.base item.now name.entry ∷ [])) }
 {
     let text = name.lexeme().to_string(alloc)?;
     let name_span = part.span_of(&name.token);

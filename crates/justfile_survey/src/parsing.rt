@@ -1,5 +1,5 @@
 //! Parsing a part of a text by itself.
-ghost use Rattle.std.specs.Prelude.{◌≡◌, IfOk, length};
+ghost use Rattle.std.specs.Prelude.{◌≡◌, ◌-◌, IfOk, length};
 ghost use Rattle.justfile_recovery.specs.Places.{LiesIn};
 ghost use Rattle.justfile_spans.specs.Spans.{text_from_feed};
 ghost use Rattle.justfile_survey.specs.Parts.{AddsFile, Parses};
@@ -90,6 +90,7 @@ fn parse_piece(
     items: &mut Vec<SurveyedItem>,
 ) -> Result<Option<Refusal>, AllocError>
     requires inside { LiesIn (length piece.source.text.now) piece.lines }
+    requires base { piece.base ≡ piece.lines.start - 1 }
     requires parsed { piece.parsed.now ≡ text_from_feed piece.source.text.now piece.lines }
     ensures { IfOk result (Parses piece.entry.source.path.now piece.entry.source.text.now
         piece.entry.lines items.new.items items.old.items) }
@@ -107,8 +108,8 @@ fn add_items(
     piece: Piece<'_>,
     items: &mut Vec<SurveyedItem>,
 ) -> Result<Option<Refusal>, AllocError>
-    ensures { IfOk result (AddsFile (length piece.entry.source.text.now) items.new.items
-        items.old.items ast.old) }
+    ensures { IfOk result (AddsFile (length piece.entry.source.text.now) piece.entry.base
+        items.new.items items.old.items ast.old) }
 {
     let extents = extents_of(piece, alloc)?;
     let part = Part {

@@ -1,6 +1,7 @@
 //! Parts of a text, and where things are in the whole text.
-ghost use Rattle.std.specs.Prelude.{length};
+ghost use Rattle.std.specs.Prelude.{◌≡◌, length};
 ghost use Rattle.justfile_recovery.specs.Places.{LiesIn};
+ghost use Rattle.justfile_survey.specs.Items.{place_in};
 
 use justfile_recovery::{after_lines, span_in};
 use justfile_spans::Span;
@@ -18,12 +19,16 @@ pub(crate) struct Part<'a> {
 }
 
 impl Part<'_> {
-    /// Returns the span of a token of the part.
+    /// Returns the span of a token of the part, as much of it as lies in the text.
     pub(crate) fn span_of(&self, token: &Token<'_>) -> Span
-        ensures { LiesIn (length self.now.text.now) result }
+        ensures { result ≡ place_in (length self.now.text.now) self.now.base token.now }
     {
+        let length = self.text.len();
         let start = self.base.saturating_add(token.offset);
-        span_in(self.text.len(), start, start.saturating_add(token.length))
+        Span {
+            start: start.min(length),
+            end: start.saturating_add(token.length).min(length),
+        }
     }
 
     /// Returns the lines of the item in which there is an offset.

@@ -5,4 +5,4 @@ use Rattle.justfile_survey.specs.Seen.{Adds}
 use Rattle.justfile_survey.proofs.items.push_items.Given as goal
 
 abbrev pub invariant-loop-item : goal.invariant-loop-item
-invariant-loop-item l = Adds (length l.part.text.now) l.found.items l.fn.found.items (flat_map item_seen (take l.item-index l.items))
+invariant-loop-item l = Adds (length l.part.text.now) l.found.items l.fn.found.items (flat_map (item_seen (length l.part.text.now) l.part.base) (take l.item-index l.items))
