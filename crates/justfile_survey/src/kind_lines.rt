@@ -5,14 +5,15 @@ use justfile_token::CompileErrorKind;
 /// Moves the lines that an error names.
 pub(crate) fn move_lines(kind: &mut CompileErrorKind<'_>, by: usize) {
     match kind {
-        CompileErrorKind::DuplicateArgAttribute { first, .. }
-        | CompileErrorKind::DuplicateAttribute { first, .. }
-        | CompileErrorKind::DuplicateGroupAttribute { first, .. } => {
-            *first = first.saturating_add(by);
-        }
-        CompileErrorKind::MismatchedClosingDelimiter { open_line, .. } => {
-            *open_line = open_line.saturating_add(by);
-        }
+        CompileErrorKind::DuplicateArgAttribute { first, .. } => move_line(first, by),
+        CompileErrorKind::DuplicateAttribute { first, .. } => move_line(first, by),
+        CompileErrorKind::DuplicateGroupAttribute { first, .. } => move_line(first, by),
+        CompileErrorKind::MismatchedClosingDelimiter { open_line, .. } => move_line(open_line, by),
         _ => {}
     }
+}
+
+/// Moves a line.
+fn move_line(line: &mut usize, by: usize) {
+    *line = line.saturating_add(by);
 }
