@@ -19,7 +19,6 @@ ends_later : (path text : List ℕ) {a b : ℕ} {views : List Seen} → a ≤ b 
 ends_later path text le AreOfParts.none = AreOfParts.none
 ends_later path text le (AreOfParts.more before part ast from to is) = AreOfParts.more before part ast from (omega (arith, to, le)) is
 
-
 -- an error was added
 pub with_error : (n most : ℕ) (old new : List SurveyedError) (e : SurveyedError) → ErrorsIn n most old → length old < most → LiesIn n e.span → new ≡ old ++ e ∷ []
     → ErrorsIn n most new
