@@ -124,10 +124,24 @@ fn take(
     };
     let end = part_end(source.text.as_bytes(), start);
     let part = Span { start, end };
+    if let Some(at) = take_cause(part, &mut found.course) {
+        return leave(here, alloc, part, at, found);
+    }
     match parse(here, alloc, part, Cut::Whole, &mut found.items)? {
         None => Ok(end),
         Some(refusal) => go_on(here, alloc, part, refusal, found),
     }
+}
+
+/// Returns the offset of the error of the text if that lies in this part and none was refused yet.
+/// Then the part is refused for that error.
+fn take_cause(part: Span, course: &mut Course) -> Option<usize> {
+    let at = course.cause?;
+    if at < part.start || part.end <= at {
+        return None;
+    }
+    course.cause = None;
+    Some(at)
 }
 
 /// Returns the number of line feeds before the byte before an offset.
@@ -141,6 +155,7 @@ fn count_feeds(text: &str, start: usize, course: &mut Course) -> usize {
 }
 
 /// Goes on after a part that is refused. Returns from where on.
+#[tactic(auto, using(crate::proofs::Kept::reported))]
 fn go_on(
     source: Source<'_>,
     alloc: Global,
@@ -161,36 +176,36 @@ fn go_on(
             return Ok(end);
         }
     }
-    leave(source, alloc, part, refusal.error, found)
+    let at = refusal.error.span.start;
+    report(source.text, part.start, refusal.error, found)?;
+    leave(source, alloc, part, at, found)
 }
 
-/// Leaves a part that is refused for this error, after the lines before the error. Returns where to
-/// go on.
-#[tactic(auto, using(crate::proofs::Kept::reported))]
+/// Leaves a part that is refused for an error at this offset, after the lines before it. Returns
+/// where to go on.
+#[tactic(auto, using(crate::proofs::Kept::later))]
 fn leave(
     source: Source<'_>,
     alloc: Global,
     part: Span,
-    error: SurveyedError,
+    offset: usize,
     found: &mut Found,
 ) -> Result<usize, AllocError>
     requires inside { LiesIn (length source.text.now) part }
     requires some { part.start < part.end }
-    requires error { LiesIn (length source.text.now) error.span }
     requires parts { IsFoundBefore source.path.now source.text.now part.start found.old }
     ensures parts { IfOk result
         (λ next. IsFoundBefore source.entry.path.now source.entry.text.now next found.new) }
     ensures forward { IfOk result (λ next. part.start < next) }
 {
     let bytes = source.text.as_bytes();
-    let at = error.span.start.max(part.start);
+    let at = offset.max(part.start);
     let line = line_start(bytes, at.min(part.end)).max(part.start);
     let before = Span {
         start: part.start,
         end: line,
     };
     parse_before(source, alloc, before, found)?;
-    report(source.text, part.start, error, found)?;
     let next = next_start(bytes, at.saturating_add(1).min(bytes.len()));
     Ok(within_spare(next, part.end, &mut found.course))
 }
@@ -307,8 +322,7 @@ fn parse_up_to(
 }
 
 /// Adds the error of a part that begins at an offset, unless there are enough. That of the first
-/// part that is refused is left out if the error of the text isn't before that part: both have one
-/// cause.
+/// part that is refused is left out if the error of the text is after it: both have one cause.
 #[tactic(auto, using(crate::proofs::Kept::with_error))]
 fn report(
     text: &str,
