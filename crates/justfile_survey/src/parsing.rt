@@ -83,7 +83,7 @@ pub(crate) fn parse(
 }
 
 /// Parses a part of a text, and adds its items. Returns why it is refused, if it is.
-#[tactic(auto, using(crate::proofs::Parsed::of_file, crate::proofs::Parsed::of_refusal))]
+#[tactic(auto, using(crate::proofs::Parsed::of_refusal))]
 fn parse_piece(
     piece: Piece<'_>,
     alloc: Global,

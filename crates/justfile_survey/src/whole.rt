@@ -24,7 +24,7 @@ pub(crate) enum Whole {
 }
 
 /// Surveys a text as a whole.
-#[tactic(auto, using(crate::proofs::Found::shown_if_ok, crate::proofs::Found::refused_if_ok))]
+#[tactic(auto, using(crate::proofs::Found::refused_if_ok))]
 pub(crate) fn survey_whole(alloc: Global, path: &str, text: &str) -> Result<Whole, AllocError>
     ensures { IfOk result (IsWhole path.now text.now) }
 {
