@@ -1,0 +1,4 @@
+pub mod Added
+pub mod Found
+pub mod Kept
+pub mod Parsed

@@ -1,0 +1,101 @@
+//! Errors of texts and of their parts.
+ghost use Rattle.std.specs.Prelude.{◌+◌, IfOk, length};
+ghost use Rattle.justfile_token.specs.Messages.{message_text};
+ghost use Rattle.justfile_recovery.specs.Places.{LiesIn};
+ghost use Rattle.justfile_survey.specs.Surveys.{Says};
+
+use crate::kind_lines::move_lines;
+use crate::parsing::Source;
+use crate::surveys::SurveyedError;
+use justfile_recovery::{line_feeds, line_start, span_in};
+use justfile_spans::Span;
+use justfile_token::{CompileError, CompileErrorKind, Token};
+use justfile_vocabulary::TokenKind;
+use std::alloc::{AllocError, Global};
+
+/// Why a part of a text is refused.
+#[derive(Drop)]
+pub(crate) struct Refusal {
+    pub(crate) error: SurveyedError,
+    /// Whether the part ends too early: it may be right together with what follows it.
+    pub(crate) ends_early: bool,
+}
+
+/// Returns the error of a text.
+pub(crate) fn error_of_text(
+    alloc: Global,
+    error: &CompileError<'_>,
+) -> Result<SurveyedError, AllocError>
+    ensures { let token = error.now.token in IfOk result (λ s. Says s token.offset
+        (token.offset + token.length) token.line token.column (message_text error.now)) }
+{
+    let message = error.to_string(alloc)?;
+    Ok(SurveyedError {
+        span: Span {
+            start: error.token.offset,
+            end: error.token.end(),
+        },
+        line: error.token.line,
+        column: error.token.column,
+        message,
+    })
+}
+
+/// Returns why the part of a text that begins at `base` is refused, for an error of the part.
+pub(crate) fn refusal_of_part(
+    alloc: Global,
+    source: Source<'_>,
+    base: usize,
+    error: &mut CompileError<'_>,
+) -> Result<Refusal, AllocError>
+    ensures { IfOk result (λ refusal. LiesIn (length source.entry.text.now) refusal.error.span) }
+{
+    let ends_early = ends_early(error);
+    let bytes = source.text.as_bytes();
+    let span = span_in_text(bytes, base, &error.token);
+    move_lines(&mut error.kind, source.feeds);
+    error.token.line = error.token.line.saturating_add(source.feeds);
+    let message = error.to_string(alloc)?;
+    Ok(Refusal {
+        error: SurveyedError {
+            span,
+            line: source
+                .feeds
+                .saturating_add(line_feeds_between(bytes, base, span.start)),
+            column: span.start - line_start(bytes, span.start),
+            message,
+        },
+        ends_early,
+    })
+}
+
+/// Returns the number of line feeds from one offset up to another one.
+fn line_feeds_between(bytes: &[u8], from: usize, to: usize) -> usize {
+    match bytes.get(from..to) {
+        Some(passed) => line_feeds(passed),
+        None => 0,
+    }
+}
+
+/// Returns the span in the whole text of a token of the part that begins at `base`. The end of a
+/// part is before its last line feed.
+fn span_in_text(bytes: &[u8], base: usize, token: &Token<'_>) -> Span
+    ensures { LiesIn (length bytes.now) result }
+{
+    let start = base.saturating_add(token.offset).min(bytes.len());
+    let ends = token.kind == TokenKind::Eof;
+    if ends && start > 0 && bytes[start - 1] == b'\n' {
+        return span_in(bytes.len(), start - 1, start - 1);
+    }
+    span_in(bytes.len(), start, start.saturating_add(token.length))
+}
+
+/// Whether an error can be that a text ends too early.
+fn ends_early(error: &CompileError<'_>) -> bool {
+    match error.kind {
+        CompileErrorKind::UnterminatedBacktick
+        | CompileErrorKind::UnterminatedInterpolation
+        | CompileErrorKind::UnterminatedString => true,
+        _ => error.token.kind == TokenKind::Eof,
+    }
+}

@@ -1,0 +1,19 @@
+//! The lines that errors name.
+
+use justfile_token::CompileErrorKind;
+
+/// Moves the lines that an error names.
+pub(crate) fn move_lines(kind: &mut CompileErrorKind<'_>, by: usize) {
+    match kind {
+        CompileErrorKind::DuplicateArgAttribute { first, .. } => move_line(first, by),
+        CompileErrorKind::DuplicateAttribute { first, .. } => move_line(first, by),
+        CompileErrorKind::DuplicateGroupAttribute { first, .. } => move_line(first, by),
+        CompileErrorKind::MismatchedClosingDelimiter { open_line, .. } => move_line(open_line, by),
+        _ => {}
+    }
+}
+
+/// Moves a line.
+fn move_line(line: &mut usize, by: usize) {
+    *line = line.saturating_add(by);
+}
