@@ -1,10 +1,8 @@
-use Rattle.std.proofs.Common.{◌≡◌, ◌++◌, ◌∙◌, List, [], None, ap, arith, map, subst, sym}
+use Rattle.std.proofs.Common.{◌≡◌, ◌++◌, [], None, ap, arith, map, subst, sym}
 use Rattle.std.proofs.lemmas.Result.{err_from_is_err_and}
 use Rattle.justfile_vocabulary.specs.declared.token_kind.TokenKind.TheVariants as kinds
-use Rattle.justfile_item.specs.declared.item.Item.{Item}
 use Rattle.justfile_model.specs.Readers.ReaderState as reading
 use Rattle.justfile_parse_base.specs.Counting.{counters_of}
-use Rattle.justfile_parse_docs.specs.Docs.{with_items}
 use Rattle.justfile_parse_docs.proofs.DocumentedLines.{all_documented, still_documented}
 use Rattle.justfile_parse_expression.specs.TableReader.{accept}
 use Rattle.justfile_parse_expression.specs.View.{tokens_left, state_of}
@@ -13,7 +11,7 @@ use Rattle.justfile_parse_expression.proofs.Rest.{left_is}
 use Rattle.justfile_parse_item.specs.DerivedFields.{HaveDerivedFields}
 use Rattle.justfile_parse_item.specs.Tree.{item_tree}
 use Rattle.justfile_parse_item.proofs.DerivedItemFields.{none_fields}
-use Rattle.justfile_parse_docs.proofs.Loop.{IsReadTo, begins, ends, goes_on, goes_past, errs, line_shrinks, moved, moved_on}
+use Rattle.justfile_parse_docs.proofs.Loop.{IsReadTo, begins, ends, goes_on, goes_past, errs, line_shrinks}
 use Rattle.justfile_parse_docs.proofs.items.parse_items.Goals as goal
 
 pub lines-init : goal.lines-init
