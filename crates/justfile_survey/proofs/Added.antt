@@ -1,5 +1,5 @@
 -- Items that are appended to those that were found.
-use Rattle.std.proofs.Common.{◌≡◌, ◌∙◌, ◌<◌, ◌+◌, ℕ, Bool, List, [], ◌∷◌, ◌++◌, map, length, take, get_or, refl, sym, ap, append_assoc, append-nil, subst, arith, min}
+use Rattle.std.proofs.Common.{◌≡◌, ◌∙◌, ◌<◌, ◌+◌, ℕ, Bool, List, [], ◌∷◌, ◌++◌, map, length, take, get_or, refl, sym, ap, append_assoc, append-nil, subst, arith}
 use Rattle.std.specs.Prelude.{All, IfSome, string_bytes}
 use Rattle.std.specs.List.{flat_map}
 use Rattle.std.proofs.lemmas.List.{flat_map_more, map-append, take_more}

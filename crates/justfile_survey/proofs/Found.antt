@@ -1,5 +1,5 @@
 -- What surveys of texts and of their parts have found.
-use Rattle.std.proofs.Common.{◌≡◌, ◌∙◌, ◌+◌, ◌≤◌, ℕ, List, [], ◌∷◌, map, length, Result, Ok, Err, refl, sym, ap, subst, arith}
+use Rattle.std.proofs.Common.{◌≡◌, ◌+◌, ◌≤◌, ℕ, List, [], map, length, Result, Ok, Err, sym, subst, arith}
 use Rattle.std.specs.Prelude.{All, IfOk}
 use Rattle.std.proofs.lemmas.List.Elements.{All-nil}
 use Rattle.justfile_numbers.specs.declared.numerator.Numerator.{Numerator}
@@ -7,12 +7,12 @@ use Rattle.justfile_token.specs.declared.compile_error.CompileError.{CompileErro
 use Rattle.justfile_token.specs.declared.fault.Fault.{Fault}
 use Rattle.justfile_token.specs.declared.fault.Fault.TheVariants.{Compile, Memory, Numbers}
 use Rattle.justfile_ast.specs.declared.ast.Ast.{Ast}
-use Rattle.justfile_parse.specs.Parsing.{HasNoTree, IsTreeless}
+use Rattle.justfile_parse.specs.Parsing.{IsTreeless}
 use Rattle.justfile_canonical.specs.Root.{HasNoRoot, IsRoot, conditions}
 use Rattle.justfile_recovery.specs.Places.{LiesIn}
 use Rattle.justfile_survey.specs.Seen.{PlacesIn, seen}
 use Rattle.justfile_survey.specs.Parts.{BeginsWith, ErrorsIn}
-use Rattle.justfile_survey.specs.Surveys.{IsFound, IsJustfile, IsOfFault, IsRefused, IsSurvey, IsWhole, Says, Shows, TellsWhy}
+use Rattle.justfile_survey.specs.Surveys.{IsFound, IsJustfile, IsOfFault, IsRefused, IsSurvey, IsWhole, Shows, TellsWhy}
 use Rattle.justfile_survey.specs.declared.surveys.Survey.{Survey}
 use Rattle.justfile_survey.specs.declared.surveys.SurveyedError.{SurveyedError}
 use Rattle.justfile_survey.specs.declared.whole.Whole.{Whole}

@@ -12,7 +12,6 @@ use Rattle.justfile_survey.specs.declared.errors.Refusal.{Refusal}
 use Rattle.justfile_survey.specs.declared.recovery.Found.{Found}
 use Rattle.justfile_survey.specs.declared.surveys.Survey.{Survey}
 use Rattle.justfile_survey.specs.declared.surveys.SurveyedError.{SurveyedError}
-use Rattle.justfile_survey.specs.declared.surveys.SurveyedItem.{SurveyedItem}
 
 -- the items of parts end before each later offset, too
 ends_later : (path text : List ℕ) {a b : ℕ} {views : List Seen} → a ≤ b → AreOfParts path text a views → AreOfParts path text b views
