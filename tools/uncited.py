@@ -49,7 +49,7 @@ def cited_by_use(text, use, comment):
 
 def cited_by_path(text, crate):
     """The pairs of a module and a name that the tactics of a source file name by paths."""
-    for head, path in re.findall(r"\b(crate|justfile_\w+)((?:::\w+)+)", text):
+    for head, path in re.findall(r"\b(\w+)((?:::\w+)+)", text):
         parts = path.split("::")[1:]
         yield "Rattle." + ".".join([crate if head == "crate" else head, *parts[:-1]]), parts[-1]
 
