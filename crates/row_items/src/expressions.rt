@@ -3,7 +3,7 @@
 use justfile_item::Item;
 use row_notation::{Answer, Text};
 use row_parts::expressions::{push_attribute, push_set, push_unless_empty, push_value};
-use row_parts::shown::put_expressions;
+use row_parts::shown::put_expression_of;
 use std::alloc::AllocError;
 
 /// Writes the expressions of each item: those of each attribute, those of all attributes, those of
@@ -45,7 +45,9 @@ fn push_of_setting(item: &Item<'_>, answer: &mut Answer) {
 fn push_all(item: &Item<'_>, answer: &mut Answer) -> Result<(), AllocError> {
     let found = item.all_expressions(answer.alloc())?;
     let mut shown = Text::new(answer.alloc());
-    put_expressions(found.as_slice(), &mut shown);
+    for index in 0..found.len() {
+        put_expression_of(found[index], &mut shown);
+    }
     push_unless_empty(answer, "all", shown);
     Ok(())
 }

@@ -3,7 +3,7 @@
 use justfile_item::Item;
 use row_notation::{Answer, Text};
 use row_parts::attributes::put_groups;
-use row_parts::shown::{put_expressions, put_if, put_marked};
+use row_parts::shown::{put_expression_of, put_if, put_marked};
 use std::alloc::AllocError;
 
 /// Writes what each item has: its kind, its name, whether it is private, of an alias whether it is
@@ -24,7 +24,7 @@ fn push_parts(item: &Item<'_>, answer: &mut Answer) {
     put_kinds(item, &mut shown);
     put_item_doc(item, &mut shown);
     put_truth(item, &mut shown);
-    if put_expressions_of(item, &mut shown).is_err() {
+    if put_expressions(item, &mut shown).is_err() {
         answer.fail();
     }
     answer.push_text(shown);
@@ -70,8 +70,10 @@ fn put_truth(item: &Item<'_>, shown: &mut Text) {
 }
 
 /// Writes the expressions of an item.
-fn put_expressions_of(item: &Item<'_>, shown: &mut Text) -> Result<(), AllocError> {
-    let found = item.expressions(shown.alloc())?;
-    put_expressions(found.as_slice(), shown);
+fn put_expressions(item: &Item<'_>, shown: &mut Text) -> Result<(), AllocError> {
+    let expressions = item.expressions(shown.alloc())?;
+    for index in 0..expressions.len() {
+        put_expression_of(expressions[index], shown);
+    }
     Ok(())
 }

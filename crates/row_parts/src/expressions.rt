@@ -1,6 +1,6 @@
 //! The expressions of parts of items, as rows show them.
 
-use crate::shown::put_expressions;
+use crate::shown::put_expression_of;
 use justfile_attribute::Attribute;
 use justfile_attribute_set::AttributeSet;
 use justfile_setting::Setting;
@@ -11,7 +11,9 @@ use std::alloc::AllocError;
 pub fn push_attribute(attribute: &Attribute<'_>, answer: &mut Answer) -> Result<(), AllocError> {
     let found = attribute.expressions(answer.alloc())?;
     let mut shown = Text::new(answer.alloc());
-    put_expressions(found.as_slice(), &mut shown);
+    for index in 0..found.len() {
+        put_expression_of(found[index], &mut shown);
+    }
     push_unless_empty(answer, attribute.kind().name(), shown);
     Ok(())
 }
@@ -20,7 +22,9 @@ pub fn push_attribute(attribute: &Attribute<'_>, answer: &mut Answer) -> Result<
 pub fn push_set(attributes: &AttributeSet<'_>, answer: &mut Answer) -> Result<(), AllocError> {
     let found = attributes.expressions(answer.alloc())?;
     let mut shown = Text::new(answer.alloc());
-    put_expressions(found.as_slice(), &mut shown);
+    for index in 0..found.len() {
+        put_expression_of(found[index], &mut shown);
+    }
     push_unless_empty(answer, "attributes", shown);
     Ok(())
 }
@@ -29,7 +33,9 @@ pub fn push_set(attributes: &AttributeSet<'_>, answer: &mut Answer) -> Result<()
 pub fn push_value(setting: &Setting<'_>, answer: &mut Answer) -> Result<(), AllocError> {
     let found = setting.expressions(answer.alloc())?;
     let mut shown = Text::new(answer.alloc());
-    put_expressions(found.as_slice(), &mut shown);
+    for index in 0..found.len() {
+        put_expression_of(found[index], &mut shown);
+    }
     push_unless_empty(answer, "value", shown);
     Ok(())
 }

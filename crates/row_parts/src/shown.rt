@@ -59,16 +59,9 @@ pub fn put_doc(shown: &mut Text, doc: &Option<String>) {
     }
 }
 
-/// Writes expressions, each after a blank.
-pub fn put_expressions(found: &[&Expression<'_>], shown: &mut Text) {
-    for index in 0..found.len() {
-        put_expression_of(found[index], shown);
-    }
-}
-
 /// Writes an expression after a blank: a literal by its text in ‹›, and another in brackets after
 /// the lexeme that it begins with.
-fn put_expression_of(expression: &Expression<'_>, shown: &mut Text) {
+pub fn put_expression_of(expression: &Expression<'_>, shown: &mut Text) {
     if let Some(literal) = expression.as_string_literal() {
         return put_marked(shown, " ", literal.cooked.as_str());
     }
