@@ -11,6 +11,7 @@ use crate::part::Part;
 use crate::surveys::SurveyedItem;
 use crate::whole::extents;
 use justfile_ast::Ast;
+use justfile_canonical::reading::release;
 use justfile_canonical::root::parse_root;
 use justfile_recovery::{span_in, without_blank_lines};
 use justfile_spans::Span;
@@ -96,7 +97,11 @@ fn parse_piece(
         piece.entry.lines items.new.items items.old.items) }
 {
     match parse_root(alloc, piece.source.path, piece.parsed) {
-        Ok(mut ast) => add_items(&mut ast, alloc, piece, items),
+        Ok(mut ast) => {
+            let refusal = add_items(&mut ast, alloc, piece, items);
+            release(ast);
+            refusal
+        }
         Err(fault) => refuse(alloc, piece.source, piece.base, fault),
     }
 }

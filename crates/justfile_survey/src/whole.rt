@@ -8,6 +8,7 @@ use crate::items::push_items;
 use crate::part::Part;
 use crate::surveys::{SurveyedError, SurveyedItem};
 use justfile_ast::Ast;
+use justfile_canonical::reading::release;
 use justfile_canonical::root::parse_root;
 use justfile_lex::Lexer;
 use justfile_spans::{Span, chunks};
@@ -29,7 +30,11 @@ pub(crate) fn survey_whole(alloc: Global, path: &str, text: &str) -> Result<Whol
     ensures { IfOk result (IsWhole path.now text.now) }
 {
     match parse_root(alloc, path, text) {
-        Ok(mut ast) => whole_items(&mut ast, alloc, path, text),
+        Ok(mut ast) => {
+            let items = whole_items(&mut ast, alloc, path, text);
+            release(ast);
+            items
+        }
         Err(fault) => whole_fault(alloc, fault),
     }
 }
