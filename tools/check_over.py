@@ -15,7 +15,7 @@ from pathlib import Path
 
 TOP = Path(__file__).resolve().parent.parent
 KIT = Path(shutil.which("rt") or "rt").resolve().parent.parent
-OF_KIT = ("std", "core", "unicode_width")
+OF_KIT = ("std", "core")
 
 
 def libraries():
@@ -31,6 +31,13 @@ def below(crate, named, found):
             below(other, named, found)
             found.append(other)
     return found
+
+
+def of_kit(crate):
+    """The libraries of the kit that a crate or one below it names, and the two that each has."""
+    named = libraries()
+    others = {name for it in [crate, *below(crate, named, [])] for name in named[it] if name not in named}
+    return sorted(others.union(OF_KIT))
 
 
 def digest(folder):
@@ -62,7 +69,7 @@ def main():
     checkout, crate, *flags = sys.argv[1:]
     folder = TOP / "crates" / crate
     root = "src/lib.rt" if (folder / "src/lib.rt").exists() else "src/main.rt"
-    kit = [flag for name in OF_KIT for flag in ("--extern", f"{name}={KIT}/rlibs/{name}.rlib")]
+    kit = [flag for name in of_kit(crate) for flag in ("--extern", f"{name}={KIT}/rlibs/{name}.rlib")]
     logic = ["--antt-project", f"{KIT}/rattle/logic/antt-project.json", "--logic-built", f"{KIT}/logic_built"]
     command = [f"{KIT}/bin/rattle", "check", "--crate-name", crate, root, "-L", f"dependency={KIT}/rlibs", *kit]
     command += [*words(crate, Path(checkout).resolve()), *logic, "--links", f"{crate}=", *flags]

@@ -1,0 +1,278 @@
+#!/usr/bin/env python3
+"""Drives justfile_server: server.py PROGRAM [EDITS [SEED]].
+
+Edits a justfile at random, by ranges, in both encodings. After each edit what the server says of it must be what it
+says of the whole text of a document that was just opened, and at the end what a new server says. The formatting edits
+must lead to a text that has no more edits. Then it sends what is no message, and asks again. Prints a line for each
+part, and ends with 1 at the first difference.
+"""
+import json
+import random
+import subprocess
+import sys
+
+DOCUMENT = "file:///work/justfile"
+FRESH = "file:///work/fresh/justfile"
+START = """# builds
+set shell := ["sh", "-c"]
+import 'more.just'
+
+target := "é𝄞" + env('TARGET', "debug")
+alias b := build
+
+[group('all')]
+build target=target *flags: clean && (test "x")
+    echo {{target}} {{flags}}
+    echo done
+
+clean:
+  rm -rf out
+
+test what:
+    echo "{{what}}"
+
+double(x) := x + x
+"""
+PIECES = ["a", "b:", " ", "\n", "\n    ", "{{", "}}", "(", ")", "[", "]", '"', "'", "`", "#", ":=", "é", "𝄞", "\r\n"]
+PIECES += ["build", "set ", "x := y\n", "c: b\n  echo\n", "\\"]
+LINES = ["a:\n", "# a\n", "\n", "[private]\n", "x := 'é'\n", "set quiet\n", "    echo {{ target }}\n"]
+LINES += ["alias y := build\n", "mod m\n", "f(a) := a + target\n", "import? 'o'\n", "b: clean\n  true\n"]
+LETTERS = "abé𝄞 _1"
+QUERIES = ["documentSymbol", "foldingRange", "formatting", "documentLink", "semanticTokens/full"]
+
+
+class Server:
+    """A running server."""
+
+    def __init__(self, program, encoding):
+        self.encoding = encoding
+        self.process = subprocess.Popen([program], stdin=subprocess.PIPE, stdout=subprocess.PIPE)
+        self.count = 0
+        found = self.ask("initialize", {"capabilities": {"general": {"positionEncodings": [encoding]}}})
+        said = found["result"]["capabilities"]["positionEncoding"]
+        check(said == encoding, f"the server counts in {said}")
+        self.tell("initialized", {})
+
+    def write(self, body):
+        """Sends bytes as a message."""
+        self.process.stdin.write(b"Content-Length: %d\r\n\r\n%s" % (len(body), body))
+        self.process.stdin.flush()
+
+    def send(self, message):
+        """Sends a value as a message."""
+        self.write(json.dumps(message).encode())
+
+    def read(self):
+        """Returns the next message."""
+        length = None
+        while True:
+            line = self.process.stdout.readline()
+            check(line, "the server ended")
+            if line == b"\r\n":
+                break
+            if line.startswith(b"Content-Length: "):
+                length = int(line[16:])
+        return json.loads(self.process.stdout.read(length))
+
+    def ask(self, method, params):
+        """Sends a request, and returns its answer."""
+        self.count += 1
+        self.send({"jsonrpc": "2.0", "id": self.count, "method": method, "params": params})
+        answer = self.read()
+        check(answer.get("id") == self.count, f"{method} is answered by {answer}")
+        return answer
+
+    def tell(self, method, params):
+        """Sends a notification."""
+        self.send({"jsonrpc": "2.0", "method": method, "params": params})
+
+    def diagnostics(self, uri):
+        """Returns the diagnostics that are published next."""
+        found = self.read()
+        check(found["method"] == "textDocument/publishDiagnostics" and found["params"]["uri"] == uri, f"no diagnostics: {found}")
+        return found["params"]["diagnostics"]
+
+    def open(self, uri, text):
+        """Opens a document, and returns its diagnostics."""
+        self.tell("textDocument/didOpen", {"textDocument": {"uri": uri, "languageId": "just", "version": 1, "text": text}})
+        return self.diagnostics(uri)
+
+    def close(self, uri):
+        """Closes a document."""
+        self.tell("textDocument/didClose", {"textDocument": {"uri": uri}})
+        check(self.diagnostics(uri) == [], "a closed document has diagnostics")
+
+    def change(self, uri, changes):
+        """Changes a document, and returns its diagnostics."""
+        self.tell("textDocument/didChange", {"textDocument": {"uri": uri, "version": 2}, "contentChanges": changes})
+        return self.diagnostics(uri)
+
+    def all_of(self, uri):
+        """Returns what the server says of a document, without its address."""
+        about = {"textDocument": {"uri": uri}}
+        said = [self.ask("textDocument/" + query, about) for query in QUERIES]
+        return [json.loads(json.dumps(answer.get("result", answer.get("error"))).replace(uri.rsplit("/", 1)[0], "")) for answer in said]
+
+    def end(self):
+        """Ends the server, and returns its status."""
+        check(self.ask("shutdown", None)["result"] is None, "shutdown has a result")
+        self.tell("exit", None)
+        return self.process.wait()
+
+
+def check(holds, message):
+    """Ends the run unless something holds."""
+    if not holds:
+        print("FAILED:", message)
+        sys.exit(1)
+
+
+def width(text, encoding):
+    """Returns the units of a text."""
+    return len(text.encode("utf-8")) if encoding == "utf-8" else len(text.encode("utf-16-le")) // 2
+
+
+def position(text, offset, encoding):
+    """Returns the position of an offset in characters."""
+    before = text[:offset]
+    start = before.rfind("\n") + 1
+    return {"line": before.count("\n"), "character": width(before[start:], encoding)}
+
+
+def offset(text, place, encoding):
+    """Returns the offset of a position."""
+    start = 0
+    for _ in range(place["line"]):
+        feed = text.find("\n", start)
+        if feed < 0:
+            return len(text)
+        start = feed + 1
+    at = start
+    while at < len(text) and text[at] != "\n" and width(text[start : at + 1], encoding) <= place["character"]:
+        at += 1
+    return at
+
+
+def edited(text, edits, encoding):
+    """Returns a text after edits that don't overlap."""
+    for edit in sorted(edits, key=lambda e: (e["range"]["start"]["line"], e["range"]["start"]["character"]), reverse=True):
+        start, end = (offset(text, edit["range"][side], encoding) for side in ("start", "end"))
+        text = text[:start] + edit["newText"] + text[end:]
+    return text
+
+
+def random_edit(text, chance):
+    """Returns a range of offsets of a text and what takes its place: often the text stays right."""
+    kind = chance.random()
+    if len(text) > 4000 or kind < 0.15:
+        return 0, len(text), START
+    if kind < 0.35:
+        starts = [0] + [at + 1 for at, letter in enumerate(text) if letter == "\n"]
+        start = chance.choice(starts)
+        return start, start, chance.choice(LINES)
+    start = chance.randrange(len(text) + 1)
+    if kind < 0.75:
+        return start, start, chance.choice(LETTERS)
+    if kind < 0.85:
+        end = text.find("\n", start) + 1 or len(text)
+        return text.rfind("\n", 0, start) + 1, end, ""
+    end = min(len(text), start + chance.choice([0, 0, 1, 2, 5, 20]))
+    return start, end, "".join(chance.choice(PIECES) for _ in range(chance.choice([0, 1, 1, 2])))
+
+
+def random_request(server, text, encoding, chance):
+    """Returns what the server answers to a request at a random position: a rename replaces one name, and nothing else."""
+    place = position(text, chance.randrange(len(text) + 1), encoding)
+    about = {"textDocument": {"uri": DOCUMENT}, "position": place}
+    method = chance.choice(["hover", "definition", "references", "prepareRename", "completion", "rename"])
+    if method != "rename":
+        return method, server.ask("textDocument/" + method, dict(about, context={"includeDeclaration": True}))
+    old = server.ask("textDocument/references", dict(about, context={"includeDeclaration": True}))["result"]
+    answer = server.ask("textDocument/rename", dict(about, newName="renamed_here"))
+    if "result" in answer:
+        edits = answer["result"]["changes"][DOCUMENT]
+        check([edit["range"] for edit in edits] == [at["range"] for at in old], f"other places are renamed than mentioned: {text!r}")
+        words = {text[offset(text, e["range"]["start"], encoding) : offset(text, e["range"]["end"], encoding)] for e in edits}
+        check(len(words) == 1, f"{words} are renamed at once: {text!r}")
+    return method, answer
+
+
+def edit_at_random(program, encoding, edits, chance):
+    """Edits a document at random."""
+    server = Server(program, encoding)
+    text = START
+    server.open(DOCUMENT, text)
+    errors = formatted = 0
+    for _ in range(edits):
+        before = text
+        start, end, new = random_edit(text, chance)
+        change = {"range": {"start": position(text, start, encoding), "end": position(text, end, encoding)}, "text": new}
+        text = text[:start] + new + text[end:]
+        found = server.change(DOCUMENT, [change])
+        check(server.open(FRESH, text) == found, f"other diagnostics of {text!r}")
+        said, wanted = server.all_of(DOCUMENT), server.all_of(FRESH)
+        for query, one, other in zip(QUERIES, said, wanted):
+            check(one == other, f"{query} is answered by {one} after changes from {before!r}, and by {other} of {text!r}")
+        server.close(FRESH)
+        random_request(server, text, encoding, chance)
+        errors += bool(found)
+        changes = said[QUERIES.index("formatting")]
+        if isinstance(changes, list):
+            check(not found, f"a text with errors is formatted: {text!r}")
+            formatted += 1
+            again = edited(text, changes, encoding)
+            server.open(FRESH, again)
+            check(server.ask("textDocument/formatting", {"textDocument": {"uri": FRESH}})["result"] == [], f"not formatted: {again!r}")
+            server.close(FRESH)
+    last = Server(program, encoding)
+    check(last.open(DOCUMENT, text) == found and last.all_of(DOCUMENT) == server.all_of(DOCUMENT), "a new server says other things")
+    check(last.end() == 0 and server.end() == 0, "a status isn't 0")
+    print(f"{encoding}: {edits} edits, {errors} texts with errors, {formatted} that were formatted")
+
+
+def send_wrong(program):
+    """Sends what is no message, and asks again."""
+    server = Server(program, "utf-16")
+    server.open(DOCUMENT, START)
+
+    def code_of(body):
+        server.write(body)
+        return server.read()["error"]["code"]
+
+    check(code_of(b"{") == -32700, "no JSON")
+    check(code_of(b"\xff") == -32700, "no UTF-8")
+    check(code_of(b"[]") == -32600, "a list")
+    check(code_of(b'{"id":7}') == -32600, "no method")
+    check(code_of(b'{"id":7,"method":"nothing"}') == -32601, "an unknown method")
+    check(code_of(b'{"id":7,"method":"textDocument/hover","params":{}}') == -32602, "no document")
+    check(code_of(b'{"id":7,"method":"textDocument/hover","params":{"textDocument":{"uri":"file:///n"},"position":{"line":0,"character":0}}}') == -32602, "a document that isn't open")
+    server.write(b'{"method":"nothing"}')
+    server.write(b'{"method":"textDocument/didChange","params":{"textDocument":{"uri":"file:///n"},"contentChanges":[{"text":""}]}}')
+    server.process.stdin.write(b"Content-Length: x\r\n\r\n")
+    server.process.stdin.flush()
+    check(server.read()["error"]["code"] == -32600, "a wrong header")
+    server.process.stdin.write(b"Content-Length: 100000000\r\n\r\n" + b" " * 100_000_000)
+    server.process.stdin.flush()
+    check(server.read()["error"]["code"] == -32600, "a long message")
+    far = {"line": 10**9, "character": 10**9}
+    server.change(DOCUMENT, [{"range": {"start": far, "end": far}, "text": "far: build\n"}])
+    names = [symbol["name"] for symbol in server.ask("textDocument/documentSymbol", {"textDocument": {"uri": DOCUMENT}})["result"]]
+    check("far" in names, f"the symbols are {names}")
+    check(server.open(FRESH, ("a:\n" + "    echo {{ b }}\n" * 700) * 1000) == [], "a long document has diagnostics")
+    server.close(FRESH)
+    check(server.end() == 0, "the status isn't 0")
+    early = subprocess.run([program], input=b'Content-Length: 17\r\n\r\n{"method":"exit"}', capture_output=True)
+    check(early.returncode == 1 and early.stdout == b"", "exit without shutdown")
+    print("wrong messages: the server stays alive")
+
+
+def main():
+    program = sys.argv[1]
+    edits = int(sys.argv[2]) if len(sys.argv) > 2 else 1000
+    chance = random.Random(int(sys.argv[3]) if len(sys.argv) > 3 else 1)
+    send_wrong(program)
+    for encoding in ("utf-8", "utf-16"):
+        edit_at_random(program, encoding, edits // 2, chance)
+
+
+main()

@@ -1,0 +1,23 @@
+#!/bin/sh
+# Tries the built program justfile_server: server.sh [PROGRAM [EDITS]]
+#
+# Edits a justfile at random and compares what the server says with what a new one says of the whole text, sends what
+# is no message (server.py), and then drives Neovim without a screen, where there is Neovim (server.lua). Prints a row
+# for each part. Ends with 1 if one ended otherwise than it should.
+set -u
+top=$(cd "$(dirname "$0")/.." && pwd)
+program=${1:-$top/crates/justfile_server/out/justfile_server}
+[ -x "$program" ] || { echo "server.sh: no program $program: rt run in crates/justfile_server builds it" >&2; exit 2; }
+program=$(realpath "$program")
+work=$(mktemp -d) || exit 2
+trap 'rm -rf "$work"' EXIT
+status=0
+python3 "$top/bench/server.py" "$program" "${2:-1000}" || status=1
+if command -v nvim > /dev/null; then
+    printf 'e:="é𝄞\nbuild: clean\n  echo {{e}}\nclean:\n  rm -rf out\n' > "$work/justfile"
+    (cd "$work" && SERVER=$program timeout 120 nvim --headless --clean justfile -c "luafile $top/bench/server.lua") \
+        || status=1
+else
+    echo "no nvim: Neovim isn't tried"
+fi
+exit $status

@@ -1,0 +1,4 @@
+pub mod Answers
+pub mod Formatting
+pub mod Ranges
+pub mod Renames

@@ -1,0 +1,46 @@
+-- Parts of a text as an editor is shown them.
+use Rattle.std.specs.Prelude.{ℕ, List, length, min, max, string_bytes}
+use Rattle.justfile_lines.specs.Positions.{column_at, line_at}
+use Rattle.justfile_lines.specs.declared.encoding.Encoding.{Encoding}
+use Rattle.justfile_lines.specs.declared.position.Position.{Position}
+use Rattle.text_edits.specs.declared.edit.Range.{Range}
+use Rattle.editor_messages.specs.declared.answer.Diagnostic.{Diagnostic}
+use Rattle.editor_messages.specs.declared.answer.Symbol.{Symbol}
+use Rattle.editor_messages.specs.declared.symbol_kind.SymbolKind.{SymbolKind}
+use Rattle.editor_language.specs.declared.parts.Item.{Item}
+use Rattle.editor_language.specs.declared.parts.Problem.{Problem}
+use Rattle.editor_language.specs.declared.parts.Span.{Span}
+
+-- where an offset is
+abbrev pub position_of : Encoding → (text : List ℕ) (offset : ℕ) → Position
+position_of encoding text offset = record { line = line_at text offset; column = column_at encoding text offset }
+
+-- where a part of a text begins and ends, none of them after the end of the text
+abbrev pub range_of : Encoding → (text : List ℕ) → Span → Range
+range_of encoding text span =
+    record { start = position_of encoding text (min span.start (length text)); end = position_of encoding text (max (min span.end (length text)) (min span.start (length text))) }
+
+-- a range and a message
+abbrev pub Told : Type 0
+Told = Range × List ℕ
+
+-- what a diagnostic tells, and what is to be told of a problem
+abbrev pub told : Diagnostic → Told
+told d = (d.range, string_bytes d.message)
+
+abbrev pub to_tell : Encoding → (text : List ℕ) → Problem → Told
+to_tell encoding text p = (range_of encoding text p.span, string_bytes p.message)
+
+-- a name, a kind, the range of all and that of the name
+pub record Sight : Type 0 where
+  pub name : List ℕ
+  pub kind : SymbolKind
+  pub range : Range
+  pub selection : Range
+
+-- what a symbol shows, and what is to be shown of an item
+abbrev pub shown : Symbol → Sight
+shown s = record { name = string_bytes s.name; kind = s.kind; range = s.range; selection = s.selection }
+
+abbrev pub to_show : Encoding → (text : List ℕ) → Item → Sight
+to_show encoding text i = record { name = string_bytes i.name; kind = i.kind; range = range_of encoding text i.span; selection = range_of encoding text i.name_span }

@@ -1,0 +1,18 @@
+//! Why there is no answer.
+use editor_messages::ErrorCode;
+use std::alloc::AllocError;
+
+/// Why there is no answer.
+#[derive(Clone, Copy)]
+pub enum Failure {
+    /// Memory ran out.
+    Memory,
+    /// The request is refused, with a message.
+    Refused(ErrorCode, &'static str),
+}
+
+impl From<AllocError> for Failure {
+    fn from(_: AllocError) -> Self {
+        Failure::Memory
+    }
+}

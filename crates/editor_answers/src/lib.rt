@@ -1,0 +1,11 @@
+//! What an editor is answered about a text in any language, as plain values.
+#![tactic(auto)]
+
+mod answers;
+mod colors;
+mod failure;
+mod names;
+mod shown;
+
+pub use answers::{answer, diagnostics};
+pub use failure::Failure;

@@ -1,0 +1,209 @@
+//! What is known of a text, as an editor is shown it.
+ghost use Rattle.std.specs.Prelude.{◌≡◌, ◌≤◌, IfOk, length, map};
+ghost use Rattle.editor_answers.specs.Ranges.{position_of, range_of, shown, to_show, to_tell, told};
+
+use editor_language::{Item, Part, Problem, Span};
+use editor_messages::{Diagnostic, Fold, Link, Symbol};
+use justfile_lines::{Encoding, Lines, Position};
+use std::alloc::{AllocError, Global};
+use text_edits::{Range, TextEdit};
+
+/// A text, and how its columns are counted.
+#[derive(Drop)]
+pub(crate) struct Shown<'a> {
+    /// The text's lines.
+    pub(crate) lines: Lines<'a>,
+    /// How columns are counted.
+    pub(crate) encoding: Encoding,
+}
+
+impl<'a> Shown<'a> {
+    /// Finds the lines of a text.
+    pub(crate) fn new(alloc: Global, encoding: Encoding, text: &'a str) -> Result<Self, AllocError>
+        ensures text { IfOk result (λ made. made.lines.text.now ≡ text.now) }
+        ensures encoding { IfOk result (λ made. made.encoding ≡ encoding) }
+    {
+        let lines = Lines::new(alloc, text)?;
+        Ok(Shown { lines, encoding })
+    }
+
+    /// Returns the position of an offset.
+    fn position(&self, offset: usize) -> Position
+        requires { offset ≤ length self.now.lines.text.now }
+        ensures { result ≡ position_of self.now.encoding self.now.lines.text.now offset }
+    {
+        self.lines.position(self.encoding, offset)
+    }
+
+    /// Returns the range of a part of the text.
+    pub(crate) fn range(&self, span: Span) -> Range
+        ensures { result ≡ range_of self.now.encoding self.now.lines.text.now span }
+    {
+        let last = self.lines.end();
+        let start = span.start.min(last);
+        let end = span.end.min(last).max(start);
+        Range {
+            start: self.position(start),
+            end: self.position(end),
+        }
+    }
+
+    /// Returns the width of a line.
+    pub(crate) fn line_width(&self, line: usize) -> usize {
+        let after = Position {
+            line,
+            column: usize::MAX,
+        };
+        let end = self.lines.offset(self.encoding, after);
+        let place = self.lines.position(self.encoding, end);
+        place.column
+    }
+
+    /// Returns the ranges of parts of the text.
+    pub(crate) fn ranges(&self, alloc: Global, spans: &[Span]) -> Result<Vec<Range>, AllocError>
+        ensures { IfOk result (λ found. found.items
+            ≡ map (range_of self.now.encoding self.now.lines.text.now) spans.now) }
+    {
+        let mut ranges = Vec::new(alloc);
+        for span in spans {
+            ranges.push(self.range(*span))?;
+        }
+        Ok(ranges)
+    }
+
+    /// Returns what is wrong in the text.
+    pub(crate) fn diagnostics(
+        &self,
+        alloc: Global,
+        problems: &[Problem],
+    ) -> Result<Vec<Diagnostic>, AllocError>
+        ensures { IfOk result (λ found. map told found.items
+            ≡ map (to_tell self.now.encoding self.now.lines.text.now) problems.now) }
+    {
+        let mut diagnostics = Vec::new(alloc);
+        for problem in problems {
+            diagnostics.push(self.diagnostic(problem)?)?;
+        }
+        Ok(diagnostics)
+    }
+
+    /// Returns something that is wrong.
+    fn diagnostic(&self, problem: &Problem) -> Result<Diagnostic, AllocError>
+        ensures { IfOk result (λ found. told found
+            ≡ to_tell self.now.encoding self.now.lines.text.now problem.now) }
+    {
+        let message = problem.message.clone()?;
+        let range = self.range(problem.span);
+        Ok(Diagnostic { range, message })
+    }
+
+    /// Returns the symbols of the text.
+    pub(crate) fn symbols(&self, alloc: Global, items: &[Item]) -> Result<Vec<Symbol>, AllocError>
+        ensures { IfOk result (λ found. map shown found.items
+            ≡ map (to_show self.now.encoding self.now.lines.text.now) items.now) }
+    {
+        let mut symbols = Vec::new(alloc);
+        for item in items {
+            symbols.push(self.symbol(item)?)?;
+        }
+        Ok(symbols)
+    }
+
+    /// Returns the symbol of an item.
+    fn symbol(&self, item: &Item) -> Result<Symbol, AllocError>
+        ensures { IfOk result (λ found. shown found
+            ≡ to_show self.now.encoding self.now.lines.text.now item.now) }
+    {
+        let name = item.name.clone()?;
+        let range = self.range(item.span);
+        let selection = self.range(item.name_span);
+        Ok(Symbol {
+            name,
+            kind: item.kind,
+            range,
+            selection,
+        })
+    }
+
+    /// Returns the lines of a part of the text, if there are two or more.
+    fn fold(&self, span: Span) -> Option<Fold> {
+        let range = self.range(span);
+        let first = range.start.line;
+        let last = if range.end.column == 0 {
+            range.end.line.saturating_sub(1)
+        } else {
+            range.end.line
+        };
+        if first < last {
+            Some(Fold { first, last })
+        } else {
+            None
+        }
+    }
+
+    /// Returns the lines that can be folded: of items.
+    pub(crate) fn folds(&self, alloc: Global, items: &[Item]) -> Result<Vec<Fold>, AllocError> {
+        let mut folds = Vec::new(alloc);
+        for item in items {
+            if let Some(fold) = self.fold(item.span) {
+                folds.push(fold)?;
+            }
+        }
+        Ok(folds)
+    }
+
+    /// Returns the links of the text.
+    pub(crate) fn links(
+        &self,
+        alloc: Global,
+        uri: &str,
+        items: &[Item],
+    ) -> Result<Vec<Link>, AllocError> {
+        let mut links = Vec::new(alloc);
+        for item in items {
+            if item.is_link {
+                links.push(self.link(alloc, uri, item)?)?;
+            }
+        }
+        Ok(links)
+    }
+
+    /// Returns the link of an item that names a file, as it is seen from the document with an address.
+    fn link(&self, alloc: Global, uri: &str, item: &Item) -> Result<Link, AllocError> {
+        let range = self.range(item.name_span);
+        let target = target(alloc, uri, item.name.as_str())?;
+        Ok(Link { range, target })
+    }
+
+    /// Returns the edits that put parts of a text in their places.
+    pub(crate) fn part_edits(
+        &self,
+        alloc: Global,
+        parts: &[Part],
+    ) -> Result<Vec<TextEdit>, AllocError> {
+        let mut edits = Vec::new(alloc);
+        for part in parts {
+            edits.push(self.part_edit(part)?)?;
+        }
+        Ok(edits)
+    }
+
+    /// Returns the edit that puts a part of a text in its place.
+    fn part_edit(&self, part: &Part) -> Result<TextEdit, AllocError> {
+        let text = part.text.clone()?;
+        let range = self.range(part.span);
+        Ok(TextEdit { range, text })
+    }
+}
+
+/// Returns the address of the file at a path, as it is seen from the document with an address.
+fn target(alloc: Global, uri: &str, path: &str) -> Result<String, AllocError> {
+    if path.starts_with('/') {
+        return format!(in alloc; "file://{path}");
+    }
+    let folder = match uri.rsplit_once('/') {
+        Some((folder, _)) => folder,
+        None => "",
+    };
+    format!(in alloc; "{folder}/{path}")
+}

@@ -1,0 +1,34 @@
+-- Mentions of names.
+use Rattle.std.specs.Prelude.{◌≡◌, ℕ, ◌<◌, ◌≤◌, Bool, false, true, ◌&&◌, ◌==◌, List, length, get_or, Option, None, Some, string_bytes}
+use Rattle.std.specs.Str.{bytes_eq}
+use Rattle.editor_language.specs.declared.mention.Mention.{Mention}
+use Rattle.editor_language.specs.declared.mention.Role.{Role}
+use Rattle.editor_language.specs.declared.mention.Role.TheVariants.{Recipe, Variable, Function, Parameter}
+
+abbrev pub role_number : Role → ℕ
+role_number Recipe = 0
+role_number Variable = 1
+role_number Function = 2
+role_number Parameter = 3
+
+abbrev pub same_scope : (first second : Option ℕ) → Bool
+same_scope None None = true
+same_scope (Some first) (Some second) = first == second
+same_scope None (Some second) = false
+same_scope (Some first) None = false
+
+-- whether two mentions are of the same name: it stands for the same, and is known in the same item alone, or in all of them
+abbrev pub is_like : (first second : Mention) → Bool
+is_like first second =
+    role_number first.role == role_number second.role && same_scope first.scope second.scope && bytes_eq (string_bytes first.name) (string_bytes second.name)
+
+-- the mention is one of these
+pub record IsOneOf (mentions : List Mention) (m : Mention) : Type 0 where
+  pub index : ℕ
+  pub within : index < length mentions
+  pub is : m ≡ get_or mentions index m
+
+-- the offset is in the mention, or at its end
+pub record IsAt (offset : ℕ) (m : Mention) : Type 0 where
+  pub after_start : m.span.start ≤ offset
+  pub before_end : offset ≤ m.span.end

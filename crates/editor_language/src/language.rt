@@ -1,0 +1,120 @@
+//! What is asked of a language.
+ghost use Rattle.std.specs.Prelude.{ℕ, List, IfOk, IfSome, string_bytes};
+ghost use Rattle.editor_language.specs.declared.mention.Mention.{Mention};
+ghost use Rattle.editor_language.specs.declared.parts.Analysis.{Analysis};
+
+use crate::mention::Mention;
+use crate::parts::{Analysis, Colored, Part, Span};
+use editor_messages::Completion;
+use std::alloc::{AllocError, Global};
+
+/// A language.
+pub trait Language {
+    /// The second text is the formatted text of the first.
+    ghost formats: { List ℕ → List ℕ → Type 0 };
+
+    /// This is known of the text.
+    ghost knows: { List ℕ → Analysis → Type 0 };
+
+    /// These are the mentions of names in the text of which this is known.
+    ghost mentioned: { List ℕ → Analysis → List Mention → Type 0 };
+
+    /// Returns what is known of a text.
+    ///
+    /// # Errors
+    ///
+    /// Memory ran out.
+    fn analysis(&self, alloc: Global, text: &str) -> Result<Analysis, AllocError>
+        ensures { IfOk result (knows text.now) };
+
+    /// Returns what is known of a text, by what was known of an old text, which it was before a
+    /// change. It should be the same as `analysis` returns, and no contract says so.
+    ///
+    /// # Errors
+    ///
+    /// Memory ran out.
+    fn analysis_after(
+        &self,
+        alloc: Global,
+        old_text: &str,
+        old: &Analysis,
+        text: &str,
+    ) -> Result<Analysis, AllocError>;
+
+    /// Returns the formatted text of a text, if it has one.
+    ///
+    /// # Errors
+    ///
+    /// Memory ran out.
+    fn formatted(&self, alloc: Global, text: &str) -> Result<Option<String>, AllocError>
+        ensures { IfOk result
+            (λ made. IfSome made (λ formatted. formats text.now (string_bytes formatted))) };
+
+    /// Returns what takes the place of the items in a part of a text, to format them.
+    ///
+    /// # Errors
+    ///
+    /// Memory ran out.
+    fn formatted_items(
+        &self,
+        alloc: Global,
+        text: &str,
+        analysis: &Analysis,
+        span: Span,
+    ) -> Result<Vec<Part>, AllocError>;
+
+    /// Returns where names are defined and used in a text.
+    ///
+    /// # Errors
+    ///
+    /// Memory ran out.
+    fn mentions(
+        &self,
+        alloc: Global,
+        text: &str,
+        analysis: &Analysis,
+    ) -> Result<Vec<Mention>, AllocError>
+        ensures { IfOk result (λ found. mentioned text.now analysis.now found.items) };
+
+    /// Returns what is known of a name, by where it is defined, if it is defined.
+    ///
+    /// # Errors
+    ///
+    /// Memory ran out.
+    fn description(
+        &self,
+        alloc: Global,
+        text: &str,
+        analysis: &Analysis,
+        definition: &Mention,
+    ) -> Result<String, AllocError>;
+
+    /// Returns what can be written at an offset.
+    ///
+    /// # Errors
+    ///
+    /// Memory ran out.
+    fn completions(
+        &self,
+        alloc: Global,
+        text: &str,
+        mentions: &[Mention],
+        offset: usize,
+    ) -> Result<Vec<Completion>, AllocError>;
+
+    /// Returns how the tokens of a text are shown, in their order.
+    ///
+    /// # Errors
+    ///
+    /// Memory ran out.
+    fn colored(
+        &self,
+        alloc: Global,
+        text: &str,
+        analysis: &Analysis,
+        mentions: &[Mention],
+    ) -> Result<Vec<Colored>, AllocError>;
+
+    /// Whether a text is a name.
+    fn is_name(&self, alloc: Global, text: &str) -> bool;
+}

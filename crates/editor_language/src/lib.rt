@@ -1,0 +1,11 @@
+//! What a server for editors asks of a language: what is wrong in a text, what it consists of, and
+//! what its names mean.
+#![tactic(auto)]
+
+mod language;
+mod mention;
+mod parts;
+
+pub use language::Language;
+pub use mention::{Mention, Role, definition_of, mention_at, mentions_like};
+pub use parts::{Analysis, Colored, Item, Part, Problem, Span, TokenType};

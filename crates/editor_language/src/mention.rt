@@ -1,0 +1,117 @@
+//! Where names are defined and used.
+ghost use Rattle.std.specs.Prelude.{◌≡◌, IfOk, IfSome, filter, map, true};
+ghost use Rattle.editor_language.specs.Mentions.{IsAt, IsOneOf, is_like, role_number, same_scope};
+
+use crate::parts::Span;
+use std::alloc::{AllocError, Global};
+
+/// What a name stands for.
+#[derive(Clone, Copy, Debug, PartialEq, Eq)]
+pub enum Role {
+    /// What is run.
+    Recipe,
+    /// A variable.
+    Variable,
+    /// A function.
+    Function,
+    /// A parameter.
+    Parameter,
+}
+
+impl Role {
+    /// Returns a number of its own for each.
+    fn number(self) -> u8
+        ensures { result ≡ role_number self }
+    {
+        match self {
+            Role::Recipe => 0,
+            Role::Variable => 1,
+            Role::Function => 2,
+            Role::Parameter => 3,
+        }
+    }
+}
+
+/// A place where a name is defined or used.
+#[derive(Drop)]
+pub struct Mention {
+    /// What the name stands for.
+    pub role: Role,
+    /// The name.
+    pub name: String,
+    /// Where the item begins in which alone the name is known, if there is one.
+    pub scope: Option<usize>,
+    /// Where the name is.
+    pub span: Span,
+    /// Whether it is defined there.
+    pub defines: bool,
+}
+
+/// Returns the first mention that an offset is in, or at the end of.
+pub fn mention_at(mentions: &[Mention], offset: usize) -> Option<&Mention>
+    ensures one { IfSome result (λ found. IsOneOf mentions.now found.now) }
+    ensures at { IfSome result (λ found. IsAt offset found.now) }
+{
+    for mention in mentions {
+        if mention.span.start <= offset && offset <= mention.span.end {
+            return Some(mention);
+        }
+    }
+    None
+}
+
+/// Whether two scopes are the same.
+fn same_scope(first: Option<usize>, second: Option<usize>) -> bool
+    ensures { result ≡ same_scope first second }
+{
+    match (first, second) {
+        (None, None) => true,
+        (Some(first), Some(second)) => first == second,
+        _ => false,
+    }
+}
+
+/// Whether two mentions are of the same name.
+fn is_like(first: &Mention, second: &Mention) -> bool
+    ensures { result ≡ is_like first.now second.now }
+{
+    first.role.number() == second.role.number()
+        && same_scope(first.scope, second.scope)
+        && first.name.as_str() == second.name.as_str()
+}
+
+/// Returns the places of the mentions of the same name, in their order.
+///
+/// # Errors
+///
+/// Memory ran out.
+pub fn mentions_like(
+    alloc: Global,
+    mentions: &[Mention],
+    name: &Mention,
+) -> Result<Vec<Span>, AllocError>
+    ensures { IfOk result
+        (λ spans. spans.items ≡ map (λ m. m.span) (filter (is_like name.now) mentions.now)) }
+{
+    let mut spans = Vec::new(alloc);
+    for mention in mentions {
+        if is_like(name, mention) {
+            spans.push(mention.span)?;
+        }
+    }
+    Ok(spans)
+}
+
+/// Returns the mention that defines a name, if one does.
+pub fn definition_of<'a>(mentions: &'a [Mention], name: &Mention) -> Option<&'a Mention>
+    ensures one { IfSome result (λ found. IsOneOf mentions.now found.now) }
+    ensures defines { IfSome result (λ found. found.now.defines ≡ true) }
+    ensures like { IfSome result (λ found. is_like name.now found.now ≡ true) }
+{
+    for mention in mentions {
+        if mention.defines && is_like(name, mention) {
+            return Some(mention);
+        }
+    }
+    None
+}

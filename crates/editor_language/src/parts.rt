@@ -1,0 +1,101 @@
+//! What a text consists of.
+use editor_messages::SymbolKind;
+
+/// A part of a text: from an offset up to another one.
+#[derive(Clone, Copy)]
+pub struct Span {
+    /// Where it begins.
+    pub start: usize,
+    /// Where it ends.
+    pub end: usize,
+}
+
+/// What is wrong in a text.
+#[derive(Drop)]
+pub struct Problem {
+    /// Where it is.
+    pub span: Span,
+    /// What is wrong.
+    pub message: String,
+}
+
+/// An item of a text.
+#[derive(Drop)]
+pub struct Item {
+    /// Its name, or what it names.
+    pub name: String,
+    /// What it is.
+    pub kind: SymbolKind,
+    /// Whether it names another file, to which it leads.
+    pub is_link: bool,
+    /// All that belongs to it.
+    pub span: Span,
+    /// Its name's place.
+    pub name_span: Span,
+    /// Its body, if it has one.
+    pub body: Option<Span>,
+}
+
+/// What is known of a text.
+#[derive(Drop)]
+pub struct Analysis {
+    /// What is wrong.
+    pub problems: Vec<Problem>,
+    /// The items, in their order.
+    pub items: Vec<Item>,
+}
+
+/// What takes the place of a part of a text.
+#[derive(Drop)]
+pub struct Part {
+    /// What is replaced.
+    pub span: Span,
+    /// What it is replaced by.
+    pub text: String,
+}
+
+/// How a token is shown.
+#[derive(Clone, Copy)]
+pub enum TokenType {
+    /// A comment.
+    Comment,
+    /// A string.
+    Text,
+    /// An operator.
+    Operator,
+    /// A keyword.
+    Keyword,
+    /// A setting, or an attribute.
+    Property,
+    /// A function, or what is run.
+    Function,
+    /// A variable.
+    Variable,
+    /// A parameter.
+    Parameter,
+}
+
+impl TokenType {
+    /// Returns the index of the type among those that the server tells apart.
+    pub fn index(self) -> usize {
+        match self {
+            TokenType::Comment => 0,
+            TokenType::Text => 1,
+            TokenType::Operator => 2,
+            TokenType::Keyword => 3,
+            TokenType::Property => 4,
+            TokenType::Function => 5,
+            TokenType::Variable => 6,
+            TokenType::Parameter => 7,
+        }
+    }
+}
+
+/// A token, and how it is shown.
+#[derive(Clone, Copy)]
+pub struct Colored {
+    /// Where it is.
+    pub span: Span,
+    /// How it is shown.
+    pub kind: TokenType,
+}

@@ -1,0 +1,128 @@
+//! What is answered.
+use crate::symbol_kind::SymbolKind;
+use justfile_lines::Encoding;
+use text_edits::{Range, TextEdit};
+
+/// What is wrong in a range.
+#[derive(Drop)]
+pub struct Diagnostic {
+    /// Where it is.
+    pub range: Range,
+    /// What is wrong.
+    pub message: String,
+}
+
+/// A symbol of a document.
+#[derive(Drop)]
+pub struct Symbol {
+    /// Its name.
+    pub name: String,
+    /// What it is.
+    pub kind: SymbolKind,
+    /// All that belongs to it.
+    pub range: Range,
+    /// Its name's place.
+    pub selection: Range,
+}
+
+/// Lines that can be folded.
+#[derive(Clone, Copy)]
+pub struct Fold {
+    /// The first line.
+    pub first: usize,
+    /// The last line.
+    pub last: usize,
+}
+
+/// Edits of a document.
+#[derive(Drop)]
+pub struct Rename {
+    /// The document's address.
+    pub uri: String,
+    /// The edits.
+    pub edits: Vec<TextEdit>,
+}
+
+/// What is known of a name.
+#[derive(Drop)]
+pub struct Hover {
+    /// Where the name is.
+    pub range: Range,
+    /// What is known.
+    pub text: String,
+}
+
+/// What a completion stands for.
+#[derive(Clone, Copy)]
+pub enum CompletionKind {
+    /// A function, or what is run.
+    Function,
+    /// A variable.
+    Variable,
+    /// A setting, or an attribute.
+    Property,
+    /// A keyword.
+    Keyword,
+    /// A constant.
+    Constant,
+}
+
+impl CompletionKind {
+    /// Returns the number that the protocol has for the kind.
+    pub fn number(self) -> usize {
+        match self {
+            CompletionKind::Function => 3,
+            CompletionKind::Variable => 6,
+            CompletionKind::Property => 10,
+            CompletionKind::Keyword => 14,
+            CompletionKind::Constant => 21,
+        }
+    }
+}
+
+/// What can be written somewhere.
+#[derive(Drop)]
+pub struct Completion {
+    /// The text.
+    pub label: String,
+    /// What it stands for.
+    pub kind: CompletionKind,
+}
+
+/// A link.
+#[derive(Drop)]
+pub struct Link {
+    /// Where it is.
+    pub range: Range,
+    /// The address that it leads to.
+    pub target: String,
+}
+
+/// An answer.
+#[derive(Drop)]
+pub enum Answer {
+    /// Nothing.
+    Nothing,
+    /// What the server can do. It counts columns so.
+    Abilities(Encoding),
+    /// Symbols.
+    Symbols(Vec<Symbol>),
+    /// Lines that can be folded.
+    Folds(Vec<Fold>),
+    /// Edits of the document.
+    Edits(Vec<TextEdit>),
+    /// Ranges of the document with an address.
+    Places(String, Vec<Range>),
+    /// A range of the document.
+    Place(Range),
+    /// Edits of the document with an address.
+    Rename(Rename),
+    /// What is known of a name.
+    Hover(Hover),
+    /// What can be written.
+    Completions(Vec<Completion>),
+    /// The kinds of tokens, as the protocol writes them.
+    Tokens(Vec<usize>),
+    /// Links.
+    Links(Vec<Link>),
+}

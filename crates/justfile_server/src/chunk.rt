@@ -1,0 +1,65 @@
+//! The items of parts of a text, each parsed by itself.
+use editor_language::{Analysis, Item, Mention, Span};
+use justfile_canonical::reading::symbols;
+use justfile_outline::Symbol;
+use std::alloc::{AllocError, Global};
+
+/// Returns where the text begins that is parsed for an item: with the line feed before it, so that it
+/// isn't taken for the first line of the file.
+pub(crate) fn chunk_start(span: Span) -> usize {
+    span.start.saturating_sub(1)
+}
+
+/// Returns the text that is parsed for an item.
+pub(crate) fn chunk_text(text: &str, span: Span) -> &str {
+    text.get(chunk_start(span)..span.end).unwrap_or("")
+}
+
+/// Returns the item whose name is at an offset.
+fn item_at(items: &[Item], offset: usize) -> Option<&Item> {
+    for item in items {
+        if item.name_span.start == offset {
+            return Some(item);
+        }
+    }
+    None
+}
+
+/// Returns what is shown of a name, by where it is defined.
+pub(crate) fn description_of(
+    alloc: Global,
+    text: &str,
+    analysis: &Analysis,
+    definition: &Mention,
+) -> Result<String, AllocError> {
+    let name = definition.name.as_str();
+    match item_at(&analysis.items, definition.span.start) {
+        Some(item) => item_description(alloc, chunk_text(text, item.span), name),
+        None => format!(in alloc; "parameter {name}"),
+    }
+}
+
+/// Returns what is shown of the item in a text: its kind, its name, its parameters and its doc.
+fn item_description(alloc: Global, chunk: &str, name: &str) -> Result<String, AllocError> {
+    match symbols(alloc, "justfile", chunk) {
+        Ok(symbols) => symbol_description(alloc, &symbols, name),
+        Err(_) => name.to_string(alloc),
+    }
+}
+
+/// Returns what is shown of the first symbol, if there is one.
+fn symbol_description(
+    alloc: Global,
+    symbols: &[Symbol<'_>],
+    name: &str,
+) -> Result<String, AllocError> {
+    let Some(symbol) = symbols.first() else {
+        return name.to_string(alloc);
+    };
+    let kind = symbol.kind;
+    let parameters = symbol.parameters.as_str();
+    match &symbol.doc {
+        Some(doc) => format!(in alloc; "{kind} {name}{parameters}\n\n{doc}"),
+        None => format!(in alloc; "{kind} {name}{parameters}"),
+    }
+}
