@@ -1,7 +1,7 @@
 #!/bin/sh
 # Builds the programs from this checkout without proving them, and installs them in PREFIX/bin: install.sh [PREFIX]
 #
-# PREFIX is ~/.local if none is given. The programs are justfmt, justfiles, and justfile_server if crates.txt has it.
+# PREFIX is ~/.local if none is given. The programs are justfmt, justfiles and justfile_server.
 # They are compiled as proved programs are (build_unproved.sh), from the sources that `rt ci` proves.
 set -eu
 prefix=${1:-$HOME/.local}
@@ -12,12 +12,10 @@ work=$(mktemp -d)
 trap 'rm -rf "$work"' EXIT
 trap 'exit 1' HUP INT TERM
 
-programs=
+programs='justfmt justfiles justfile_server'
 running=
-for program in justfmt justfiles justfile_server; do
-    grep -q "^$program:" "$top/crates.txt" || continue
+for program in $programs; do
     echo "building $program with $(rt version), in a minute or two"
-    programs="$programs $program"
     "$top/tools/build_unproved.sh" "$program" "$work/$program" &
     if [ "$(nproc)" -gt 2 ]; then running="$running $!"; else wait $!; fi
 done
@@ -32,5 +30,5 @@ done
 commit=$(git -C "$top" log -1 --format='commit %h' 2>/dev/null || echo 'no commit')
 [ -z "$(git -C "$top" status --porcelain 2>/dev/null)" ] || commit="$commit, changed since"
 echo "Compiled, and not proved again: the sources are those of $commit."
-echo 'To prove them: rt ci, or rt run in crates/justfmt and crates/justfiles (README.md, "Check it").'
+echo 'To prove them: rt ci, or rt run in the folder of each, as crates/justfmt (README.md, "Check it").'
 case ":$PATH:" in *":$prefix/bin:"*) ;; *) echo "$prefix/bin is not on your PATH" ;; esac
