@@ -30,7 +30,7 @@ use justfile_numbers::{Numerator, Version};
 use justfile_parse_base::ParseError;
 use justfile_parse_docs::parse_items;
 use justfile_parse_expression::significant::{SignificantToken, significant};
-use justfile_parse_expression::{ExpectedTokens, ExpressionError, SyntaxError, ParserState};
+use justfile_parse_expression::{ExpectedTokens, ExpressionError, ParserState, SyntaxError};
 use justfile_token::{
     CompileError, CompileErrorKind, CompileResult, Expander, Fault, Modulepath, Namepath, Source,
     Token,
