@@ -46,7 +46,7 @@ EXCEPTIONS = {
     """,
     "what rt builds": "out",
     "git, the system and editors": """
-        autogroup kernel mm nice proc setsid transparent_hugepage vimrc
+        kernel mm transparent_hugepage vimrc
     """,
     "placeholders, and prefixes of names": "CASE CRATE FIELD MODULE NAME PID entries_ over_",
 }
