@@ -1,6 +1,5 @@
 -- The arguments of an attribute, whose number is checked.
-use Rattle.std.proofs.Common.{◌≡◌, ◌∙◌, ℕ, ◌<◌, ◌≤◌, ◌||◌, List, [], ◌∷◌, length, get_or, Some, None, Ok, Err, refl, sym, ap, subst, suc, true≢false, arith}
-use Rattle.std.specs.Global.{Box}
+use Rattle.std.proofs.Common.{◌≡◌, ◌∙◌, ℕ, ◌<◌, ◌≤◌, ◌||◌, List, [], ◌∷◌, length, get_or, Some, None, Result, Ok, Err, refl, sym, ap, subst, suc, true≢false, arith}
 use Rattle.std.specs.Result.{is_ok}
 use Rattle.std.specs.List.{remove}
 use Rattle.justfile_vocabulary.specs.declared.attribute_kind.AttributeKind.{AttributeKind}
@@ -15,47 +14,51 @@ use Rattle.justfile_model.specs.Trees.Tree.{Attribute, Quoted}
 use Rattle.justfile_attribute_rules.specs.Keys.{views_keys}
 use Rattle.justfile_expression.specs.LeafTree.{Leaf, leaf_tree_of}
 use Rattle.justfile_expression.specs.declared.expression.Expression.{Expression}
+use Rattle.justfile_attribute.specs.Attribute.{leaf_attribute_of}
+use Rattle.justfile_attribute.specs.declared.attribute.Attribute as code
+use Rattle.justfile_token.specs.declared.fault.Fault.{Fault}
 use Rattle.justfile_attribute.specs.New.{IsCounted, continue_made, values_of, with_known}
-use Rattle.justfile_attribute_rules.specs.Made.{positional_leaves, quoted_leaf, quoted_leaves, signal_made}
+use Rattle.justfile_attribute_rules.specs.Made.{Makes, positional_leaves, quoted_leaf, quoted_leaves, signal_made}
 
 -- ---- arguments that are removed from the front
 
 abbrev Argument : Type 0
-Argument = Token × Box Expression
+Argument = Token × Expression
 
 pub as_many : (xs : List Argument) → length (positional_leaves xs) ≡ length xs
 as_many [] = refl
 as_many (x ∷ xs) = ap suc (as_many xs)
 
-pub first_is : (xs : List Argument) (p : Argument) → 0 < length xs → p ≡ get_or xs 0 p → first_of (values_of (positional_leaves xs)) ≡ Some (leaf_tree_of p.1.value)
+pub first_is : (xs : List Argument) (p : Argument) → 0 < length xs → p ≡ get_or xs 0 p → first_of (values_of (positional_leaves xs)) ≡ Some (leaf_tree_of p.1)
 first_is [] p h e = absurd (omega (arith, h))
-first_is (x ∷ xs) p h e = ap (λ (q : Argument). Some (leaf_tree_of q.1.value)) (sym e)
+first_is (x ∷ xs) p h e = ap (λ (q : Argument). Some (leaf_tree_of q.1)) (sym e)
 
 pub none_first : (xs : List Argument) → length xs ≡ 0 → first_of (values_of (positional_leaves xs)) ≡ None
 none_first [] h = refl
 none_first (x ∷ xs) h = absurd (omega (arith, h))
 
 pub directory_is : (at : Token) (xs : List Argument) (p : Argument) → 1 ≤ length xs → p ≡ get_or xs 0 p
-    → tree.Single kinds.WorkingDirectory (leaf_tree_of p.1.value) ≡ new_of_expressions views_keys at kinds.WorkingDirectory (values_of (positional_leaves xs))
+    → tree.Single kinds.WorkingDirectory (leaf_tree_of p.1) ≡ new_of_expressions views_keys at kinds.WorkingDirectory (values_of (positional_leaves xs))
 directory_is at [] p h e = absurd (omega (arith, h))
-directory_is at (x ∷ xs) p h e = ap (λ (q : Argument). tree.Single kinds.WorkingDirectory (leaf_tree_of q.1.value)) e
+directory_is at (x ∷ xs) p h e = ap (λ (q : Argument). tree.Single kinds.WorkingDirectory (leaf_tree_of q.1)) e
 
 pub env_is : (at : Token) (xs ys : List Argument) (p q : Argument) → 2 ≤ length xs → p ≡ get_or xs 1 p → ys ≡ remove xs 1 → q ≡ get_or ys 0 q
-    → tree.Env (leaf_tree_of q.1.value) (leaf_tree_of p.1.value) ≡ new_of_expressions views_keys at kinds.Env (values_of (positional_leaves xs))
+    → tree.Env (leaf_tree_of q.1) (leaf_tree_of p.1) ≡ new_of_expressions views_keys at kinds.Env (values_of (positional_leaves xs))
 env_is at [] ys p q h e f g = absurd (omega (arith, h))
 env_is at (x ∷ []) ys p q h e f g = absurd (omega (arith, h))
 env_is at (x ∷ y ∷ zs) ys p q h e f g =
     let first : q ≡ x = g ∙ ap (λ l. get_or l 0 q) f in
-    λ i. tree.Env (leaf_tree_of (first i).1.value) (leaf_tree_of (e i).1.value)
+    λ i. tree.Env (leaf_tree_of (first i).1) (leaf_tree_of (e i).1)
 
 -- an attribute of any expressions, whose keys are accepted
-pub expressions_made : (at : Token) (kind wanted : AttributeKind) (placed : List (PositionalArgument Leaf Token)) (keys : List (KeyArgument Leaf Token)) (made : Attribute Leaf Token)
-    → check_keys views_keys at kind keys ≡ Ok tt → kind ≡ wanted → made ≡ new_of_expressions views_keys at wanted (values_of placed)
-    → from_expressions views_keys at kind placed keys ≡ Ok made
-expressions_made at kind wanted placed keys made known is same =
-    ap (λ (m : Made Token (Unit {0})). m >>= (λ u. Ok (new_of_expressions views_keys at kind (values_of placed)))) known
-    ∙ ap (λ k. Ok (new_of_expressions views_keys at k (values_of placed))) is
-    ∙ ap Ok (sym same)
+pub expressions_made : (at : Token) (kind wanted : AttributeKind) (placed : List (PositionalArgument Leaf Token)) (keys : List (KeyArgument Leaf Token)) (result : Result code.Attribute Fault)
+    → check_keys views_keys at kind keys ≡ Ok tt → kind ≡ wanted → Makes leaf_attribute_of result (Ok (new_of_expressions views_keys at wanted (values_of placed)))
+    → Makes leaf_attribute_of result (from_expressions views_keys at kind placed keys)
+expressions_made at kind wanted placed keys result known is h =
+    subst (Makes leaf_attribute_of result)
+    (sym (ap (λ (m : Made Token (Unit {0})). m >>= (λ u. Ok (new_of_expressions views_keys at kind (values_of placed)))) known
+    ∙ ap (λ k. Ok (new_of_expressions views_keys at k (values_of placed))) is))
+    h
 
 pub only_is : (xs : List StringLiteral) (l : StringLiteral) → length xs ≡ 1 → l ≡ get_or xs 0 l → quoted_leaves xs ≡ quoted_leaf l ∷ []
 only_is [] l h e = absurd (omega (arith, h))

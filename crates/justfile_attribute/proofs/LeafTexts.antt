@@ -1,6 +1,5 @@
 -- Every literal among the arguments of an attribute has a text, since its leaf has one.
 use Rattle.std.proofs.Common.{◌≡◌, Bool, true, false, List, get_or, Option, Some, None, refl, subst}
-use Rattle.std.specs.Global.{Box}
 use Rattle.std.specs.Option.{is_some, option_map}
 use Rattle.std.proofs.lemmas.List.Elements.{All-map}
 use Rattle.justfile_token.specs.declared.token.Token.{Token}
@@ -26,12 +25,12 @@ expression_text (StringLiteral l) q is =
     subst (λ (q : Quoted Leaf). is_some (quoted_text views_keys q) ≡ true) same (literal_text l.expand (literal_of l))
 expression_text e q is = no_literal (leaf_tree_of e) (not_quoted e (λ l h. cc)) q is
 
-given_text : (o : Option (Box Expression)) → ValueHasText views_keys (option_map (λ (b : Box Expression). leaf_tree_of b.value) o)
+given_text : (o : Option Expression) → ValueHasText views_keys (option_map leaf_tree_of o)
 given_text None e is = cc
-given_text (Some b) e is = let same : leaf_tree_of b.value ≡ e = cc in subst (HasText views_keys) same (expression_text b.value)
+given_text (Some value) e is = let same : leaf_tree_of value ≡ e = cc in subst (HasText views_keys) same (expression_text value)
 
-pub have_texts : (placed : List (Token × Box Expression)) (keys : KeyMap) → HasTexts views_keys (positional_leaves placed) (key_arguments keys)
+pub have_texts : (placed : List (Token × Expression)) (keys : KeyMap) → HasTexts views_keys (positional_leaves placed) (key_arguments keys)
 have_texts placed keys = record {
-  values = All-map (λ (p : PositionalArgument Leaf Token). HasText views_keys p.value) positional_leaf placed (λ k d lt. expression_text (get_or placed k d).1.value);
+  values = All-map (λ (p : PositionalArgument Leaf Token). HasText views_keys p.value) positional_leaf placed (λ k d lt. expression_text (get_or placed k d).1);
   given = All-map (λ (k : KeyArgument Leaf Token). ValueHasText views_keys k.value) key_argument keys.entries (λ k d lt. given_text (get_or keys.entries k d).1.1);
 }

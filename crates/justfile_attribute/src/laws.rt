@@ -1,6 +1,5 @@
 //! Laws of attributes. Each is the contract of a function that does nothing.
 ghost use Rattle.std.specs.Prelude.{◌≡◌, List, [], Contains, Some, Ok, Err};
-ghost use Rattle.std.specs.Global.{Box};
 ghost use Rattle.justfile_vocabulary.specs.declared.attribute_kind.AttributeKind.{AttributeKind};
 ghost use Rattle.justfile_token.specs.declared.token.Token.{Token};
 ghost use Rattle.justfile_model.specs.Meanings.AttributeRules.{arguments_broken};
@@ -26,18 +25,18 @@ use crate::interpreter::Interpreter;
 /// no rule, it returns an attribute.
 pub fn new_attributes()
     ensures made { (at : Token) (kind : AttributeKind)
-        (placed : List (Token × Box Expression)) (keys : KeyMap) (a : Attribute Leaf Token)
+        (placed : List (Token × Expression)) (keys : KeyMap) (a : Attribute Leaf Token)
         → new_attribute views_keys at kind (positional_leaves placed) (key_arguments keys) ≡ Ok a
         → (attribute_of views_keys kind (positional_leaves placed) (key_arguments keys) ≡ Some a)
         × (arguments_broken views_keys at kind (positional_leaves placed)
         (key_arguments keys) ≡ []) }
     ensures refused { (at : Token) (kind : AttributeKind)
-        (placed : List (Token × Box Expression)) (keys : KeyMap) (r : Broken Token)
+        (placed : List (Token × Expression)) (keys : KeyMap) (r : Broken Token)
         → new_attribute views_keys at kind (positional_leaves placed) (key_arguments keys) ≡ Err r
         → Contains
         (arguments_broken views_keys at kind (positional_leaves placed) (key_arguments keys)) r }
     ensures unbroken { (at : Token) (kind : AttributeKind)
-        (placed : List (Token × Box Expression)) (keys : KeyMap)
+        (placed : List (Token × Expression)) (keys : KeyMap)
         → arguments_broken views_keys at kind (positional_leaves placed) (key_arguments keys) ≡ []
         → (a : Attribute Leaf Token)
         × (new_attribute views_keys at kind (positional_leaves placed)

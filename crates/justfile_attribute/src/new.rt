@@ -1,5 +1,5 @@
 //! Attributes from their kinds and arguments.
-ghost use Rattle.std.specs.Prelude.{◌≡◌, ◌≤◌, IfOk, IsTrue, [], ◌∷◌, false, true, length};
+ghost use Rattle.std.specs.Prelude.{◌≡◌, ◌≤◌, IfOk, IsTrue, Ok, [], ◌∷◌, false, true, length};
 ghost use Rattle.std.specs.Option.{option_map};
 ghost use Rattle.justfile_vocabulary.specs.declared.attribute_kind.AttributeKind.TheVariants as kinds;
 ghost use Rattle.justfile_token.specs.declared.token.Token.{Token};
@@ -40,7 +40,7 @@ impl<'src> Attribute<'src> {
         alloc: Global,
         name: Name<'src>,
         kind: AttributeKind,
-        arguments: Vec<(Token<'src>, Box<Expression<'src>>)>,
+        arguments: Vec<(Token<'src>, Expression<'src>)>,
         keyword_arguments: KeyMap<'src>,
     ) -> CompileResult<'src, Self>
         ensures made { Makes leaf_attribute_of result (new.new_attribute views_keys
@@ -54,7 +54,7 @@ impl<'src> Attribute<'src> {
     {
         check_count(name, kind, arguments.len())?;
         if accepts_expressions(kind) {
-            from_expressions(name, kind, arguments, keyword_arguments)
+            from_expressions(alloc, name, kind, arguments, keyword_arguments)
         } else {
             from_literals(alloc, name, kind, arguments, keyword_arguments)
         }
@@ -64,9 +64,10 @@ impl<'src> Attribute<'src> {
 /// Returns an attribute whose positional arguments are any expressions.
 #[tactic(auto, using(justfile_attribute_rules::proofs::Refused::refused_first))]
 fn from_expressions<'src>(
+    alloc: Global,
     name: Name<'src>,
     kind: AttributeKind,
-    arguments: Vec<(Token<'src>, Box<Expression<'src>>)>,
+    arguments: Vec<(Token<'src>, Expression<'src>)>,
     keys: KeyMap<'src>,
 ) -> CompileResult<'src, Attribute<'src>>
     requires kind { takes_expressions kind ≡ true }
@@ -78,55 +79,63 @@ fn from_expressions<'src>(
 {
     check_keys(name, kind, &keys)?;
     match kind {
-        AttributeKind::Confirm => Ok(Attribute::Confirm(first(arguments))),
-        AttributeKind::Doc => Ok(Attribute::Doc(first(arguments))),
-        AttributeKind::Env => Ok(env(arguments)),
-        AttributeKind::Timestamp => Ok(Attribute::Timestamp(first(arguments))),
-        AttributeKind::WorkingDirectory => Ok(working_directory(arguments)),
+        AttributeKind::Confirm => Ok(Attribute::Confirm(first(alloc, arguments)?)),
+        AttributeKind::Doc => Ok(Attribute::Doc(first(alloc, arguments)?)),
+        AttributeKind::Env => env(alloc, arguments),
+        AttributeKind::Timestamp => Ok(Attribute::Timestamp(first(alloc, arguments)?)),
+        AttributeKind::WorkingDirectory => working_directory(alloc, arguments),
         _ => unreachable!(),
     }
 }
 
-/// Returns the first positional argument, if any.
+/// Returns the first positional argument in a box, if any.
 #[tactic(auto, using(crate::proofs::Counted::first_is, crate::proofs::Counted::none_first))]
 fn first<'src>(
-    mut arguments: Vec<(Token<'src>, Box<Expression<'src>>)>,
-) -> Option<Box<Expression<'src>>>
-    ensures { option_map (λ b. leaf_tree_of b.value) result
-        ≡ first_of (values_of (positional_leaves arguments.entry.items)) }
+    alloc: Global,
+    mut arguments: Vec<(Token<'src>, Expression<'src>)>,
+) -> Result<Option<Box<Expression<'src>>>, AllocError>
+    ensures { IfOk result (λ value. option_map (λ b. leaf_tree_of b.value) value
+        ≡ first_of (values_of (positional_leaves arguments.entry.items))) }
 {
     if arguments.is_empty() {
-        return None;
+        return Ok(None);
     }
     let (_first, value) = arguments.remove(0);
-    Some(value)
+    Ok(Some(Box::new(alloc, value)?))
 }
 
 /// Returns a `working-directory` attribute.
 #[tactic(auto, using(crate::proofs::Counted::directory_is))]
 fn working_directory<'src>(
-    mut arguments: Vec<(Token<'src>, Box<Expression<'src>>)>,
-) -> Attribute<'src>
+    alloc: Global,
+    mut arguments: Vec<(Token<'src>, Expression<'src>)>,
+) -> CompileResult<'src, Attribute<'src>>
     requires { 1 ≤ length arguments.items }
-    ensures made { (at : Token) → leaf_attribute_of result ≡ new.new_of_expressions views_keys at
-        kinds.WorkingDirectory (values_of (positional_leaves arguments.entry.items)) }
-    ensures fields { HasDerivedAttributeFields result }
+    ensures made { (at : Token) → Makes leaf_attribute_of result
+        (Ok (new.new_of_expressions views_keys at kinds.WorkingDirectory
+        (values_of (positional_leaves arguments.entry.items)))) }
+    ensures fields { IfOk result HasDerivedAttributeFields }
 {
     let (_first, value) = arguments.remove(0);
-    Attribute::WorkingDirectory(value)
+    Ok(Attribute::WorkingDirectory(Box::new(alloc, value)?))
 }
 
 /// Returns an `env` attribute.
 #[tactic(auto, using(crate::proofs::Counted::env_is))]
-fn env<'src>(mut arguments: Vec<(Token<'src>, Box<Expression<'src>>)>) -> Attribute<'src>
+fn env<'src>(
+    alloc: Global,
+    mut arguments: Vec<(Token<'src>, Expression<'src>)>,
+) -> CompileResult<'src, Attribute<'src>>
     requires { 2 ≤ length arguments.items }
-    ensures made { (at : Token) → leaf_attribute_of result ≡ new.new_of_expressions views_keys at
-        kinds.Env (values_of (positional_leaves arguments.entry.items)) }
-    ensures fields { HasDerivedAttributeFields result }
+    ensures made { (at : Token) → Makes leaf_attribute_of result
+        (Ok (new.new_of_expressions views_keys at kinds.Env
+        (values_of (positional_leaves arguments.entry.items)))) }
+    ensures fields { IfOk result HasDerivedAttributeFields }
 {
     let (_first, value) = arguments.remove(1);
+    let value = Box::new(alloc, value)?;
     let (_first, key) = arguments.remove(0);
-    Attribute::Env(key, value)
+    Ok(Attribute::Env(Box::new(alloc, key)?, value))
 }
 
 /// Returns an attribute whose positional arguments are literals.
@@ -135,7 +144,7 @@ fn from_literals<'src>(
     alloc: Global,
     name: Name<'src>,
     kind: AttributeKind,
-    arguments: Vec<(Token<'src>, Box<Expression<'src>>)>,
+    arguments: Vec<(Token<'src>, Expression<'src>)>,
     mut keys: KeyMap<'src>,
 ) -> CompileResult<'src, Attribute<'src>>
     requires kind { takes_expressions kind ≡ false }
@@ -309,7 +318,7 @@ fn cache<'src>(
 {
     let mut values = no_values(alloc)?;
     let known = check_keys(name, AttributeKind::Cache, keys);
-    match read_cache(name, keys, &mut values) {
+    match read_cache(alloc, name, keys, &mut values) {
         Ok(()) => match known {
             Ok(()) => Ok(of_values(values)),
             Err(fault) => Err(fault),
@@ -331,6 +340,7 @@ fn no_values<'src>(alloc: Global) -> Result<Box<CacheValues<'src>>, AllocError> 
 /// Takes the keys of `cache` out of the map, one after another, and sets the values.
 #[tactic(auto, using(justfile_attribute_rules::proofs::Refused::refused_first))]
 fn read_cache<'src>(
+    alloc: Global,
     name: Name<'src>,
     keys: &mut KeyMap<'src>,
     values: &mut CacheValues<'src>,
@@ -338,14 +348,15 @@ fn read_cache<'src>(
     ensures { Makes (λ _. cache_of values.new) result
         (cache_read name.entry.token (key_arguments keys.old)) }
 {
-    read_value(name, keys, "extra", &mut values.extra)?;
-    read_value(name, keys, "inputs", &mut values.inputs)?;
-    read_value(name, keys, "outputs", &mut values.outputs)
+    read_value(alloc, name, keys, "extra", &mut values.extra)?;
+    read_value(alloc, name, keys, "inputs", &mut values.inputs)?;
+    read_value(alloc, name, keys, "outputs", &mut values.outputs)
 }
 
 /// Takes one key of `cache` out of the map, and sets `value` to its value, or to `None` if there is
 /// no such key.
 fn read_value<'src>(
+    alloc: Global,
     name: Name<'src>,
     keys: &mut KeyMap<'src>,
     word: &str,
@@ -355,7 +366,7 @@ fn read_value<'src>(
         (new.required_at views_keys name.entry.token word.now (key_arguments keys.old)) }
     ensures removed { IsTaken word.now keys.old keys.new }
 {
-    match take_value(name, keys, word) {
+    match take_value(alloc, name, keys, word) {
         Ok(given) => {
             *value = given;
             Ok(())

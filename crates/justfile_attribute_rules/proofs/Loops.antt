@@ -1,7 +1,6 @@
 -- Loops over a list that make one value of each element.
 use Rattle.std.proofs.Common.{◌≡◌, ◌∙◌, List, [], ◌∷◌, ◌++◌, Bool, true, false, ◌||◌, Ok, Err, refl, sym, ap}
 use Rattle.std.specs.BTreeSet.{insert_key}
-use Rattle.std.specs.Global.{Box}
 use Rattle.std.specs.List.{filter, list_any}
 use Rattle.std.proofs.lemmas.List.{append_assoc}
 use denote.Enum.Bare.{sameb}
@@ -46,7 +45,7 @@ one_last [] l = refl
 one_last (x ∷ xs) l = ap (λ qs. quoted_leaf x ∷ qs) (one_last xs l)
 
 -- the next argument is a literal
-pub literal_turn : (at : Token) (made : List StringLiteral) (l : StringLiteral) (rest others : List (Token × Box Expression)) (p : Token × Box Expression) → rest ≡ p ∷ others
+pub literal_turn : (at : Token) (made : List StringLiteral) (l : StringLiteral) (rest others : List (Token × Expression)) (p : Token × Expression) → rest ≡ p ∷ others
     → placed_literal views_keys at (positional_leaf p) ≡ Ok (quoted_leaf l)
     → goes_on (placed_literal views_keys at) (quoted_leaves made) (positional_leaves rest)
     ≡ goes_on (placed_literal views_keys at) (quoted_leaves (made ++ l ∷ [])) (positional_leaves others)

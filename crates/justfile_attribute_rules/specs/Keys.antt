@@ -1,7 +1,6 @@
 -- The keys of an attribute, as a map holds them.
 use Rattle.std.specs.Prelude.{◌≡◌, ℕ, List, [], ◌∷◌, map, Option, if◌then◌else◌}
 use Rattle.std.specs.BTreeMap.{BTreeMap}
-use Rattle.std.specs.Global.{Box}
 use Rattle.std.specs.Option.{option_map}
 use denote.Ref.{Bor}
 use Rattle.justfile_token.specs.Token.{lexeme_of}
@@ -15,7 +14,7 @@ use Rattle.justfile_expression.specs.declared.expression.Expression.{Expression}
 
 -- a key and its optional value
 abbrev pub Given : Type 0
-Given = Name × Option (Box Expression)
+Given = Name × Option Expression
 
 -- keys by their texts
 abbrev pub KeyMap : Type 0
@@ -32,7 +31,7 @@ views_keys = record views_leaves { bytes = leaf_text }
 
 -- the key that a map has under this text; errors name its token
 abbrev pub keyed : (text : List ℕ) → Given → KeyArgument Leaf Token
-keyed text g = record { key = Command g.0.token text; value = option_map (λ e. leaf_tree_of e.value) g.1 }
+keyed text g = record { key = Command g.0.token text; value = option_map leaf_tree_of g.1 }
 
 abbrev pub key_argument : Bor (List ℕ) × Given → KeyArgument Leaf Token
 key_argument e = keyed e.0.now e.1

@@ -1,6 +1,5 @@
 -- What it means that the code's result agrees with the definitions: the same value, or an error for the same broken rule.
 use Rattle.std.specs.Prelude.{◌≡◌, ℕ, Bool, not, nat_lt, List, map, codes, Option, Some, None, Result, Ok, Err, if◌then◌else◌}
-use Rattle.std.specs.Global.{Box}
 use Rattle.justfile_vocabulary.specs.Signal.{signal_named}
 use Rattle.justfile_token.specs.declared.fault.Fault.{Fault}
 use Rattle.justfile_token.specs.declared.fault.Fault.TheVariants as faults
@@ -41,10 +40,10 @@ abbrev pub quoted_leaves : List StringLiteral → List (Quoted Leaf)
 quoted_leaves = map quoted_leaf
 
 -- a positional argument with its first token
-abbrev pub positional_leaf : Token × Box Expression → PositionalArgument Leaf Token
-positional_leaf p = record { first = p.0; value = leaf_tree_of p.1.value }
+abbrev pub positional_leaf : Token × Expression → PositionalArgument Leaf Token
+positional_leaf p = record { first = p.0; value = leaf_tree_of p.1 }
 
-abbrev pub positional_leaves : List (Token × Box Expression) → List (PositionalArgument Leaf Token)
+abbrev pub positional_leaves : List (Token × Expression) → List (PositionalArgument Leaf Token)
 positional_leaves = map positional_leaf
 
 -- the signal that a literal names, or the broken rule

@@ -82,10 +82,10 @@ fn read_rules<'src>(
         (rules_read name.entry.token (key_arguments keys.old) (rules_of rules.old)) }
 {
     read_names(alloc, name, keys, rules)?;
-    read_values(name, keys, rules)?;
+    read_values(alloc, name, keys, rules)?;
     read_switches(alloc, keys, rules)?;
     read_bounds(alloc, name, keys, rules)?;
-    read_help(name, keys, rules)
+    read_help(alloc, name, keys, rules)
 }
 
 /// Takes `long` and `short` out of the keys and sets both option names.
@@ -169,6 +169,7 @@ fn set_short<'src>(rules: &mut ArgumentRules<'src>, short: OptionName<'src>)
 /// Takes `pattern` and `value` out of the keys and sets both.
 #[tactic(auto, using(crate::proofs::Refused::refused_first))]
 fn read_values<'src>(
+    alloc: Global,
     name: Name<'src>,
     keys: &mut KeyMap<'src>,
     rules: &mut ArgumentRules<'src>,
@@ -177,8 +178,8 @@ fn read_values<'src>(
         (values_read name.entry.token (key_arguments keys.old) (rules_of rules.old)) }
     ensures rest { OnOk result (key_arguments keys.new ≡ after_values (key_arguments keys.old)) }
 {
-    rules.pattern_property = take_required(name, keys, "pattern")?;
-    rules.value = take_value(keys, rules)?;
+    rules.pattern_property = take_required(alloc, name, keys, "pattern")?;
+    rules.value = take_value(alloc, keys, rules)?;
     Ok(())
 }
 
@@ -233,6 +234,7 @@ fn set_bounds<'src>(
 /// Takes `help` out of the keys and sets it.
 #[tactic(auto, using(crate::proofs::Refused::refused_first))]
 fn read_help<'src>(
+    alloc: Global,
     name: Name<'src>,
     keys: &mut KeyMap<'src>,
     rules: &mut ArgumentRules<'src>,
@@ -240,7 +242,7 @@ fn read_help<'src>(
     ensures { Makes (λ _. rules_of rules.new) result
         (help_read name.entry.token (key_arguments keys.old) (rules_of rules.old)) }
 {
-    rules.help_property = take_required(name, keys, "help")?;
+    rules.help_property = take_required(alloc, name, keys, "help")?;
     Ok(())
 }
 

@@ -15,11 +15,12 @@ ghost use Rattle.justfile_attribute_rules.specs.Made.{IsFaultOfRule, Makes};
 use justfile_expression::Expression;
 use justfile_token::{CompileErrorKind, CompileResult, Fault, Name};
 use justfile_vocabulary::AttributeKind;
+use std::alloc::Global;
 use std::collections::BTreeMap;
 
 /// The keys of an attribute, by their texts. Each has its name, which errors name, and an optional
 /// value.
-pub type KeyMap<'src> = BTreeMap<&'src str, (Name<'src>, Option<Box<Expression<'src>>>)>;
+pub type KeyMap<'src> = BTreeMap<&'src str, (Name<'src>, Option<Expression<'src>>)>;
 
 /// The keys that `arg` accepts.
 static ARGUMENT_KEYS: [&str; 9] = [
@@ -29,12 +30,14 @@ static ARGUMENT_KEYS: [&str; 9] = [
 /// The keys that `cache` accepts.
 static CACHE_KEYS: [&str; 3] = ["extra", "inputs", "outputs"];
 
-/// Removes the key with this text and returns it with its value, or `None` if there is no such key.
+/// Removes the key with this text and returns it with its value in a box, or `None` if there is no
+/// such key.
 ///
 /// # Errors
 ///
-/// `Compile` at the key if it has no value.
+/// `Compile` at the key if it has no value; `Memory` if out of memory.
 pub fn take_required<'src>(
+    alloc: Global,
     name: Name<'src>,
     keys: &mut KeyMap<'src>,
     word: &str,
@@ -46,17 +49,19 @@ pub fn take_required<'src>(
 {
     match take(keys, word) {
         None => Ok(None),
-        Some((key, Some(value))) => Ok(Some((key, value))),
+        Some((key, Some(value))) => Ok(Some((key, Box::new(alloc, value)?))),
         Some((key, None)) => Err(missing_value_fault(key)),
     }
 }
 
-/// Removes the key with this text and returns its value, or `None` if there is no such key.
+/// Removes the key with this text and returns its value in a box, or `None` if there is no such
+/// key.
 ///
 /// # Errors
 ///
-/// `Compile` at the key if it has no value.
+/// `Compile` at the key if it has no value; `Memory` if out of memory.
 pub fn take_value<'src>(
+    alloc: Global,
     name: Name<'src>,
     keys: &mut KeyMap<'src>,
     word: &str,
@@ -67,7 +72,7 @@ pub fn take_value<'src>(
 {
     match take(keys, word) {
         None => Ok(None),
-        Some((_key, Some(value))) => Ok(Some(value)),
+        Some((_key, Some(value))) => Ok(Some(Box::new(alloc, value)?)),
         Some((key, None)) => Err(missing_value_fault(key)),
     }
 }
@@ -76,7 +81,7 @@ pub fn take_value<'src>(
 pub fn take<'src>(
     keys: &mut KeyMap<'src>,
     word: &str,
-) -> Option<(Name<'src>, Option<Box<Expression<'src>>>)>
+) -> Option<(Name<'src>, Option<Expression<'src>>)>
     ensures taken { option_map (keyed word.now) result
         ≡ at_key views_keys word.now (key_arguments keys.old) }
     ensures removed { IsTaken word.now keys.old keys.new }

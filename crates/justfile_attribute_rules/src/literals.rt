@@ -22,10 +22,10 @@ use std::alloc::Global;
 pub(crate) fn key_literal<'src>(
     name: Name<'src>,
     key: Name<'src>,
-    value: Box<Expression<'src>>,
+    value: Expression<'src>,
 ) -> CompileResult<'src, StringLiteral<'src>>
     ensures { Makes quoted_leaf result (new.literal views_keys name.entry.token
-        (Named key.entry.token None) (leaf_tree_of value.entry.value)) }
+        (Named key.entry.token None) (leaf_tree_of value.entry)) }
 {
     match literal_of(value) {
         Some(literal) => Ok(literal),
@@ -42,7 +42,7 @@ pub(crate) fn key_literal<'src>(
 pub fn string_literals<'src>(
     alloc: Global,
     name: Name<'src>,
-    arguments: Vec<(Token<'src>, Box<Expression<'src>>)>,
+    arguments: Vec<(Token<'src>, Expression<'src>)>,
 ) -> CompileResult<'src, Vec<StringLiteral<'src>>>
     ensures { Makes (λ literals. quoted_leaves literals.items) result (new.make_all
         (new.placed_literal views_keys name.entry.token)
@@ -64,7 +64,7 @@ pub fn string_literals<'src>(
 fn placed_literal<'src>(
     name: Name<'src>,
     first: Token<'src>,
-    value: Box<Expression<'src>>,
+    value: Expression<'src>,
 ) -> CompileResult<'src, StringLiteral<'src>>
     ensures { Makes quoted_leaf result (new.placed_literal views_keys name.entry.token
         (positional_leaf (first.entry, value.entry))) }
@@ -77,10 +77,10 @@ fn placed_literal<'src>(
 
 /// Returns the literal if the expression is one, and otherwise `None`.
 #[tactic(auto, using(crate::proofs::Quoted::not_quoted))]
-fn literal_of(value: Box<Expression<'_>>) -> Option<StringLiteral<'_>>
-    ensures { option_map quoted_leaf result ≡ quoted (leaf_tree_of value.entry.value) }
+fn literal_of(value: Expression<'_>) -> Option<StringLiteral<'_>>
+    ensures { option_map quoted_leaf result ≡ quoted (leaf_tree_of value.entry) }
 {
-    Box::into_inner(value).into_string_literal()
+    value.into_string_literal()
 }
 
 /// Returns the error, at `token`, for an expression that isn't a literal.

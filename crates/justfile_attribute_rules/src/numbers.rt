@@ -51,10 +51,10 @@ fn bound<'src>(
     alloc: Global,
     name: Name<'src>,
     key: Name<'src>,
-    value: Box<Expression<'src>>,
+    value: Expression<'src>,
 ) -> CompileResult<'src, Option<(Name<'src>, u64)>>
     ensures { Makes (option_map bound_at) result
-        (bound_made name.entry.token key.entry.token (leaf_tree_of value.entry.value)) }
+        (bound_made name.entry.token key.entry.token (leaf_tree_of value.entry)) }
 {
     let literal = key_literal(name, key, value)?;
     let number = read_count(alloc, key, &literal)?;

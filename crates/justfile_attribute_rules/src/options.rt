@@ -53,11 +53,11 @@ fn option_name<'src>(
     argument: &StringLiteral<'src>,
     is_short: bool,
     key: Name<'src>,
-    value: Box<Expression<'src>>,
+    value: Expression<'src>,
 ) -> CompileResult<'src, OptionName<'src>>
     ensures { Makes (λ p. option_of p.1 p.0) result
         (new.option_by views_keys name.entry.token (string_bytes argument.now.cooked) is_short
-        (Named key.entry.token None) (Some (leaf_tree_of value.entry.value))) }
+        (Named key.entry.token None) (Some (leaf_tree_of value.entry))) }
 {
     let literal = key_literal(name, key, value)?;
     check_option_name(alloc, argument, &literal)?;

@@ -17,12 +17,14 @@ use justfile_expression::Expression;
 use justfile_token::{CompileErrorKind, CompileResult, Fault, Name, Token};
 use std::alloc::Global;
 
-/// Removes the key `value` and returns its value.
+/// Removes the key `value` and returns its value in a box.
 ///
 /// # Errors
 ///
-/// `Compile` at the key if it has no value, or if the parameter isn't an option.
+/// `Compile` at the key if it has no value, or if the parameter isn't an option; `Memory` if out of
+/// memory.
 pub(crate) fn take_value<'src>(
+    alloc: Global,
     keys: &mut KeyMap<'src>,
     rules: &ArgumentRules<'src>,
 ) -> CompileResult<'src, Option<Box<Expression<'src>>>>
@@ -35,7 +37,7 @@ pub(crate) fn take_value<'src>(
         None => Ok(None),
         Some((key, None)) => Err(missing_value_fault(key)),
         Some((key, Some(value))) => match check_has_option(key, rules) {
-            Ok(()) => Ok(Some(value)),
+            Ok(()) => Ok(Some(Box::new(alloc, value)?)),
             Err(fault) => Err(fault),
         },
     }
@@ -71,7 +73,7 @@ pub(crate) fn take_flag<'src>(
 fn check_flag<'src>(
     alloc: Global,
     key: Name<'src>,
-    value: &Option<Box<Expression<'src>>>,
+    value: &Option<Expression<'src>>,
     rules: &ArgumentRules<'src>,
 ) -> CompileResult<'src>
     ensures { Makes (λ _. key.entry.token) result
@@ -124,7 +126,7 @@ pub(crate) fn take_multiple<'src>(
 /// Refuses a `multiple` that has a value, and one for a parameter that isn't an option.
 fn check_multiple<'src>(
     key: Name<'src>,
-    value: &Option<Box<Expression<'src>>>,
+    value: &Option<Expression<'src>>,
     rules: &ArgumentRules<'src>,
 ) -> CompileResult<'src>
     ensures { Makes (λ _. key.entry.token) result

@@ -1,6 +1,5 @@
 -- The arguments parsed so far, as the definitions see them.
 use Rattle.std.proofs.Common.{◌≡◌, ◌∙◌, ◌↔◌, ℕ, ◌==◌, Bool, true, false, cond, not, ◌&&◌, ◌||◌, IsTrue, List, [], ◌∷◌, ◌++◌, map, length, Some, None, refl, sym, ap, subst, true≢false, arith}
-use Rattle.std.specs.Global.{Box}
 use Rattle.std.specs.List.{list_any}
 use Rattle.std.specs.Option.{is_some, option_map}
 use Rattle.std.specs.Str.{bytes_eq}
@@ -27,7 +26,7 @@ Key = KeyArgument Leaf Token
 
 -- the key of a written argument
 abbrev pub key_of : Given → Key
-key_of g = record { key = Named g.0.token None; value = option_map (λ (e : Box Expression). leaf_tree_of e.value) g.1 }
+key_of g = record { key = Named g.0.token None; value = option_map leaf_tree_of g.1 }
 
 -- of a key alone
 keyed_first : (g : Given) (l : List (Argument Leaf Token)) → by_key (keyed_of g ∷ l) ≡ key_of g ∷ by_key l
@@ -38,7 +37,7 @@ keys_alone : (gs : List Given) → by_key (map keyed_of gs) ≡ map key_of gs
 keys_alone [] = refl
 keys_alone (g ∷ gs) = keyed_first g (map keyed_of gs) ∙ ap (λ (l : List Key). key_of g ∷ l) (keys_alone gs)
 
-keys_after : (ps : List (Token × Box Expression)) (gs : List Given) → by_key (map positional_of ps ++ map keyed_of gs) ≡ map key_of gs
+keys_after : (ps : List (Token × Expression)) (gs : List Given) → by_key (map positional_of ps ++ map keyed_of gs) ≡ map key_of gs
 keys_after [] gs = keys_alone gs
 keys_after (p ∷ ps) gs = keys_after ps gs
 
@@ -63,17 +62,17 @@ key_counted a = go a.keyed.items ∙ sym (key_first a)
 
 -- ---- no arguments
 
-abbrev IsNone : Bool → List (Token × Box Expression) → List Given → Type 0
+abbrev IsNone : Bool → List (Token × Expression) → List Given → Type 0
 IsNone b ps gs = IsTrue b ↔ (map positional_of ps ++ map keyed_of gs ≡ [])
 
-none_among : (b : Bool) (ps : List (Token × Box Expression)) (gs : List Given) → length ps ≡ 0 → b ≡ (length gs == 0) → IsNone b ps gs
+none_among : (b : Bool) (ps : List (Token × Expression)) (gs : List Given) → length ps ≡ 0 → b ≡ (length gs == 0) → IsNone b ps gs
 none_among b [] [] h k = (λ t. refl, λ e. k)
 none_among b [] (g ∷ gs) h k =
     let more : (length (g ∷ gs) == 0) ≡ false = grind (arith, nat_tests) in
     (λ t. absurd (true≢false (sym t ∙ k ∙ more)), λ e. absurd cc)
 none_among b (p ∷ ps) gs h k = absurd (omega (arith, h))
 
-some_among : (b : Bool) (ps : List (Token × Box Expression)) (gs : List Given) → (length ps ≡ 0 → ⊥) → b ≡ false → IsNone b ps gs
+some_among : (b : Bool) (ps : List (Token × Expression)) (gs : List Given) → (length ps ≡ 0 → ⊥) → b ≡ false → IsNone b ps gs
 some_among b [] gs h k = absurd (h refl)
 some_among b (p ∷ ps) gs h k = (λ t. absurd (true≢false (sym t ∙ k)), λ e. absurd cc)
 
@@ -106,13 +105,13 @@ none_keyed : (gs : List Given) → some_in (map key_of gs) ≡ false → map key
 none_keyed [] h = refl
 none_keyed (g ∷ gs) h = absurd (true≢false h)
 
-pub positional_last : (old new : Arguments) (first : Token) (e : Box Expression) → some_key (arguments_of old) ≡ false
+pub positional_last : (old new : Arguments) (first : Token) (e : Expression) → some_key (arguments_of old) ≡ false
     → new.positional.items ≡ old.positional.items ++ (first, e) ∷ [] → new.keyed.items ≡ old.keyed.items
-    → arguments_of new ≡ arguments_of old ++ tree.Positional first (leaf_tree_of e.value) ∷ []
+    → arguments_of new ≡ arguments_of old ++ tree.Positional first (leaf_tree_of e) ∷ []
 unfolding arguments_of
 positional_last old new first e none h k =
     let empty : map keyed_of old.keyed.items ≡ [] = none_keyed old.keyed.items (sym (key_first old) ∙ none) in
-    let P : List (Token × Box Expression) → List Given → List (Argument Leaf Token) = λ ps gs. map positional_of ps ++ map keyed_of gs in
+    let P : List (Token × Expression) → List Given → List (Argument Leaf Token) = λ ps gs. map positional_of ps ++ map keyed_of gs in
     let Q : List (Argument Leaf Token) → List (Argument Leaf Token) = λ gs. map positional_of old.positional.items ++ gs in
     (λ i. P (h i) (k i))
     ∙ ap (λ (gs : List (Argument Leaf Token)). map positional_of (old.positional.items ++ (first, e) ∷ []) ++ gs) empty
@@ -124,7 +123,7 @@ pub keyed_last : (old new : Arguments) (g : Given) → new.keyed.items ≡ old.k
     → arguments_of new ≡ arguments_of old ++ keyed_of g ∷ []
 unfolding arguments_of
 keyed_last old new g h k =
-    let P : List (Token × Box Expression) → List Given → List (Argument Leaf Token) = λ ps gs. map positional_of ps ++ map keyed_of gs in
+    let P : List (Token × Expression) → List Given → List (Argument Leaf Token) = λ ps gs. map positional_of ps ++ map keyed_of gs in
     (λ i. P (k i) (h i))
     ∙ ap (λ (l : List (Argument Leaf Token)). map positional_of old.positional.items ++ l) (map-append keyed_of old.keyed.items (g ∷ []))
     ∙ sym (append_assoc (map positional_of old.positional.items) (map keyed_of old.keyed.items) (keyed_of g ∷ []))

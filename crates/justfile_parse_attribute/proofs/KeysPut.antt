@@ -1,7 +1,6 @@
 -- Inserting keys into a map by their texts: the map makes the same attribute as the list of keys.
 use Rattle.std.proofs.Common.{◌≡◌, ◌∙◌, ℕ, List, [], ◌∷◌, ◌++◌, ◌⊎◌, inl, inr, map, Bool, true, false, not, ◌||◌, IsTrue, Some, None, refl, sym, ap, subst, true≢false}
 use Rattle.std.specs.BTreeMap.{insert_entry, values}
-use Rattle.std.specs.Global.{Box}
 use Rattle.std.specs.List.{All, AllByRecursion, Contains, list_any}
 use Rattle.std.specs.Map.{values_of}
 use Rattle.std.specs.Ordering.{match_ordering}
@@ -212,7 +211,7 @@ positions_alone [] = refl
 positions_alone ((name, None) ∷ gs) = positions_alone gs
 positions_alone ((name, Some e) ∷ gs) = positions_alone gs
 
-positions_after : (ps : List (Token × Box Expression)) (gs : List Given) → by_position (map positional_of ps ++ map keyed_of gs) ≡ positional_leaves ps
+positions_after : (ps : List (Token × Expression)) (gs : List Given) → by_position (map positional_of ps ++ map keyed_of gs) ≡ positional_leaves ps
 positions_after [] gs = positions_alone gs
 positions_after (p ∷ ps) gs = ap (λ (l : List (PositionalArgument Leaf Token)). positional_leaf p ∷ l) (positions_after ps gs)
 

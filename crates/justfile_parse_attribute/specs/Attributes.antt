@@ -1,6 +1,5 @@
 -- Attributes and their arguments as the definitions see them, while they are parsed.
 use Rattle.std.specs.Prelude.{List, ◌++◌, map, None}
-use Rattle.std.specs.Global.{Box}
 use Rattle.std.specs.Option.{option_copied, option_map}
 use Rattle.justfile_attribute.specs.Attribute.{leaf_attribute_of}
 use Rattle.justfile_attribute.specs.declared.attribute.Attribute.{Attribute}
@@ -15,12 +14,12 @@ use Rattle.justfile_parse_attribute.specs.declared.arguments.Arguments.{Argument
 use Rattle.justfile_written.specs.declared.written.Written.{Written}
 
 -- a positional argument, with its first token
-abbrev pub positional_of : Token × Box Expression → Argument Leaf Token
-positional_of p = tree.Positional p.0 (leaf_tree_of p.1.value)
+abbrev pub positional_of : Token × Expression → Argument Leaf Token
+positional_of p = tree.Positional p.0 (leaf_tree_of p.1)
 
 -- a keyword argument, with its value if it has one
 abbrev pub keyed_of : Given → Argument Leaf Token
-keyed_of k = argument_of_key (Named k.0.token None) (option_map (λ (e : Box Expression). leaf_tree_of e.value) k.1)
+keyed_of k = argument_of_key (Named k.0.token None) (option_map leaf_tree_of k.1)
 
 -- the arguments in the order in which they are written: no positional argument follows a keyword argument
 unfoldable pub arguments_of : Arguments → List (Argument Leaf Token)

@@ -1,6 +1,8 @@
 //! The arguments of an attribute while they are parsed.
 ghost use Rattle.std.specs.Prelude.{◌≡◌, ◌∷◌, ◌++◌, [], IsTrue, OnErr, OnOk, length, take};
+ghost use Rattle.std.specs.Option.{option_map};
 ghost use Rattle.justfile_token.specs.Token.{lexeme_of};
+ghost use Rattle.justfile_expression.specs.LeafTree.{leaf_tree_of};
 ghost use Rattle.justfile_parse_attribute.specs.ArgumentKeys.{AreTexts, are_keys_distinct, prop_texts};
 ghost use Rattle.justfile_parse_base.specs.TextSets.{HaveSame, texts_in};
 
@@ -15,9 +17,9 @@ use std::collections::BTreeSet;
 #[derive(Drop)]
 pub(crate) struct Arguments<'src> {
     /// The positional arguments, each with its first token.
-    pub(crate) positional: Vec<(Token<'src>, Box<Expression<'src>>)>,
+    pub(crate) positional: Vec<(Token<'src>, Expression<'src>)>,
     /// The keyword arguments, in their order.
-    pub(crate) keyed: Vec<(Name<'src>, Option<Box<Expression<'src>>>)>,
+    pub(crate) keyed: Vec<(Name<'src>, Option<Expression<'src>>)>,
     /// The texts of the keys.
     pub(crate) texts: BTreeSet<&'src str>,
     ghost distinct: { IsTrue (are_keys_distinct keyed.items) },
@@ -82,7 +84,7 @@ impl<'src> Arguments<'src> {
         ensures { UnlessMemory result (λ done. arguments_of self.new ≡ arguments_of self.old
             ++ tree.Positional first.entry (leaf_tree_of value.entry.value) ∷ []) }
     {
-        self.positional.push((first, value))?;
+        self.positional.push((first, Box::into_inner(value)))?;
         Ok(())
     }
 
@@ -100,13 +102,23 @@ impl<'src> Arguments<'src> {
             (option_map (λ e. leaf_tree_of e.value) value.entry) ∷ []) }
     {
         let count = self.keyed.len();
-        match push_key(&mut self.keyed, &mut self.texts, key, value) {
+        match push_key(&mut self.keyed, &mut self.texts, key, unboxed(value)) {
             Ok(()) => Ok(()),
             Err(_failed) => {
                 self.keyed.truncate(count);
                 Err(ExpressionError::Memory)
             }
         }
+    }
+}
+
+/// Takes an optional expression out of its box.
+fn unboxed<'src>(value: Option<Box<Expression<'src>>>) -> Option<Expression<'src>>
+    ensures { option_map leaf_tree_of result ≡ option_map (λ e. leaf_tree_of e.value) value.entry }
+{
+    match value {
+        Some(value) => Some(Box::into_inner(value)),
+        None => None,
     }
 }
 
@@ -117,10 +129,10 @@ impl<'src> Arguments<'src> {
 /// `AllocError` if memory runs out.
 #[tactic(auto, using(crate::proofs::ArgumentTexts::begins_pushed, crate::proofs::ArgumentTexts::begins_same))]
 fn push_key<'src>(
-    keyed: &mut Vec<(Name<'src>, Option<Box<Expression<'src>>>)>,
+    keyed: &mut Vec<(Name<'src>, Option<Expression<'src>>)>,
     texts: &mut BTreeSet<&'src str>,
     key: Name<'src>,
-    value: Option<Box<Expression<'src>>>,
+    value: Option<Expression<'src>>,
 ) -> Result<(), AllocError>
     ensures pushed { OnOk result (keyed.new.items
         ≡ keyed.old.items ++ (key.entry, value.entry) ∷ []) }

@@ -127,7 +127,7 @@ fn new_attribute<'src>(
 #[tactic(auto, using(crate::proofs::KeysPut::none_put, crate::proofs::KeysPut::one_put, crate::proofs::KeysPut::all_put))]
 fn keys_by_text<'src>(
     alloc: Global,
-    keyed: Vec<(Name<'src>, Option<Box<Expression<'src>>>)>,
+    keyed: Vec<(Name<'src>, Option<Expression<'src>>)>,
 ) -> Result<KeyMap<'src>, AllocError>
     requires { IsTrue (are_keys_distinct keyed.items) }
     ensures { IfOk result (λ keys. HasKeys keyed.entry.items keys) }
@@ -144,7 +144,7 @@ fn keys_by_text<'src>(
 #[tactic(auto, using(crate::proofs::PutKeys::same_keyed))]
 fn insert_key<'src>(
     keys: &mut KeyMap<'src>,
-    given: (Name<'src>, Option<Box<Expression<'src>>>),
+    given: (Name<'src>, Option<Expression<'src>>),
 ) -> Result<(), AllocError>
     requires { AreKeyed keys.old }
     ensures ok { OnOk result (IsInserted given.entry keys.old keys.new) }

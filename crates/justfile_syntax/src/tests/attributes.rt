@@ -44,12 +44,11 @@ fn arguments<'src>(
     alloc: Global,
     name: Name<'src>,
     count: usize,
-) -> Vec<(Token<'src>, Box<Expression<'src>>)> {
+) -> Vec<(Token<'src>, Expression<'src>)> {
     let mut arguments = Vec::new(alloc);
     for _ in 0..count {
         let variable = Expression::Variable { name, number: None };
-        let value = Box::new(alloc, variable).expect(rt, "no memory");
-        arguments.push((*name, value)).expect(rt, "no memory");
+        arguments.push((*name, variable)).expect(rt, "no memory");
     }
     arguments
 }
@@ -58,7 +57,7 @@ fn arguments<'src>(
 fn insert<'src>(
     keys: &mut KeyMap<'src>,
     text: &'src str,
-    given: (Name<'src>, Option<Box<Expression<'src>>>),
+    given: (Name<'src>, Option<Expression<'src>>),
 ) -> Result<(), AllocError> {
     match keys.insert(text, given) {
         Ok(_before) => Ok(()),
@@ -132,8 +131,7 @@ fn compare_found<'src>(rt: &impl Abort, alloc: Global, name: Name<'src>, given: 
         name: given,
         number: None,
     };
-    let value = Box::new(alloc, variable).expect(rt, "no memory");
-    insert(&mut keys, "inputs", (given, Some(value))).expect(rt, "no memory");
+    insert(&mut keys, "inputs", (given, Some(variable))).expect(rt, "no memory");
     let kind = AttributeKind::Cache;
     match Attribute::new(alloc, name, kind, Vec::new(alloc), keys) {
         Ok(attribute) => compare_text(rt, alloc, &attribute, "cache(inputs=given)"),
