@@ -8,3 +8,4 @@ pub mod KnownLabels
 pub mod PlainAttributes
 pub mod RepeatedAttributes
 pub mod DerivedFieldsKept
+pub mod GroupAttributes
