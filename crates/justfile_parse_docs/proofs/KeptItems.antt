@@ -2,7 +2,7 @@
 use Rattle.std.proofs.Common.{◌≡◌, ◌∙◌, ℕ, ◌+◌, ◌-◌, ◌<◌, ◌≤◌, ◌⊎◌, inl, inr, Bool, true, false, cond, All, List, [], ◌∷◌, ◌++◌, drop, length, map, get_or, set, take, Option, Some, None, reverse, refl, sym, ap, subst, arith}
 use Rattle.std.specs.List.{swap, take-map}
 use Rattle.std.proofs.Math.Nat.{eq-or-lt_of_le}
-use Rattle.std.proofs.lemmas.List.{drop_all, drop_more, drop-set-lt, get_or-set_same, length-map, length-reverse, length-set, length-take, length-take-le, map-append, set-get_or, take-append-drop, take-append-le, take-set, take-set-le, take_more_set}
+use Rattle.std.proofs.lemmas.List.{drop_all, drop_more, drop-set-lt, get_or-set_same, length-map, length-reverse, length-set, length-take, length-take-le, map-append, take-append-drop, take-append-le, take-set, take-set-le, take_more_set}
 use Rattle.std.proofs.lemmas.List.Edits.{swap_is}
 use Rattle.std.proofs.lemmas.List.Elements.{All-set, All-take}
 use Rattle.std.proofs.lemmas.List.Sorted.{All-permutation, IsPermutation-swap}
@@ -15,12 +15,6 @@ use Rattle.justfile_parse_docs.specs.Docs.{LeafItem, doc_before, doc_first, doc_
 use Rattle.justfile_parse_docs.proofs.DocSteps.{line_end}
 use Rattle.justfile_parse_item.specs.Tree.{item_tree}
 use Rattle.justfile_parse_item.specs.DerivedFields.{HaveDerivedFields, HasDerivedItemFields}
-
--- an element that changes places with itself stays
-pub swap_same : {X : Type 0} (xs : List X) (k p : ℕ) (d : X) → k ≡ p → p < length xs → xs ≡ swap xs k p
-swap_same xs k p d same within =
-    let here = subst (λ n. n < length xs) (sym same) within in
-    sym (set-get_or xs k d) ∙ ap (λ l. set l k (get_or xs k d)) (sym (set-get_or xs k d)) ∙ swap_is xs k k d here here ∙ ap (λ n. swap xs k n) same
 
 -- ---- an element that changes places with one before it
 

@@ -1,6 +1,6 @@
 //! The docs of recipes and modules: the comments before them.
 ghost use Rattle.std.specs.Prelude.{◌≡◌, ◌+◌, ◌≤◌, ◌&&◌, IfOk, IsTrue, OnOk, Some, codes, map, nat_eq, not, string_bytes, true};
-ghost use Rattle.std.specs.List.{starts_with, swap};
+ghost use Rattle.std.specs.List.{starts_with};
 ghost use Rattle.std.specs.Option.{is_some, option_map};
 ghost use Rattle.justfile_attribute_set.specs.AttributeSet.{attributes_of};
 ghost use Rattle.justfile_attribute_set.specs.Attributes.{has_kind};
@@ -96,19 +96,8 @@ fn move_item(
             return Ok(kept - 1);
         }
     }
-    move_to(items, kept, index);
+    items.swap(kept, index);
     Ok(kept + 1)
-}
-
-/// Swaps the item at `index` with the one at `kept`, unless they are one item, as most are.
-#[tactic(auto, using(crate::proofs::KeptItems::swap_same))]
-fn move_to(items: &mut Vec<Item<'_>>, kept: usize, index: usize)
-    requires { IsNextItem kept index items.old }
-    ensures { items.new.items ≡ swap items.old.items kept index }
-{
-    if kept != index {
-        items.swap(kept, index);
-    }
 }
 
 /// Sets the doc of a module or recipe.

@@ -37,7 +37,7 @@ returns-in-Some-clause-whole c =
 
 pub returns-clause-trees : goal.returns-clause-trees
 returns-clause-trees c =
-    kept_plain c.args.items.now.items c.args.kept c.args.index c.index.result.now c.requires.order (omega (arith, c.requires.within, c.args.items.now.ok.0)) c.index.ensures c.move_to.new.items.items c.move_to.ensures
+    kept_plain c.args.items.now.items c.args.kept c.args.index c.index.result.now c.requires.order (omega (arith, c.requires.within, c.args.items.now.ok.0)) c.index.ensures c.swap-2.new.self.items c.swap-2.ensures.items
     (elim c.if-can_take_doc.branch [
       | then-can_take_doc+in_default w ↦ none_taken _ _ (ap (λ (l : List Item). doc_before (map item_tree (take c.args.kept l))) (sym w.deref.ensures.value) ∙ sym w.find_doc.ensures ∙ ap (option_map _) w.in_default.is)
       | else-can_take_doc w ↦ takes_no_doc _ _ (sym c.can_take_doc.ensures ∙ w.if-can_take_doc.false)
@@ -45,5 +45,5 @@ returns-clause-trees c =
 
 pub returns-clause-whole : goal.returns-clause-whole
 returns-clause-whole c =
-    let fields = swapped_fields c.args.items.now.items c.move_to.new.items.items c.args.kept c.args.index (omega (arith, c.requires.order, c.requires.within, c.args.items.now.ok.0)) (omega (arith, c.requires.within, c.args.items.now.ok.0)) c.move_to.ensures c.requires.fields in
+    let fields = swapped_fields c.args.items.now.items c.swap-2.new.self.items c.args.kept c.args.index (omega (arith, c.requires.order, c.requires.within, c.args.items.now.ok.0)) (omega (arith, c.requires.within, c.args.items.now.ok.0)) c.swap-2.ensures.items c.requires.fields in
     record { len = first_of (grind (arith, common_steps), search rules); fields = fields }
