@@ -3,9 +3,10 @@ use Rattle.std.proofs.Common.{◌≡◌, ◌∙◌, List, [], ◌∷◌, ◌++�
 use Rattle.std.specs.Global.{Box}
 use Rattle.justfile_attribute.specs.Attribute.{leaf_attribute_of}
 use Rattle.justfile_attribute.specs.declared.attribute.Attribute.{Attribute}
-use Rattle.justfile_attribute_rules.specs.Made.{IsFaultOfRule, quoted_leaf}
+use Rattle.justfile_attribute_rules.specs.Made.{IsFaultOfRule, IsRefusedBy, quoted_leaf}
 use Rattle.justfile_vocabulary.specs.declared.attribute_kind.AttributeKind.TheVariants as kinds
 use Rattle.justfile_token.specs.declared.fault.Fault.{Fault}
+use Rattle.justfile_token.specs.declared.fault.Fault.TheVariants as faults
 use Rattle.justfile_token.specs.declared.name.Name.{Name}
 use Rattle.justfile_token.specs.declared.string_literal.StringLiteral.{StringLiteral}
 use Rattle.justfile_token.specs.declared.token.Token.{Token}
@@ -50,7 +51,23 @@ group_is at first value = go (quoted value)
     go None = refl
     go (Some q) = refl
 
-pub group_made : (at : Token) (given : List (Argument Leaf Token)) (p : Placed) (o : Option (Quoted Leaf)) → given ≡ positional_of p ∷ [] → o ≡ quoted (leaf_tree_of p.1.value)
-    → new_attribute views_leaves at kinds.Group (by_position given) (by_key given) ≡ of_literal at p.0 o
-group_made at given p o e is =
-    (λ i. new_attribute views_leaves at kinds.Group (by_position (e i)) (by_key (e i))) ∙ group_is at p.0 (leaf_tree_of p.1.value) ∙ ap (of_literal at p.0) (sym is)
+-- where it is the only argument
+module _ (at : Token) (given : List (Argument Leaf Token)) (p : Placed) (only : given ≡ positional_of p ∷ []) where
+  abbrev made : Made Token (tree.Attribute Leaf Token)
+  made = new_attribute views_leaves at kinds.Group (by_position given) (by_key given)
+
+  made_is : (o : Option (Quoted Leaf)) → o ≡ quoted (leaf_tree_of p.1.value) → made ≡ of_literal at p.0 o
+  made_is o is =
+      (λ i. new_attribute views_leaves at kinds.Group (by_position (only i)) (by_key (only i))) ∙ group_is at p.0 (leaf_tree_of p.1.value) ∙ ap (of_literal at p.0) (sym is)
+
+  pub group_added : (l : StringLiteral) (result : Result (Unit {0}) Fault) (name : Name) (old new : List (Attribute × Written)) → Some (quoted_leaf l) ≡ quoted (leaf_tree_of p.1.value)
+      → Adds leaf_attribute_of result (Ok (tree.Texts kinds.Group (quoted_leaf l ∷ []))) name old new → Adds leaf_attribute_of result made name old new
+  group_added l result name old new is added = subst (λ m. Adds leaf_attribute_of result m name old new) (sym (made_is (Some (quoted_leaf l)) is)) added
+
+  pub group_refused : (fault : Fault) → None ≡ quoted (leaf_tree_of p.1.value) → IsFaultOfRule (AttributeArgumentExpression at) p.0 fault → IsRefusedBy made fault
+  group_refused fault is refused = subst (λ m. IsRefusedBy m fault) (sym (made_is None is)) (go fault refused)
+    where
+      go : (f : Fault) → IsFaultOfRule (AttributeArgumentExpression at) p.0 f → IsRefusedBy (of_literal at p.0 None) f
+      go faults.Memory h = h
+      go faults.Numbers h = h
+      go (faults.Compile e) h = h

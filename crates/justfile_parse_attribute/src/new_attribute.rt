@@ -104,9 +104,10 @@ fn push_group<'src>(
     arguments: Arguments<'src>,
 ) -> CompileResult<'src>
     requires { IsSingle arguments }
-    ensures added { Adds leaf_attribute_of result (new.new_attribute views_leaves name.entry.token kinds.Group
-        (by_position (arguments_of arguments.entry)) (by_key (arguments_of arguments.entry)))
-        name.entry attributes.old.items attributes.new.items }
+    ensures added { Adds leaf_attribute_of result (new.new_attribute views_leaves name.entry.token
+        kinds.Group (by_position (arguments_of arguments.entry))
+        (by_key (arguments_of arguments.entry))) name.entry attributes.old.items
+        attributes.new.items }
     ensures fields { OnOk result
         (KeepsDerivedPairFields attributes.old.items attributes.new.items) }
     ensures kept { OnErr result (attributes.new.items ≡ attributes.old.items) }
@@ -123,12 +124,14 @@ fn push_group<'src>(
 /// # Errors
 ///
 /// `Memory` if memory runs out.
+#[tactic(auto, using(crate::proofs::RepeatedAttributes::made_added))]
 fn push_group_named<'src>(
     attributes: &mut Vec<(Attribute<'src>, Written<'src>)>,
     name: Name<'src>,
     group: StringLiteral<'src>,
 ) -> CompileResult<'src>
-    ensures added { Adds leaf_attribute_of result (Ok (tree.Texts kinds.Group (quoted_leaf group.entry ∷ []))) name.entry
+    ensures added { Adds leaf_attribute_of result
+        (Ok (tree.Texts kinds.Group (quoted_leaf group.entry ∷ []))) name.entry
         attributes.old.items attributes.new.items }
     ensures fields { OnOk result
         (KeepsDerivedPairFields attributes.old.items attributes.new.items) }
@@ -155,7 +158,8 @@ fn not_literal_fault<'src>(name: Name<'src>, first: Token<'src>) -> Fault<'src>
     Fault::Compile(first.error(CompileErrorKind::AttributeArgumentExpression { attribute: name }))
 }
 
-/// Appends an attribute without a comment.
+/// Appends an attribute without a comment. Reserves room first, since a push that can fail would
+/// return the attribute on failure, which costs one more copy.
 ///
 /// # Errors
 ///
