@@ -70,8 +70,17 @@ fn make_line_end(item: &mut Item<'_>)
 {
     match item {
         Item::Newline => {}
-        _ => *item = Item::Newline,
+        _ => set_line_end(item),
     }
+}
+
+/// Replaces an item by a line end. It is a function of its own, since the locals for what is dropped
+/// are cleared wherever it is inlined.
+#[inline(never)]
+fn set_line_end(item: &mut Item<'_>)
+    ensures { item.new ≡ variants.Newline }
+{
+    *item = Item::Newline;
 }
 
 /// Does what `keep_item` does for an item that isn't a line end: swaps it with the item at its new
