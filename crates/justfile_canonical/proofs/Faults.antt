@@ -54,10 +54,3 @@ lacking path source fault root is =
           h.1 limit tree features derives
           (subst (λ n. NumbersSuffice n (recipes_of root.old) tree) (sym root.from_zero.no_binding) (subst (λ n. NumbersSuffice 0 n tree) (sym root.from_zero.no_recipe) enough));
     }
-
--- a file of the text that isn't printed
-pub unprinted : (path source : List ℕ) (ast : Ast) (f : FormatFault) → IsFileOf source ast → IsFaultOfPrinting ast f → IsFormatFaultOf path source f
-unprinted path source ast faults.NotPrintable file h = record { tree = _; features = _; derives = file.derives; cannot_be_printed = h }
-unprinted path source ast faults.Memory file h = tt
-unprinted path source ast (faults.Rejected rejection) file h = absurd h
-unprinted path source ast faults.Numbers file h = absurd h

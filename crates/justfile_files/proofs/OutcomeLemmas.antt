@@ -307,9 +307,6 @@ module _ (formats : List ℕ → List ℕ → Type 0) (rejects : List ℕ → Li
       pub reported : FoldsTo (Takes writes loses) output_old (map report_of outcomes) output_new
       pub told : FoldsTo tells errors_old (flat_map messages_of outcomes) errors_new
 
-    pub none_yet : (files : Files) (output : O) (errors : E) → AllReported [] files files output output errors errors 0
-    none_yet files output errors = record { outcomes = []; each = tt; all = All-nil IsReported; files = λ name. inl refl; status_is = refl; reported = refl; told = refl }
-
     all_reported : {names : List (List ℕ)} {old new : Files} {a b : O} {errors_old errors_new : E} {status : ℕ}
         → AllReported names old new a b errors_old errors_new status → HasOutcomes formats rejects task writes loses tells names old new a b errors_old errors_new status
     all_reported {names} h = record {
@@ -457,15 +454,6 @@ module _ (formats : List ℕ → List ℕ → Type 0) (rejects : List ℕ → Li
         told (failures.NotUtf8 place) e t = one_told (failures.NotUtf8 place) e t
         told (failures.Exhausted what) e t = one_told (failures.Exhausted what) e t
         told (failures.Replacing error) e t = one_told (failures.Replacing error) e t
-
-    pub result_formatted : (source : List ℕ) → IfSome (old name) (λ x. source ≡ x) → formats source source → KeepsFiles old new → b ≡ a
-        → HasResult formats rejects task writes loses name old new a b (Ok true)
-    result_formatted source is f kept same messages t = (
-      formatted,
-      record { is = (source, known_as source (old name) (new name) (kept name) is, f); files = changes_none [] old new kept; reported = same },
-      sym t,
-      refl,
-    )
 
     pub result_rejected : (source : List ℕ) (lines : String Global) → IfSome (old name) (λ x. source ≡ x) → rejects (visible_name name) source (string_bytes lines) → KeepsFiles old new
         → b ≡ a → HasResult formats rejects task writes loses name old new a b (Err (failures.Rejected lines))

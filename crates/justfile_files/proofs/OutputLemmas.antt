@@ -5,12 +5,6 @@ use Rattle.std.proofs.KnownBytes.{Appends-kept, Appends-nil, Appends-trans}
 use Rattle.std.proofs.lemmas.List.{take_all}
 use Rattle.justfile_files.specs.Output.{AppendsBeginning}
 
-pub whole : (old new : Option (List ℕ)) (text : List ℕ) → Appends old new text → AppendsBeginning old new text
-whole old new text h = record { written = text; rest = []; is = sym (append-nil text); appended = h }
-
-pub none : (output : Option (List ℕ)) (text : List ℕ) → AppendsBeginning output output text
-none output text = record { written = []; rest = text; is = refl; appended = Appends-nil output }
-
 -- the first bytes were written, or none or all of them
 pub front : (old new : Option (List ℕ)) (text : List ℕ) (count : ℕ) → Appends old new (take count text) → AppendsBeginning old new text
 front old new text count h = record { written = take count text; rest = drop count text; is = sym (take-append-drop count text); appended = h }

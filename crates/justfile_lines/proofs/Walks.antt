@@ -102,7 +102,3 @@ position_back encoding text offset line column at start e f bound = record {
       (last_of_itself encoding text offset at (subst (λ (n : ℕ). IsStart text n at) e start) bound));
   after = λ lt. absurd (omega (arith, line_at-le text offset));
 }
-
--- no offset is in a line after the last
-pub none_after : (text : List ℕ) (line other : ℕ) → feeds text < line → (P : Type 0) → line_at text other ≡ line → P
-none_after text line other h P e = absurd (omega (arith, line_at-le text other))

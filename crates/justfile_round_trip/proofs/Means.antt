@@ -53,8 +53,8 @@ same_content (tree.Recipe parts) = λ i. tree.Recipe (record {
   };
   comment = parts.comment;
   body = parts.body;
-same_content _ = refl
 })
+same_content _ = refl
 
 module _ (view : LeafView (List ℕ) (Unit {0})) where
   abbrev pub meant_item : ShapeWritten → ShapeItem
