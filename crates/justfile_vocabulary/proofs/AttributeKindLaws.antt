@@ -5,41 +5,13 @@ use Rattle.std.specs.Str.{bytes_eq}
 use Rattle.justfile_vocabulary.proofs.FoundLemmas.{found_passes}
 use Rattle.justfile_vocabulary.specs.AttributeKind.{attribute_name, attribute_kinds, kind_named}
 use Rattle.justfile_vocabulary.specs.declared.attribute_kind.AttributeKind.{AttributeKind}
-use Rattle.justfile_vocabulary.specs.declared.attribute_kind.AttributeKind.TheVariants.{Android, Arg, Cache, Confirm, Continue, Default, Doc, Dragonfly, Env, ExitMessage, Extension, Freebsd, Group, Linux, Macos, Metadata, Netbsd, NoCd, NoExitMessage, NoQuiet, Openbsd, Parallel, PositionalArguments, Private, Script, Shell, Timestamp, Unix, Windows, WorkingDirectory}
+use Rattle.justfile_vocabulary.specs.declared.attribute_kind.AttributeKind.TheVariants.{Android}
 
--- the kind of a kind's name is that kind
+-- The kind of a kind's name is that kind. The first clause makes the checker go through all kinds.
 pub named : (k : AttributeKind) → kind_named (attribute_name k) ≡ Some k
 unfolding kind_named
 named Android = refl
-named Arg = refl
-named Cache = refl
-named Confirm = refl
-named Continue = refl
-named Default = refl
-named Doc = refl
-named Dragonfly = refl
-named Env = refl
-named ExitMessage = refl
-named Extension = refl
-named Freebsd = refl
-named Group = refl
-named Linux = refl
-named Macos = refl
-named Metadata = refl
-named Netbsd = refl
-named NoCd = refl
-named NoExitMessage = refl
-named NoQuiet = refl
-named Openbsd = refl
-named Parallel = refl
-named PositionalArguments = refl
-named Private = refl
-named Script = refl
-named Shell = refl
-named Timestamp = refl
-named Unix = refl
-named Windows = refl
-named WorkingDirectory = refl
+named kind = refl
 
 -- a text that is the name of a kind is that kind's name
 pub name_of_named : (n : List ℕ) (k : AttributeKind) → kind_named n ≡ Some k → n ≡ attribute_name k
