@@ -8,8 +8,8 @@ use justfile_vocabulary::{AttributeKind, Keyword};
 use std::alloc::{AllocError, Global};
 
 /// The keywords that items begin with.
-const ITEM_KEYWORDS: [&str; 8] = [
-    "alias", "eager", "export", "import", "lazy", "mod", "set", "unexport",
+const ITEM_KEYWORDS: [&str; 7] = [
+    "alias", "eager", "export", "import", "mod", "set", "unexport",
 ];
 
 /// Returns what can be written at an offset.
