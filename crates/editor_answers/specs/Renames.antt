@@ -1,5 +1,6 @@
 -- What is answered to a request to replace a name.
-use Rattle.std.specs.Prelude.{◌≡◌, ℕ, List, All, filter, map, string_bytes}
+use Rattle.std.specs.Prelude.{◌≡◌, ℕ, List, Some, All, filter, map, string_bytes}
+use Rattle.std.specs.List.{find}
 use Rattle.justfile_lines.specs.Positions.{IsOffset}
 use Rattle.justfile_lines.specs.declared.encoding.Encoding.{Encoding}
 use Rattle.justfile_lines.specs.declared.position.Position.{Position}
@@ -7,16 +8,15 @@ use Rattle.text_edits.specs.declared.edit.Range.{Range}
 use Rattle.text_edits.specs.declared.edit.TextEdit.{TextEdit}
 use Rattle.editor_messages.specs.declared.answer.Answer.{Answer}
 use Rattle.editor_messages.specs.declared.answer.Answer.TheVariants.{Rename}
-use Rattle.editor_language.specs.Mentions.{IsAt, IsOneOf, is_like}
+use Rattle.editor_language.specs.Mentions.{is_at, is_like}
 use Rattle.editor_language.specs.declared.mention.Mention.{Mention}
 use Rattle.editor_answers.specs.Ranges.{range_of}
 
--- the name is mentioned at a position
+-- the first name that is mentioned at a position
 pub record IsNameAt (encoding : Encoding) (text : List ℕ) (mentions : List Mention) (position : Position) (name : Mention) : Type 0 where
   pub offset : ℕ
   pub is_offset : IsOffset encoding text position offset
-  pub is_one : IsOneOf mentions name
-  pub is_at : IsAt offset name
+  pub is_found : find (is_at offset) mentions ≡ Some name
 
 -- these edits put the new text in the place of each range
 pub record PutInto (ranges : List Range) (new : List ℕ) (edits : List TextEdit) : Type 0 where

@@ -62,7 +62,8 @@ fn places(alloc: Global, shown: &Shown<'_>, uri: &str, spans: &[Span]) -> Result
     Ok(Answer::Places(uri, ranges))
 }
 
-/// Returns the mention at a position.
+/// Returns the first mention at a position.
+#[tactic(auto, using(crate::proofs::Found::found_at))]
 pub(crate) fn name_at<'a>(
     shown: &Shown<'_>,
     mentions: &'a [Mention],
@@ -85,7 +86,7 @@ pub(crate) fn replaceable(
     Ok(Answer::Place(shown.range(name.span)))
 }
 
-/// Returns the mention at a position of a name that is defined in the document.
+/// Returns the first mention at a position, of a name that is defined in the document.
 fn defined_name<'a>(
     shown: &Shown<'_>,
     mentions: &'a [Mention],

@@ -1,5 +1,5 @@
 -- Mentions of names.
-use Rattle.std.specs.Prelude.{◌≡◌, ℕ, ◌<◌, ◌≤◌, Bool, false, true, ◌&&◌, ◌==◌, List, length, get_or, Option, None, Some, string_bytes}
+use Rattle.std.specs.Prelude.{ℕ, Bool, false, true, ◌&&◌, ◌==◌, nat_le, Option, None, Some, string_bytes}
 use Rattle.std.specs.Str.{bytes_eq}
 use Rattle.editor_language.specs.declared.mention.Mention.{Mention}
 use Rattle.editor_language.specs.declared.mention.Role.{Role}
@@ -22,13 +22,6 @@ abbrev pub is_like : (first second : Mention) → Bool
 is_like first second =
     role_number first.role == role_number second.role && same_scope first.scope second.scope && bytes_eq (string_bytes first.name) (string_bytes second.name)
 
--- the mention is one of these
-pub record IsOneOf (mentions : List Mention) (m : Mention) : Type 0 where
-  pub index : ℕ
-  pub within : index < length mentions
-  pub is : m ≡ get_or mentions index m
-
--- the offset is in the mention, or at its end
-pub record IsAt (offset : ℕ) (m : Mention) : Type 0 where
-  pub after_start : m.span.start ≤ offset
-  pub before_end : offset ≤ m.span.end
+-- whether the offset is in the mention, or at its end
+abbrev pub is_at : (offset : ℕ) → Mention → Bool
+is_at offset m = nat_le m.span.start offset && nat_le offset m.span.end

@@ -1,6 +1,8 @@
 //! Where names are defined and used.
-ghost use Rattle.std.specs.Prelude.{◌≡◌, IfOk, IfSome, filter, map, true};
-ghost use Rattle.editor_language.specs.Mentions.{IsAt, IsOneOf, is_like, role_number, same_scope};
+ghost use Rattle.std.specs.Prelude.{◌≡◌, ◌&&◌, IfOk, filter, map};
+ghost use Rattle.std.specs.List.{find};
+ghost use Rattle.std.specs.Option.{option_copied};
+ghost use Rattle.editor_language.specs.Mentions.{is_at, is_like, role_number, same_scope};
 
 use crate::parts::Span;
 use std::alloc::{AllocError, Global};
@@ -47,17 +49,18 @@ pub struct Mention {
     pub defines: bool,
 }
 
+/// Whether an offset is in a mention, or at its end.
+fn is_at(mention: &Mention, offset: usize) -> bool
+    ensures { result ≡ is_at offset mention.now }
+{
+    mention.span.start <= offset && offset <= mention.span.end
+}
+
 /// Returns the first mention that an offset is in, or at the end of.
 pub fn mention_at(mentions: &[Mention], offset: usize) -> Option<&Mention>
-    ensures one { IfSome result (λ found. IsOneOf mentions.now found.now) }
-    ensures at { IfSome result (λ found. IsAt offset found.now) }
+    ensures { option_copied result ≡ find (is_at offset) mentions.now }
 {
-    for mention in mentions {
-        if mention.span.start <= offset && offset <= mention.span.end {
-            return Some(mention);
-        }
-    }
-    None
+    mentions.iter().find(|mention| is_at(mention, offset))
 }
 
 /// Whether two scopes are the same.
@@ -102,16 +105,11 @@ pub fn mentions_like(
     Ok(spans)
 }
 
-/// Returns the mention that defines a name, if one does.
+/// Returns the first mention that defines a name, if one does.
 pub fn definition_of<'a>(mentions: &'a [Mention], name: &Mention) -> Option<&'a Mention>
-    ensures one { IfSome result (λ found. IsOneOf mentions.now found.now) }
-    ensures defines { IfSome result (λ found. found.now.defines ≡ true) }
-    ensures like { IfSome result (λ found. is_like name.now found.now ≡ true) }
+    ensures { option_copied result ≡ find (λ m. m.defines && is_like name.now m) mentions.now }
 {
-    for mention in mentions {
-        if mention.defines && is_like(name, mention) {
-            return Some(mention);
-        }
-    }
-    None
+    mentions
+        .iter()
+        .find(|mention| mention.defines && is_like(name, mention))
 }
