@@ -3,13 +3,16 @@
 
 Edits a justfile at random, by ranges, in both encodings. After each edit what the server says of it must be what it
 says of the whole text of a document that was just opened, and at the end what a new server says. The formatting edits
-must lead to a text that has no more edits. Then it sends what is no message, and asks again. Prints a line for each
-part, and ends with 1 at the first difference.
+must lead to a text that has no more edits. Before that it sends what is no message, and asks again, and follows links
+to files that are there. Prints a line for each part, and ends with 1 at the first difference.
 """
 import json
 import random
 import subprocess
 import sys
+import tempfile
+from pathlib import Path
+from urllib.parse import unquote
 
 DOCUMENT = "file:///work/justfile"
 FRESH = "file:///work/fresh/justfile"
@@ -38,6 +41,20 @@ PIECES += ["build", "set ", "x := y\n", "c: b\n  echo\n", "\\"]
 LINES = ["a:\n", "# a\n", "\n", "[private]\n", "x := 'é'\n", "set quiet\n", "    echo {{ target }}\n"]
 LINES += ["alias y := build\n", "mod m\n", "f(a) := a + target\n", "import? 'o'\n", "b: clean\n  true\n"]
 LETTERS = "abé𝄞 _1"
+FILES = ["a.just", "a/mod.just", "b/mod.just", "b/justfile", "c/Justfile", "c/.justfile", "d/.JUSTFILE", "e/MOD.just", "f/mod.just"]
+LINKS = {  # what a line of a justfile leads to among these files
+    "mod a": "a.just",
+    "mod? b": "b/mod.just",
+    "mod c": "c/Justfile",
+    "mod d": "d/.JUSTFILE",
+    "mod e": None,
+    "mod? g": None,
+    "mod h 'f'": "f/mod.just",
+    "mod i 'e/MOD.just'": "e/MOD.just",
+    "mod? j 'k'": "k",
+    "import 'n m.just'": "n m.just",
+    "import? '/n.just'": "/n.just",
+}
 QUERIES = ["documentSymbol", "foldingRange", "formatting", "documentLink", "semanticTokens/full"]
 
 
@@ -266,11 +283,36 @@ def send_wrong(program):
     print("wrong messages: the server stays alive")
 
 
+def follow_links(program):
+    """Asks for the links of a justfile among files that are there."""
+    with tempfile.TemporaryDirectory(suffix=" é%") as folder:
+        document = Path(folder) / "justfile"
+        for name in FILES:
+            file = Path(folder) / name
+            file.parent.mkdir(parents=True, exist_ok=True)
+            file.touch()
+        server = Server(program, "utf-8")
+        for start in ("", "set\n"):
+            text = start + "".join(f"{line}\n" for line in LINKS)
+            server.open(document.as_uri(), text)
+            found = server.ask("textDocument/documentLink", {"textDocument": {"uri": document.as_uri()}})["result"]
+            lines = start.count("\n")
+            leads = {link["range"]["start"]["line"] - lines: unquote(link["target"].removeprefix("file://")) for link in found}
+            wanted = {at: str(Path(folder) / to) for at, to in enumerate(LINKS.values()) if to}
+            check(leads == wanted, f"the links are {leads} and not {wanted}")
+        server.open("untitled:a/b", text)
+        found = server.ask("textDocument/documentLink", {"textDocument": {"uri": "untitled:a/b"}})["result"]
+        check([link["target"] for link in found] == ["untitled:a/n%20m.just", "file:///n.just"], f"elsewhere the links are {found}")
+        check(server.end() == 0, "the status isn't 0")
+    print(f"{len(wanted)} links lead to files")
+
+
 def main():
     program = sys.argv[1]
     edits = int(sys.argv[2]) if len(sys.argv) > 2 else 1000
     chance = random.Random(int(sys.argv[3]) if len(sys.argv) > 3 else 1)
     send_wrong(program)
+    follow_links(program)
     for encoding in ("utf-8", "utf-16"):
         edit_at_random(program, encoding, edits // 2, chance)
 

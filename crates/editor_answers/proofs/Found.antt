@@ -1,16 +1,69 @@
 -- The name that is found at a position.
-use Rattle.std.proofs.Common.{◌≡◌, ℕ, List, Option, Some, None, IfSome, sym}
+use Rattle.std.proofs.Common.{◌≡◌, ◌∙◌, ℕ, List, [], ◌∷◌, map, filter, Option, Some, None, Result, Ok, Err, IfOk, refl, sym, ap, subst}
 use Rattle.std.specs.List.{find}
-use Rattle.std.specs.Option.{option_copied}
+use Rattle.std.specs.Option.{option_copied, option_to_list}
 use Rattle.justfile_lines.specs.Positions.{IsOffset}
 use Rattle.justfile_lines.specs.declared.encoding.Encoding.{Encoding}
 use Rattle.justfile_lines.specs.declared.position.Position.{Position}
-use Rattle.editor_language.specs.Mentions.{is_at}
+use Rattle.text_edits.specs.declared.edit.Range.{Range}
+use Rattle.editor_messages.specs.declared.answer.Answer.{Answer}
+use Rattle.editor_messages.specs.declared.answer.Answer.TheVariants.{Nothing, Place}
+use Rattle.editor_language.specs.Mentions.{is_at, is_like}
 use Rattle.editor_language.specs.declared.mention.Mention.{Mention}
-use Rattle.editor_answers.specs.Renames.{IsNameAt}
+use Rattle.editor_language.specs.declared.parts.Span.{Span}
+use Rattle.editor_answers.specs.Names.{AnswersHover, AnswersPlaces, Bounds, Describes, IsDefinedAt, IsNameAt, Locates, if_defined, name_if, ranges_of}
+use Rattle.editor_answers.specs.Ranges.{range_of}
+use Rattle.editor_answers.specs.Renames.{AnswersEdits, PutInto, Renames}
 use denote.Ref.{Bor}
 
-pub found_at : (encoding : Encoding) (text : List ℕ) (mentions : List Mention) (position : Position) (offset : ℕ) (found : Option (Bor Mention)) → IsOffset encoding text position offset
-    → option_copied found ≡ find (is_at offset) mentions → IfSome found (λ name. IsNameAt encoding text mentions position name.now)
-found_at encoding text mentions position offset None is e = tt
-found_at encoding text mentions position offset (Some name) is e = record { offset = offset; is_offset = is; is_found = sym e }
+-- the name, if it is defined
+pub name_of_some : (found : Option Mention) (d name : Mention) → Some d ≡ found → Some name ≡ name_if found name
+name_of_some found d name e = ap (λ (o : Option Mention). name_if o name) e
+
+pub name_of_none : (found : Option Mention) (name : Mention) → None ≡ found → None ≡ name_if found name
+name_of_none found name e = ap (λ (o : Option Mention). name_if o name) e
+
+-- the place of its definition
+pub defined_span : {A E : Type 0} (r : Result A E) (items : A → List Span) (found : Option Mention) (d : Mention) → Some d ≡ found → IfOk r (λ a. items a ≡ d.span ∷ [])
+    → IfOk r (λ a. items a ≡ map (λ (m : Mention). m.span) (option_to_list found))
+defined_span (Ok a) items found d e h = h ∙ ap (λ (o : Option Mention). map (λ (m : Mention). m.span) (option_to_list o)) e
+defined_span (Err x) items found d e h = tt
+
+pub no_span : (items : List Span) (found : Option Mention) → items ≡ [] → None ≡ found → items ≡ map (λ (m : Mention). m.span) (option_to_list found)
+no_span items found none e = none ∙ ap (λ (o : Option Mention). map (λ (m : Mention). m.span) (option_to_list o)) e
+
+module _ (encoding : Encoding) (text : List ℕ) (mentions : List Mention) (position : Position) where
+  pub found_at : (offset : ℕ) (found : Option (Bor Mention)) → IsOffset encoding text position offset → option_copied found ≡ find (is_at offset) mentions
+      → IsNameAt encoding text mentions position (option_copied found)
+  found_at offset found is e = record { offset = offset; is_offset = is; is_found = sym e }
+
+  pub found_if_defined : (name found : Option (Bor Mention)) → IsNameAt encoding text mentions position (option_copied name) → option_copied found ≡ if_defined mentions (option_copied name)
+      → IsDefinedAt encoding text mentions position (option_copied found)
+  found_if_defined name found at e = record { name = option_copied name; is_at = at; is_defined = sym e }
+
+  -- places of mentions
+  pub located : {E : Type 0} (uri : List ℕ) (wanted : Option Mention → List Mention) (name : Option Mention) (spans places : List Span) (r : Result Answer E)
+      → IsNameAt encoding text mentions position name → spans ≡ map (λ (m : Mention). m.span) (wanted name) → places ≡ spans
+      → IfOk r (AnswersPlaces uri (map (range_of encoding text) places)) → IfOk r (Locates encoding text mentions position uri wanted)
+  located uri wanted name spans places (Ok answer) at of same h = record {
+    name = name;
+    is_at = at;
+    places = subst (λ (s : List Span). AnswersPlaces uri (map (range_of encoding text) s) answer) (same ∙ of) h;
+  }
+  located uri wanted name spans places (Err e) at of same h = tt
+
+  module _ (name : Mention) (at : IsDefinedAt encoding text mentions position (Some name)) where
+    pub bounded : (range : Range) → range ≡ range_of encoding text name.span → Bounds encoding text mentions position (Place range)
+    bounded range is = record { name = name; is_at = at; place = is }
+
+    pub renamed : {E : Type 0} (uri new : List ℕ) (r : Result Answer E) → IfOk r (AnswersEdits uri (PutInto (ranges_of encoding text (filter (is_like name) mentions)) new))
+        → IfOk r (Renames encoding uri text mentions position new)
+    renamed uri new (Ok answer) h = record { name = name; is_at = at; edits = h }
+    renamed uri new (Err e) h = tt
+
+    pub described : {E : Type 0} (r : Result Answer E) → IfOk r (AnswersHover encoding text (Some name)) → IfOk r (Describes encoding text mentions position)
+    described (Ok answer) h = record { name = Some name; is_at = at; hover = h }
+    described (Err e) h = tt
+
+  pub undescribed : IsDefinedAt encoding text mentions position None → Describes encoding text mentions position Nothing
+  undescribed at = record { name = None; is_at = at; hover = refl }

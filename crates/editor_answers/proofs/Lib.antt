@@ -1,1 +1,3 @@
+pub mod Failed
+pub mod Folders
 pub mod Found

@@ -1,34 +1,89 @@
 -- What is answered about a text.
-use Rattle.std.specs.Prelude.{◌≡◌, ℕ, List, map}
+use Rattle.std.specs.Prelude.{◌≡◌, ℕ, List, None, Option, map}
 use Rattle.justfile_lines.specs.declared.encoding.Encoding.{Encoding}
 use Rattle.editor_messages.specs.declared.answer.Answer.{Answer}
 use Rattle.editor_messages.specs.declared.answer.Answer.TheVariants as answers
+use Rattle.editor_messages.specs.declared.error_code.ErrorCode.{ErrorCode}
+use Rattle.editor_messages.specs.declared.error_code.ErrorCode.TheVariants.{InvalidParams, RequestFailed}
 use Rattle.editor_messages.specs.declared.message.Query.{Query}
 use Rattle.editor_messages.specs.declared.message.Query.TheVariants as queries
 use Rattle.editor_language.specs.declared.mention.Mention.{Mention}
 use Rattle.editor_language.specs.declared.parts.Analysis.{Analysis}
+use Rattle.editor_language.specs.declared.parts.FileLink.{FileLink}
 use Rattle.editor_language.specs.declared.parts.Item.{Item}
 use Rattle.editor_answers.specs.Formatting.{Formats}
+use Rattle.editor_answers.specs.Links.{LinksIn}
+use Rattle.editor_answers.specs.Names.{Bounds, Describes, IsDefinedAt, Locates, definitions_of, mentions_of}
 use Rattle.editor_answers.specs.Ranges.{shown, to_show}
 use Rattle.editor_answers.specs.Renames.{Renames}
+use Rattle.editor_answers.specs.declared.failure.Failure.{Failure}
+use Rattle.editor_answers.specs.declared.failure.Failure.TheVariants.{Memory, Refused}
 
 -- the answer shows the items
 abbrev pub ShowsItems : Encoding → (text : List ℕ) → List Item → Answer → Type 0
 ShowsItems encoding text items (answers.Symbols symbols) = map shown symbols.items ≡ map (to_show encoding text) items
 ShowsItems encoding text items other = ⊥
 
--- the answer is what replaces a name among the mentions in a text
-pub record RenamesIn (mentioned : List ℕ → Analysis → List Mention → Type 0) (text : List ℕ) (analysis : Analysis) (answer : Answer) (renames : List Mention → Answer → Type 0) : Type 0 where
+-- this holds of the mentions in a text
+pub record Among (mentioned : List ℕ → Analysis → List Mention → Type 0) (text : List ℕ) (analysis : Analysis) (holds : List Mention → Type 0) : Type 0 where
   pub mentions : List Mention
   pub are_mentions : mentioned text analysis mentions
-  pub is : renames mentions answer
+  pub is : holds mentions
 
--- The answer to what is asked for about a text: its symbols are the items, formatting leads to its formatted text, and a new name is put in the place of each mention
--- of a name and nowhere else. What other answers hold is left open.
-abbrev pub IsAnswer : (formats : List ℕ → List ℕ → Type 0) (mentioned : List ℕ → Analysis → List Mention → Type 0) → Encoding → (uri text : List ℕ) → Analysis → Query → Answer
-    → Type 0
-IsAnswer formats mentioned encoding uri text analysis queries.Symbols answer = ShowsItems encoding text analysis.items.items answer
-IsAnswer formats mentioned encoding uri text analysis queries.Format answer = Formats formats encoding text answer
-IsAnswer formats mentioned encoding uri text analysis (queries.Rename position new) answer =
-    RenamesIn mentioned text analysis answer (λ mentions. Renames encoding uri text mentions position new.now)
-IsAnswer formats mentioned encoding uri text analysis other answer = Unit {0}
+-- what is told about the name at a position, by these mentions in a text
+abbrev pub IsAbout : Encoding → (uri text : List ℕ) → Query → (mentions : List Mention) → Answer → Type 0
+IsAbout encoding uri text (queries.Definition position) mentions answer = Locates encoding text mentions position uri (definitions_of mentions) answer
+IsAbout encoding uri text (queries.References position) mentions answer = Locates encoding text mentions position uri (mentions_of mentions) answer
+IsAbout encoding uri text (queries.PrepareRename position) mentions answer = Bounds encoding text mentions position answer
+IsAbout encoding uri text (queries.Rename position new) mentions answer = Renames encoding uri text mentions position new.now answer
+IsAbout encoding uri text (queries.Hover position) mentions answer = Describes encoding text mentions position answer
+IsAbout encoding uri text other mentions answer = Unit {0}
+
+-- a name is to be replaced, and none that is defined is mentioned at the position
+abbrev pub LacksName : Encoding → (text : List ℕ) → Query → (mentions : List Mention) → ErrorCode → Type 0
+LacksName encoding text (queries.PrepareRename position) mentions code = (code ≡ RequestFailed) × IsDefinedAt encoding text mentions position None
+LacksName encoding text (queries.Rename position new) mentions code = (code ≡ RequestFailed) × IsDefinedAt encoding text mentions position None
+LacksName encoding text other mentions code = ⊥
+
+-- The new name is a name, and put in the place of each mention of a defined name and nowhere else.
+pub record Replaces (names : List ℕ → Type 0) (new : List ℕ) (renames : Type 0) : Type 0 where
+  pub is_name : names new
+  pub is : renames
+
+-- a new name is refused for this reason: it is no name, or there is none at the position
+pub data RefusesName (names : List ℕ → Type 0) (new : List ℕ) (lacks_name : Type 0) (code : ErrorCode) : Type 0 where
+  no_name : code ≡ InvalidParams → (names new → ⊥) → RefusesName names new lacks_name code
+  nowhere : lacks_name → RefusesName names new lacks_name code
+
+module _ (mentioned : List ℕ → Analysis → List Mention → Type 0) (encoding : Encoding) (uri text : List ℕ) (analysis : Analysis) where
+  -- what is told about the name at a position, by the mentions in the text
+  abbrev pub Tells : Query → Answer → Type 0
+  Tells query answer = Among mentioned text analysis (λ mentions. IsAbout encoding uri text query mentions answer)
+
+  -- by the mentions in the text, none that is defined is to be replaced
+  abbrev pub Lacks : Query → ErrorCode → Type 0
+  Lacks query code = Among mentioned text analysis (λ mentions. LacksName encoding text query mentions code)
+
+  -- The answer to what is asked for about a text: its symbols are the items; formatting leads to its formatted text; what is told about the name at a position is about its
+  -- mentions in the text; a new name is put in the place of each of these and nowhere else; and the links are those of the language. What other answers hold is left open.
+  abbrev pub IsAnswer : (formats : List ℕ → List ℕ → Type 0) (names : List ℕ → Type 0) (linked : Option (List ℕ) → List ℕ → Analysis → List FileLink → Type 0) → Query → Answer → Type 0
+  IsAnswer formats names linked queries.Symbols answer = ShowsItems encoding text analysis.items.items answer
+  IsAnswer formats names linked queries.Format answer = Formats formats encoding text answer
+  IsAnswer formats names linked (queries.Definition position) answer = Tells (queries.Definition position) answer
+  IsAnswer formats names linked (queries.References position) answer = Tells (queries.References position) answer
+  IsAnswer formats names linked (queries.PrepareRename position) answer = Tells (queries.PrepareRename position) answer
+  IsAnswer formats names linked (queries.Rename position new) answer = Replaces names new.now (Tells (queries.Rename position new) answer)
+  IsAnswer formats names linked (queries.Hover position) answer = Tells (queries.Hover position) answer
+  IsAnswer formats names linked queries.Links answer = LinksIn linked encoding uri text analysis answer
+  IsAnswer formats names linked other answer = Unit {0}
+
+  -- What is asked for about a text is refused for this reason. Only a new name is, and the question which name would be replaced.
+  abbrev pub IsRefused : (names : List ℕ → Type 0) → Query → ErrorCode → Type 0
+  IsRefused names (queries.PrepareRename position) code = Lacks (queries.PrepareRename position) code
+  IsRefused names (queries.Rename position new) code = RefusesName names new.now (Lacks (queries.Rename position new) code) code
+  IsRefused names other code = ⊥
+
+-- memory ran out, or the request is refused for this reason
+abbrev pub FailsFor : (ErrorCode → Type 0) → Failure → Type 0
+FailsFor refused Memory = Unit {0}
+FailsFor refused (Refused code message) = refused code

@@ -1,4 +1,6 @@
 pub mod Answers
 pub mod Formatting
+pub mod Links
+pub mod Names
 pub mod Ranges
 pub mod Renames

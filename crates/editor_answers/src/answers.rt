@@ -1,11 +1,14 @@
 //! Answers about a text.
-ghost use Rattle.std.specs.Prelude.{◌≡◌, IfOk, map};
+ghost use Rattle.std.specs.Prelude.{◌≡◌, IfErr, IfOk, IsOkUnless, map};
 ghost use Rattle.std.specs.Option.{option_to_list};
-ghost use Rattle.editor_answers.specs.Answers.{IsAnswer, RenamesIn, ShowsItems};
+ghost use Rattle.editor_messages.specs.declared.message.Query.TheVariants.{Rename};
+ghost use Rattle.editor_answers.specs.Answers.{FailsFor, IsAbout, IsAnswer, IsRefused, Lacks, LacksName, RefusesName, Replaces, ShowsItems, Tells};
 ghost use Rattle.editor_answers.specs.Formatting.{EditsTo, Formats};
+ghost use Rattle.editor_answers.specs.Links.{LinksIn};
 ghost use Rattle.editor_answers.specs.Ranges.{to_tell, told};
-ghost use Rattle.editor_answers.specs.Renames.{Renames};
 
+use crate::addresses::{folder_of, folder_path, text_of};
+use crate::asked::Asked;
 use crate::colors::token_numbers;
 use crate::failure::Failure;
 use crate::names::{definition, hover, references, rename, replaceable};
@@ -52,112 +55,150 @@ pub fn answer<L: Language>(
     analysis: &Analysis,
     query: Query<'_>,
 ) -> Result<Answer, Failure>
-    ensures { IfOk result (IsAnswer L.formats L.mentioned encoding uri.now text.now analysis.now
-        query.entry) }
+    ensures ok { IfOk result (IsAnswer L.mentioned encoding uri.now text.now analysis.now
+        L.formats L.names L.linked query.entry) }
+    ensures failed { IfErr result (FailsFor (IsRefused L.mentioned encoding uri.now text.now
+        analysis.now L.names query.entry)) }
 {
     let shown = Shown::new(alloc, encoding, text)?;
-    answer_of(alloc, language, &shown, uri, text, analysis, query)
+    let asked = Asked {
+        uri,
+        analysis,
+        text,
+        shown,
+    };
+    answer_of(alloc, language, &asked, query)
 }
 
-/// Returns the answer to what is asked for about a text with these lines.
+/// Returns the answer to what is asked for about a document.
+#[tactic(auto, using(crate::proofs::Failed::only_memory))]
 fn answer_of<L: Language>(
     alloc: Global,
     language: &L,
-    shown: &Shown<'_>,
-    uri: &str,
-    text: &str,
-    analysis: &Analysis,
+    asked: &Asked<'_>,
     query: Query<'_>,
 ) -> Result<Answer, Failure>
-    requires { shown.now.lines.text.now ≡ text.now }
-    ensures { IfOk result (IsAnswer L.formats L.mentioned shown.now.encoding uri.now text.now
-        analysis.now query.entry) }
+    ensures ok { IfOk result (IsAnswer L.mentioned asked.now.shown.encoding asked.now.uri.now
+        asked.now.text.now asked.now.analysis.now L.formats L.names L.linked query.entry) }
+    ensures failed { IfErr result (FailsFor (IsRefused L.mentioned asked.now.shown.encoding
+        asked.now.uri.now asked.now.text.now asked.now.analysis.now L.names query.entry)) }
 {
     match query {
-        Query::Symbols => symbols(alloc, shown, analysis),
-        Query::Format => format(alloc, language, shown.encoding, text),
-        Query::Rename(position, new) => {
-            replace(alloc, language, shown, uri, text, analysis, position, new)
-        }
-        Query::Folds => folds(alloc, shown, analysis),
-        Query::Links => links(alloc, shown, uri, analysis),
-        Query::FormatRange(range) => format_range(alloc, language, shown, text, analysis, range),
-        Query::Complete(position) => complete(alloc, language, shown, text, analysis, position),
-        Query::Tokens => tokens(alloc, language, shown, text, analysis),
-        Query::Definition(_) | Query::References(_) | Query::PrepareRename(_) | Query::Hover(_) =>
-            about_name(alloc, language, shown, uri, text, analysis, query),
+        Query::Symbols => symbols(alloc, &asked.shown, asked.analysis),
+        Query::Format => format(alloc, language, asked.shown.encoding, asked.text),
+        Query::Rename(position, new) => replace(alloc, language, asked, position, new),
+        Query::Folds => folds(alloc, &asked.shown, asked.analysis),
+        Query::Links => links(alloc, language, asked),
+        Query::FormatRange(range) => format_range(alloc, language, asked, range),
+        Query::Complete(position) => complete(alloc, language, asked, position),
+        Query::Tokens => tokens(alloc, language, asked),
+        Query::Definition(at) => about_name(alloc, language, asked, Query::Definition(at)),
+        Query::References(at) => about_name(alloc, language, asked, Query::References(at)),
+        Query::PrepareRename(at) => about_name(alloc, language, asked, Query::PrepareRename(at)),
+        Query::Hover(at) => about_name(alloc, language, asked, Query::Hover(at)),
     }
 }
 
 /// Returns the symbols of a text.
 fn symbols(alloc: Global, shown: &Shown<'_>, analysis: &Analysis) -> Result<Answer, Failure>
-    ensures { IfOk result (ShowsItems shown.now.encoding shown.now.lines.text.now
+    ensures ok { IfOk result (ShowsItems shown.now.encoding shown.now.lines.text.now
         analysis.now.items.items) }
+    ensures failed { IsOkUnless result Failure.Memory }
 {
     let symbols = shown.symbols(alloc, &analysis.items)?;
     Ok(Answer::Symbols(symbols))
 }
 
 /// Returns what can be folded in a text.
-fn folds(alloc: Global, shown: &Shown<'_>, analysis: &Analysis) -> Result<Answer, Failure> {
+fn folds(alloc: Global, shown: &Shown<'_>, analysis: &Analysis) -> Result<Answer, Failure>
+    ensures { IsOkUnless result Failure.Memory }
+{
     let folds = shown.folds(alloc, &analysis.items)?;
     Ok(Answer::Folds(folds))
 }
 
 /// Returns the links of a text.
-fn links(
-    alloc: Global,
-    shown: &Shown<'_>,
-    uri: &str,
-    analysis: &Analysis,
-) -> Result<Answer, Failure> {
-    let links = shown.links(alloc, uri, &analysis.items)?;
+fn links<L: Language>(alloc: Global, language: &L, asked: &Asked<'_>) -> Result<Answer, Failure>
+    ensures links { IfOk result (LinksIn L.linked asked.now.shown.encoding asked.now.uri.now
+        asked.now.text.now asked.now.analysis.now) }
+    ensures failed { IsOkUnless result Failure.Memory }
+{
+    let folder = folder_of(asked.uri);
+    let path = folder_path(alloc, folder)?;
+    let found = language.links(alloc, text_of(&path), asked.text, asked.analysis)?;
+    let links = asked.shown.links(alloc, folder, &found)?;
     Ok(Answer::Links(links))
 }
 
 /// Returns the answer to what is asked for about a name.
+#[tactic(auto, using(crate::proofs::Failed::lacks_among, crate::proofs::Failed::tells_among))]
 fn about_name<L: Language>(
     alloc: Global,
     language: &L,
-    shown: &Shown<'_>,
-    uri: &str,
-    text: &str,
-    analysis: &Analysis,
+    asked: &Asked<'_>,
     query: Query<'_>,
-) -> Result<Answer, Failure> {
-    let mentions = language.mentions(alloc, text, analysis)?;
+) -> Result<Answer, Failure>
+    ensures ok { IfOk result (Tells L.mentioned asked.now.shown.encoding asked.now.uri.now
+        asked.now.text.now asked.now.analysis.now query.entry) }
+    ensures failed { IfErr result (FailsFor (Lacks L.mentioned asked.now.shown.encoding
+        asked.now.uri.now asked.now.text.now asked.now.analysis.now query.entry)) }
+{
+    let mentions = asked.mentions(alloc, language)?;
+    told(alloc, language, asked, &mentions, query)
+}
+
+/// Returns what is told about a name.
+#[tactic(auto, using(crate::proofs::Failed::only_memory))]
+fn told<L: Language>(
+    alloc: Global,
+    language: &L,
+    asked: &Asked<'_>,
+    mentions: &[Mention],
+    query: Query<'_>,
+) -> Result<Answer, Failure>
+    ensures ok { IfOk result (IsAbout asked.now.shown.encoding asked.now.uri.now
+        asked.now.text.now query.entry mentions.now) }
+    ensures failed { IfErr result (FailsFor (LacksName asked.now.shown.encoding
+        asked.now.text.now query.entry mentions.now)) }
+{
     match query {
-        Query::Definition(position) => definition(alloc, shown, uri, &mentions, position),
-        Query::References(position) => references(alloc, shown, uri, &mentions, position),
-        Query::PrepareRename(position) => replaceable(shown, &mentions, position),
-        Query::Hover(position) => hover(
-            alloc, language, shown, text, analysis, &mentions, position,
-        ),
-        _ => Ok(Answer::Nothing),
+        Query::Definition(position) => definition(alloc, asked, mentions, position),
+        Query::References(position) => references(alloc, asked, mentions, position),
+        Query::PrepareRename(position) => replaceable(asked, mentions, position),
+        Query::Rename(position, new) => rename(alloc, asked, mentions, position, new),
+        Query::Hover(position) => hover(alloc, language, asked, mentions, position),
+        Query::Symbols
+        | Query::Folds
+        | Query::Format
+        | Query::FormatRange(_)
+        | Query::Complete(_)
+        | Query::Tokens
+        | Query::Links => Ok(Answer::Nothing),
     }
 }
 
 /// Returns edits that replace the name at a position, if the new one is a name.
+#[tactic(auto, using(crate::proofs::Failed::lacks_if, crate::proofs::Failed::not_named, crate::proofs::Failed::replaces_if))]
 fn replace<L: Language>(
     alloc: Global,
     language: &L,
-    shown: &Shown<'_>,
-    uri: &str,
-    text: &str,
-    analysis: &Analysis,
+    asked: &Asked<'_>,
     position: Position,
     new: &str,
 ) -> Result<Answer, Failure>
-    ensures { IfOk result (λ answer. RenamesIn L.mentioned text.now analysis.now answer
-        (λ mentions. Renames shown.now.encoding uri.now shown.now.lines.text.now mentions
-        position new.now)) }
+    ensures ok { IfOk result (λ answer. Replaces L.names new.now (Tells L.mentioned
+        asked.now.shown.encoding asked.now.uri.now asked.now.text.now asked.now.analysis.now
+        (Rename position new.entry) answer)) }
+    ensures failed { IfErr result (FailsFor (λ code. RefusesName L.names new.now (Lacks L.mentioned
+        asked.now.shown.encoding asked.now.uri.now asked.now.text.now asked.now.analysis.now
+        (Rename position new.entry) code) code)) }
 {
-    if !language.is_name(alloc, new) {
+    if language.is_name(alloc, new)? {
+        about_name(alloc, language, asked, Query::Rename(position, new))
+    } else {
         let message = "the new name isn't a name";
-        return Err(Failure::Refused(ErrorCode::InvalidParams, message));
+        Err(Failure::Refused(ErrorCode::InvalidParams, message))
     }
-    let mentions = language.mentions(alloc, text, analysis)?;
-    rename(alloc, shown, uri, &mentions, position, new)
 }
 
 /// Returns the least edit that formats a text, if it has a formatted text.
@@ -167,7 +208,8 @@ fn format<L: Language>(
     encoding: Encoding,
     text: &str,
 ) -> Result<Answer, Failure>
-    ensures { IfOk result (Formats L.formats encoding text.now) }
+    ensures ok { IfOk result (Formats L.formats encoding text.now) }
+    ensures failed { IsOkUnless result Failure.Memory }
 {
     match language.formatted(alloc, text)? {
         Some(formatted) => edits_to(alloc, encoding, text, formatted.as_str()),
@@ -177,7 +219,8 @@ fn format<L: Language>(
 
 /// Returns the least edit that leads from a text to another, if they differ.
 fn edits_to(alloc: Global, encoding: Encoding, old: &str, new: &str) -> Result<Answer, Failure>
-    ensures { IfOk result (EditsTo encoding old.now new.now) }
+    ensures ok { IfOk result (EditsTo encoding old.now new.now) }
+    ensures failed { IsOkUnless result Failure.Memory }
 {
     let edit = least_edit(alloc, encoding, old, new)?;
     let edits = edits_of(alloc, edit)?;
@@ -199,17 +242,17 @@ fn edits_of(alloc: Global, edit: Option<TextEdit>) -> Result<Vec<TextEdit>, Allo
 fn format_range<L: Language>(
     alloc: Global,
     language: &L,
-    shown: &Shown<'_>,
-    text: &str,
-    analysis: &Analysis,
+    asked: &Asked<'_>,
     range: Range,
-) -> Result<Answer, Failure> {
+) -> Result<Answer, Failure>
+    ensures { IsOkUnless result Failure.Memory }
+{
     let span = Span {
-        start: shown.lines.offset(shown.encoding, range.start),
-        end: shown.lines.offset(shown.encoding, range.end),
+        start: asked.shown.offset(range.start),
+        end: asked.shown.offset(range.end),
     };
-    let parts = language.formatted_items(alloc, text, analysis, span)?;
-    let edits = shown.part_edits(alloc, &parts)?;
+    let parts = language.formatted_items(alloc, asked.text, asked.analysis, span)?;
+    let edits = asked.shown.part_edits(alloc, &parts)?;
     Ok(Answer::Edits(edits))
 }
 
@@ -217,27 +260,23 @@ fn format_range<L: Language>(
 fn complete<L: Language>(
     alloc: Global,
     language: &L,
-    shown: &Shown<'_>,
-    text: &str,
-    analysis: &Analysis,
+    asked: &Asked<'_>,
     position: Position,
-) -> Result<Answer, Failure> {
-    let offset = shown.lines.offset(shown.encoding, position);
-    let mentions = language.mentions(alloc, text, analysis)?;
-    let found = language.completions(alloc, text, &mentions, offset)?;
+) -> Result<Answer, Failure>
+    ensures { IsOkUnless result Failure.Memory }
+{
+    let offset = asked.shown.offset(position);
+    let mentions = asked.mentions(alloc, language)?;
+    let found = language.completions(alloc, asked.text, &mentions, offset)?;
     Ok(Answer::Completions(found))
 }
 
 /// Returns the kinds of the tokens of a text.
-fn tokens<L: Language>(
-    alloc: Global,
-    language: &L,
-    shown: &Shown<'_>,
-    text: &str,
-    analysis: &Analysis,
-) -> Result<Answer, Failure> {
-    let mentions = language.mentions(alloc, text, analysis)?;
-    let colored = language.colored(alloc, text, analysis, &mentions)?;
-    let numbers = token_numbers(alloc, shown, &colored)?;
+fn tokens<L: Language>(alloc: Global, language: &L, asked: &Asked<'_>) -> Result<Answer, Failure>
+    ensures { IsOkUnless result Failure.Memory }
+{
+    let mentions = asked.mentions(alloc, language)?;
+    let colored = language.colored(alloc, asked.text, asked.analysis, &mentions)?;
+    let numbers = token_numbers(alloc, &asked.shown, &colored)?;
     Ok(Answer::Tokens(numbers))
 }

@@ -1,7 +1,9 @@
 //! What an editor is answered about a text in any language, as plain values.
 #![tactic(auto)]
 
+mod addresses;
 mod answers;
+mod asked;
 mod colors;
 mod failure;
 mod names;

@@ -1,131 +1,210 @@
 //! Where a name is defined and used, and edits that replace it.
-ghost use Rattle.std.specs.Prelude.{IfOk, IfSome};
-ghost use Rattle.editor_answers.specs.Renames.{IsNameAt, PutInto, Renames};
+ghost use Rattle.std.specs.Prelude.{◌≡◌, ◌∷◌, [], IfErr, IfOk, IsOkUnless, filter, map};
+ghost use Rattle.std.specs.Option.{option_copied};
+ghost use Rattle.editor_language.specs.Mentions.{is_like};
+ghost use Rattle.editor_answers.specs.Answers.{FailsFor};
+ghost use Rattle.editor_answers.specs.Names.{AnswersHover, AnswersPlaces, Bounds, Describes, IsDefinedAt, IsNameAt, Locates, definitions_of, if_defined, mentions_of, ranges_of};
+ghost use Rattle.editor_answers.specs.Ranges.{range_of};
+ghost use Rattle.editor_answers.specs.Renames.{AnswersEdits, PutInto, Renames};
 
+use crate::asked::Asked;
 use crate::failure::Failure;
-use crate::shown::Shown;
-use editor_language::{
-    Analysis, Language, Mention, Span, definition_of, mention_at, mentions_like,
-};
+use editor_language::{Language, Mention, Span, definition_of, mention_at, mentions_like};
 use editor_messages::{Answer, ErrorCode, Hover, Rename};
 use justfile_lines::Position;
 use std::alloc::{AllocError, Global};
 use text_edits::{Range, TextEdit};
 
-/// Returns where a name is defined.
+/// Returns where the name at a position is defined.
+#[tactic(auto, using(crate::proofs::Found::located))]
 pub(crate) fn definition(
     alloc: Global,
-    shown: &Shown<'_>,
-    uri: &str,
+    asked: &Asked<'_>,
     mentions: &[Mention],
     position: Position,
-) -> Result<Answer, Failure> {
-    let spans = match name_at(shown, mentions, position) {
-        Some(name) => definition_spans(alloc, mentions, name)?,
-        None => Vec::new(alloc),
-    };
-    places(alloc, shown, uri, &spans)
+) -> Result<Answer, Failure>
+    ensures ok { IfOk result (Locates asked.now.shown.encoding asked.now.text.now mentions.now
+        position asked.now.uri.now (definitions_of mentions.now)) }
+    ensures failed { IsOkUnless result Failure.Memory }
+{
+    let name = name_at(asked, mentions, position);
+    let spans = definition_spans(alloc, mentions, name)?;
+    places(alloc, asked, &spans)
 }
 
-/// Returns where a name is defined, if it is.
+/// Returns where a name is first defined, if there is a name and it is defined.
+#[tactic(auto, using(crate::proofs::Found::defined_span, crate::proofs::Found::no_span))]
 fn definition_spans(
     alloc: Global,
     mentions: &[Mention],
-    name: &Mention,
-) -> Result<Vec<Span>, AllocError> {
-    let mut spans = Vec::new(alloc);
-    if let Some(defined) = definition_of(mentions, name) {
-        spans.push(defined.span)?;
+    name: Option<&Mention>,
+) -> Result<Vec<Span>, AllocError>
+    ensures { IfOk result (λ spans. spans.items
+        ≡ map (λ m. m.span) (definitions_of mentions.now (option_copied name.entry))) }
+{
+    let Some(name) = name else {
+        return Ok(Vec::new(alloc));
+    };
+    match definition_of(mentions, name) {
+        Some(definition) => one_span(alloc, definition.span),
+        None => Ok(Vec::new(alloc)),
     }
+}
+
+/// Returns a list of a span.
+fn one_span(alloc: Global, span: Span) -> Result<Vec<Span>, AllocError>
+    ensures { IfOk result (λ spans. spans.items ≡ span ∷ []) }
+{
+    let mut spans = Vec::new(alloc);
+    spans.push(span)?;
     Ok(spans)
 }
 
-/// Returns where a name is defined or used.
+/// Returns where the name at a position is defined or used.
+#[tactic(auto, using(crate::proofs::Found::located))]
 pub(crate) fn references(
     alloc: Global,
-    shown: &Shown<'_>,
-    uri: &str,
+    asked: &Asked<'_>,
     mentions: &[Mention],
     position: Position,
-) -> Result<Answer, Failure> {
-    let spans = match name_at(shown, mentions, position) {
-        Some(name) => mentions_like(alloc, mentions, name)?,
-        None => Vec::new(alloc),
-    };
-    places(alloc, shown, uri, &spans)
+) -> Result<Answer, Failure>
+    ensures ok { IfOk result (Locates asked.now.shown.encoding asked.now.text.now mentions.now
+        position asked.now.uri.now (mentions_of mentions.now)) }
+    ensures failed { IsOkUnless result Failure.Memory }
+{
+    let name = name_at(asked, mentions, position);
+    let spans = mention_spans(alloc, mentions, name)?;
+    places(alloc, asked, &spans)
 }
 
-/// Returns places in a document.
-fn places(alloc: Global, shown: &Shown<'_>, uri: &str, spans: &[Span]) -> Result<Answer, Failure> {
-    let ranges = shown.ranges(alloc, spans)?;
-    let uri = uri.to_string(alloc)?;
+/// Returns where a name is defined or used, if there is one.
+fn mention_spans(
+    alloc: Global,
+    mentions: &[Mention],
+    name: Option<&Mention>,
+) -> Result<Vec<Span>, AllocError>
+    ensures { IfOk result (λ spans. spans.items
+        ≡ map (λ m. m.span) (mentions_of mentions.now (option_copied name.entry))) }
+{
+    match name {
+        Some(name) => mentions_like(alloc, mentions, name),
+        None => Ok(Vec::new(alloc)),
+    }
+}
+
+/// Returns places in the document.
+fn places(alloc: Global, asked: &Asked<'_>, spans: &[Span]) -> Result<Answer, Failure>
+    ensures ok { IfOk result (AnswersPlaces asked.now.uri.now
+        (map (range_of asked.now.shown.encoding asked.now.text.now) spans.now)) }
+    ensures failed { IsOkUnless result Failure.Memory }
+{
+    let ranges = asked.ranges(alloc, spans)?;
+    let uri = String::from_str(alloc, asked.uri)?;
     Ok(Answer::Places(uri, ranges))
 }
 
 /// Returns the first mention at a position.
 #[tactic(auto, using(crate::proofs::Found::found_at))]
-pub(crate) fn name_at<'a>(
-    shown: &Shown<'_>,
+fn name_at<'a>(
+    asked: &Asked<'_>,
     mentions: &'a [Mention],
     position: Position,
 ) -> Option<&'a Mention>
-    ensures { IfSome result (λ name.
-        IsNameAt shown.now.encoding shown.now.lines.text.now mentions.now position name.now) }
+    ensures { IsNameAt asked.now.shown.encoding asked.now.text.now mentions.now position
+        (option_copied result) }
 {
-    let offset = shown.lines.offset(shown.encoding, position);
+    let offset = asked.offset(position);
     mention_at(mentions, offset)
 }
 
-/// Returns the range of the name at a position, if it is defined in the document.
-pub(crate) fn replaceable(
-    shown: &Shown<'_>,
-    mentions: &[Mention],
-    position: Position,
-) -> Result<Answer, Failure> {
-    let name = defined_name(shown, mentions, position)?;
-    Ok(Answer::Place(shown.range(name.span)))
-}
-
-/// Returns the first mention at a position, of a name that is defined in the document.
-fn defined_name<'a>(
-    shown: &Shown<'_>,
+/// Returns the first mention at a position, if it is of a name that is defined in the document.
+#[tactic(auto, using(crate::proofs::Found::found_if_defined))]
+fn defined_at<'a>(
+    asked: &Asked<'_>,
     mentions: &'a [Mention],
     position: Position,
-) -> Result<&'a Mention, Failure>
-    ensures { IfOk result (λ name.
-        IsNameAt shown.now.encoding shown.now.lines.text.now mentions.now position name.now) }
+) -> Option<&'a Mention>
+    ensures { IsDefinedAt asked.now.shown.encoding asked.now.text.now mentions.now position
+        (option_copied result) }
 {
-    let Some(name) = name_at(shown, mentions, position) else {
-        return Err(no_name());
-    };
+    let name = name_at(asked, mentions, position);
+    if_defined(mentions, name)
+}
+
+/// Returns a name, if there is one and it is defined.
+#[tactic(auto, using(crate::proofs::Found::name_of_some, crate::proofs::Found::name_of_none))]
+fn if_defined<'a>(mentions: &'a [Mention], name: Option<&'a Mention>) -> Option<&'a Mention>
+    ensures { option_copied result ≡ if_defined mentions.now (option_copied name.entry) }
+{
+    let name = name?;
     match definition_of(mentions, name) {
-        Some(_) => Ok(name),
+        Some(_) => Some(name),
+        None => None,
+    }
+}
+
+/// Returns the range of the name at a position, if it is defined in the document.
+#[tactic(auto, using(crate::proofs::Found::bounded, crate::proofs::Failed::lacking))]
+pub(crate) fn replaceable(
+    asked: &Asked<'_>,
+    mentions: &[Mention],
+    position: Position,
+) -> Result<Answer, Failure>
+    ensures ok { IfOk result (Bounds asked.now.shown.encoding asked.now.text.now mentions.now
+        position) }
+    ensures failed { IfErr result (FailsFor (λ code. (code ≡ ErrorCode.RequestFailed)
+        × IsDefinedAt asked.now.shown.encoding asked.now.text.now mentions.now position None)) }
+{
+    match defined_at(asked, mentions, position) {
+        Some(name) => Ok(Answer::Place(asked.range(name.span))),
         None => Err(no_name()),
     }
 }
 
 /// Returns that there is no name to replace.
-fn no_name() -> Failure {
+fn no_name() -> Failure
+    ensures { FailsFor (λ code. code ≡ ErrorCode.RequestFailed) result }
+{
     Failure::Refused(ErrorCode::RequestFailed, "there is no name to replace")
 }
 
-/// Returns edits that replace the name at a position.
+/// Returns edits that replace the name at a position, if it is defined in the document.
+#[tactic(auto, using(crate::proofs::Found::renamed, crate::proofs::Failed::only_memory, crate::proofs::Failed::lacking))]
 pub(crate) fn rename(
     alloc: Global,
-    shown: &Shown<'_>,
-    uri: &str,
+    asked: &Asked<'_>,
     mentions: &[Mention],
     position: Position,
     new: &str,
 ) -> Result<Answer, Failure>
-    ensures { IfOk result (Renames shown.now.encoding uri.now shown.now.lines.text.now
-        mentions.now position new.now) }
+    ensures ok { IfOk result (Renames asked.now.shown.encoding asked.now.uri.now
+        asked.now.text.now mentions.now position new.now) }
+    ensures failed { IfErr result (FailsFor (λ code. (code ≡ ErrorCode.RequestFailed)
+        × IsDefinedAt asked.now.shown.encoding asked.now.text.now mentions.now position None)) }
 {
-    let name = defined_name(shown, mentions, position)?;
+    match defined_at(asked, mentions, position) {
+        Some(name) => replaced(alloc, asked, mentions, name, new),
+        None => Err(no_name()),
+    }
+}
+
+/// Returns edits that replace all mentions of a name.
+fn replaced(
+    alloc: Global,
+    asked: &Asked<'_>,
+    mentions: &[Mention],
+    name: &Mention,
+    new: &str,
+) -> Result<Answer, Failure>
+    ensures ok { IfOk result (AnswersEdits asked.now.uri.now (PutInto
+        (ranges_of asked.now.shown.encoding asked.now.text.now
+        (filter (is_like name.now) mentions.now)) new.now)) }
+    ensures failed { IsOkUnless result Failure.Memory }
+{
     let spans = mentions_like(alloc, mentions, name)?;
-    let ranges = shown.ranges(alloc, &spans)?;
+    let ranges = asked.ranges(alloc, &spans)?;
     let edits = same_edits(alloc, &ranges, new)?;
-    let uri = String::from_str(alloc, uri)?;
+    let uri = String::from_str(alloc, asked.uri)?;
     Ok(Answer::Rename(Rename { uri, edits }))
 }
 
@@ -144,23 +223,39 @@ fn same_edits(alloc: Global, ranges: &[Range], new: &str) -> Result<Vec<TextEdit
     Ok(edits)
 }
 
-/// Returns what is known of the name at a position.
+/// Returns what is known of the name at a position, if it is defined in the document.
+#[tactic(auto, using(crate::proofs::Found::described, crate::proofs::Found::undescribed))]
 pub(crate) fn hover<L: Language>(
     alloc: Global,
     language: &L,
-    shown: &Shown<'_>,
-    text: &str,
-    analysis: &Analysis,
+    asked: &Asked<'_>,
     mentions: &[Mention],
     position: Position,
-) -> Result<Answer, Failure> {
-    let Some(name) = name_at(shown, mentions, position) else {
-        return Ok(Answer::Nothing);
-    };
-    let Some(defined) = definition_of(mentions, name) else {
-        return Ok(Answer::Nothing);
-    };
-    let text = language.description(alloc, text, analysis, defined)?;
-    let range = shown.range(name.span);
+) -> Result<Answer, Failure>
+    ensures ok { IfOk result (Describes asked.now.shown.encoding asked.now.text.now mentions.now
+        position) }
+    ensures failed { IsOkUnless result Failure.Memory }
+{
+    match defined_at(asked, mentions, position) {
+        Some(name) => describe(alloc, language, asked, mentions, name),
+        None => Ok(Answer::Nothing),
+    }
+}
+
+/// Returns what is known of a name.
+fn describe<L: Language>(
+    alloc: Global,
+    language: &L,
+    asked: &Asked<'_>,
+    mentions: &[Mention],
+    name: &Mention,
+) -> Result<Answer, Failure>
+    ensures ok { IfOk result
+        (AnswersHover asked.now.shown.encoding asked.now.text.now (Some name.now)) }
+    ensures failed { IsOkUnless result Failure.Memory }
+{
+    let definition = definition_of(mentions, name).unwrap_or(name);
+    let text = language.description(alloc, asked.text, asked.analysis, definition)?;
+    let range = asked.range(name.span);
     Ok(Answer::Hover(Hover { range, text }))
 }

@@ -1,8 +1,11 @@
 //! What is known of a text, as an editor is shown it.
 ghost use Rattle.std.specs.Prelude.{◌≡◌, ◌≤◌, IfOk, length, map};
+ghost use Rattle.editor_answers.specs.Links.{pointed, to_point};
+ghost use Rattle.justfile_lines.specs.Positions.{IsOffset};
 ghost use Rattle.editor_answers.specs.Ranges.{position_of, range_of, shown, to_show, to_tell, told};
 
-use editor_language::{Item, Part, Problem, Span};
+use crate::addresses::address;
+use editor_language::{FileLink, Item, Part, Problem, Span};
 use editor_messages::{Diagnostic, Fold, Link, Symbol};
 use justfile_lines::{Encoding, Lines, Position};
 use std::alloc::{AllocError, Global};
@@ -25,6 +28,13 @@ impl<'a> Shown<'a> {
     {
         let lines = Lines::new(alloc, text)?;
         Ok(Shown { lines, encoding })
+    }
+
+    /// Returns the offset of a position.
+    pub(crate) fn offset(&self, position: Position) -> usize
+        ensures { IsOffset self.now.encoding self.now.lines.text.now position result }
+    {
+        self.lines.offset(self.encoding, position)
     }
 
     /// Returns the position of an offset.
@@ -54,7 +64,7 @@ impl<'a> Shown<'a> {
             line,
             column: usize::MAX,
         };
-        let end = self.lines.offset(self.encoding, after);
+        let end = self.offset(after);
         let place = self.lines.position(self.encoding, end);
         place.column
     }
@@ -152,26 +162,30 @@ impl<'a> Shown<'a> {
         Ok(folds)
     }
 
-    /// Returns the links of the text.
+    /// Returns the links that lead to files, as they are seen from the folder with an address.
     pub(crate) fn links(
         &self,
         alloc: Global,
-        uri: &str,
-        items: &[Item],
-    ) -> Result<Vec<Link>, AllocError> {
+        folder: &str,
+        found: &[FileLink],
+    ) -> Result<Vec<Link>, AllocError>
+        ensures { IfOk result (λ links. map pointed links.items
+            ≡ map (to_point self.now.encoding self.now.lines.text.now folder.now) found.now) }
+    {
         let mut links = Vec::new(alloc);
-        for item in items {
-            if item.is_link {
-                links.push(self.link(alloc, uri, item)?)?;
-            }
+        for link in found {
+            links.push(self.link(alloc, folder, link)?)?;
         }
         Ok(links)
     }
 
-    /// Returns the link of an item that names a file, as it is seen from the document with an address.
-    fn link(&self, alloc: Global, uri: &str, item: &Item) -> Result<Link, AllocError> {
-        let range = self.range(item.name_span);
-        let target = target(alloc, uri, item.name.as_str())?;
+    /// Returns the link that leads to a file, as it is seen from the folder with an address.
+    fn link(&self, alloc: Global, folder: &str, link: &FileLink) -> Result<Link, AllocError>
+        ensures { IfOk result (λ made. pointed made
+            ≡ to_point self.now.encoding self.now.lines.text.now folder.now link.now) }
+    {
+        let range = self.range(link.span);
+        let target = address(alloc, folder, link.path.as_str())?;
         Ok(Link { range, target })
     }
 
@@ -194,16 +208,4 @@ impl<'a> Shown<'a> {
         let range = self.range(part.span);
         Ok(TextEdit { range, text })
     }
-}
-
-/// Returns the address of the file at a path, as it is seen from the document with an address.
-fn target(alloc: Global, uri: &str, path: &str) -> Result<String, AllocError> {
-    if path.starts_with('/') {
-        return format!(in alloc; "file://{path}");
-    }
-    let folder = match uri.rsplit_once('/') {
-        Some((folder, _)) => folder,
-        None => "",
-    };
-    format!(in alloc; "{folder}/{path}")
 }

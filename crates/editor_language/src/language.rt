@@ -1,10 +1,11 @@
 //! What is asked of a language.
-ghost use Rattle.std.specs.Prelude.{ℕ, List, IfOk, IfSome, string_bytes};
+ghost use Rattle.std.specs.Prelude.{◌↔◌, ℕ, List, Option, IfOk, IfSome, IsTrue, option_copied, string_bytes};
 ghost use Rattle.editor_language.specs.declared.mention.Mention.{Mention};
 ghost use Rattle.editor_language.specs.declared.parts.Analysis.{Analysis};
+ghost use Rattle.editor_language.specs.declared.parts.FileLink.{FileLink};
 
 use crate::mention::Mention;
-use crate::parts::{Analysis, Colored, Part, Span};
+use crate::parts::{Analysis, Colored, FileLink, Part, Span};
 use editor_messages::Completion;
 use std::alloc::{AllocError, Global};
 
@@ -19,6 +20,13 @@ pub trait Language {
     /// These are the mentions of names in the text of which this is known.
     ghost mentioned: { List ℕ → Analysis → List Mention → Type 0 };
 
+    /// The text is a name.
+    ghost names: { List ℕ → Type 0 };
+
+    /// These are the links to files, from the folder at a path if there is one, in the text of
+    /// which this is known.
+    ghost linked: { Option (List ℕ) → List ℕ → Analysis → List FileLink → Type 0 };
+
     /// Returns what is known of a text.
     ///
     /// # Errors
@@ -28,7 +36,7 @@ pub trait Language {
         ensures { IfOk result (knows text.now) };
 
     /// Returns what is known of a text, by what was known of an old text, which it was before a
-    /// change. It should be the same as `analysis` returns, and no contract says so.
+    /// change.
     ///
     /// # Errors
     ///
@@ -39,7 +47,8 @@ pub trait Language {
         old_text: &str,
         old: &Analysis,
         text: &str,
-    ) -> Result<Analysis, AllocError>;
+    ) -> Result<Analysis, AllocError>
+        ensures { knows old_text.now old.now → IfOk result (knows text.now) };
 
     /// Returns the formatted text of a text, if it has one.
     ///
@@ -75,6 +84,22 @@ pub trait Language {
         analysis: &Analysis,
     ) -> Result<Vec<Mention>, AllocError>
         ensures { IfOk result (λ found. mentioned text.now analysis.now found.items) };
+
+    /// Returns what leads to files in a text. The document is in the folder at a path, if it is a
+    /// file.
+    ///
+    /// # Errors
+    ///
+    /// Memory ran out.
+    fn links(
+        &self,
+        alloc: Global,
+        folder: Option<&str>,
+        text: &str,
+        analysis: &Analysis,
+    ) -> Result<Vec<FileLink>, AllocError>
+        ensures { IfOk result
+            (λ found. linked (option_copied folder.entry) text.now analysis.now found.items) };
 
     /// Returns what is known of a name, by where it is defined, if it is defined.
     ///
@@ -116,5 +141,10 @@ pub trait Language {
     ) -> Result<Vec<Colored>, AllocError>;
 
     /// Whether a text is a name.
-    fn is_name(&self, alloc: Global, text: &str) -> bool;
+    ///
+    /// # Errors
+    ///
+    /// Memory ran out.
+    fn is_name(&self, alloc: Global, text: &str) -> Result<bool, AllocError>
+        ensures { IfOk result (λ is. IsTrue is ↔ names text.now) };
 }

@@ -8,4 +8,4 @@ mod parts;
 
 pub use language::Language;
 pub use mention::{Mention, Role, definition_of, mention_at, mentions_like};
-pub use parts::{Analysis, Colored, Item, Part, Problem, Span, TokenType};
+pub use parts::{Analysis, Colored, FileLink, Item, Part, Problem, Span, TokenType};

@@ -41,7 +41,7 @@ pub struct Mention {
     pub role: Role,
     /// The name.
     pub name: String,
-    /// Where the item begins in which alone the name is known, if there is one.
+    /// The item in which alone the name is known, if there is one: each has a number of its own.
     pub scope: Option<usize>,
     /// Where the name is.
     pub span: Span,

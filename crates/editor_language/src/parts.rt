@@ -43,6 +43,18 @@ pub struct Analysis {
     pub problems: Vec<Problem>,
     /// The items, in their order.
     pub items: Vec<Item>,
+    /// Whether the span of each item is a part of the text that is known by itself. Then what is known
+    /// of it can be kept where only other parts change.
+    pub in_chunks: bool,
+}
+
+/// A part of a text that leads to a file.
+#[derive(Drop)]
+pub struct FileLink {
+    /// Where it is.
+    pub span: Span,
+    /// The file's path: absolute, or as it is seen from the folder of the text's document.
+    pub path: String,
 }
 
 /// What takes the place of a part of a text.

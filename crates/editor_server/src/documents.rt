@@ -1,5 +1,9 @@
 //! The open documents.
-ghost use Rattle.std.specs.Prelude.{IfOk};
+ghost use Rattle.std.specs.Prelude.{◌≡◌, ℕ, List, IfOk, OnErr, OnOk, string_bytes};
+ghost use Rattle.std.specs.Option.{option_copied};
+ghost use Rattle.std.specs.BTreeMap.{IsEmpty, IsUnchanged, get_by_text};
+ghost use Rattle.editor_messages.specs.Changes.{AreApplied};
+ghost use Rattle.editor_server.specs.Changed.{AreKnown, IsKept, IsKnown, IsPut, Keeps, TellsAfter};
 ghost use Rattle.editor_server.specs.Opened.{TellsOf};
 
 use editor_answers::diagnostics;
@@ -26,14 +30,18 @@ pub(crate) struct Documents {
 
 impl Documents {
     /// Returns no documents.
-    pub(crate) fn new(alloc: Global) -> Self {
+    pub(crate) fn new(alloc: Global) -> Self
+        ensures { IsEmpty result.list }
+    {
         Documents {
             list: BTreeMap::new(alloc),
         }
     }
 
     /// Returns the document with an address.
-    pub(crate) fn get(&self, uri: &str) -> Option<&Document> {
+    pub(crate) fn get(&self, uri: &str) -> Option<&Document>
+        ensures { option_copied result ≡ get_by_text self.now.list uri.now }
+    {
         self.list.get(uri)
     }
 
@@ -50,7 +58,8 @@ impl Documents {
         uri: &str,
         text: &str,
     ) -> Result<Vec<Diagnostic>, AllocError>
-        ensures { IfOk result (λ found. TellsOf L.knows encoding text.now found.items) }
+        ensures tells { IfOk result (λ found. TellsOf L.knows encoding text.now found.items) }
+        ensures known { Keeps L.knows self.old.list self.new.list }
     {
         let analysis = language.analysis(alloc, text)?;
         let found = diagnostics(alloc, encoding, text, &analysis.problems)?;
@@ -60,7 +69,10 @@ impl Documents {
     }
 
     /// Adds a document, or puts it in the place of one.
-    fn insert(&mut self, alloc: Global, uri: &str, document: Document) -> Result<(), AllocError> {
+    fn insert(&mut self, alloc: Global, uri: &str, document: Document) -> Result<(), AllocError>
+        ensures put { OnOk result (IsPut uri.now document self.old.list self.new.list) }
+        ensures unchanged { OnErr result (IsUnchanged self.old.list self.new.list) }
+    {
         let uri = uri.to_string(alloc)?;
         match self.list.insert(uri, document) {
             Ok(_) => Ok(()),
@@ -68,7 +80,7 @@ impl Documents {
         }
     }
 
-    /// Changes a document, if it is open.
+    /// Changes a document, if it is open. Returns what is wrong in it then.
     ///
     /// # Errors
     ///
@@ -80,16 +92,26 @@ impl Documents {
         encoding: Encoding,
         uri: &str,
         changes: &[Change<'_>],
-    ) -> Result<(), AllocError> {
-        let document = match self.get(uri) {
-            Some(document) => changed_document(alloc, language, encoding, document, changes)?,
-            None => return Ok(()),
+    ) -> Result<Option<Vec<Diagnostic>>, AllocError>
+        ensures tells { AreKnown L.knows self.old.list → IfOk result (TellsAfter L.knows encoding
+            changes.now (get_by_text self.old.list uri.now)) }
+        ensures known { Keeps L.knows self.old.list self.new.list }
+    {
+        let Some(document) = self.get(uri) else {
+            return Ok(None);
         };
-        self.insert(alloc, uri, document)
+        let document = changed_document(alloc, language, encoding, document, changes)?;
+        let problems = &document.analysis.problems;
+        let found = diagnostics(alloc, encoding, document.text.as_str(), problems)?;
+        self.insert(alloc, uri, document)?;
+        Ok(Some(found))
     }
 
     /// Closes a document.
-    pub(crate) fn close(&mut self, uri: &str) {
+    pub(crate) fn close(&mut self, uri: &str)
+        ensures { (q : List ℕ) → IsKept (get_by_text self.old.list q)
+            (get_by_text self.new.list q) }
+    {
         let _ = self.list.remove(uri);
     }
 }
@@ -101,7 +123,11 @@ fn changed_document<L: Language>(
     encoding: Encoding,
     document: &Document,
     changes: &[Change<'_>],
-) -> Result<Document, AllocError> {
+) -> Result<Document, AllocError>
+    ensures applied { IfOk result (λ changed. AreApplied encoding
+        (string_bytes document.now.text) changes.now (string_bytes changed.text)) }
+    ensures known { IsKnown L.knows document.now → IfOk result (IsKnown L.knows) }
+{
     let old = document.text.as_str();
     let text = changed_text(alloc, encoding, old, changes)?;
     let analysis = language.analysis_after(alloc, old, &document.analysis, text.as_str())?;

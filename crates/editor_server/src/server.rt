@@ -1,6 +1,6 @@
 //! What the server does at each message.
 use crate::documents::Documents;
-use editor_answers::{Failure, answer, diagnostics};
+use editor_answers::{Failure, answer};
 use editor_json::{diagnostics_text, error_text, message_of, parsed, reply_text};
 use editor_language::Language;
 use editor_messages::{Answer, ErrorCode, Id, Message, Notification, Request};
@@ -170,25 +170,19 @@ impl Server {
             }
             Notification::Change(uri, changes) => {
                 let encoding = self.encoding;
-                self.documents
+                let changed = self
+                    .documents
                     .change(alloc, language, encoding, uri, &changes)?;
-                self.publish(alloc, uri)
+                match changed {
+                    Some(found) => Ok(Reaction::Send(diagnostics_text(alloc, uri, &found)?)),
+                    None => Ok(Reaction::Silent),
+                }
             }
             Notification::Close(uri) => {
                 self.documents.close(uri);
                 Ok(Reaction::Send(diagnostics_text(alloc, uri, &[])?))
             }
         }
-    }
-
-    /// Publishes what is wrong in a document, if it is open.
-    fn publish(&self, alloc: Global, uri: &str) -> Result<Reaction, AllocError> {
-        let Some(document) = self.documents.get(uri) else {
-            return Ok(Reaction::Silent);
-        };
-        let problems = &document.analysis.problems;
-        let found = diagnostics(alloc, self.encoding, document.text.as_str(), problems)?;
-        Ok(Reaction::Send(diagnostics_text(alloc, uri, &found)?))
     }
 }
 

@@ -101,13 +101,6 @@ script_slots (Some i) = literal_slot i.command ∷ map literal_slot i.arguments.
 abbrev pub cache_slots : (extra inputs outputs : Option (Box Expression)) → Slots
 cache_slots extra inputs outputs = value_slot (codes "extra=") extra ∷ value_slot (codes "inputs=") inputs ∷ value_slot (codes "outputs=") outputs ∷ []
 
-abbrev pub arg_slots : (name : StringLiteral) (long_key : Option Name) (long : Option StringLiteral) (short_key : Option Name) (short : Option StringLiteral)
-    (pattern : Option (Name × Box Expression)) (value : Option (Box Expression)) (flag multiple : Option Token) (min max : Option ℕ) (help : Option (Name × Box Expression)) → Slots
-arg_slots name long_key long short_key short pattern value flag multiple min max help =
-    literal_slot name ∷ option_slot (codes "long") (codes "long=") long_key long ∷ option_slot (codes "short") (codes "short=") short_key short
-    ∷ property_slot (codes "pattern=") pattern ∷ value_slot (codes "value=") value ∷ flag_slot (codes "flag") flag ∷ flag_slot (codes "multiple") multiple
-    ∷ number_slot (codes "min=") min ∷ number_slot (codes "max=") max ∷ property_slot (codes "help=") help ∷ []
-
 abbrev pub form_slots : Form → Slots
 form_slots forms.Plain = []
 form_slots (forms.Optional value) = single_slots value
@@ -119,7 +112,9 @@ form_slots (forms.Signals signals) = map signal_slot signals
 form_slots (forms.Cache extra inputs outputs) = cache_slots extra inputs outputs
 form_slots (forms.Script interpreter) = script_slots interpreter
 form_slots (forms.Arg flag help property long long_key max max_key min min_key multiple name pattern short short_key value) =
-    arg_slots name long_key long short_key short pattern value flag multiple min max property
+    literal_slot name ∷ option_slot (codes "long") (codes "long=") long_key long ∷ option_slot (codes "short") (codes "short=") short_key short
+    ∷ property_slot (codes "pattern=") pattern ∷ value_slot (codes "value=") value ∷ flag_slot (codes "flag") flag ∷ flag_slot (codes "multiple") multiple
+    ∷ number_slot (codes "min=") min ∷ number_slot (codes "max=") max ∷ property_slot (codes "help=") property ∷ []
 
 -- the slots of an attribute
 abbrev pub slots : Attribute → Slots

@@ -19,7 +19,7 @@ impl<T: fmt::Display> fmt::Display for Interpreter<T> {
     ghost output = { λ interpreter. interpreter_output T.output interpreter };
 
     fn fmt<W: fmt::Write>(&self, f: &mut fmt::Formatter<W>) -> fmt::Result {
-        self.command.fmt(f)?;
+        write!(f, "{}", self.command)?;
         for argument in &self.arguments {
             write_later(argument, f)?;
         }

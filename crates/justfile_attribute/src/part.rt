@@ -1,7 +1,9 @@
 //! The arguments of an attribute in the order in which they are printed.
 ghost use Rattle.std.specs.Prelude.{◌≡◌, ◌∷◌, ◌<◌, [], IsSome, map};
 ghost use Rattle.std.specs.List.{slice_get};
-ghost use Rattle.justfile_attribute.specs.Print.{arg_slots, cache_slots, flag_slot, literal_slot, number_slot, option_slot, positional, property_slot, script_slots, signal_slot, signal_text, single_slots, slot_of, slot_text, slots, value_slot};
+ghost use Rattle.justfile_vocabulary.specs.declared.attribute_kind.AttributeKind.TheVariants as kinds;
+ghost use Rattle.justfile_attribute.specs.Form.{case_kind};
+ghost use Rattle.justfile_attribute.specs.Print.{cache_slots, flag_slot, literal_slot, number_slot, option_slot, positional, property_slot, script_slots, signal_slot, signal_text, single_slots, slot_of, slot_text, slots, value_slot};
 
 use crate::attribute::Attribute;
 use crate::interpreter::Interpreter;
@@ -39,35 +41,7 @@ pub fn slot<'a, 'src>(
     ensures bounded { IsSome result → index < usize.MAX }
 {
     match attribute {
-        Attribute::Arg {
-            flag,
-            help_property,
-            long,
-            long_key,
-            max,
-            min,
-            multiple,
-            name,
-            pattern_property,
-            short,
-            short_key,
-            value,
-            ..
-        } => arg_slot(
-            name,
-            long_key,
-            long,
-            short_key,
-            short,
-            pattern_property,
-            value,
-            flag,
-            multiple,
-            min,
-            max,
-            help_property,
-            index,
-        ),
+        Attribute::Arg { .. } => arg_slot(attribute, index),
         Attribute::Cache {
             extra,
             inputs,
@@ -89,37 +63,42 @@ pub fn slot<'a, 'src>(
 
 /// Returns a slot of an `arg` attribute.
 fn arg_slot<'a, 'src>(
-    name: &'a StringLiteral<'src>,
-    long_key: &'a Option<Name<'src>>,
-    long: &'a Option<StringLiteral<'src>>,
-    short_key: &'a Option<Name<'src>>,
-    short: &'a Option<StringLiteral<'src>>,
-    pattern: &'a Option<(Name<'src>, Box<Expression<'src>>)>,
-    value: &'a Option<Box<Expression<'src>>>,
-    flag: &'a Option<Token<'src>>,
-    multiple: &'a Option<Token<'src>>,
-    min: &'a Option<u64>,
-    max: &'a Option<u64>,
-    help: &'a Option<(Name<'src>, Box<Expression<'src>>)>,
+    attribute: &'a Attribute<'src>,
     index: usize,
 ) -> Option<Option<Part<'a, 'src>>>
-    ensures slot { slot_of result
-        ≡ slice_get (arg_slots name.now long_key.now long.now short_key.now short.now
-        pattern.now value.now flag.now multiple.now min.now max.now help.now) index }
+    requires { kinds.Arg ≡ case_kind attribute.now }
+    ensures slot { slot_of result ≡ slice_get (slots attribute.now) index }
     ensures bounded { IsSome result → index < usize.MAX }
 {
-    match index {
-        0 => literal_slot(name, 0),
-        1 => Some(option_part("long", "long=", long_key, long)),
-        2 => Some(option_part("short", "short=", short_key, short)),
-        3 => Some(property_part("pattern=", pattern)),
-        4 => Some(value_part("value=", value)),
-        5 => Some(flag_part("flag", flag)),
-        6 => Some(flag_part("multiple", multiple)),
-        7 => Some(number_part("min=", min)),
-        8 => Some(number_part("max=", max)),
-        9 => Some(property_part("help=", help)),
-        _ => None,
+    match attribute {
+        Attribute::Arg {
+            flag,
+            help_property,
+            long,
+            long_key,
+            max,
+            min,
+            multiple,
+            name,
+            pattern_property,
+            short,
+            short_key,
+            value,
+            ..
+        } => match index {
+            0 => literal_slot(name, 0),
+            1 => Some(option_part("long", "long=", long_key, long)),
+            2 => Some(option_part("short", "short=", short_key, short)),
+            3 => Some(property_part("pattern=", pattern_property)),
+            4 => Some(value_part("value=", value)),
+            5 => Some(flag_part("flag", flag)),
+            6 => Some(flag_part("multiple", multiple)),
+            7 => Some(number_part("min=", min)),
+            8 => Some(number_part("max=", max)),
+            9 => Some(property_part("help=", help_property)),
+            _ => None,
+        },
+        _ => unreachable!(),
     }
 }
 

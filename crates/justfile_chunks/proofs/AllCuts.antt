@@ -79,7 +79,7 @@ not_ignored kinds.Eol o h = refl
 not_ignored kinds.Dedent o h = refl
 not_ignored _ o h = cc
 
-fresh : (e rest : List Tok) → IsCut e rest → Fresh e
+pub fresh : (e rest : List Tok) → IsCut e rest → Fresh e
 fresh [] rest c = absurd c
 fresh (t ∷ e) rest c = record { levels = c.outside; line = not_ignored t.kind (line_kind e) c.ends }
 

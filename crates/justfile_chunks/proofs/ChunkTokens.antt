@@ -71,7 +71,7 @@ first_part (Parts.uncut {earlier = e} {later = l} {part = p} {parts = ps} {t = t
       others = s.others;
     })
 
-onto_mode : (part earlier : List Tok) → mode (onto earlier part) ≡ mode_past (mode earlier) part
+pub onto_mode : (part earlier : List Tok) → mode (onto earlier part) ≡ mode_past (mode earlier) part
 onto_mode [] earlier = refl
 onto_mode (t ∷ part) earlier = onto_mode part (t ∷ earlier)
 
@@ -147,7 +147,7 @@ start_tidy earlier s = record {
   line = λ start flat body. let bad : true ≡ false = sym body ∙ s.in_body in cc;
 }
 
-no_colon : (m n : Mode) → HaveColon false m n
+pub no_colon : (m n : Mode) → HaveColon false m n
 no_colon m n = record { first = λ e. cc; second = λ e. cc }
 
 -- a part up to a cut, and the tokens after it
@@ -240,7 +240,7 @@ pub record Borders : Type 0 where
   pub eof_text : (first : Bool) (part : List Tok) → (eof first part).lexeme ≡ []
 
 -- at the start of the text
-pub plain : Borders
+abbrev pub plain : Borders
 plain = record {
   feed = λ part. tok kinds.Eol (10 ∷ []) 0 0 0;
   eof = λ first part. tok kinds.Eof [] 0 0 0;
@@ -282,7 +282,7 @@ pub record ChunkLexes (text : List ℕ) (tokens : List Tok) : Type 0 where
 abbrev pub AllLex : List (List ℕ) → List (List Tok) → Type 0
 AllLex texts chunks = AllZip ChunkLexes texts chunks
 
-marks_toks : (text : List ℕ) (offset : ℕ) (ms : List Mark) → marks (toks text offset ms) ≡ ms ++ (mark kinds.Eof [] ∷ [])
+pub marks_toks : (text : List ℕ) (offset : ℕ) (ms : List Mark) → marks (toks text offset ms) ≡ ms ++ (mark kinds.Eof [] ∷ [])
 marks_toks text offset [] = refl
 marks_toks text offset (m ∷ ms) = ap (λ x. m ∷ x) (marks_toks text (offset + length m.lexeme) ms)
 
@@ -332,7 +332,7 @@ module _ (b : Borders) (part tokens : List Tok) (ms : List Mark) (are : marks to
       later true c = c
       later false c = subst (λ k. IndentsHaveColons (colon_after k false) tokens) (b.feed_kind part) c.1
 
-colons_front : (ts us : List Tok) (colon : Bool) → IndentsHaveColons colon (ts ++ us) → IndentsHaveColons colon ts
+pub colons_front : (ts us : List Tok) (colon : Bool) → IndentsHaveColons colon (ts ++ us) → IndentsHaveColons colon ts
 colons_front [] us colon c = tt
 colons_front (t ∷ ts) us colon c = (c.0, colons_front ts us (colon_after t.kind colon) c.1)
 
@@ -342,7 +342,7 @@ colons_closed (u ∷ ts) t colon e c = (c.0, colons_closed ts t (colon_after u.k
 
 module _ (b : Borders) where
   -- a chunk that ends at a cut
-  cut_chunk : (earlier part rest : List Tok) → NextPart earlier part rest → (first : Bool)
+  pub cut_chunk : (earlier part rest : List Tok) → NextPart earlier part rest → (first : Bool)
       → ChunkLexes (text_by first part) (tokens_by b first part (closed b first part))
   cut_chunk earlier part rest n first =
       let t = b.eof first part in
@@ -355,7 +355,7 @@ module _ (b : Borders) where
       first
 
   -- the last chunk
-  last_chunk : (earlier later : List Tok) → Later earlier later → (first : Bool) → ChunkLexes (text_by first later) (tokens_by b first later later)
+  pub last_chunk : (earlier later : List Tok) → Later earlier later → (first : Bool) → ChunkLexes (text_by first later) (tokens_by b first later later)
   last_chunk earlier later h =
       chunk_by b later later (marks (but_last later)) (last_marks later h.ends h.empty)
       (λ c. record { is = last_lexes later (mode earlier) start_mode false h.same (no_colon (mode earlier) start_mode) c h.ends h.empty h.run })

@@ -47,7 +47,7 @@ near_derives conditions ts us n d = record {
 }
 
 module _ (conditions : Conditions) where
-  have_colons : (ts : List Tok) {all : Tree} {features : List (Noted Tok)} → FileDerives conditions (significant_tokens ts) all features
+  pub have_colons : (ts : List Tok) {all : Tree} {features : List (Noted Tok)} → FileDerives conditions (significant_tokens ts) all features
       → IndentsHaveColons false ts
   have_colons ts {all = all} {features = features} d =
       colons_law to_tokens conditions (views_tokens conditions.expander) (map (over_literal lexeme)) (map-append (over_literal lexeme)) ts all features

@@ -143,6 +143,37 @@ module _ (m : Mode) (rest : List ℕ) where
       (either (eqb (length (drop 1 rest)) 0) refused refused)))
       refused)
 
+abbrev NotDedent : TokenKind → Type 0
+NotDedent kinds.Dedent = ⊥
+NotDedent _ = Unit {0}
+
+abbrev NoDedent : NextToken → Type 0
+NoDedent (Ok x) = NotDedent x.0
+NoDedent (Err r) = Unit {0}
+
+text_fact : (l b : ℕ) → NoDedent (text_or l b)
+text_fact zero b = lines (eqb b 10) (eqb b 13)
+  where
+    lines : (s t : Bool) → NoDedent (cond {A = NextToken} s (Ok (kinds.Eol, 1)) (cond t (Ok (kinds.Eol, 2)) (Ok (kinds.InterpolationStart, 2))))
+    lines true t = tt
+    lines false true = tt
+    lines false false = tt
+text_fact (suc l) b = tt
+
+-- within a line no dedent comes
+pub no_dedent_within : (m : Mode) (rest : List ℕ) (n : ℕ) → token_within_line m rest ≡ Ok (kinds.Dedent, n) → ⊥
+unfolding token_within_line body_token
+no_dedent_within m rest n e = by (region_by m.in_body m.interpolation) e
+  where
+    ended : {found : NextToken} → Ends m found → found ≡ Ok (kinds.Dedent, n) → ⊥
+    ended h e = subst (EndsBy m) e h.fact
+
+    by : (r : Region) → token_in_region r m rest ≡ Ok (kinds.Dedent, n) → ⊥
+    by InText e = subst NoDedent e (text_fact (raw_len raw_texts.Body rest) (get_or rest 0 0))
+    by InInterpolation e =
+        ended (either m rest (is_empty m.openers && is_interpolation_end rest) (is m rest tt) (inline_plain m rest (class_of (get_or rest 0 0)))) e
+    by OutsideText e = ended (inline_plain m rest (class_of (get_or rest 0 0))) e
+
 -- ---- the next token
 
 pub or_none : (os : List OpenDelimiter) (o : Option Tok) → (not (is_empty os) || is_some o) ≡ false → (os ≡ []) × (o ≡ None)

@@ -3,11 +3,17 @@ pub mod ChunkTokens
 pub mod ChunkTrees
 pub mod CutModes
 pub mod FeedTexts
+pub mod JoinedChunks
+pub mod JoinedNext
+pub mod JoinedParts
+pub mod JoinedTokens
 pub mod MovedChunks
 pub mod MovedPlaces
+pub mod ParsedChunks
 pub mod PartLexes
 pub mod PartNext
 pub mod PartSteps
+pub mod ReplacedChunks
 pub mod SameModes
 pub mod SameNext
 pub mod SplitRuns

@@ -156,7 +156,7 @@ module _ (text before rest : List ℕ) (t : Tok) (part : List Tok) (feed : EndsI
       h.0.line_is ∙ ap (λ n. line_of_offset text n) (h.0.offset_is ∙ omega arith) ∙ ap (λ x. line_of_offset x (length before + 0)) is
       ∙ ap (count_by is_line_feed) ((inside before (text_of (t ∷ part)) rest 0 some).is ∙ append-nil before)
 
-  by_first : Moves before (10 ∷ []) (t.offset - 1) (t.line - 1)
+  pub by_first : Moves before (10 ∷ []) (t.offset - 1) (t.line - 1)
   by_first =
       let moves : Moves before (10 ∷ []) (length before - 1) (count_by is_line_feed before - 1) =
       subst (λ x. Moves x (10 ∷ []) (length x - 1) (count_by is_line_feed x - 1)) (sym feed.is) (after_text feed.front) in
@@ -288,7 +288,7 @@ module _ (text : List ℕ) where
                 (placed_rest before earlier later part (q ∷ parts) h s is pl) (feed_after before earlier later part (q ∷ parts) h s is f),
           )
 
-none_more : (n : ℕ) → 0 + n ≡ n
+pub none_more : (n : ℕ) → 0 + n ≡ n
 none_more n = omega arith
 
 unmoved : (ts : List Tok) → map (moved 0 0) ts ≡ ts

@@ -23,7 +23,7 @@ pub record Before (a p r : List ℕ) (k : ℕ) (bs : List ℕ) (more : ℕ) : Ty
   pub is : text_before (a ++ (p ++ r)) (length a + k) ≡ a ++ bs
   pub bytes : k ≡ length bs + more
 
-front_of : (a x : List ℕ) (k : ℕ) → take (length a + k) (a ++ x) ≡ a ++ take k x
+pub front_of : (a x : List ℕ) (k : ℕ) → take (length a + k) (a ++ x) ≡ a ++ take k x
 front_of a x k = take-add (length a) k (a ++ x) ∙ (λ i. take_front a x i ++ take k (drop_front a x i))
 
 pub inside : (a p r : List ℕ) (k : ℕ) → k < length p → Before a p r k (take k p) 0
@@ -61,7 +61,7 @@ column_is : (text : List ℕ) (n more : ℕ) (bs : List ℕ) → text_before tex
 unfolding column_at last_line_start amid
 column_is text n more bs e l = ap (λ x. n - (length x - prefix_len (λ b. not (is_line_feed b)) (reverse x))) e ∙ omega (arith, amid_fits bs, l)
 
-feeds_append : (xs ys : List ℕ) → count_by is_line_feed (xs ++ ys) ≡ count_by is_line_feed xs + count_by is_line_feed ys
+pub feeds_append : (xs ys : List ℕ) → count_by is_line_feed (xs ++ ys) ≡ count_by is_line_feed xs + count_by is_line_feed ys
 feeds_append xs ys = sum_by-append _ xs ys
 
 -- A text is moved from being after `b` to being after `a`.

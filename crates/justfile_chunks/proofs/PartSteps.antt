@@ -159,6 +159,16 @@ eol_next m rest (t ∷ u ∷ us) s flat ls out some h l r = by (length (take (bl
         cut (suc n) [] = refl
         cut (suc n) (x ∷ xs) = ap (λ l. x ∷ l) (cut n xs)
 
+-- the text up to a line feed
+pub feed_utf8 : (w v : List ℕ) → IsUtf8 (w ++ (10 ∷ v)) → IsUtf8 (w ++ (10 ∷ []))
+feed_utf8 w v u =
+    let low : get_or (w ++ (10 ∷ v)) (length w) 0 < 128 = omega (arith, get_or-append_seam w 10 v 0) in
+    let size : length (w ++ (10 ∷ [])) ≡ length w + 1 = length-append w (10 ∷ []) in
+    let front : take (length w + 1) (w ++ (10 ∷ v)) ≡ w ++ (10 ∷ []) =
+    (λ i. take (sym size i) (sym (append_assoc w (10 ∷ []) v) i)) ∙ take_front (w ++ (10 ∷ [])) v in
+    subst IsUtf8 front (IsUtf8-take (w ++ (10 ∷ v)) (length w + 1) u
+    (IsCharBoundary-after_ascii (w ++ (10 ∷ v)) (length w) u (omega (arith, length-append w (10 ∷ v))) low))
+
 -- ---- the part, and the text and the tokens after it
 
 module _ (v : List ℕ) (later : List Tok) (some : 0 < length v) (more : 0 < length later) where
@@ -241,7 +251,7 @@ module _ (v : List ℕ) (later : List Tok) (some : 0 < length v) (more : 0 < len
           tokens_left [] e = absurd (omega (arith, ap length e, length-append w (10 ∷ [])))
           tokens_left (u ∷ us) e = omega arith
 
-      closes_alike : ClosesAlike before w v
+      closes_alike : ClosesAlike before w v []
       closes_alike = record { alike = λ start flat blank. by before.levels refl tidy.levels start flat blank }
         where
           by : (ls : List (List ℕ)) → before.levels ≡ ls → LevelFact ls before.in_body → before.line_start ≡ true → nested before ≡ false
@@ -260,19 +270,12 @@ module _ (v : List ℕ) (later : List Tok) (some : 0 < length v) (more : 0 < len
                   ∙ closes_more false (w ++ (10 ∷ [])) q in cc
 
       part_utf8 : IsUtf8 (w ++ (10 ∷ []))
-      part_utf8 =
-          let whole : IsUtf8 (w ++ (10 ∷ v)) = subst IsUtf8 text_is utf8 in
-          let low : get_or (w ++ (10 ∷ v)) (length w) 0 < 128 = omega (arith, get_or-append_seam w 10 v 0) in
-          let size : length (w ++ (10 ∷ [])) ≡ length w + 1 = length-append w (10 ∷ []) in
-          let front : take (length w + 1) (w ++ (10 ∷ v)) ≡ w ++ (10 ∷ []) =
-          (λ i. take (sym size i) (sym (append_assoc w (10 ∷ []) v) i)) ∙ take_front (w ++ (10 ∷ [])) v in
-          subst IsUtf8 front (IsUtf8-take (w ++ (10 ∷ v)) (length w + 1) whole
-          (IsCharBoundary-after_ascii (w ++ (10 ∷ v)) (length w) whole (omega (arith, length-append w (10 ∷ v))) low))
+      part_utf8 = feed_utf8 w v (subst IsUtf8 text_is utf8)
 
       fed_step : next before (flat_map lexeme (t ∷ ts)) ≡ Ok (t.kind, length t.lexeme)
       fed_step =
           ap (next before) is
-          ∙ part_next before w v part_utf8 closes_alike t.kind (length t.lexeme) (sym (ap (next before) text_is) ∙ run.2)
+          ∙ part_next before w v [] refl part_utf8 closes_alike t.kind (length t.lexeme) (sym (ap (next before) text_is) ∙ run.2)
           (omega (arith, ap length is, length-append w (10 ∷ []), length-append t.lexeme (flat_map lexeme ts)))
 
     empty_step : t.kind ≢ kinds.Eof → flat_map lexeme (t ∷ ts) ≡ [] → next before (flat_map lexeme (t ∷ ts)) ≡ Ok (t.kind, length t.lexeme)

@@ -99,7 +99,7 @@ last_feed (x ∷ y ∷ l) h =
     let at : length (x ∷ y ∷ l) - 1 ≡ suc (length (y ∷ l) - 1) = omega arith in
     fed_more (x ∷ []) (y ∷ l) (last_feed (y ∷ l) (subst (λ n. eqb (get_or (x ∷ y ∷ l) n 0) 10 ≡ true) at h))
 
-tail_is : (x y : ℕ) (xs ys : List ℕ) → ◌≡◌ {A = List ℕ} (x ∷ xs) (y ∷ ys) → xs ≡ ys
+pub tail_is : (x y : ℕ) (xs ys : List ℕ) → ◌≡◌ {A = List ℕ} (x ∷ xs) (y ∷ ys) → xs ≡ ys
 tail_is x y xs ys e = cc
 
 pub fed_suffix : (xs ys : List ℕ) → Fed (xs ++ ys) → Fed ys

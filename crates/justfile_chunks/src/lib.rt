@@ -5,6 +5,7 @@
 pub mod examples;
 
 ghost use Rattle.justfile_chunks_grammar.specs.Chunks.{NumberLaw, ShapeLaw, TokenLaw, TreeLaw};
+ghost use Rattle.justfile_chunks.specs.JoinedTexts.{JoinLaw, JoinedTreeLaw, ParsedLaw, ReplacedLaw};
 
 /// A text derives a shape exactly if its chunks derive it. The chunks are the text cut at its items,
 /// each after the line feed before it. The shape is theirs, joined, without the items of these line
@@ -21,4 +22,16 @@ pub fn chunks_derive_trees()
     ensures trees { TreeLaw }
     ensures tokens { TokenLaw }
     ensures numbers { NumberLaw }
+{}
+
+/// Two texts that have a chunk in common can be joined there: the left one up to the chunk, and the
+/// right one from it on. If the chunk's first line is neither blank nor indented, and it and those
+/// after it in the right text derive trees, the joined text has the chunks of both. So an editor
+/// need not lex a changed text again where it is as it was: what it has parsed of the chunks before
+/// a change and after it, and of a text around the change, is the tree of the whole.
+pub fn texts_join()
+    ensures chunks { JoinLaw }
+    ensures parsed { ParsedLaw }
+    ensures trees { JoinedTreeLaw }
+    ensures replaced { ReplacedLaw }
 {}

@@ -1,12 +1,9 @@
 -- The labels of the attributes parsed so far, and what they imply for the next attribute.
-use Rattle.std.proofs.Common.{◌≡◌, ◌∙◌, ℕ, Bool, true, false, cond, ◌&&◌, ◌||◌, not, List, [], ◌∷◌, ◌++◌, map, find, length, take, Option, Some, None, Result, Ok, Err, OnErr, OnOk, refl, sym, ap, subst, String, string_bytes}
+use Rattle.std.proofs.Common.{◌≡◌, ◌∙◌, ℕ, Bool, true, false, cond, ◌&&◌, ◌||◌, not, List, [], ◌∷◌, ◌++◌, map, find, length, take, Option, Some, None, Result, Ok, Err, OnErr, OnOk, refl, sym, ap, subst, String, string_bytes, Global}
 use denote.Enum.Bare.{same_true}
-use Rattle.std.specs.BTreeMap.{BTreeMap, get_by_text, is_at, Updates}
-use Rattle.std.specs.Cmp.Lexicographic.{slice_cmp}
+use Rattle.std.specs.BTreeMap.{BTreeMap, get_by_text, Updates}
 use Rattle.std.specs.List.{IsLastAndRest}
-use Rattle.std.specs.Map.{lookup}
 use Rattle.std.specs.Option.{option_map, option_or}
-use Rattle.std.specs.Ordering.{nat_cmp}
 use Rattle.std.specs.Str.{bytes_eq}
 use Rattle.std.specs.String.{string_cmp}
 use Rattle.std.proofs.lemmas.List.{map-append}
@@ -33,7 +30,8 @@ use Rattle.justfile_model.specs.Trees.Tree as tree
 use Rattle.justfile_model.specs.Trees.Tree.{ArgumentRules, Entry, Quoted}
 use Rattle.justfile_parse_attribute.specs.AddedAttributes.{IsAdded}
 use Rattle.justfile_parse_attribute.specs.Attributes.{entry_of_pair}
-use Rattle.justfile_parse_attribute.specs.Labels.{AreKnown, AreKnownBefore, AreSame, ChecksLabel, ChecksLine, IsLabelNoted, IsNoted, KnowsLabels, LeafAttribute, arg_label, first_line, group_label, has_text, label_rule}
+use Rattle.justfile_parse_attribute.specs.Labels.{AreKnown, AreKnownBefore, AreSame, AreSameLines, ChecksLabel, ChecksLine, HasNone, IsLabelNoted, IsNoted, IsStored, KnowsLabels, LeafAttribute, arg_label, first_line, group_label, has_text, label_rule, line_in, line_or}
+use Rattle.justfile_parse_attribute.specs.declared.labels.LabelLines.{LabelLines}
 use Rattle.justfile_parse_attribute.specs.declared.labels.Labels.{Labels}
 use Rattle.justfile_parse_attribute.proofs.RepeatedAttributes.{arg_rule, group_rule, label_text, last_apart}
 use Rattle.justfile_expression.specs.LeafViews.{views_leaves}
@@ -177,17 +175,14 @@ first_append : (label : Label) (text : List ℕ) (es : Entries) (e : Entry Leaf 
     → first_line label text (es ++ e ∷ []) ≡ option_map line_of (option_or (find (passes label text) es) (cond (passes label text e) (Some e) None))
 first_append label text es e = ap (option_map line_of) (find-append (passes label text) es (e ∷ []))
 
-same_line : {Y : Type 0} (m n : BTreeMap (String Y) ℕ) → n.entries ≡ m.entries → (text : List ℕ) → get_by_text n text ≡ get_by_text m text
-same_line {Y = Y} m n h text = ap (lookup (is_at (λ (k : String Y). slice_cmp nat_cmp text (string_bytes k)))) h
-
 -- it has no such label
-line_kept : {Y : Type 0} (label : Label) (m n : BTreeMap (String Y) ℕ) (es : Entries) (e : Entry Leaf Token) → label e.attribute ≡ None
-    → (text : List ℕ) → get_by_text m text ≡ first_line label text es → n.entries ≡ m.entries → get_by_text n text ≡ first_line label text (es ++ e ∷ [])
+line_kept : (label : Label) (m n : LabelLines) (es : Entries) (e : Entry Leaf Token) → label e.attribute ≡ None
+    → (text : List ℕ) → line_in m text ≡ first_line label text es → AreSameLines m n → line_in n text ≡ first_line label text (es ++ e ∷ [])
 line_kept label m n es e none text known same =
     let found = find (passes label text) es in
     let without : option_map line_of (option_or found (cond (passes label text e) (Some e) None)) ≡ option_map line_of found =
     ap (λ l. option_map line_of (option_or found (cond (has_text text l) (Some e) None))) none ∙ ap (option_map line_of) (or_none found) in
-    same_line m n same text ∙ known ∙ sym (first_append label text es e ∙ without)
+    same text ∙ known ∙ sym (first_append label text es e ∙ without)
 
 -- nothing was first
 then_first : (o : Option (Entry Leaf Token)) (e : Entry Leaf Token) → option_map line_of o ≡ None → Some (line_of e) ≡ option_map line_of (option_or o (Some e))
@@ -195,16 +190,16 @@ then_first None e h = refl
 then_first (Some d) e h = cc
 
 -- it has this label, and nothing had it before
-line_added : {Y : Type 0} (label : Label) (text : List ℕ) (m n : BTreeMap (String Y) ℕ) (es : Entries) (e : Entry Leaf Token)
-    → ((t : List ℕ) → has_text t (label e.attribute) ≡ bytes_eq text t) → first_line label text es ≡ None → IsNoted text (line_of e) m n
-    → (t : List ℕ) → get_by_text m t ≡ first_line label t es → get_by_text n t ≡ first_line label t (es ++ e ∷ [])
-line_added label text m n es e labelled none noted t known =
+line_added : (label : Label) (text : List ℕ) (m n : LabelLines) (es : Entries) (e : Entry Leaf Token)
+    → ((t : List ℕ) → has_text t (label e.attribute) ≡ bytes_eq text t) → first_line label text es ≡ None → line_in m text ≡ first_line label text es → IsNoted text (line_of e) m n
+    → (t : List ℕ) → line_in m t ≡ first_line label t es → line_in n t ≡ first_line label t (es ++ e ∷ [])
+line_added label text m n es e labelled none here noted t known =
     let found = find (passes label t) es in
     let last : option_map line_of (option_or found (cond (passes label t e) (Some e) None)) ≡ option_map line_of (option_or found (cond (bytes_eq text t) (Some e) None)) =
     ap (λ b. option_map line_of (option_or found (cond b (Some e) None))) (labelled t) in
-    noted t ∙ go (bytes_eq text t) refl ∙ sym (first_append label t es e ∙ last)
+    noted (here ∙ none) t ∙ go (bytes_eq text t) refl ∙ sym (first_append label t es e ∙ last)
   where
-    go : (b : Bool) → bytes_eq text t ≡ b → cond b (Some (line_of e)) (get_by_text m t) ≡ option_map line_of (option_or (find (passes label t) es) (cond b (Some e) None))
+    go : (b : Bool) → bytes_eq text t ≡ b → cond b (Some (line_of e)) (line_in m t) ≡ option_map line_of (option_or (find (passes label t) es) (cond b (Some e) None))
     go false apart = known ∙ sym (ap (option_map line_of) (or_none (find (passes label t) es)))
     go true same = then_first (find (passes label t) es) e (subst (λ s. first_line label s es ≡ None) ((bytes_eq-Decides text t).0 same) none)
 
@@ -245,8 +240,8 @@ module _ (a : Attribute) (written : Written) (pairs : List Pair) where
   unfolding AreKnown
   bare_known (Err fault) labels none known = tt
   bare_known (Ok u) labels none known = λ text. (
-    line_kept arg_label labels.arguments labels.arguments before next (arg_none seen none) text (known text).0 refl,
-    line_kept group_label labels.groups labels.groups before next (group_none seen none) text (known text).1 refl,
+    line_kept arg_label labels.arguments labels.arguments before next (arg_none seen none) text (known text).0 (λ t. refl),
+    line_kept group_label labels.groups labels.groups before next (group_none seen none) text (known text).1 (λ t. refl),
   )
 
   module _ (l : StringLiteral) (labelled : label_of views_leaves seen ≡ Some (quoted_leaf l)) where
@@ -274,7 +269,7 @@ module _ (a : Attribute) (written : Written) (pairs : List Pair) where
         let none = free arg_label bytes (label_rule true l) place before u (subst (λ line. ChecksLine line (label_rule true l) place (Ok u)) (known bytes).0 h) in
         let its = labelled_by (arg_label seen) only.0.name bytes (ap arg_label only.1) (has_label only.0.name l only.2) in
         λ t. (
-          line_added arg_label bytes old.arguments new.arguments before next its none noted.0 t (known t).0,
+          line_added arg_label bytes old.arguments new.arguments before next its none (known bytes).0 noted.0 t (known t).0,
           line_kept group_label old.groups new.groups before next (ap group_label only.1) t (known t).1 noted.1,
         )
 
@@ -297,7 +292,7 @@ module _ (a : Attribute) (written : Written) (pairs : List Pair) where
         let its = labelled_by (group_label seen) (quoted_leaf l) bytes (ap group_label only.1) (label_text l) in
         λ t. (
           line_kept arg_label old.arguments new.arguments before next (ap arg_label only.1) t (known t).0 noted.1,
-          line_added group_label bytes old.groups new.groups before next its none noted.0 t (known t).1,
+          line_added group_label bytes old.groups new.groups before next its none (known bytes).1 noted.0 t (known t).1,
         )
 
     -- an attribute with a label is checked by it
@@ -313,9 +308,42 @@ module _ (a : Attribute) (written : Written) (pairs : List Pair) where
     label_known true old new (Ok u) same known h noted = arg_known old new u same known h noted
     label_known false old new (Ok u) same known h noted = group_known old new u same known h noted
 
--- a line is noted where a map has it at this text
-pub line_noted : {Y : Type 0} (key : String Y) (text : List ℕ) (line : ℕ) (m n : BTreeMap (String Y) ℕ) → string_bytes key ≡ text → Updates string_cmp m n key (Some line) → IsNoted text line m n
-line_noted key text line m n is h = λ q. btree_map_updates_text (string_bytes key) m n (Some line) h q ∙ ap (λ t. cond (bytes_eq t q) (Some line) (get_by_text m q)) is
+-- ---- a line is stored
+
+pub line_stored : {Y : Type 0} (key : String Y) (line : ℕ) (m n : BTreeMap (String Y) ℕ) → Updates string_cmp m n key (Some line) → IsStored (string_bytes key) line m n
+line_stored key line m n h q = btree_map_updates_text (string_bytes key) m n (Some line) h q
+
+-- for the first text
+pub first_noted : (text : List ℕ) (line : ℕ) (key : String Global) (old new : LabelLines) → string_bytes key ≡ text → old.first ≡ None → new.first ≡ Some (key, line) → new.others ≡ old.others → IsNoted text line old new
+first_noted text line key old new is none first others free q =
+    (λ i. line_or (first i) q (get_by_text (others i) q))
+    ∙ ap (λ t. cond (bytes_eq t q) (Some line) (get_by_text old.others q)) is
+    ∙ ap (λ o. cond (bytes_eq text q) (Some line) (line_or o q (get_by_text old.others q))) (sym none)
+
+-- the first text keeps its line, since it isn't the new one
+held_apart : (first text q : List ℕ) (l line : ℕ) (other old new : Option ℕ) → cond (bytes_eq first text) (Some l) other ≡ None → new ≡ cond (bytes_eq text q) (Some line) old
+    → cond (bytes_eq first q) (Some l) new ≡ cond (bytes_eq text q) (Some line) (cond (bytes_eq first q) (Some l) old)
+held_apart first text q l line other old new free stored = go (bytes_eq first q) refl (bytes_eq text q) refl stored
+  where
+    go : (a : Bool) → bytes_eq first q ≡ a → (b : Bool) → bytes_eq text q ≡ b → new ≡ cond b (Some line) old → cond a (Some l) new ≡ cond b (Some line) (cond a (Some l) old)
+    go false h b k s = s
+    go true h false k s = refl
+    go true h true k s =
+        let same : first ≡ text = (bytes_eq-Decides first q).0 h ∙ sym ((bytes_eq-Decides text q).0 k) in
+        let held : Some l ≡ None = ap (λ c. cond c (Some l) other) (sym ((bytes_eq-Decides first text).1 same)) ∙ free in
+        absurd cc
+
+-- for another text
+pub other_noted : (text : List ℕ) (line : ℕ) (key : String Global) (old new : LabelLines) → string_bytes key ≡ text → new.first ≡ old.first → IsStored (string_bytes key) line old.others new.others → IsNoted text line old new
+other_noted text line key old new is kept stored free q =
+    ap (λ o. line_or o q (get_by_text new.others q)) kept ∙ go old.first free
+  where
+    now : get_by_text new.others q ≡ cond (bytes_eq text q) (Some line) (get_by_text old.others q)
+    now = stored q ∙ ap (λ t. cond (bytes_eq t q) (Some line) (get_by_text old.others q)) is
+
+    go : (o : Option (String Global × ℕ)) → line_or o text (get_by_text old.others text) ≡ None → line_or o q (get_by_text new.others q) ≡ cond (bytes_eq text q) (Some line) (line_or o q (get_by_text old.others q))
+    go None h = now
+    go (Some l) h = held_apart (string_bytes l.0) text q l.1 line _ _ _ h now
 
 -- running out of memory isn't a refusal
 pub memory_checked : (line : Option ℕ) (rule : Token → Rule Token) (at : Token) → ChecksLine line rule at (Err faults.Memory)
@@ -323,7 +351,7 @@ memory_checked None rule at = tt
 memory_checked (Some line) rule at = λ first h. tt
 
 pub labels_same : (labels : Labels) → AreSame labels labels
-labels_same labels = (refl, refl)
+labels_same labels = (λ text. refl, λ text. refl)
 
 -- ---- the last attribute
 
@@ -345,18 +373,16 @@ no_last labels later pairs h none = absurd (go h.before (ap length (sym h.is) �
 
 -- ---- all that were read
 
-no_line : {Y : Type 0} (label : Label) (m : BTreeMap (String Y) ℕ) (pairs : List Pair) → m.entries ≡ [] → pairs ≡ [] → (text : List ℕ) → get_by_text m text ≡ first_line label text (map entry_of_pair pairs)
-no_line {Y = Y} label m pairs e none text =
-    ap (lookup (is_at (λ (k : String Y). slice_cmp nat_cmp text (string_bytes k)))) e ∙ sym (ap (λ ps. first_line label text (map entry_of_pair ps)) none)
+no_line : (label : Label) (m : LabelLines) (pairs : List Pair) → HasNone m → pairs ≡ [] → (text : List ℕ) → line_in m text ≡ first_line label text (map entry_of_pair pairs)
+no_line label m pairs h none text = h text ∙ sym (ap (λ ps. first_line label text (map entry_of_pair ps)) none)
 
-pub none_known : (labels : Labels) (pairs : List Pair) → labels.arguments.entries ≡ [] → labels.groups.entries ≡ [] → pairs ≡ [] → AreKnown labels (map entry_of_pair pairs)
+pub none_known : (labels : Labels) (pairs : List Pair) → HasNone labels.arguments → HasNone labels.groups → pairs ≡ [] → AreKnown labels (map entry_of_pair pairs)
 unfolding AreKnown
 none_known labels pairs e f none = λ text. (no_line arg_label labels.arguments pairs e none text, no_line group_label labels.groups pairs f none text)
 
 labels_known : (old new : Labels) (es : Entries) → AreSame old new → AreKnown old es → AreKnown new es
 unfolding AreKnown
-labels_known old new es same known = λ text.
-    (same_line old.arguments new.arguments same.0 text ∙ (known text).0, same_line old.groups new.groups same.1 text ∙ (known text).1)
+labels_known old new es same known = λ text. (same.0 text ∙ (known text).0, same.1 text ∙ (known text).1)
 
 -- what was added is taken away again
 -- after the last attribute was checked

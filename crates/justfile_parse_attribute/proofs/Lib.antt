@@ -9,3 +9,4 @@ pub mod PlainAttributes
 pub mod PutKeys
 pub mod RepeatedAttributes
 pub mod DerivedFieldsKept
+pub mod GroupAttributes

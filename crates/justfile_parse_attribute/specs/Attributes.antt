@@ -1,5 +1,5 @@
 -- Attributes and their arguments as the definitions see them, while they are parsed.
-use Rattle.std.specs.Prelude.{List, ◌++◌, map, None}
+use Rattle.std.specs.Prelude.{◌≡◌, ℕ, List, [], ◌++◌, length, map, None}
 use Rattle.std.specs.Global.{Box}
 use Rattle.std.specs.Option.{option_copied, option_map}
 use Rattle.justfile_attribute.specs.Attribute.{leaf_attribute_of}
@@ -25,6 +25,11 @@ keyed_of k = argument_of_key (Named k.0.token None) (option_map (λ (e : Box Exp
 -- the arguments in the order in which they are written: no positional argument follows a keyword argument
 unfoldable pub arguments_of : Arguments → List (Argument Leaf Token)
 arguments_of a = map positional_of a.positional.items ++ map keyed_of a.keyed.items
+
+-- There is one argument, and it is positional.
+pub record IsSingle (a : Arguments) : Type 0 where
+  pub one : length a.positional.items ≡ 1
+  pub unkeyed : a.keyed.items ≡ []
 
 -- an attribute at its name, with the text of its comment
 abbrev pub entry_of_pair : Attribute × Written → Entry Leaf Token

@@ -17,6 +17,7 @@ use Rattle.justfile_model.specs.Meanings.Rules.{Rule, DuplicateArgAttribute, Dup
 use Rattle.justfile_model.specs.Trees.Tree as tree
 use Rattle.justfile_model.specs.Trees.Tree.{Entry, Quoted}
 use Rattle.justfile_parse_attribute.specs.Attributes.{entry_of_pair}
+use Rattle.justfile_parse_attribute.specs.declared.labels.LabelLines.{LabelLines}
 use Rattle.justfile_parse_attribute.specs.declared.labels.Labels.{Labels}
 use Rattle.justfile_leaves.specs.LeafContent.{literal_content}
 use Rattle.justfile_expression.specs.LeafViews.{views_leaves}
@@ -46,10 +47,27 @@ has_text text (Some q) = same_text views_leaves (quoted_text views_leaves q) (So
 abbrev pub first_line : (LeafAttribute → Option (Quoted Leaf)) → (text : List ℕ) → List (Entry Leaf Token) → Option ℕ
 first_line label text entries = option_map (λ (e : Entry Leaf Token). e.name.line) (find (λ (e : Entry Leaf Token). has_text text (label e.attribute)) entries)
 
+-- the line of the first text if it is this one, and otherwise the other line
+abbrev pub line_or : {Y : Type 0} → (first : Option (String Y × ℕ)) → (text : List ℕ) → Option ℕ → Option ℕ
+line_or None text other = other
+line_or (Some first) text other = cond (bytes_eq (string_bytes first.0) text) (Some first.1) other
+
+-- the line stored for a text
+abbrev pub line_in : LabelLines → (text : List ℕ) → Option ℕ
+line_in lines text = line_or lines.first text (get_by_text lines.others text)
+
+-- No line is stored.
+abbrev pub HasNone : LabelLines → Type 0
+HasNone lines = (text : List ℕ) → line_in lines text ≡ None
+
+-- The same lines are stored.
+abbrev pub AreSameLines : (old new : LabelLines) → Type 0
+AreSameLines old new = (text : List ℕ) → line_in new text ≡ line_in old text
+
 -- `labels` has the labels of these entries, each with the line where it is first.
 unfoldable pub AreKnown : Labels → List (Entry Leaf Token) → Type 0
 AreKnown labels entries =
-    (text : List ℕ) → (get_by_text labels.arguments text ≡ first_line arg_label text entries) × (get_by_text labels.groups text ≡ first_line group_label text entries)
+    (text : List ℕ) → (line_in labels.arguments text ≡ first_line arg_label text entries) × (line_in labels.groups text ≡ first_line group_label text entries)
 
 pub prop_known : (labels : Labels) (entries : List (Entry Leaf Token)) → IsProp (AreKnown labels entries)
 unfolding AreKnown
@@ -64,7 +82,7 @@ pub record AreKnownBefore (labels : Labels) (pairs : List (Attribute × Written)
 
 -- The labels are unchanged.
 abbrev pub AreSame : (old new : Labels) → Type 0
-AreSame old new = (new.arguments.entries ≡ old.arguments.entries) × (new.groups.entries ≡ old.groups.entries)
+AreSame old new = AreSameLines old.arguments new.arguments × AreSameLines old.groups new.groups
 
 -- After success the labels of these attributes are known; after an error the labels are unchanged.
 abbrev pub KnowsLabels : Result (Unit {0}) Fault → (old new : Labels) → List (Entry Leaf Token) → Type 0
@@ -72,18 +90,22 @@ KnowsLabels (Ok added) old new entries = AreKnown new entries
 KnowsLabels (Err fault) old new entries = AreSame old new
 
 -- A line is stored for this text; the other texts keep theirs.
-abbrev pub IsNoted : {Y : Type 0} → (text : List ℕ) (line : ℕ) → (old new : BTreeMap (String Y) ℕ) → Type 0
-IsNoted text line old new = (q : List ℕ) → get_by_text new q ≡ cond (bytes_eq text q) (Some line) (get_by_text old q)
+abbrev pub IsStored : {Y : Type 0} → (text : List ℕ) (line : ℕ) → (old new : BTreeMap (String Y) ℕ) → Type 0
+IsStored text line old new = (q : List ℕ) → get_by_text new q ≡ cond (bytes_eq text q) (Some line) (get_by_text old q)
+
+-- A line is stored for this text, if it had none; the other texts keep theirs.
+abbrev pub IsNoted : (text : List ℕ) (line : ℕ) → (old new : LabelLines) → Type 0
+IsNoted text line old new = line_in old text ≡ None → (q : List ℕ) → line_in new q ≡ cond (bytes_eq text q) (Some line) (line_in old q)
 
 -- A line is stored for the label of an `arg` (if `is_arg`) or `group` (otherwise).
 abbrev pub IsLabelNoted : (is_arg : Bool) (text : List ℕ) (line : ℕ) → (old new : Labels) → Type 0
-IsLabelNoted true text line old new = IsNoted text line old.arguments new.arguments × (new.groups.entries ≡ old.groups.entries)
-IsLabelNoted false text line old new = IsNoted text line old.groups new.groups × (new.arguments.entries ≡ old.arguments.entries)
+IsLabelNoted true text line old new = IsNoted text line old.arguments new.arguments × AreSameLines old.groups new.groups
+IsLabelNoted false text line old new = IsNoted text line old.groups new.groups × AreSameLines old.arguments new.arguments
 
 -- the line stored for the label of an `arg` (if `is_arg`) or `group` (otherwise)
 abbrev pub line_at : (is_arg : Bool) (text : List ℕ) → Labels → Option ℕ
-line_at true text labels = get_by_text labels.arguments text
-line_at false text labels = get_by_text labels.groups text
+line_at true text labels = line_in labels.arguments text
+line_at false text labels = line_in labels.groups text
 
 -- the rule that a repeated label breaks
 abbrev pub label_rule : (is_arg : Bool) → StringLiteral → (first : Token) → Rule Token

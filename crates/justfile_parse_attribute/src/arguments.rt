@@ -30,7 +30,7 @@ impl<'src> Arguments<'src> {
     ghost use Rattle.justfile_token.specs.Token.{lexeme_of};
     ghost use Rattle.justfile_model.specs.Meanings.Meaning.{at_key, by_key};
     ghost use Rattle.justfile_model.specs.Trees.Tree as tree;
-    ghost use Rattle.justfile_parse_attribute.specs.Attributes.{arguments_of};
+    ghost use Rattle.justfile_parse_attribute.specs.Attributes.{IsSingle, arguments_of, positional_of};
     ghost use Rattle.justfile_parse_expression.specs.MethodResults.{UnlessMemory};
     ghost use Rattle.justfile_parse_attribute.specs.AttributeTable as reader;
     ghost use Rattle.justfile_expression.specs.LeafViews.{views_leaves};
@@ -53,6 +53,27 @@ impl<'src> Arguments<'src> {
         ensures { IsTrue result ↔ (arguments_of self.now ≡ []) }
     {
         self.positional.is_empty() && self.keyed.is_empty()
+    }
+
+    /// Whether there is one positional argument and no keyword argument.
+    pub(crate) fn is_single(&self) -> bool
+        ensures { IsTrue result → IsSingle self.now }
+    {
+        self.positional.len() == 1 && self.keyed.is_empty()
+    }
+
+    /// Returns the only argument, which is positional, and its first token.
+    #[tactic(auto, using(crate::proofs::GroupAttributes::single_is))]
+    pub(crate) fn into_single(self) -> (Token<'src>, Box<Expression<'src>>)
+        requires { IsSingle self }
+        ensures { arguments_of self.entry ≡ positional_of result ∷ [] }
+    {
+        let Arguments {
+            mut positional,
+            keyed: _,
+            texts: _,
+        } = self;
+        positional.remove(0)
     }
 
     /// Whether there are keyword arguments.

@@ -399,6 +399,7 @@ fn parse_positional<'src, X: Expander>(
 }
 
 /// Parses an expression, and returns it with its first token.
+#[inline(always)]
 #[tactic(auto, using(crate::proofs::AttributeSteps::none_before), unfolding(justfile_model::specs::Readers::AttributeReader::placed, justfile_parse_expression::specs::TableReader::leaves))]
 fn parse_placed<'src, X: Expander>(
     parser: &mut ParserState<'_, 'src, X>,

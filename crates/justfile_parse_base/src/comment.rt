@@ -11,7 +11,7 @@ pub fn comment_text<'src>(comment: Option<SignificantToken<'src>>) -> Option<&'s
     ensures { option_copied result ≡ option_map reader.comment_in comment.entry }
 {
     match comment {
-        Some(comment) => Some(comment.0.lexeme().trim_end()),
+        Some((comment, _)) => Some(comment.lexeme().trim_end()),
         None => None,
     }
 }

@@ -18,13 +18,13 @@ pub fn parse_namepath<'src, X: Expander>(
 ) -> Result<Namepath<'src>, ExpressionError<'src>>
     ensures { Parses X.answer path_tree result parser.old parser.new reader.path }
 {
-    let first = parser.expect(TokenKind::Identifier)?;
-    let mut path = Namepath::from_name(parser.alloc, Name::from_identifier(first.0))?;
+    let (first, _) = parser.expect(TokenKind::Identifier)?;
+    let mut path = Namepath::from_name(parser.alloc, Name::from_identifier(*first))?;
     'names: loop {
         let Some(_colons) = parser.accept(TokenKind::ColonColon) else {
             return Ok(path);
         };
-        let name = parser.expect(TokenKind::Identifier)?;
-        path.push(Name::from_identifier(name.0))?;
+        let (name, _) = parser.expect(TokenKind::Identifier)?;
+        path.push(Name::from_identifier(*name))?;
     }
 }

@@ -50,6 +50,7 @@ impl<'run, 'src, X: Expander> ParserState<'run, 'src, X> {
     }
 
     /// Makes the expression for a string.
+    #[inline(always)]
     #[tactic(auto, using(crate::proofs::Cooked::quoted_string))]
     fn cook_string(
         &self,

@@ -105,13 +105,20 @@ same_recipes (items.Recipe r ∷ is) = ap (λ (n : ℕ). 1 + n) (same_recipes is
 same_recipes (items.Setting s ∷ is) = ap (λ (n : ℕ). 0 + n) (same_recipes is)
 same_recipes (items.Unexport set name ∷ is) = ap (λ (n : ℕ). 0 + n) (same_recipes is)
 
--- where the parser begins
-abbrev pub first : Conditions → List TableEntry → (file_depth : ℕ) → (import_offsets : List ℕ) → State
-first conditions table file_depth import_offsets =
-    record { run = record { conditions = conditions; table = table; file_depth = file_depth; import_offsets = import_offsets }; depth = 0; left = table; noted = [] }
-
 -- The definitions read beside it under the same conditions, but for their limit of depth, `bound`, which may be greater.
-module _ (conditions : Conditions) (bound : ℕ) (within : conditions.limit ≤ bound) (table : List TableEntry) (file_depth : ℕ) (import_offsets : List ℕ) where
+module _ (run : Run) (bound : ℕ) (within : run.conditions.limit ≤ bound) where
+  abbrev conditions : Conditions
+  conditions = run.conditions
+
+  abbrev table : List TableEntry
+  table = run.table
+
+  abbrev file_depth : ℕ
+  file_depth = run.file_depth
+
+  abbrev import_offsets : List ℕ
+  import_offsets = run.import_offsets
+
   abbrev tokens : List SignificantToken
   tokens = map significant_of table
 
@@ -122,7 +129,7 @@ module _ (conditions : Conditions) (bound : ℕ) (within : conditions.limit ≤ 
   rel = seen conditions bound (IsInTable table) file_depth import_offsets
 
   abbrev begin : State
-  begin = first conditions table file_depth import_offsets
+  begin = table_reader.begin run
 
   each_entry : (es : List TableEntry) → All (λ (e : TableEntry). IsInTable table e.0) es → Each (IsEntry conditions bound (IsInTable table) file_depth import_offsets) es (map significant_of es)
   each_entry [] h = a.nil
@@ -213,7 +220,7 @@ module _ (conditions : Conditions) (bound : ℕ) (within : conditions.limit ≤ 
       sym (documented_counts recipes recipes_count sets_doc Nothing (map item_tree is)) ∙ ap (λ (t : List (OrderedItem Leaf Token ℕ)). recipes t) (sym documents) ∙ same_recipes docs
 
   pub read_of : (old new : Numerator) (is docs : List Item) (features : List (ListFeature × Token)) (s : State) → reader.file (counters_of old) begin ≡ Ok ((map item_tree is, counters_of new), s) → s.noted ≡ features
-      → map item_tree docs ≡ documented sets_doc Nothing (map item_tree is) → HaveDerivedFields docs → IsRead others table file_depth import_offsets tokens old new (docs, features)
+      → map item_tree docs ≡ documented sets_doc Nothing (map item_tree is) → HaveDerivedFields docs → IsRead (record { conditions = others; table = table; file_depth = file_depth; import_offsets = import_offsets }) old new (docs, features)
   unfolding HaveDerivedFields
   read_of old new is docs features s found noted documents whole_items =
       let n = counters_of old in
@@ -490,10 +497,9 @@ module _ (conditions : Conditions) (bound : ℕ) (within : conditions.limit ≤ 
       unread_of s (errors.Compile box) faults.Numbers h is = absurd is
 
 -- why a file is not read
-pub unread : (conditions : Conditions) (table : List TableEntry) (file_depth : ℕ) (import_offsets : List ℕ) (old new : Numerator) (s : State) (error : ParseError) (fault : Fault)
-    → IsParseError error s (reader.file (counters_of old) (first conditions table file_depth import_offsets) ≡ Err (NoNumber (counters_of new)))
-    (reader.file (counters_of old) (first conditions table file_depth import_offsets)) → IsFaultOfError table (front s.left) error fault
-    → IsUnread conditions (map significant_of table) (IsInTable table) old new fault
-unread conditions table file_depth import_offsets old new s error fault h is =
-    unread_of conditions conditions.limit (omega arith) table file_depth import_offsets old new (λ loose. absurd (omega (arith, loose)))
-    (λ e limit above t fs. never_enough conditions limit above table file_depth import_offsets old new e t fs) s error fault h is
+pub unread : (run : Run) (old new : Numerator) (s : State) (error : ParseError) (fault : Fault)
+    → IsParseError error s (reader.file (counters_of old) (table_reader.begin run) ≡ Err (NoNumber (counters_of new))) (reader.file (counters_of old) (table_reader.begin run))
+    → IsFaultOfError run.table (front s.left) error fault → IsUnread run.conditions (map significant_of run.table) (IsInTable run.table) old new fault
+unread run old new s error fault h is =
+    unread_of run run.conditions.limit (omega arith) old new (λ loose. absurd (omega (arith, loose)))
+    (λ e limit above t fs. never_enough run limit above old new e t fs) s error fault h is

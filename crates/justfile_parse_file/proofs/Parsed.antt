@@ -7,7 +7,7 @@ use Rattle.std.proofs.lemmas.Bool.Decides.{nat_tests}
 use Rattle.std.proofs.lemmas.List.{append-nil, append_assoc, length-map, reverse-append, reverse-reverse}
 use Rattle.std.proofs.lemmas.List.Elements.{All-contains, All-drop, All-head, All-tail, All-take, All-weaker}
 use Rattle.justfile_token.specs.CompileErrorKind.{tokens_in}
-use Rattle.justfile_token.specs.Modulepath.{names_of}
+use Rattle.justfile_token.specs.Modulepath.{module_names, names_of}
 use Rattle.justfile_token.specs.StringKind.{delimiter_len, kind_of}
 use Rattle.justfile_token.specs.StringLiteral.{begins_format_string}
 use Rattle.justfile_vocabulary.specs.declared.format_string_part.FormatStringPart.TheVariants as format_parts
@@ -18,6 +18,7 @@ use Rattle.justfile_numbers.specs.Numerator.{bindings_of, recipes_of}
 use Rattle.justfile_token.specs.declared.fault.Fault.{Fault}
 use Rattle.justfile_token.specs.declared.fault.Fault.TheVariants as faults
 use Rattle.justfile_numbers.specs.declared.numerator.Numerator.{Numerator}
+use Rattle.justfile_token.specs.declared.source.Source.{Source}
 use Rattle.justfile_token.specs.declared.string_kind.StringKind.{StringKind}
 use Rattle.justfile_token.specs.declared.string_literal.StringLiteral as literals
 use Rattle.justfile_token.specs.declared.token.Token.{Token}
@@ -68,7 +69,7 @@ use Rattle.justfile_literal.specs.Literal.{IsPartOf, is_framed, is_quoted}
 use Rattle.justfile_parse_file.specs.Errors.{IsErrorOf, IsTooDeepError}
 use Rattle.justfile_parse_expression.specs.Literal.{is_delimited, is_sound}
 use Rattle.justfile_parse_file.specs.Parsing.{HasNoTree, IsOneLex, IsParsed, IsParsedText, IsUnparsed}
-use Rattle.justfile_parse_file.specs.MethodResults.{IsRead, IsReadFile, IsUnread}
+use Rattle.justfile_parse_file.specs.MethodResults.{IsReadFile, IsUnread}
 use Rattle.justfile_parse_expression.specs.Significant.{significant_of}
 use Rattle.justfile_parse_expression.specs.Significant.{TableEntry}
 use Rattle.justfile_model.specs.Meanings.UnstableFeatures.{unstable_features}
@@ -501,38 +502,37 @@ module _ (conditions : Conditions) (tokens : List Token) (table : List TableEntr
           under conditions.limit (omega arith) tree features
           (raised (with_limit limit conditions) (significant_tokens (map tok_of tokens)) conditions.limit (omega (arith, more)) tree features d) enough
 
-  pub parsed_of : All (λ entry. Contains tokens entry.0) table → (file_depth : ℕ) (import_offsets : List ℕ) (ast : Ast)
-      → IsRead conditions table file_depth import_offsets (map significant_of table) old new (ast.items.items, ast.list_features.items) → ast.unstable_features.keys ≡ unstable_features (tree_of ast)
-      → IsParsed conditions (map tok_of tokens) (Contains tokens) file_depth import_offsets old new ast
-  parsed_of all file_depth import_offsets ast h unstable =
+  pub parsed_of : All (λ entry. Contains tokens entry.0) table → (source : Source) (ast : Ast) → IsReadFile conditions table source old new ast
+      → IsParsed conditions (map tok_of tokens) (Contains tokens) source.file_depth source.import_offsets.now old new ast
+  parsed_of all source ast file =
+      let h = file.read in
       record {
         derives = derives_of h.written (tree_of ast) (features_of ast) h.read h.ordered_is;
         filled = record {
-          cooks = cooks_of conditions.expander (IsInTable table) file_depth import_offsets ast.items.items h.given.given;
+          cooks = cooks_of conditions.expander (IsInTable table) source.file_depth source.import_offsets.now ast.items.items h.given.given;
           numbered = h.given.numbered;
           recipes_numbered = h.given.recipes_numbered;
           counted = h.given.counted;
           recipes_counted = h.given.recipes_counted;
-          given = given_tokens conditions.expander tokens table file_depth import_offsets ast.items.items all h.given.given;
+          given = given_tokens conditions.expander tokens table source.file_depth source.import_offsets.now ast.items.items all h.given.given;
           noted = All-weaker (λ (x : ListFeature × Token). IsInTable table x.1) (λ (x : ListFeature × Token). Contains tokens x.1) (λ x. in_tokens tokens table all x.1) ast.list_features.items h.noted.all;
-          unstable = unstable;
+          unstable = file.unstable;
         };
       }
 
   -- the same of a result
-  pub parsed_if : All (λ entry. Contains tokens entry.0) table → (file_depth : ℕ) (import_offsets : List ℕ) (names : List (List ℕ)) (directory : List ℕ) (result : Result Ast Fault)
-      → IfOk result (IsReadFile conditions table file_depth import_offsets names directory old new) → IfOk result (IsParsed conditions (map tok_of tokens) (Contains tokens) file_depth import_offsets old new)
-  parsed_if all file_depth import_offsets names directory (Ok ast) h = parsed_of all file_depth import_offsets ast h.read h.unstable
-  parsed_if all file_depth import_offsets names directory (Err fault) h = tt
+  pub parsed_if : All (λ entry. Contains tokens entry.0) table → (source : Source) (result : Result Ast Fault) → IfOk result (IsReadFile conditions table source old new)
+      → IfOk result (IsParsed conditions (map tok_of tokens) (Contains tokens) source.file_depth source.import_offsets.now old new)
+  parsed_if all source (Ok ast) h = parsed_of all source ast h
+  parsed_if all source (Err fault) h = tt
 
 -- what was passed
-module _ (conditions : Conditions) (table : List TableEntry) (file_depth : ℕ) (import_offsets : List ℕ) (names : List (List ℕ)) (directory : List ℕ) (old new : Numerator) where
-  pub module_path_of : (result : Result Ast Fault) → IfOk result (IsReadFile conditions table file_depth import_offsets names directory old new) → IfOk result (λ ast. names_of ast.module_path ≡ names)
+module _ (conditions : Conditions) (table : List TableEntry) (source : Source) (old new : Numerator) where
+  pub module_path_of : (result : Result Ast Fault) → IfOk result (IsReadFile conditions table source old new) → IfOk result (λ ast. names_of ast.module_path ≡ module_names source.namepath)
   module_path_of (Ok ast) h = h.module_path
   module_path_of (Err fault) h = tt
 
-  pub working_directory_of : (result : Result Ast Fault) → IfOk result (IsReadFile conditions table file_depth import_offsets names directory old new)
-      → IfOk result (λ ast. string_bytes ast.working_directory ≡ directory)
+  pub working_directory_of : (result : Result Ast Fault) → IfOk result (IsReadFile conditions table source old new) → IfOk result (λ ast. string_bytes ast.working_directory ≡ source.working_directory.now)
   working_directory_of (Ok ast) h = h.working_directory
   working_directory_of (Err fault) h = tt
 

@@ -1,7 +1,7 @@
 -- Reading a table of tokens returns what the definitions read.
 use Rattle.std.specs.Prelude.{◌≡◌, ℕ, ◌≤◌, List, All, Option, Some, None, Ok, Err, map, string_bytes}
 use Rattle.justfile_token.specs.CompileErrorKind.{tokens_in}
-use Rattle.justfile_token.specs.Modulepath.{names_of}
+use Rattle.justfile_token.specs.Modulepath.{module_names, names_of}
 use Rattle.justfile_numbers.specs.Numerator.{bindings_of, recipes_of}
 use Rattle.justfile_token.specs.declared.compile_error.CompileError.{CompileError}
 use Rattle.justfile_token.specs.declared.compile_error_kind.CompileErrorKind.{CompileErrorKind}
@@ -9,6 +9,7 @@ use Rattle.justfile_token.specs.declared.compile_error_kind.CompileErrorKind.The
 use Rattle.justfile_token.specs.declared.fault.Fault.{Fault}
 use Rattle.justfile_token.specs.declared.fault.Fault.TheVariants as faults
 use Rattle.justfile_numbers.specs.declared.numerator.Numerator.{Numerator}
+use Rattle.justfile_token.specs.declared.source.Source.{Source}
 use Rattle.justfile_token.specs.declared.token.Token.{Token}
 use Rattle.justfile_item.specs.Item.{item_of}
 use Rattle.justfile_item.specs.declared.item.Item.{Item}
@@ -29,6 +30,7 @@ use Rattle.justfile_parse_item.specs.Filled.{AreNotedIn, IsFilledItems, IsInTabl
 use Rattle.justfile_parse_expression.specs.Significant.{significant_of}
 use Rattle.justfile_parse_file.specs.WantsNumber.{WantsNumber}
 use Rattle.justfile_parse_expression.specs.Significant.{TableEntry}
+use Rattle.justfile_parse_expression.specs.TableReader.{Run}
 use Rattle.justfile_parse_expression.specs.declared.expression_error.SyntaxError.{SyntaxError}
 use Rattle.justfile_parse_expression.specs.declared.expression_error.SyntaxError.TheVariants.{Unexpected, TooDeep}
 use Rattle.justfile_parse_expression.specs.declared.expression_error.ExpressionError.{ExpressionError}
@@ -57,22 +59,26 @@ IsFaultOfExpression table next causes.Memory faults.Memory = Unit {0}
 IsFaultOfExpression table next causes.Numbers faults.Numbers = Unit {0}
 IsFaultOfExpression table next _ _ = ⊥
 
+-- what stays the same while a file with this source is read
+abbrev pub run_from : Conditions → List TableEntry → Source → Run
+run_from conditions table source = record { conditions = conditions; table = table; file_depth = source.file_depth; import_offsets = source.import_offsets.now }
+
 -- The items are those of the written tree that the definitions read, the features are the ones that they read, and the numerator gave the
 -- items' numbers.
-pub record IsRead (conditions : Conditions) (table : List TableEntry) (file_depth : ℕ) (import_offsets : List ℕ) (tokens : List SignificantToken) (old new : Numerator) (x : List Item × List (ListFeature × Token)) : Type 0 where
+pub record IsRead (run : Run) (old new : Numerator) (x : List Item × List (ListFeature × Token)) : Type 0 where
   pub written : WrittenTree
-  pub read : tree.tree_of_tokens conditions tokens ≡ Ok (written, map noted_of x.1)
-  pub ordered_is : ordered (views_tokens conditions.expander) written ≡ Some (map item_of x.0)
-  pub given : IsFilledItems conditions.expander (IsInTable table) file_depth import_offsets old new x.0
-  pub noted : AreNotedIn table x.1
+  pub read : tree.tree_of_tokens run.conditions (map significant_of run.table) ≡ Ok (written, map noted_of x.1)
+  pub ordered_is : ordered (views_tokens run.conditions.expander) written ≡ Some (map item_of x.0)
+  pub given : IsFilledItems run.conditions.expander (IsInTable run.table) run.file_depth run.import_offsets old new x.0
+  pub noted : AreNotedIn run.table x.1
 
--- The items and the features of the file were read. Its unstable features are those of its tree, and its module and its folder are those
--- that were passed.
-pub record IsReadFile (conditions : Conditions) (table : List TableEntry) (file_depth : ℕ) (import_offsets : List ℕ) (names : List (List ℕ)) (directory : List ℕ) (old new : Numerator) (ast : Ast) : Type 0 where
-  pub read : IsRead conditions table file_depth import_offsets (map significant_of table) old new (ast.items.items, ast.list_features.items)
+-- The items and the features of the file were read. Its unstable features are those of its tree, and its module and its folder are those of
+-- its source.
+pub record IsReadFile (conditions : Conditions) (table : List TableEntry) (source : Source) (old new : Numerator) (ast : Ast) : Type 0 where
+  pub read : IsRead (run_from conditions table source) old new (ast.items.items, ast.list_features.items)
   pub unstable : ast.unstable_features.keys ≡ unstable_features (tree_of ast)
-  pub module_path : names_of ast.module_path ≡ names
-  pub working_directory : string_bytes ast.working_directory ≡ directory
+  pub module_path : names_of ast.module_path ≡ module_names source.namepath
+  pub working_directory : string_bytes ast.working_directory ≡ source.working_directory.now
 
 -- The error is that of the read error, at a token that `IsToken` allows, and holds only such tokens.
 pub record IsReadError (conditions : Conditions) (tokens : List SignificantToken) (IsToken : Token → Type 0) (e : CompileError) : Type 0 where

@@ -11,7 +11,7 @@ ghost use Rattle.justfile_parse_expression.specs.FormatStrings.{IsTable};
 ghost use Rattle.justfile_parse_item.specs.Filled.{IsInTable};
 ghost use Rattle.justfile_parse_item.specs.ItemTable as reader;
 ghost use Rattle.justfile_parse_item.specs.ItemTable.{after_mark};
-ghost use Rattle.justfile_parse_file.specs.MethodResults.{IsErrorAt, IsFaultOfExpression, IsNextPlace, IsRead, IsReadFile, IsUnread};
+ghost use Rattle.justfile_parse_file.specs.MethodResults.{IsErrorAt, IsFaultOfExpression, IsNextPlace, IsRead, IsReadFile, IsUnread, run_from};
 ghost use Rattle.justfile_parse_item.specs.MethodResults.{CountersMoved};
 ghost use Rattle.justfile_parse_file.specs.ErrorFaults.{IsFaultOfError};
 ghost use Rattle.justfile_parse_item.specs.DerivedFields.{HaveDerivedFields};
@@ -74,12 +74,9 @@ pub fn parse_source<'src, X: Expander>(
     let table = Lexer::lex_significant(alloc, path, src)?;
     parse_significant(
         alloc,
-        source.file_depth,
-        source.import_offsets,
-        source.namepath,
         numerator,
+        source,
         table.as_slice(),
-        source.working_directory,
         expander,
         current,
         limit,
@@ -121,14 +118,17 @@ pub fn parse<'src, X: Expander>(
         (identifiers (significant_tokens (map tok_of tokens.now))) }
 {
     let table = significant(alloc, tokens)?;
-    parse_significant(
-        alloc,
+    let source = Source {
         file_depth,
         import_offsets,
-        module_namepath,
-        numerator,
-        table.as_slice(),
+        namepath: module_namepath,
         working_directory,
+    };
+    parse_significant(
+        alloc,
+        numerator,
+        &source,
+        table.as_slice(),
         expander,
         current,
         limit,
@@ -138,59 +138,47 @@ pub fn parse<'src, X: Expander>(
 /// Parses a file from the table of its tokens.
 fn parse_significant<'src, X: Expander>(
     alloc: Global,
-    file_depth: u32,
-    import_offsets: &[usize],
-    module_namepath: Option<&Namepath<'_>>,
     numerator: &mut Numerator,
+    source: &Source<'_, '_>,
     table: &[SignificantToken<'src>],
-    working_directory: &str,
     expander: &X,
     current: Version,
     limit: usize,
 ) -> CompileResult<'src, Ast<'src>>
     requires { IsTable table.now }
     ensures file { IfOk result (IsReadFile (conditions_of X.answer expander.now current limit)
-        table.now file_depth import_offsets.now (module_names module_namepath.entry)
-        working_directory.now numerator.old numerator.new) }
+        table.now source.now numerator.old numerator.new) }
     ensures unread { IfErr result (IsUnread (conditions_of X.answer expander.now current limit)
         (map significant_of table.now) (IsInTable table.now) numerator.old numerator.new) }
     ensures moved { CountersMoved numerator.old numerator.new
         (identifiers (map significant_of table.now)) }
 {
     let (items, list_features) = parse_table(
-        alloc,
-        file_depth,
-        import_offsets,
-        numerator,
-        table,
-        expander,
-        current,
-        limit,
+        alloc, numerator, source, table, expander, current, limit,
     )?;
     let (items, unstable_features) = with_unstable(alloc, items)?;
     Ok(Ast {
         items,
         list_features,
-        module_path: Modulepath::from_namepath(alloc, module_namepath)?,
+        module_path: Modulepath::from_namepath(alloc, source.namepath)?,
         unstable_features,
-        working_directory: working_directory.to_string(alloc)?,
+        working_directory: source.working_directory.to_string(alloc)?,
     })
 }
 
 /// Parses the items of a file from the table of its tokens. Also returns the uses of features.
 fn parse_table<'run, 'src, X: Expander>(
     alloc: Global,
-    file_depth: u32,
-    import_offsets: &'run [usize],
     numerator: &mut Numerator,
+    source: &Source<'run, '_>,
     tokens: &'run [SignificantToken<'src>],
     expander: &'run X,
     current: Version,
     limit: usize,
 ) -> CompileResult<'src, (Vec<Item<'src>>, Vec<(ListFeature, Token<'src>)>)>
     requires { IsTable tokens.now }
-    ensures ok { IfOk result (λ x. IsRead (conditions_of X.answer expander.now current limit)
-        tokens.now file_depth import_offsets.now (map significant_of tokens.now)
+    ensures ok { IfOk result (λ x. IsRead
+        (run_from (conditions_of X.answer expander.now current limit) tokens.now source.now)
         numerator.old numerator.new (x.0.items, x.1.items)) }
     ensures err { IfErr result (IsUnread (conditions_of X.answer expander.now current limit)
         (map significant_of tokens.now) (IsInTable tokens.now) numerator.old numerator.new) }
@@ -201,8 +189,8 @@ fn parse_table<'run, 'src, X: Expander>(
         alloc,
         current,
         expander,
-        file_depth,
-        import_offsets,
+        source.file_depth,
+        source.import_offsets,
         tokens,
         limit,
     );
@@ -328,7 +316,10 @@ fn token_for_error<'src>(
     ensures { IsNextPlace tokens.now next.entry result }
 {
     match next {
-        Some(entry) => entry.0,
-        None => tokens[tokens.len() - 1].0,
+        Some((token, _)) => token,
+        None => {
+            let (last, _) = tokens[tokens.len() - 1];
+            last
+        }
     }
 }

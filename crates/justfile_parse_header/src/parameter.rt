@@ -213,7 +213,9 @@ fn parse_named<'src, X: Expander>(
     Ok(())
 }
 
-/// Makes a parameter of its parts and of what its `arg` attribute sets for it.
+/// Makes a parameter of its parts and of what its `arg` attribute sets for it. It is inlined, as
+/// what appends it is, so that the parameter is copied less often on its way into the list.
+#[inline(always)]
 #[tactic(auto, using(crate::proofs::Unboxed::unboxed_tree))]
 fn make_parameter<'src>(
     name: Name<'src>,

@@ -50,6 +50,7 @@ impl<'src> ReadParameters<'src> {
     /// # Errors
     ///
     /// `AllocError` if memory runs out.
+    #[inline(always)]
     pub(crate) fn push(&mut self, parameter: Parameter<'src>) -> Result<(), AllocError>
         ensures { OnOk result (self.new.list.items ≡ self.old.list.items ++ parameter.entry ∷ []) }
     {
@@ -125,6 +126,7 @@ fn push_named<'src>(
 /// # Errors
 ///
 /// `AllocError` if memory runs out.
+#[inline(always)]
 fn push_parameter<'src>(
     list: &mut Vec<Parameter<'src>>,
     parameter: Parameter<'src>,

@@ -11,7 +11,7 @@ use Rattle.justfile_model.specs.Grammars.Expressions.{front}
 use Rattle.justfile_model.specs.Readers.Reader as files
 use Rattle.justfile_model.specs.Readers.ReaderState.{◌>>=◌, Unexpected, prepend, at, choose, refused}
 use Rattle.justfile_parse_expression.specs.TableReader.{Read, ReadError, State, accept, enclosed, expect, leaves, next_are, read, At}
-use Rattle.justfile_parse_item_parts.specs.BodyTable.{body, body_after, optional_body, body_line, fragment, line_rest, lines}
+use Rattle.justfile_parse_item_parts.specs.BodyTable.{body, body_after, optional_body, body_line, fragment, interpolation, line_rest, lines, one_more}
 use Rattle.justfile_parse_expression.specs.MethodResults.{IsExpressionError, literal_read_error, read_error_at}
 use Rattle.justfile_parse_item_parts.specs.BodyTrees.{fragment_tree, line_tree}
 use Rattle.justfile_expression.specs.LeafTree.{Leaf, Text}
@@ -21,18 +21,46 @@ use Rattle.justfile_parse_expression.specs.declared.expression_error.ExpressionE
 use Rattle.justfile_parse_expression.specs.declared.expression_error.ExpressionError.TheVariants.{Refused, Literal, Memory, Numbers}
 use Rattle.justfile_model.proofs.Readers.ItemReading as laws
 use Rattle.justfile_model.proofs.Readers.ReadingSteps.{known}
-use Rattle.justfile_parse_expression.proofs.Rules.{bind_alike, choose_alike, closed_by, then_made}
+use Rattle.justfile_parse_expression.proofs.Rules.{Taken, bind_alike, choose_alike, closed_by}
 use Rattle.justfile_parse_base.proofs.HeaderErrors.{stopped}
 
-pub fragment_is : (s : State) → fragment s
-    ≡ choose {X = Read (tree.Fragment Leaf Token)} (accept kinds.Text s)
-    (expect kinds.InterpolationStart s >>= λ start. enclosed kinds.InterpolationEnd start.1 >>= then_made tree.Interpolation)
-    (λ t. Ok (tree.Text (Text t.0.0), t.1))
+abbrev OneFragment : Type 0
+OneFragment = Read (tree.Fragment Leaf Token)
+
+abbrev Fragments : Type 0
+Fragments = List (tree.Fragment Leaf Token)
+
+fragment_is : (s : State) → fragment s ≡ choose {X = OneFragment} (accept kinds.Text s) (interpolation s) (λ t. Ok (tree.Text (Text t.0.0), t.1))
 unfolding files.fragment enclosed leaves
 fragment_is s =
     choose_alike (accept kinds.Text s) _ _ _ _
     (bind_alike (expect kinds.InterpolationStart s) _ _ (λ start. closed_by kinds.InterpolationEnd tree.Interpolation (read (At levels.Expression false start.1))))
     (λ t. refl)
+
+abbrev then_one_more : Fragments → tree.Fragment Leaf Token × State → Read Fragments
+then_one_more before f = Ok (before ++ f.0 ∷ [], f.1)
+
+pub one_more_is : (before : Fragments) (s : State) → one_more before s
+    ≡ choose {X = Read Fragments} (accept kinds.Text s) (interpolation s >>= then_one_more before) (λ t. Ok (before ++ tree.Text (Text t.0.0) ∷ [], t.1))
+one_more_is before s = ap (λ (found : OneFragment). found >>= then_one_more before) (fragment_is s) ∙ go (accept kinds.Text s)
+  where
+    go : (o : Taken) → (choose {X = OneFragment} o (interpolation s) (λ t. Ok (tree.Text (Text t.0.0), t.1)) >>= then_one_more before)
+        ≡ choose {X = Read Fragments} o (interpolation s >>= then_one_more before) (λ t. Ok (before ++ tree.Text (Text t.0.0) ∷ [], t.1))
+    go None = refl
+    go (Some t) = refl
+
+-- a fragment is read and appended
+module _ (old between new : List Fragment) (f : Fragment) (kept : between ≡ old) (pushed : new ≡ between ++ f ∷ []) where
+  tree_pushed : map fragment_tree old ++ fragment_tree f ∷ [] ≡ map fragment_tree new
+  tree_pushed = sym (map-append fragment_tree old (f ∷ [])) ∙ ap (map fragment_tree) (ap (λ (l : List Fragment). l ++ f ∷ []) (sym kept) ∙ sym pushed)
+
+  pub one_text : (s rest : State) (t : TableEntry) → fragment_tree f ≡ tree.Text (Text t.0) → accept kinds.Text s ≡ Some (t, rest) → one_more (map fragment_tree old) s ≡ Ok (map fragment_tree new, rest)
+  one_text s rest t is taken =
+      one_more_is (map fragment_tree old) s
+      ∙ rw taken (ap (λ (l : Fragments). Ok (l, rest)) (ap (λ (x : tree.Fragment Leaf Token). map fragment_tree old ++ x ∷ []) (sym is) ∙ tree_pushed))
+
+  pub one_interpolation : (s rest : State) → accept kinds.Text s ≡ None → interpolation s ≡ Ok (fragment_tree f, rest) → one_more (map fragment_tree old) s ≡ Ok (map fragment_tree new, rest)
+  one_interpolation s rest none read = one_more_is (map fragment_tree old) s ∙ rw (none, read) (ap (λ (l : Fragments). Ok (l, rest)) tree_pushed)
 
 -- ---- parts of any kind: `done` were read from `s` on, and `q` is what is left
 
@@ -46,7 +74,7 @@ module _ {Z T : Type 0} (view : Z → T) (whole : State → Read (List T)) (s q 
       ∙ so_far
 
   -- a part is refused
-  stops : (found : Read T) (stop : ExpressionError) (left : State) → ((e : ReadError) → found ≡ Err e → prepend (map view done) (whole q) ≡ Err e) → IsExpressionError stop left ⊥ found → IsExpressionError stop left ⊥ (whole s)
+  stops : {X : Type 0} (found : Read X) (stop : ExpressionError) (left : State) → ((e : ReadError) → found ≡ Err e → prepend (map view done) (whole q) ≡ Err e) → IsExpressionError stop left ⊥ found → IsExpressionError stop left ⊥ (whole s)
   stops found (Refused r) left step h = sym so_far ∙ step (read_error_at r left) h
   stops found (Literal refused) left step h = sym so_far ∙ step (literal_read_error refused.value.error) h
   stops found Memory left step h = tt
@@ -67,11 +95,25 @@ module _ (s q : State) (done : List Fragment) (so_far : prepend (map fragment_tr
     line_left h = sym so_far ∙ laws.line_rest_left leaves (map fragment_tree done) q none h
 
     module _ (dedent : next_are (kinds.Dedent ∷ []) q ≡ false) where
-      pub line_goes_on : (f : Fragment) (new : List Fragment) (rest : State) → fragment q ≡ Ok (fragment_tree f, rest) → new ≡ done ++ f ∷ [] → prepend (map fragment_tree new) (line_rest rest) ≡ line_rest s
-      line_goes_on f new rest value is = goes_on fragment_tree line_rest s q done so_far f new rest (laws.line_rest_go_on leaves (map fragment_tree done) q (fragment_tree f) rest none dedent value) is
+      pub line_goes_on : (new : List Fragment) (rest : State) → one_more (map fragment_tree done) q ≡ Ok (map fragment_tree new, rest) → prepend (map fragment_tree new) (line_rest rest) ≡ line_rest s
+      line_goes_on new rest = go (fragment q) refl
+        where
+          go : (found : OneFragment) → fragment q ≡ found → (found >>= then_one_more (map fragment_tree done)) ≡ Ok (map fragment_tree new, rest) → prepend (map fragment_tree new) (line_rest rest) ≡ line_rest s
+          go (Ok f) value is =
+              let both : ◌≡◌ {A = Fragments × State} (map fragment_tree new, rest) (map fragment_tree done ++ f.0 ∷ [], f.1) = cc in
+              (λ i. prepend (both i).0 (line_rest (both i).1))
+              ∙ sym (laws.line_rest_go_on leaves (map fragment_tree done) q f.0 f.1 none dedent value)
+              ∙ so_far
+          go (Err e) value is = absurd cc
 
-      pub line_stops : (stop : ExpressionError) (left : State) → IsExpressionError stop left ⊥ (fragment q) → IsExpressionError stop left ⊥ (line_rest s)
-      line_stops stop left = stops fragment_tree line_rest s q done so_far (fragment q) stop left (λ e h. laws.line_rest_fail leaves (map fragment_tree done) q e none dedent h)
+      pub line_stops : (stop : ExpressionError) (left : State) → IsExpressionError stop left ⊥ (one_more (map fragment_tree done) q) → IsExpressionError stop left ⊥ (line_rest s)
+      line_stops stop left = stops fragment_tree line_rest s q done so_far (one_more (map fragment_tree done) q) stop left (λ e. fails e (fragment q) refl)
+        where
+          fails : (e : ReadError) (found : OneFragment) → fragment q ≡ found → (found >>= then_one_more (map fragment_tree done)) ≡ Err e → prepend (map fragment_tree done) (line_rest q) ≡ Err e
+          fails e (Ok f) value is = absurd cc
+          fails e (Err cause) value is =
+              let same : cause ≡ e = cc in
+              laws.line_rest_fail leaves (map fragment_tree done) q e none dedent (value ∙ ap (λ (x : ReadError). Err x) same)
 
 -- ---- the lines of a body
 

@@ -1,12 +1,12 @@
 //! How bodies of recipes are parsed.
-ghost use Rattle.std.specs.Prelude.{◌≡◌, ◌-◌, ◌↔◌, length, IsSomeAnd, IsTrue, map};
+ghost use Rattle.std.specs.Prelude.{◌≡◌, ◌<◌, ◌-◌, ◌↔◌, length, IsSomeAnd, IsTrue, OnOk, map};
 ghost use Rattle.std.specs.List.{slice_get};
 ghost use Rattle.justfile_line.specs.Line.{IsEmpty};
 ghost use Rattle.justfile_model.specs.Trees.Tree.{trimmed};
 ghost use Rattle.justfile_parse_item_parts.specs.BodyTable as reader;
 ghost use Rattle.justfile_parse_expression.specs.ParsedResults.{Parses};
 ghost use Rattle.justfile_parse_item_parts.specs.BodyTrees.{fragment_tree, line_tree};
-ghost use Rattle.justfile_parse_expression.specs.View.{state_of};
+ghost use Rattle.justfile_parse_expression.specs.View.{state_of, tokens_left};
 
 use justfile_line::{Fragment, Line};
 use justfile_parse_expression::significant::SignificantToken;
@@ -153,9 +153,7 @@ fn parse_line_rest<'src, X: Expander>(
         if parser.peek_kinds(&[TokenKind::Dedent]) {
             return Ok(fragments);
         }
-        let fragment = parse_fragment(parser)?;
-        fragments.reserve(1)?;
-        fragments.push_reserved(fragment);
+        push_fragment(parser, &mut fragments)?;
     }
 }
 
@@ -174,16 +172,34 @@ fn first_room<X: Expander>(parser: &ParserState<'_, '_, X>) -> usize {
     4
 }
 
-/// Parses a text, or an expression between `{{` and `}}`.
-#[tactic(auto, using(crate::proofs::Bodies::fragment_is))]
-fn parse_fragment<'src, X: Expander>(
+/// Parses a text, or an expression between `{{` and `}}`, and appends it. Reserves room first, and
+/// makes a text in it, since most fragments are texts.
+#[tactic(auto, using(crate::proofs::Bodies::one_more_is))]
+fn push_fragment<'src, X: Expander>(
+    parser: &mut ParserState<'_, 'src, X>,
+    fragments: &mut Vec<Fragment<'src>>,
+) -> Result<(), ExpressionError<'src>>
+    ensures reads { Parses X.answer (λ _. map fragment_tree fragments.new.items) result
+        parser.old parser.new (reader.one_more (map fragment_tree fragments.old.items)) }
+    ensures progress { OnOk result (tokens_left parser.new < tokens_left parser.old) }
+{
+    fragments.reserve(1)?;
+    if let Some(text) = parser.accept(TokenKind::Text) {
+        fragments.push_reserved(Fragment::Text { token: text.0 });
+        return Ok(());
+    }
+    fragments.push_reserved(parse_interpolation(parser)?);
+    Ok(())
+}
+
+/// Parses an expression between `{{` and `}}`.
+fn parse_interpolation<'src, X: Expander>(
     parser: &mut ParserState<'_, 'src, X>,
 ) -> Result<Fragment<'src>, ExpressionError<'src>>
-    ensures { Parses X.answer fragment_tree result parser.old parser.new reader.fragment }
+    ensures reads { Parses X.answer fragment_tree result parser.old parser.new
+        reader.interpolation }
+    ensures progress { OnOk result (tokens_left parser.new < tokens_left parser.old) }
 {
-    if let Some(text) = parser.accept(TokenKind::Text) {
-        return Ok(Fragment::Text { token: text.0 });
-    }
     parser.expect(TokenKind::InterpolationStart)?;
     let expression = parser.parse_enclosed(TokenKind::InterpolationEnd)?;
     Ok(Fragment::Interpolation {

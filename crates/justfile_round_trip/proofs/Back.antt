@@ -15,7 +15,7 @@ use Rattle.justfile_model.specs.Grammars.Expressions.{Tokens, BelowLimit, ends_o
 use Rattle.justfile_model.specs.Printed.Printing.{is_conditional}
 use Rattle.justfile_round_trip.proofs.LiteralTexts.LexedModes.{Mark, mark, placed}
 use Rattle.justfile_round_trip.proofs.Canon as canon
-use Rattle.justfile_round_trip.proofs.Canon.{Shown, Values, Pieces, space, word, brace_left, brace_right, paren_right, expr_marks, exprs_marks, others_marks, parts_marks}
+use Rattle.justfile_round_trip.proofs.Canon.{Shown, Values, ShapeParts, space, word, brace_left, brace_right, paren_right, expr_marks, exprs_marks, others_marks, parts_marks}
 use Rattle.justfile_round_trip.proofs.Good.{significant, closes, ends_value}
 use Rattle.justfile_round_trip.proofs.Ends.{End, OfName, OfValue, OfOpen, OfClosed, tail, EndsIn, ValueEndsIn, SameHead, same_head, value_head, expression_head}
 
@@ -104,8 +104,7 @@ ends_before OfClosed t ts h = record { is = (tt, tt) }
 pub value_before : (x : End) (ts : Tokens) → NotNext kinds.ParenL ts → ValueEndsIn x ts
 value_before OfName ts h = record { is = h }
 value_before OfValue ts h = record { is = tt }
-value_before OfOpen ts h = record { is = tt }
-value_before OfClosed ts h = record { is = tt }
+value_before _ ts h = record { is = tt }
 
 -- `)` or `]`
 abbrev closer : (paren : Bool) → Mark
@@ -120,11 +119,11 @@ closer_ends : (x : End) (p : Bool) (on : List Mark) → EndsIn x (significant tr
 closer_ends x true on = ends_before x _ _ refl
 closer_ends x false on = ends_before x _ _ refl
 
-parts_stop : (ps : Pieces) (on : List Mark) → StopE (significant false (parts_marks ps on))
+parts_stop : (ps : ShapeParts) (on : List Mark) → StopE (significant false (parts_marks ps on))
 parts_stop (tree.Last t) on = stop_before _ _ refl
 parts_stop (tree.Continue t e ps) on = stop_before _ _ refl
 
-parts_ends : (x : End) (ps : Pieces) (on : List Mark) → EndsIn x (significant false (parts_marks ps on))
+parts_ends : (x : End) (ps : ShapeParts) (on : List Mark) → EndsIn x (significant false (parts_marks ps on))
 parts_ends x (tree.Last t) on = ends_before x _ _ refl
 parts_ends x (tree.Continue t e ps) on = ends_before x _ _ refl
 
@@ -207,23 +206,14 @@ module _ (MayEnter MayEnter' : ℕ → Option SignificantToken → Type 0) (fewe
 
   conditional_yes : {d : ℕ} {w : SignificantToken} {e : canon.Value} {fs : Shown} {ts rest : Tokens} → Conditional lexeme nothing MayEnter d w e fs ts rest → is_conditional e ≡ true
   conditional_yes (g.if_only c b next) = refl
-  conditional_yes (g.if_else c b w o next) = refl
-  conditional_yes (g.else_if c b w i o) = refl
+  conditional_yes _ = refl
 
   -- what a value's end leaves to the operators
   value_joined : {d : ℕ} {e : canon.Value} {fs : Shown} {ts rest us : Tokens} → Value lexeme nothing MayEnter d e fs ts rest → EndsIn (tail e) us → ValueEndsIn (tail e) us × NotJoined us
   value_joined (g.not kind v) h = value_joined v h
   value_joined (g.literal kind) h = (record { is = tt }, h.is.1)
-  value_joined (g.expanded m) h = (record { is = tt }, h.is.1)
-  value_joined (g.format_literal m) h = (record { is = tt }, h.is.1)
-  value_joined (g.format_string m e ps) h = (record { is = tt }, h.is.1)
-  value_joined (g.backtick kind) h = (record { is = tt }, h.is.1)
-  value_joined (g.assert w kind c kind2) h = (record { is = tt }, h.is.1)
-  value_joined (g.assert_message w kind c kind2 m kind3) h = (record { is = tt }, h.is.1)
   value_joined (g.variable kind no_assert unmarked next) h = (record { is = h.is.0 }, h.is.1)
-  value_joined (g.call kind no_assert kind2 s) h = (record { is = tt }, h.is.1)
-  value_joined (g.group kind e kind2) h = (record { is = tt }, h.is.1)
-  value_joined (g.list kind s) h = (record { is = tt }, h.is.1)
+  value_joined _ h = (record { is = tt }, h.is.1)
 
   end_none : (p : Bool) (d : ℕ) (b : Bool) (on : List Mark) → Sequence lexeme nothing MayEnter' (closer p).kind d tree.none [] (significant b (closer p ∷ on)) (significant true on)
   end_none true d b on = g.none refl
@@ -385,7 +375,7 @@ module _ (MayEnter MayEnter' : ℕ → Option SignificantToken → Type 0) (fewe
     sequence_back p {closing} (g.more {e = e'} {es = es'} {fs} {gs} next e kind s) same d' le b on =
         joined p d' e' es' fs gs on b (subst (λ k. NotNext k (significant b (expr_marks e' (others_marks es' (closer p ∷ on))))) same (next_head closing (expression_head MayEnter e b _) next)) (expression_back e d' le b) (sequence_back p s same d' le false on)
 
-    parts_back : {d : ℕ} {ps : Pieces} {fs : Shown} {ts rest : Tokens} → FormatParts lexeme nothing MayEnter d ps fs ts rest → (d' : ℕ) → d' ≤ d → (b : Bool) (on : List Mark)
+    parts_back : {d : ℕ} {ps : ShapeParts} {fs : Shown} {ts rest : Tokens} → FormatParts lexeme nothing MayEnter d ps fs ts rest → (d' : ℕ) → d' ≤ d → (b : Bool) (on : List Mark)
         → FormatParts lexeme nothing MayEnter' d' ps fs (significant b (parts_marks ps on)) (significant true on)
     parts_back (g.end kind) d' le b on = g.end refl
     parts_back (g.next {ps = ps'} kind e ps) d' le b on = g.next refl (expression_back e d' le false _ (parts_ends _ ps' on) (parts_stop ps' on)) (parts_back ps d' le false on)

@@ -18,8 +18,8 @@ Value = Expr (List ℕ) (Unit {0})
 abbrev pub Fragment : Type 0
 Fragment = tree.Fragment (List ℕ) (Unit {0})
 
-abbrev pub Row : Type 0
-Row = BodyLine (List ℕ) (Unit {0}) (Unit {0})
+abbrev pub ShapeLine : Type 0
+ShapeLine = BodyLine (List ℕ) (Unit {0}) (Unit {0})
 
 abbrev pub ShapeContent : Type 0
 ShapeContent = Content (List ℕ) (Unit {0}) (Unit {0}) (Unit {0})
@@ -70,8 +70,8 @@ abbrev pub Values : Type 0
 Values = tree.Exprs (List ℕ) (Unit {0})
 
 -- the rest of a format string after an expression
-abbrev pub Pieces : Type 0
-Pieces = tree.Parts (List ℕ) (Unit {0})
+abbrev pub ShapeParts : Type 0
+ShapeParts = tree.Parts (List ℕ) (Unit {0})
 
 abbrev mutual
   pub expr_on : Value → List ℕ → List ℕ
@@ -105,7 +105,7 @@ abbrev mutual
   others_on tree.none more = more
   others_on (tree.more e es) more = codes ", " ++ expr_on e (others_on es more)
 
-  pub parts_on : Pieces → List ℕ → List ℕ
+  pub parts_on : ShapeParts → List ℕ → List ℕ
   parts_on (Last lexeme) more = lexeme ++ more
   parts_on (Continue lexeme e parts) more = lexeme ++ (32 ∷ expr_on e (32 ∷ parts_on parts more))
 
@@ -142,7 +142,7 @@ abbrev mutual
   others_marks tree.none ts = ts
   others_marks (tree.more e es) ts = comma ∷ space ∷ expr_marks e (others_marks es ts)
 
-  pub parts_marks : Pieces → List Mark → List Mark
+  pub parts_marks : ShapeParts → List Mark → List Mark
   parts_marks (Last lexeme) ts = mark kinds.FormatStringEnd lexeme ∷ ts
   parts_marks (Continue lexeme e parts) ts = mark kinds.FormatStringContinue lexeme ∷ space ∷ expr_marks e (space ∷ parts_marks parts ts)
 
@@ -157,22 +157,22 @@ fragments_on [] more = more
 fragments_on (f ∷ fs) more = fragment_on f (fragments_on fs more)
 
 -- a line without its line end: a nonempty one has the indentation
-abbrev pub line_on : List ℕ → Row → List ℕ → List ℕ
+abbrev pub line_on : List ℕ → ShapeLine → List ℕ → List ℕ
 line_on ind (Line number []) more = more
 line_on ind (Line number (f ∷ fs)) more = ind ++ fragments_on (f ∷ fs) more
 
 -- lines, each with the line end after it
-abbrev pub lines_on : List ℕ → List Row → List ℕ → List ℕ
+abbrev pub lines_on : List ℕ → List ShapeLine → List ℕ → List ℕ
 lines_on ind [] more = more
 lines_on ind (l ∷ ls) more = line_on ind l (10 ∷ lines_on ind ls more)
 
 -- the lines after the header of a recipe, each with the line end before it
-abbrev pub body_on : List ℕ → List Row → List ℕ → List ℕ
+abbrev pub body_on : List ℕ → List ShapeLine → List ℕ → List ℕ
 body_on ind [] more = more
 body_on ind (l ∷ ls) more = 10 ∷ line_on ind l (body_on ind ls more)
 
 -- with the line end of the last line both are one text
-pub body_on_is : (ind : List ℕ) (ls : List Row) (more : List ℕ) → body_on ind ls (10 ∷ more) ≡ 10 ∷ lines_on ind ls more
+pub body_on_is : (ind : List ℕ) (ls : List ShapeLine) (more : List ℕ) → body_on ind ls (10 ∷ more) ≡ 10 ∷ lines_on ind ls more
 body_on_is ind [] more = refl
 body_on_is ind (l ∷ ls) more = ap (λ x. 10 ∷ line_on ind l x) (body_on_is ind ls more)
 
@@ -185,16 +185,16 @@ fragments_marks [] ts = ts
 fragments_marks (f ∷ fs) ts = fragment_marks f (fragments_marks fs ts)
 
 -- the lines after the first
-abbrev pub line_marks : List ℕ → Row → List Mark → List Mark
+abbrev pub line_marks : List ℕ → ShapeLine → List Mark → List Mark
 line_marks ind (Line number []) ts = ts
 line_marks ind (Line number (f ∷ fs)) ts = mark kinds.Whitespace ind ∷ fragments_marks (f ∷ fs) ts
 
-abbrev pub lines_marks : List ℕ → List Row → List Mark → List Mark
+abbrev pub lines_marks : List ℕ → List ShapeLine → List Mark → List Mark
 lines_marks ind [] ts = ts
 lines_marks ind (l ∷ ls) ts = line_marks ind l (newline ∷ lines_marks ind ls ts)
 
 -- a body, from its Indent to its Dedent, before the tokens after it
-abbrev pub body_marks : List ℕ → List Row → List Mark → List Mark
+abbrev pub body_marks : List ℕ → List ShapeLine → List Mark → List Mark
 body_marks ind [] ts = ts
 body_marks ind (Line number fs ∷ ls) ts = mark kinds.Indent ind ∷ fragments_marks fs (newline ∷ lines_marks ind ls (mark kinds.Dedent [] ∷ ts))
 
@@ -255,7 +255,7 @@ mutual
   exprs_is (tree.more e tree.none) more = expr_is e more
   exprs_is (tree.more e (tree.more e2 es)) more = joined (expr_text e) (codes ", ") (exprs_text (tree.more e2 es)) more (exprs_is (tree.more e2 es) more) (expr_is e _)
 
-  parts_is : (ps : Pieces) (more : List ℕ) → parts_text ps ++ more ≡ parts_on ps more
+  parts_is : (ps : ShapeParts) (more : List ℕ) → parts_text ps ++ more ≡ parts_on ps more
   parts_is (Last l) more = refl
   parts_is (Continue l e ps) more = then (((l ++ codes " ") ++ expr_text e) ++ codes " ") (parts_text ps) more (parts_is ps more) (around l (codes " ") (expr_text e) (codes " ") (parts_on ps more) (expr_is e _) refl)
 
@@ -268,11 +268,11 @@ fragments_is : (fs : List Fragment) (more : List ℕ) → flat_map fragment_text
 fragments_is [] more = refl
 fragments_is (f ∷ fs) more = append_assoc (fragment_text f) (flat_map fragment_text fs) more ∙ fragment_is f (flat_map fragment_text fs ++ more) ∙ ap (fragment_on f) (fragments_is fs more)
 
-line_is : (ind : List ℕ) (l : Row) (more : List ℕ) → body_line_text ind l ++ more ≡ line_on ind l more
+line_is : (ind : List ℕ) (l : ShapeLine) (more : List ℕ) → body_line_text ind l ++ more ≡ line_on ind l more
 line_is ind (Line number []) more = refl
 line_is ind (Line number (f ∷ fs)) more = append_assoc ind (flat_map fragment_text (f ∷ fs)) more ∙ ap (λ l. ind ++ l) (fragments_is (f ∷ fs) more)
 
-pub body_is : (ind : List ℕ) (ls : List Row) (more : List ℕ) → body_text ind ls ++ more ≡ body_on ind ls more
+pub body_is : (ind : List ℕ) (ls : List ShapeLine) (more : List ℕ) → body_text ind ls ++ more ≡ body_on ind ls more
 unfolding fixed_text
 body_is ind [] more = refl
 body_is ind (l ∷ ls) more =

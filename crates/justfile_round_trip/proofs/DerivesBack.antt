@@ -19,7 +19,7 @@ use Rattle.justfile_round_trip.proofs.LiteralTexts.LexedModes.{Mark, mark}
 use Rattle.justfile_round_trip.proofs.Attributes.AttributesUtf8.{comment_utf8, entries_utf8}
 use Rattle.justfile_round_trip.proofs.Attributes.BackAttributes.{glued_after, entries_back}
 use Rattle.justfile_round_trip.proofs.Items.BackContents.{content_back, content_no_bracket, content_utf8, header_no_bracket}
-use Rattle.justfile_round_trip.proofs.Canon.{Shown, Row, ShapeContent, ShapeItem, space, newline, body_marks}
+use Rattle.justfile_round_trip.proofs.Canon.{Shown, ShapeLine, ShapeContent, ShapeItem, space, newline, body_marks}
 use Rattle.justfile_round_trip.proofs.Attributes.CanonAttributes.{ShapeEntry, comment_marks, entries_marks}
 use Rattle.justfile_round_trip.proofs.Headers.CanonHeaders.{ShapeHeader, header_rest_marks, header_marks}
 use Rattle.justfile_round_trip.proofs.Items.CanonItems.{content_marks, item_marks, end_on, end_marks, text_on, marks_from, marks}
@@ -53,18 +53,18 @@ module _ (limit : ℕ) where
   trailing_back t items on h e = subst (λ x. AfterItem (tree.Comment x ∷ items) (significant true (space ∷ mark kinds.Comment t ∷ on))) h.trimmed (e.0, g.trailing refl e.1)
 
   -- a recipe with a body, up to the Dedent
-  block_back : (ind : List ℕ) (header : ShapeHeader) (comment : Option (List ℕ)) (l : Row) (ls : List Row) (glued : Bool) (on : List Mark) → GoodHeader limit header
+  block_back : (ind : List ℕ) (header : ShapeHeader) (comment : Option (List ℕ)) (l : ShapeLine) (ls : List ShapeLine) (glued : Bool) (on : List Mark) → GoodHeader limit header
       → GoodOptionalComment comment → EndedBody limit (l ∷ ls)
       → (ns : Shown) × Block to_lexemes (BelowLimit limit) (tree.Recipe (bare_recipe header comment (l ∷ ls))) ns (significant glued (header_marks header (comment_marks comment (newline ∷ body_marks ind (l ∷ ls) on)))) (significant true on)
   block_back ind header None (tree.Line n fs) ls glued on h c b =
-      let body : List Row = tree.Line n fs ∷ ls in
+      let body : List ShapeLine = tree.Line n fs ∷ ls in
       let read = body_back limit ind n fs ls on b.good in (
         h.features ++ read.0,
         subst (λ x. Block to_lexemes (BelowLimit limit) (tree.Recipe (bare_recipe header None x)) (h.features ++ read.0) (significant glued (header_marks header (newline ∷ body_marks ind body on))) (significant true on)) b.ended
             (g.recipe {lines = body} (h.derives.derives glued (newline ∷ body_marks ind body on) refl) (g.at_once refl refl) read.1 (subst NotEmpty (sym b.ended) tt)),
       )
   block_back ind header (Some t) (tree.Line n fs) ls glued on h c b =
-      let body : List Row = tree.Line n fs ∷ ls in
+      let body : List ShapeLine = tree.Line n fs ∷ ls in
       let after : List Mark = comment_marks (Some t) (newline ∷ body_marks ind body on) in
       let read = body_back limit ind n fs ls on b.good in (
         h.features ++ read.0,

@@ -10,7 +10,7 @@ use Rattle.justfile_model.specs.Grammars.Features.{noted, compared, uncompared, 
 use Rattle.justfile_model.specs.Grammars.Expressions as e
 use Rattle.justfile_model.specs.Grammars.Expressions.{Tokens, Expression, Disjunct, Compared, Conjunct, Condition, Braced, Conditional, Value, Sequence, FormatParts}
 use Rattle.justfile_round_trip.proofs.Canon as canon
-use Rattle.justfile_round_trip.proofs.Canon.{Shown, Values, Pieces}
+use Rattle.justfile_round_trip.proofs.Canon.{Shown, Values, ShapeParts}
 
 abbrev mutual
   -- of a condition the first comparison is not noted
@@ -40,7 +40,7 @@ abbrev mutual
   values_features tree.none = []
   values_features (tree.more v es) = value_features false v ++ values_features es
 
-  parts_features : Pieces → Shown
+  parts_features : ShapeParts → Shown
   parts_features (tree.Last l) = []
   parts_features (tree.Continue l v ps) = value_features false v ++ parts_features ps
 
@@ -48,17 +48,7 @@ module _ (MayEnter : ℕ → Option SignificantToken → Type 0) where
   -- the condition matters to operators alone
   one_condition : {d : ℕ} {v : canon.Value} {fs : Shown} {ts rest : Tokens} → Value lexeme nothing MayEnter d v fs ts rest → (condition : Bool) → value_features condition v ≡ value_features false v
   one_condition (e.not kind v) c = refl
-  one_condition (e.literal kind) c = refl
-  one_condition (e.expanded m) c = refl
-  one_condition (e.format_literal m) c = refl
-  one_condition (e.format_string m x ps) c = refl
-  one_condition (e.backtick kind) c = refl
-  one_condition (e.assert is kind x kind2) c = refl
-  one_condition (e.assert_message is kind x kind2 m kind3) c = refl
-  one_condition (e.variable kind no_assert unmarked next) c = refl
-  one_condition (e.call kind no_assert kind2 xs) c = refl
-  one_condition (e.group kind x kind2) c = refl
-  one_condition (e.list kind xs) c = refl
+  one_condition _ c = refl
 
   conjunct_condition : {d : ℕ} {v : canon.Value} {fs : Shown} {ts rest : Tokens} → Conjunct lexeme nothing MayEnter d v fs ts rest → (condition : Bool) → value_features condition v ≡ value_features false v
   conjunct_condition (e.conditional i (e.if_only x b next)) c = refl
@@ -105,22 +95,19 @@ module _ (MayEnter : ℕ → Option SignificantToken → Type 0) where
     pub of_value : {d : ℕ} {v : canon.Value} {fs : Shown} {ts rest : Tokens} → Value lexeme nothing MayEnter d v fs ts rest → fs ≡ value_features false v
     of_value (e.not kind v) = λ i. noted features.NegationOperator tt ++ of_value v i
     of_value (e.literal kind) = refl
-    of_value (e.expanded m) = refl
-    of_value (e.format_literal m) = refl
     of_value (e.format_string m x ps) = λ i. of_expression x i ++ of_parts ps i
-    of_value (e.backtick kind) = refl
     of_value (e.assert is kind x kind2) = of_condition x
     of_value (e.assert_message is kind x kind2 m kind3) = λ i. of_condition x i ++ of_expression m i
-    of_value (e.variable kind no_assert unmarked next) = refl
     of_value (e.call {name = n} kind no_assert kind2 xs) = ap (λ fs. fs ++ called n.tok.lexeme tt) (of_sequence xs)
     of_value (e.group kind x kind2) = of_expression x
     of_value (e.list kind xs) = λ i. noted features.ListLiteral tt ++ of_sequence xs i
+    of_value _ = refl
 
     pub of_sequence : {closing : TokenKind} {d : ℕ} {es : Values} {fs : Shown} {ts rest : Tokens} → Sequence lexeme nothing MayEnter closing d es fs ts rest → fs ≡ values_features es
     of_sequence (e.none kind) = refl
     of_sequence (e.last {fs = fs} next x kind) = sym (append-nil fs) ∙ ap (λ fs. fs ++ []) (of_expression x)
     of_sequence (e.more next x kind xs) = λ i. of_expression x i ++ of_sequence xs i
 
-    of_parts : {d : ℕ} {ps : Pieces} {fs : Shown} {ts rest : Tokens} → FormatParts lexeme nothing MayEnter d ps fs ts rest → fs ≡ parts_features ps
+    of_parts : {d : ℕ} {ps : ShapeParts} {fs : Shown} {ts rest : Tokens} → FormatParts lexeme nothing MayEnter d ps fs ts rest → fs ≡ parts_features ps
     of_parts (e.end kind) = refl
     of_parts (e.next kind x ps) = λ i. of_expression x i ++ of_parts ps i

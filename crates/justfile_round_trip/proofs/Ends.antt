@@ -68,8 +68,7 @@ module _ (MayEnter : ℕ → Option SignificantToken → Type 0) where
 
   conditional_head : {d : ℕ} {e : canon.Value} {fs : Shown} {i : SignificantToken} {ts rest : Tokens} → IsWord (codes "if") i → Conditional lexeme nothing MayEnter d i e fs ts rest → (b : Bool) (on : List Mark) → SameHead b (i ∷ ts) (significant b (expr_marks e on))
   conditional_head i (g.if_only c x next) b on = same_head i.is_name (λ _. i.spelled) refl
-  conditional_head i (g.if_else c x w o next) b on = same_head i.is_name (λ _. i.spelled) refl
-  conditional_head i (g.else_if c x w j o) b on = same_head i.is_name (λ _. i.spelled) refl
+  conditional_head i _ b on = same_head i.is_name (λ _. i.spelled) refl
 
   pub conjunct_head : {d : ℕ} {e : canon.Value} {fs : Shown} {ts rest : Tokens} → Conjunct lexeme nothing MayEnter d e fs ts rest → (b : Bool) (on : List Mark) → SameHead b ts (significant b (expr_marks e on))
   conjunct_head (g.conditional i c) b on = conditional_head i c b on

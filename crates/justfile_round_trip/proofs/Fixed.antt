@@ -12,6 +12,23 @@ use Rattle.justfile_model.specs.Lexing.Next.{fixed_token, token_by_class}
 use Rattle.justfile_round_trip.proofs.LiteralTexts.LexedModes.{Mark, mark, LexesTo, step}
 use Rattle.justfile_round_trip.proofs.LiteralTexts.Inline.{amid, amid_next, and_false, and_no}
 
+-- These bytes are a token of this kind, whatever follows them.
+pub data IsFixed : TokenKind → List ℕ → Type 0 where
+  dollar : IsFixed Dollar (36 ∷ [])
+  asterisk : IsFixed Asterisk (42 ∷ [])
+  comma : IsFixed Comma (44 ∷ [])
+  slash : IsFixed Slash (47 ∷ [])
+  question_mark : IsFixed QuestionMark (63 ∷ [])
+  and : IsFixed AmpersandAmpersand (38 ∷ 38 ∷ [])
+  or : IsFixed BarBar (124 ∷ 124 ∷ [])
+  plus_plus : IsFixed PlusPlus (43 ∷ 43 ∷ [])
+  equals_equals : IsFixed EqualsEquals (61 ∷ 61 ∷ [])
+  equals_tilde : IsFixed EqualsTilde (61 ∷ 126 ∷ [])
+  bang_equals : IsFixed BangEquals (33 ∷ 61 ∷ [])
+  bang_tilde : IsFixed BangTilde (33 ∷ 126 ∷ [])
+  colon_equals : IsFixed ColonEquals (58 ∷ 61 ∷ [])
+  colon_colon : IsFixed ColonColon (58 ∷ 58 ∷ [])
+
 module _ {os : List OpenDelimiter} {ls : List (List ℕ)} {c : Bool} {i : Option Tok} {f : Bool} where
   -- a token that keeps the mode, before a byte that doesn't lengthen it
   fixed_step : (k : TokenKind) (b : ℕ) (bs : List ℕ) {more : List ℕ} {ts : List Mark} → class_of b ≡ classes.Fixed → eqb b 125 ≡ false → fixed_token b (b ∷ bs ++ more) ≡ Ok (k, length (b ∷ bs)) → k ≢ Eof
@@ -25,61 +42,22 @@ module _ {os : List OpenDelimiter} {ls : List (List ℕ)} {c : Bool} {i : Option
       goes_on
       (λ o n col. subst (λ m. LexesTo m more ts) (sym (same _)) r)
 
-  pub dollar_step : {more : List ℕ} {ts : List Mark} → LexesTo (amid os ls c i false) more ts → LexesTo (amid os ls c i f) (36 ∷ more) (mark Dollar (36 ∷ []) ∷ ts)
+  pub token_step : {k : TokenKind} {bs more : List ℕ} {ts : List Mark} → IsFixed k bs → LexesTo (amid os ls c i false) more ts → LexesTo (amid os ls c i f) (bs ++ more) (mark k bs ∷ ts)
   unfolding class_of fixed_token
-  dollar_step k = fixed_step Dollar 36 ([]) refl refl refl (λ e. cc) (λ t. refl) k
-
-  pub asterisk_step : {more : List ℕ} {ts : List Mark} → LexesTo (amid os ls c i false) more ts → LexesTo (amid os ls c i f) (42 ∷ more) (mark Asterisk (42 ∷ []) ∷ ts)
-  unfolding class_of fixed_token
-  asterisk_step k = fixed_step Asterisk 42 ([]) refl refl refl (λ e. cc) (λ t. refl) k
-
-  pub comma_step : {more : List ℕ} {ts : List Mark} → LexesTo (amid os ls c i false) more ts → LexesTo (amid os ls c i f) (44 ∷ more) (mark Comma (44 ∷ []) ∷ ts)
-  unfolding class_of fixed_token
-  comma_step k = fixed_step Comma 44 ([]) refl refl refl (λ e. cc) (λ t. refl) k
-
-  pub slash_step : {more : List ℕ} {ts : List Mark} → LexesTo (amid os ls c i false) more ts → LexesTo (amid os ls c i f) (47 ∷ more) (mark Slash (47 ∷ []) ∷ ts)
-  unfolding class_of fixed_token
-  slash_step k = fixed_step Slash 47 ([]) refl refl refl (λ e. cc) (λ t. refl) k
-
-  pub question_mark_step : {more : List ℕ} {ts : List Mark} → LexesTo (amid os ls c i false) more ts → LexesTo (amid os ls c i f) (63 ∷ more) (mark QuestionMark (63 ∷ []) ∷ ts)
-  unfolding class_of fixed_token
-  question_mark_step k = fixed_step QuestionMark 63 ([]) refl refl refl (λ e. cc) (λ t. refl) k
-
-  pub and_step : {more : List ℕ} {ts : List Mark} → LexesTo (amid os ls c i false) more ts → LexesTo (amid os ls c i f) (38 ∷ 38 ∷ more) (mark AmpersandAmpersand (38 ∷ 38 ∷ []) ∷ ts)
-  unfolding class_of fixed_token
-  and_step k = fixed_step AmpersandAmpersand 38 (38 ∷ []) refl refl refl (λ e. cc) (λ t. refl) k
-
-  pub or_step : {more : List ℕ} {ts : List Mark} → LexesTo (amid os ls c i false) more ts → LexesTo (amid os ls c i f) (124 ∷ 124 ∷ more) (mark BarBar (124 ∷ 124 ∷ []) ∷ ts)
-  unfolding class_of fixed_token
-  or_step k = fixed_step BarBar 124 (124 ∷ []) refl refl refl (λ e. cc) (λ t. refl) k
-
-  pub plus_plus_step : {more : List ℕ} {ts : List Mark} → LexesTo (amid os ls c i false) more ts → LexesTo (amid os ls c i f) (43 ∷ 43 ∷ more) (mark PlusPlus (43 ∷ 43 ∷ []) ∷ ts)
-  unfolding class_of fixed_token
-  plus_plus_step k = fixed_step PlusPlus 43 (43 ∷ []) refl refl refl (λ e. cc) (λ t. refl) k
-
-  pub equals_equals_step : {more : List ℕ} {ts : List Mark} → LexesTo (amid os ls c i false) more ts → LexesTo (amid os ls c i f) (61 ∷ 61 ∷ more) (mark EqualsEquals (61 ∷ 61 ∷ []) ∷ ts)
-  unfolding class_of fixed_token
-  equals_equals_step k = fixed_step EqualsEquals 61 (61 ∷ []) refl refl refl (λ e. cc) (λ t. refl) k
-
-  pub equals_tilde_step : {more : List ℕ} {ts : List Mark} → LexesTo (amid os ls c i false) more ts → LexesTo (amid os ls c i f) (61 ∷ 126 ∷ more) (mark EqualsTilde (61 ∷ 126 ∷ []) ∷ ts)
-  unfolding class_of fixed_token
-  equals_tilde_step k = fixed_step EqualsTilde 61 (126 ∷ []) refl refl refl (λ e. cc) (λ t. refl) k
-
-  pub bang_equals_step : {more : List ℕ} {ts : List Mark} → LexesTo (amid os ls c i false) more ts → LexesTo (amid os ls c i f) (33 ∷ 61 ∷ more) (mark BangEquals (33 ∷ 61 ∷ []) ∷ ts)
-  unfolding class_of fixed_token
-  bang_equals_step k = fixed_step BangEquals 33 (61 ∷ []) refl refl refl (λ e. cc) (λ t. refl) k
-
-  pub bang_tilde_step : {more : List ℕ} {ts : List Mark} → LexesTo (amid os ls c i false) more ts → LexesTo (amid os ls c i f) (33 ∷ 126 ∷ more) (mark BangTilde (33 ∷ 126 ∷ []) ∷ ts)
-  unfolding class_of fixed_token
-  bang_tilde_step k = fixed_step BangTilde 33 (126 ∷ []) refl refl refl (λ e. cc) (λ t. refl) k
-
-  pub colon_equals_step : {more : List ℕ} {ts : List Mark} → LexesTo (amid os ls c i false) more ts → LexesTo (amid os ls c i f) (58 ∷ 61 ∷ more) (mark ColonEquals (58 ∷ 61 ∷ []) ∷ ts)
-  unfolding class_of fixed_token
-  colon_equals_step k = fixed_step ColonEquals 58 (61 ∷ []) refl refl refl (λ e. cc) (λ t. refl) k
-
-  pub colon_colon_step : {more : List ℕ} {ts : List Mark} → LexesTo (amid os ls c i false) more ts → LexesTo (amid os ls c i f) (58 ∷ 58 ∷ more) (mark ColonColon (58 ∷ 58 ∷ []) ∷ ts)
-  unfolding class_of fixed_token
-  colon_colon_step k = fixed_step ColonColon 58 (58 ∷ []) refl refl refl (λ e. cc) (λ t. refl) k
+  token_step dollar k = fixed_step Dollar 36 [] refl refl refl (λ e. cc) (λ t. refl) k
+  token_step asterisk k = fixed_step Asterisk 42 [] refl refl refl (λ e. cc) (λ t. refl) k
+  token_step comma k = fixed_step Comma 44 [] refl refl refl (λ e. cc) (λ t. refl) k
+  token_step slash k = fixed_step Slash 47 [] refl refl refl (λ e. cc) (λ t. refl) k
+  token_step question_mark k = fixed_step QuestionMark 63 [] refl refl refl (λ e. cc) (λ t. refl) k
+  token_step and k = fixed_step AmpersandAmpersand 38 (38 ∷ []) refl refl refl (λ e. cc) (λ t. refl) k
+  token_step or k = fixed_step BarBar 124 (124 ∷ []) refl refl refl (λ e. cc) (λ t. refl) k
+  token_step plus_plus k = fixed_step PlusPlus 43 (43 ∷ []) refl refl refl (λ e. cc) (λ t. refl) k
+  token_step equals_equals k = fixed_step EqualsEquals 61 (61 ∷ []) refl refl refl (λ e. cc) (λ t. refl) k
+  token_step equals_tilde k = fixed_step EqualsTilde 61 (126 ∷ []) refl refl refl (λ e. cc) (λ t. refl) k
+  token_step bang_equals k = fixed_step BangEquals 33 (61 ∷ []) refl refl refl (λ e. cc) (λ t. refl) k
+  token_step bang_tilde k = fixed_step BangTilde 33 (126 ∷ []) refl refl refl (λ e. cc) (λ t. refl) k
+  token_step colon_equals k = fixed_step ColonEquals 58 (61 ∷ []) refl refl refl (λ e. cc) (λ t. refl) k
+  token_step colon_colon k = fixed_step ColonColon 58 (58 ∷ []) refl refl refl (λ e. cc) (λ t. refl) k
 
   pub plus_step : {more : List ℕ} {ts : List Mark} → LexesTo (amid os ls c i false) (32 ∷ more) ts → LexesTo (amid os ls c i f) (43 ∷ 32 ∷ more) (mark Plus (43 ∷ []) ∷ ts)
   unfolding class_of fixed_token

@@ -22,7 +22,7 @@ use Rattle.justfile_round_trip.proofs.LiteralTexts.LexedModes.{Mark, mark, place
 use Rattle.justfile_round_trip.proofs.LiteralTexts.Inline.{head_is, IsName, IsLiteral, IsPart, delimiter_of}
 use Rattle.justfile_round_trip.proofs.RecipeBodies.Lines.{IsComment}
 use Rattle.justfile_round_trip.proofs.RecipeBodies.BodyLines.{IsRaw}
-use Rattle.justfile_round_trip.proofs.Canon.{Shown, Value, Values, Pieces, Fragment, Row, expr_on, expr_marks}
+use Rattle.justfile_round_trip.proofs.Canon.{Shown, Value, Values, ShapeParts, Fragment, ShapeLine, expr_on, expr_marks}
 
 -- the printer's tokens without places, and what the parser reads of them
 abbrev pub unplaced : List Mark → List Tok
@@ -93,7 +93,7 @@ abbrev mutual
   GoodValues tree.none = Unit {0}
   GoodValues (tree.more e es) = GoodValue e × GoodValues es
 
-  pub GoodParts : StringKind → Pieces → Type 0
+  pub GoodParts : StringKind → ShapeParts → Type 0
   GoodParts k (Last l) = IsPartOf k true l
   GoodParts k (Continue l e parts) = IsPartOf k false l × GoodValue e × GoodParts k parts
 
@@ -140,12 +140,12 @@ pale_line [] = true
 pale_line (Text t ∷ fs) = pale t && pale_line fs
 pale_line (Interpolation e ∷ fs) = false
 
-abbrev pub all_pale : List Row → Bool
+abbrev pub all_pale : List ShapeLine → Bool
 all_pale [] = true
 all_pale (Line number fs ∷ ls) = pale_line fs && all_pale ls
 
 -- All lines after some empty one are pale. Levels close before that one if anything but line ends follows the body.
-abbrev pub pale_after : List Row → Bool
+abbrev pub pale_after : List ShapeLine → Bool
 pale_after [] = false
 pale_after (Line number [] ∷ ls) = all_pale ls || pale_after ls
 pale_after (Line number (f ∷ fs) ∷ ls) = pale_after ls
@@ -188,15 +188,15 @@ module _ (limit : ℕ) where
   GoodFragments (Text t ∷ Interpolation e ∷ fs) = IsRaw t (123 ∷ 123 ∷ 32 ∷ []) × IsUtf8 t × GoodFragments (Interpolation e ∷ fs)
   GoodFragments (Interpolation e ∷ fs) = GoodExpression e × GoodFragments fs
 
-  abbrev pub GoodLines : List Row → Type 0
+  abbrev pub GoodLines : List ShapeLine → Type 0
   GoodLines [] = Unit {0}
   GoodLines (Line number fs ∷ ls) = GoodFragments fs × IsShown fs × GoodLines ls
 
-  abbrev pub GoodBody : List Row → Type 0
+  abbrev pub GoodBody : List ShapeLine → Type 0
   GoodBody [] = ⊥
   GoodBody (Line number fs ∷ ls) = IsFirst fs × GoodFragments fs × GoodLines ls
 
   -- the body of a recipe, which has no empty line at its end
-  pub record EndedBody (body : List Row) : Type 0 where
+  pub record EndedBody (body : List ShapeLine) : Type 0 where
     pub good : GoodBody body
     pub ended : trimmed body ≡ body

@@ -6,7 +6,7 @@ use Rattle.justfile_model.specs.Trees.Tree.{Shape}
 use Rattle.justfile_model.specs.Lexing.Next.{next}
 use Rattle.justfile_round_trip.proofs.LiteralTexts.LexedModes.{LexesTo, end}
 use Rattle.justfile_round_trip.proofs.RecipeBodies.Lines.{at_item, item_comment, blank_line, line_end}
-use Rattle.justfile_round_trip.proofs.Canon.{Row, ShapeContent}
+use Rattle.justfile_round_trip.proofs.Canon.{ShapeLine, ShapeContent}
 use Rattle.justfile_round_trip.proofs.Attributes.CanonAttributes.{ShapeEntry}
 use Rattle.justfile_round_trip.proofs.Headers.CanonHeaders.{ShapeHeader}
 use Rattle.justfile_round_trip.proofs.Items.CanonItems.{recipe_item, item_marks, end_marks, text_on, marks_from, marks}
@@ -61,7 +61,7 @@ module _ (limit : ℕ) (ind : List ℕ) (level : IsLevel ind) where
         (lex_entries limit c entries attributes (lex_content c limit h ind 10 refl refl refl (λ d f. line_end d f (lex_start d more))))
 
     -- a recipe with a body, the end of its last line, and the items after that
-    lex_block : (c : Bool) (entries : List ShapeEntry) (header : ShapeHeader) (comment : Option (List ℕ)) (l : Row) (ls : List Row) {items : Shape}
+    lex_block : (c : Bool) (entries : List ShapeEntry) (header : ShapeHeader) (comment : Option (List ℕ)) (l : ShapeLine) (ls : List ShapeLine) {items : Shape}
         → GoodEntries limit entries → GoodHeader limit header → GoodOptionalComment comment → EndedBody limit (l ∷ ls) → AfterBody limit (l ∷ ls) items
         → LexesTo (at_item c) (text_on ind (recipe_item entries header comment (l ∷ ls) ∷ items)) (marks ind (recipe_item entries header comment (l ∷ ls) ∷ items))
     lex_block c entries header None l ls attributes h commented body (good.body_end follows last more) =

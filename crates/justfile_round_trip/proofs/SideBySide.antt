@@ -75,30 +75,14 @@ module _ (MayEnter : ℕ → Option SignificantToken → Type 0) where
   pub value_ends : {d : ℕ} {e : canon.Value} {fs : Shown} {ts rest : Tokens} → Value lexeme nothing MayEnter d e fs ts rest → ValueEndsIn (tail e) rest
   value_ends (g.not kind v) = value_ends v
   value_ends (g.literal kind) = record { is = tt }
-  value_ends (g.expanded m) = record { is = tt }
-  value_ends (g.format_literal m) = record { is = tt }
-  value_ends (g.format_string m e ps) = record { is = tt }
-  value_ends (g.backtick kind) = record { is = tt }
-  value_ends (g.assert w kind c kind2) = record { is = tt }
-  value_ends (g.assert_message w kind c kind2 m kind3) = record { is = tt }
   value_ends (g.variable kind no_assert unmarked next) = record { is = next }
-  value_ends (g.call kind no_assert kind2 s) = record { is = tt }
-  value_ends (g.group kind e kind2) = record { is = tt }
-  value_ends (g.list kind s) = record { is = tt }
+  value_ends _ = record { is = tt }
 
   value_ends_joined : {d : ℕ} {e : canon.Value} {fs : Shown} {ts rest : Tokens} → Value lexeme nothing MayEnter d e fs ts rest → NotJoined rest → EndsIn (tail e) rest
   value_ends_joined (g.not kind v) j = value_ends_joined v j
   value_ends_joined (g.literal kind) j = record { is = (tt, j) }
-  value_ends_joined (g.expanded m) j = record { is = (tt, j) }
-  value_ends_joined (g.format_literal m) j = record { is = (tt, j) }
-  value_ends_joined (g.format_string m e ps) j = record { is = (tt, j) }
-  value_ends_joined (g.backtick kind) j = record { is = (tt, j) }
-  value_ends_joined (g.assert w kind c kind2) j = record { is = (tt, j) }
-  value_ends_joined (g.assert_message w kind c kind2 m kind3) j = record { is = (tt, j) }
   value_ends_joined (g.variable kind no_assert unmarked next) j = record { is = (next, j) }
-  value_ends_joined (g.call kind no_assert kind2 s) j = record { is = (tt, j) }
-  value_ends_joined (g.group kind e kind2) j = record { is = (tt, j) }
-  value_ends_joined (g.list kind s) j = record { is = (tt, j) }
+  value_ends_joined _ j = record { is = (tt, j) }
 
   open_ends : (b : Bool) {ts : Tokens} → (b ≡ true → g.NotWord (codes "else") ts) → EndsIn (cond b OfOpen OfClosed) ts
   open_ends true h = record { is = (tt, h refl) }
@@ -150,8 +134,7 @@ ends_too OfClosed s h = record { is = (tt, tt) }
 pub value_ends_too : (x : End) {b : Bool} {ts us : Tokens} → SameHead b ts us → ValueEndsIn x ts → ValueEndsIn x us
 value_ends_too OfName s h = record { is = next_head kinds.ParenL s h.is }
 value_ends_too OfValue s h = record { is = tt }
-value_ends_too OfOpen s h = record { is = tt }
-value_ends_too OfClosed s h = record { is = tt }
+value_ends_too _ s h = record { is = tt }
 
 -- a first token that isn't glued doesn't mark the next one
 pub apart : {ts us : Tokens} → SameHead false ts us → glued_string us ≡ false

@@ -25,9 +25,7 @@ quiet _ = true
 
 operator_quiet : (by : ConditionalOperator) → quiet (operator_kind by) ≡ true
 operator_quiet Equality = refl
-operator_quiet Inequality = refl
-operator_quiet RegexMatch = refl
-operator_quiet RegexMismatch = refl
+operator_quiet _ = refl
 
 module _ {A B : Type 0} (leaf : Tok → A) (position : Tok → B) (MayEnter : ℕ → Option SignificantToken → Type 0) (W : Tokens → Type 0) (step : (k : TokenKind) (t : SignificantToken) (rest : Tokens) → t.tok.kind ≡ k → quiet k ≡ true → W (t ∷ rest) → W rest) where
   mutual

@@ -24,7 +24,7 @@ use Rattle.justfile_model.specs.Grammars.Files.{broken, item_broken, to_lexemes}
 use Rattle.justfile_model.specs.Printed.NormalShape.{after_newline, normal_rest, normal}
 use Rattle.justfile_model.specs.Printed.Printing.{printable_body, printable_content, printable}
 use Rattle.justfile_model.proofs.Lists.Binds.{nothing_in}
-use Rattle.justfile_round_trip.proofs.Canon.{Shown, Value, Fragment, Row, ShapeContent}
+use Rattle.justfile_round_trip.proofs.Canon.{Shown, Value, Fragment, ShapeLine, ShapeContent}
 use Rattle.justfile_round_trip.proofs.Attributes.CanonAttributes.{Written, ShapeEntry}
 use Rattle.justfile_round_trip.proofs.Headers.CanonHeaders.{ShapeHeader}
 use Rattle.justfile_round_trip.proofs.Items.CanonItems.{recipe_item}
@@ -39,7 +39,7 @@ use Rattle.justfile_round_trip.proofs.Means.{ShapeWritten, entries_or_none, mean
 use Rattle.justfile_round_trip.proofs.Attributes.WrittenAttributes.{attributes_good}
 use Rattle.justfile_round_trip.proofs.Values.TokenFacts.{Around, around, outside, Known, Sound}
 use Rattle.justfile_round_trip.proofs.RecipeBodies.BodyTokens.{First}
-use Rattle.justfile_round_trip.proofs.RecipeBodies.BodyFacts.{outline_after, no_body, NextIs, BodySound}
+use Rattle.justfile_round_trip.proofs.RecipeBodies.BodyFacts.{situation_after, no_body, NextIs, BodySound}
 use Rattle.justfile_round_trip.proofs.RecipeBodies.BodyGood.{LineOf, LinesOf, PartsGood, AllPartsGood, inner, outside_first, indent_leads, Walked, body_read}
 use Rattle.justfile_round_trip.proofs.Headers.WalksHeaders.{IsHeader, header_after, outside_header, past_walked, walk_header}
 use Rattle.justfile_round_trip.proofs.Headers.WrittenHeaders.{header_at}
@@ -52,8 +52,8 @@ use Rattle.justfile_round_trip.proofs.Values.WrittenValues.{past, value_at, good
 
 past_indent : (t : SignificantToken) (ts : List SignificantToken) → IsKind kinds.Indent t → Walked IsHeader (t ∷ ts) → BodySound (inner First false true) ts
 past_indent t ts e w =
-    subst (λ o. BodySound o ts) (indent_leads t.tok.lexeme w.outline w.is.colon w.is.is_outside.interpolation w.is.is_outside.levels)
-    (subst (λ k. BodySound (outline_after k t.tok.lexeme w.outline) ts) e w.sound.1)
+    subst (λ o. BodySound o ts) (indent_leads t.tok.lexeme w.situation w.is.colon w.is.is_outside.interpolation w.is.is_outside.levels)
+    (subst (λ k. BodySound (situation_after k t.tok.lexeme w.situation) ts) e w.sound.1)
 
 -- the properties of the tokens at the first line of a body
 record InBody (text : Option (List ℕ)) (ts : List SignificantToken) : Type 0 where
@@ -91,11 +91,11 @@ module _ (limit : ℕ) where
       let m = parts_good r (past inside stop on kinds.InterpolationEnd kind2 v.following.2) in
       record { parts = (good_expression limit x v, m.parts); following = m.following }
 
-  record LinesAt (ls : List Row) (rest : List SignificantToken) : Type 0 where
+  record LinesAt (ls : List ShapeLine) (rest : List SignificantToken) : Type 0 where
     parts : AllPartsGood limit ls
     following : Sound outside false rest
 
-  all_parts_good : {ns : Shown} {ls : List Row} {ts rest : List SignificantToken} → LinesOf limit ls ns ts rest → Sound outside false ts → LinesAt ls rest
+  all_parts_good : {ns : Shown} {ls : List ShapeLine} {ts rest : List SignificantToken} → LinesOf limit ls ns ts rest → Sound outside false ts → LinesAt ls rest
   all_parts_good (g.no_line {token = t} {rest = rest} kind) h = record { parts = tt; following = past outside t rest kinds.Dedent kind h.2 }
   all_parts_good (g.empty_line {token = t} {tokens = tokens} kind r) h =
       let m = all_parts_good r (past outside t tokens kinds.Eol kind h.2) in
@@ -106,7 +106,7 @@ module _ (limit : ℕ) where
       record { parts = (first.parts, m.parts); following = m.following }
 
   -- a recipe with a body; where levels would close within it, the file ends after it
-  record BlockGood (h : ShapeHeader) (comment : Option (List ℕ)) (body : List Row) (rest : List SignificantToken) : Type 0 where
+  record BlockGood (h : ShapeHeader) (comment : Option (List ℕ)) (body : List ShapeLine) (rest : List SignificantToken) : Type 0 where
     header : GoodHeader limit h
     commented : GoodOptionalComment comment
     good : EndedBody limit body
@@ -114,7 +114,7 @@ module _ (limit : ℕ) where
     last : pale_after body ≡ true → NextIs (λ k. k ≡ kinds.Eof) rest
     following : Ahead outside false rest
 
-  block_good : {fs ns : Shown} {h : ShapeHeader} {lines : List Row} {comment : Option (List ℕ)} {tokens next body rest : List SignificantToken}
+  block_good : {fs ns : Shown} {h : ShapeHeader} {lines : List ShapeLine} {comment : Option (List ℕ)} {tokens next body rest : List SignificantToken}
       → HeaderOf lexeme nothing nothing (BelowLimit limit) h fs tokens next → header_broken h ≡ [] → BeforeBody comment next body → LinesOf limit lines ns body rest
       → NotEmpty (trimmed lines)
       → (c : Bool) → Ahead outside c tokens → printable_body (trimmed lines) ≡ true → BlockGood h comment (trimmed lines) rest
@@ -129,7 +129,7 @@ module _ (limit : ℕ) where
         good = record { good = body.good; ended = trimmed_twice lines };
         some = some;
         last = body.last;
-        following = record { facts = parts.following; bodies = record { outline = no_body; is = outside_first; sound = body.sound } };
+        following = record { facts = parts.following; bodies = record { situation = no_body; is = outside_first; sound = body.sound } };
       }
 
   -- an assignment, after the word before it
@@ -146,22 +146,20 @@ module _ (limit : ℕ) where
   start_after_newline [] h = good.newline h
   start_after_newline (tree.Newline ∷ []) h = h
   start_after_newline (tree.Newline ∷ tree.Newline ∷ r) h = h
-  start_after_newline (tree.Newline ∷ _ ∷ r) h = good.newline h
-  start_after_newline (_ ∷ r) h = good.newline h
+  start_after_newline _ h = good.newline h
 
   end_after_newline : (r : Shape) → AtStart limit r → AtEnd limit (after_newline r)
   end_after_newline [] h = good.line_end h
   end_after_newline (tree.Newline ∷ []) h = good.line_end (past_newline limit h)
   end_after_newline (tree.Newline ∷ tree.Newline ∷ r) h = good.line_end (past_newline limit h)
-  end_after_newline (tree.Newline ∷ _ ∷ r) h = good.line_end h
-  end_after_newline (_ ∷ r) h = good.line_end h
+  end_after_newline _ h = good.line_end h
 
   after_end : (c : Bool) (r : Shape) → AtEnd limit r → After limit c r
   after_end true r h = h
   after_end false r h = good.bare h
 
   -- the line end that is made after a body
-  optional_body_newline : (body : List Row) (items : Shape) → (pale_after body ≡ true → items ≡ []) → AtStart limit (normal_rest items) → AfterBody limit body (after_newline (normal_rest items))
+  optional_body_newline : (body : List ShapeLine) (items : Shape) → (pale_after body ≡ true → items ≡ []) → AtStart limit (normal_rest items) → AfterBody limit body (after_newline (normal_rest items))
   optional_body_newline body items last h = by (normal_rest items) (newline_follows items) (λ p. ap (λ i. following (after_newline (normal_rest i))) (last p)) h
     where
       by : (r : Shape) → follows_body (following (after_newline r)) ≡ true → (pale_after body ≡ true → following (after_newline r) ≡ []) → AtStart limit r → AfterBody limit body (after_newline r)
@@ -171,7 +169,7 @@ module _ (limit : ℕ) where
       by (tree.Newline ∷ _ ∷ r) f l h = good.body_end f l h
       by (_ ∷ r) f l h = good.body_end f l h
 
-  start_block : (entries : List ShapeEntry) (h : ShapeHeader) (comment : Option (List ℕ)) (body : List Row) (items : Shape) → NotEmpty body
+  start_block : (entries : List ShapeEntry) (h : ShapeHeader) (comment : Option (List ℕ)) (body : List ShapeLine) (items : Shape) → NotEmpty body
       → GoodEntries limit entries → GoodHeader limit h → GoodOptionalComment comment → EndedBody limit body → AfterBody limit body items
       → AtStart limit (recipe_item entries h comment body ∷ items)
   start_block entries h comment [] items some attributes head commented b more = absurd some
@@ -340,7 +338,7 @@ module _ (limit : ℕ) where
     -- the normal shape of a file that breaks no rule, before its docs are taken
     pub file_good : {items : WrittenShape} {ns : List (ConstructFeatures (Unit {0}))} {ts : List SignificantToken} → File to_lexemes (BelowLimit limit) items ns ts
         → broken current view items ≡ [] → Sound outside false ts → BodySound no_body ts → printable (meant view items) ≡ true → AtStart limit (normal (meant view items))
-    file_good {items} {ts = ts} file u s b p = normal_good (meant view items) (by file u (record { facts = s; bodies = record { outline = no_body; is = outside_first; sound = b } }) p)
+    file_good {items} {ts = ts} file u s b p = normal_good (meant view items) (by file u (record { facts = s; bodies = record { situation = no_body; is = outside_first; sound = b } }) p)
       where
         by : {items : WrittenShape} {ns : List (ConstructFeatures (Unit {0}))} {ts : List SignificantToken} → File to_lexemes (BelowLimit limit) items ns ts → broken current view items ≡ []
             → Ahead outside false ts → printable (meant view items) ≡ true → AtStart limit (rest_of items)

@@ -1,1 +1,4 @@
-pub mod Known
+pub mod Firsts
+pub mod Given
+pub mod Linked
+pub mod Trees

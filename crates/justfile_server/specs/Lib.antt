@@ -1,1 +1,3 @@
-pub mod Knowledge
+pub mod Links
+pub mod Mentioned
+pub mod Modules

@@ -1,4 +1,7 @@
 //! The items of parts of a text, each parsed by itself.
+ghost use Rattle.std.specs.Prelude.{◌≡◌, ◌-◌};
+ghost use Rattle.justfile_server.specs.Links.{IsChunk};
+
 use editor_language::{Analysis, Item, Mention, Span};
 use justfile_canonical::reading::symbols;
 use justfile_outline::Symbol;
@@ -6,13 +9,20 @@ use std::alloc::{AllocError, Global};
 
 /// Returns where the text begins that is parsed for an item: with the line feed before it, so that it
 /// isn't taken for the first line of the file.
-pub(crate) fn chunk_start(span: Span) -> usize {
+pub(crate) fn chunk_start(span: Span) -> usize
+    ensures { result ≡ span.start - 1 }
+{
     span.start.saturating_sub(1)
 }
 
 /// Returns the text that is parsed for an item.
-pub(crate) fn chunk_text(text: &str, span: Span) -> &str {
-    text.get(chunk_start(span)..span.end).unwrap_or("")
+pub(crate) fn chunk_text(text: &str, span: Span) -> &str
+    ensures { IsChunk text.now span result.now }
+{
+    match text.get(chunk_start(span)..span.end) {
+        Some(chunk) => chunk,
+        None => "",
+    }
 }
 
 /// Returns the item whose name is at an offset.

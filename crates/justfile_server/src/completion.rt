@@ -95,10 +95,10 @@ fn push_parameters(
     line: &str,
 ) -> Result<(), AllocError> {
     let mut mentions = Vec::new(alloc);
-    push_chunk(alloc, &mut mentions, line, 0, usize::MAX)?;
+    push_chunk(alloc, &mut mentions, line, 0)?;
     if mentions.is_empty() {
         let item = item_with_parameters(alloc, line)?;
-        push_chunk(alloc, &mut mentions, item.as_str(), 0, usize::MAX)?;
+        push_chunk(alloc, &mut mentions, item.as_str(), 0)?;
     }
     push_names(alloc, found, &mentions, Role::Parameter)
 }

@@ -1,36 +1,43 @@
 //! Justfiles as a language.
 ghost use Rattle.justfile_canonical.specs.Formatting.{IsFormatted};
-ghost use Rattle.justfile_server.specs.Knowledge.{Knows};
+ghost use Rattle.justfile_mentions.specs.Names.{IsName};
+ghost use Rattle.justfile_analysis.specs.Knowledge.{Knows};
 
-use crate::analysis::analysis_of;
 use crate::chunk::description_of;
 use crate::colors::colors_of;
 use crate::completion::completions_at;
-use crate::incremental::analysis_after;
+use crate::links::links_of;
 use crate::mentions::mentions_of;
+use crate::modules::Folders;
 use crate::ranges::formatted_in;
-use editor_language::{Analysis, Colored, Language, Mention, Part, Span};
+use editor_language::{Analysis, Colored, FileLink, Language, Mention, Part, Span};
 use editor_messages::Completion;
+use justfile_analysis::{analysis_after, analysis_of};
 use justfile_canonical::fault::FormatFault;
 use justfile_canonical::formatting::format_text;
-use justfile_lex::Lexer;
-use justfile_survey::survey;
-use justfile_vocabulary::TokenKind;
+use justfile_mentions::is_name;
 use std::alloc::{AllocError, Global};
 
-/// Justfiles.
-pub struct Justfiles;
+/// Justfiles, and the folders that they are in.
+#[derive(Drop)]
+pub(crate) struct Justfiles<'a, F> {
+    /// The folders.
+    pub(crate) folders: &'a F,
+}
 
-impl Language for Justfiles {
+impl<F: Folders> Language for Justfiles<'_, F> {
     ghost formats = { IsFormatted };
 
     ghost knows = { Knows };
 
     ghost mentioned = { λ text analysis mentions. Unit {0} };
 
+    ghost names = { IsName };
+
+    ghost linked = { λ folder text analysis links. Unit {0} };
+
     fn analysis(&self, alloc: Global, text: &str) -> Result<Analysis, AllocError> {
-        let survey = survey(alloc, "justfile", text)?;
-        analysis_of(alloc, &survey)
+        analysis_of(alloc, text)
     }
 
     fn analysis_after(
@@ -40,10 +47,7 @@ impl Language for Justfiles {
         old: &Analysis,
         text: &str,
     ) -> Result<Analysis, AllocError> {
-        match analysis_after(alloc, old_text, old, text)? {
-            Some(analysis) => Ok(analysis),
-            None => self.analysis(alloc, text),
-        }
+        analysis_after(alloc, old_text, old, text)
     }
 
     fn formatted(&self, alloc: Global, text: &str) -> Result<Option<String>, AllocError> {
@@ -70,7 +74,17 @@ impl Language for Justfiles {
         text: &str,
         analysis: &Analysis,
     ) -> Result<Vec<Mention>, AllocError> {
-        mentions_of(alloc, text, analysis)
+        mentions_of(alloc, text, &analysis.problems, &analysis.items)
+    }
+
+    fn links(
+        &self,
+        alloc: Global,
+        folder: Option<&str>,
+        text: &str,
+        analysis: &Analysis,
+    ) -> Result<Vec<FileLink>, AllocError> {
+        links_of(alloc, self.folders, folder, text, analysis)
     }
 
     fn description(
@@ -103,10 +117,7 @@ impl Language for Justfiles {
         colors_of(alloc, text, analysis, mentions)
     }
 
-    fn is_name(&self, alloc: Global, text: &str) -> bool {
-        match Lexer::lex(alloc, "name", text) {
-            Ok(tokens) => tokens.len() == 2 && tokens[0].kind == TokenKind::Identifier,
-            Err(_) => false,
-        }
+    fn is_name(&self, alloc: Global, text: &str) -> Result<bool, AllocError> {
+        is_name(alloc, text)
     }
 }

@@ -2,15 +2,13 @@
 //! output.
 #![tactic(auto)]
 
-mod analysis;
 mod chunk;
 mod colors;
 mod completion;
-mod difference;
-mod incremental;
 mod justfiles;
+mod links;
 mod mentions;
-mod parameters;
+mod modules;
 mod places;
 mod ranges;
 
@@ -23,7 +21,8 @@ use std::process::ExitCode;
 fn run(rt: &HostRuntime) -> io::Result<u8> {
     let mut reader = BufReader::new(rt.alloc(), rt.stdin())?;
     let mut writer = rt.stdout();
-    serve(rt.alloc(), &Justfiles, &mut reader, &mut writer)
+    let language = Justfiles { folders: rt };
+    serve(rt.alloc(), &language, &mut reader, &mut writer)
 }
 
 fn main(rt: HostRuntime) -> ExitCode {

@@ -44,19 +44,19 @@ end_last from (u ∷ ts) t = end_last (u.offset + length u.lexeme) ts t
 -- ---- parts
 
 -- the parts, joined
-abbrev all_of : List (List Tok) → List Tok
+abbrev pub all_of : List (List Tok) → List Tok
 all_of parts = flat_map (λ part. part) parts
 
-abbrev NoneEmpty : List (List Tok) → Type 0
+abbrev pub NoneEmpty : List (List Tok) → Type 0
 NoneEmpty [] = Unit {0}
 NoneEmpty (part ∷ parts) = (0 < length part) × NoneEmpty parts
 
-parts_join : {earlier later : List Tok} {parts : List (List Tok)} → Parts earlier later parts → all_of parts ≡ later
+pub parts_join : {earlier later : List Tok} {parts : List (List Tok)} → Parts earlier later parts → all_of parts ≡ later
 parts_join Parts.last = refl
 parts_join (Parts.cut {t = t} c rest) = ap (λ l. t ∷ l) (parts_join rest)
 parts_join (Parts.uncut {t = t} u rest) = ap (λ l. t ∷ l) (parts_join rest)
 
-none_empty : {earlier later : List Tok} {parts : List (List Tok)} → Parts earlier later parts → NoneEmpty parts
+pub none_empty : {earlier later : List Tok} {parts : List (List Tok)} → Parts earlier later parts → NoneEmpty parts
 none_empty Parts.last = (omega arith, tt)
 none_empty (Parts.cut c rest) = (omega arith, none_empty rest)
 none_empty (Parts.uncut u rest) = (omega arith, (none_empty rest).1)
@@ -75,7 +75,7 @@ module _ (text : List ℕ) where
   placed_rest : (part : List Tok) (parts : List (List Tok)) (n : ℕ) → Placed text n (all_of (part ∷ parts)) → Placed text (end_after n part) (all_of parts)
   placed_rest part parts n p = subst (λ k. Placed text k (all_of parts)) (sym (ends_at part (all_of parts) n p)) (placed_after text part (all_of parts) n p)
 
-  are_spans : (n : ℕ) (parts : List (List Tok)) → NoneEmpty parts → Placed text n (all_of parts) → spans_from n parts ≡ map span_of parts
+  pub are_spans : (n : ℕ) (parts : List (List Tok)) → NoneEmpty parts → Placed text n (all_of parts) → spans_from n parts ≡ map span_of parts
   are_spans n [] s p = refl
   are_spans n ([] ∷ parts) s p = absurd (omega (arith, s.0))
   are_spans n ((t ∷ part) ∷ parts) s p =
@@ -117,7 +117,7 @@ module _ (text : List ℕ) where
   first_text : (part : List Tok) (parts : List (List Tok)) → text ≡ text_of (all_of (part ∷ parts)) → Placed text 0 (all_of (part ∷ parts)) → text_in text (span 0 (end_after 0 part)) ≡ text_of part
   first_text part parts e p = slice_at text [] (text_of part) (text_of (all_of parts)) 0 (end_after 0 part - 0) (text_at [] part parts e) refl (omega (arith, ends_at part (all_of parts) 0 p))
 
-  are_texts : (parts : List (List Tok)) → text ≡ text_of (all_of parts) → Placed text 0 (all_of parts) → Feeds parts → texts_in text (spans_from 0 parts) ≡ chunk_texts parts
+  pub are_texts : (parts : List (List Tok)) → text ≡ text_of (all_of parts) → Placed text 0 (all_of parts) → Feeds parts → texts_in text (spans_from 0 parts) ≡ chunk_texts parts
   are_texts [] e p fs = refl
   are_texts (part ∷ []) e p fs = ap (λ x. x ∷ []) (first_text part [] e p)
   are_texts (part ∷ q ∷ parts) e p fs =

@@ -11,7 +11,8 @@ use Rattle.justfile_model.specs.Lexing.Tok.{Tok}
 use Rattle.justfile_model.specs.Trees.Tree.{Positional, Bare, Keyed}
 use Rattle.justfile_round_trip.proofs.LiteralTexts.LexedModes.{Mark, mark, LexesTo, step}
 use Rattle.justfile_round_trip.proofs.LiteralTexts.Inline.{head_is, joins, head_word, amid, name_step, space_step}
-use Rattle.justfile_round_trip.proofs.Fixed.{comma_step, equals_before, open_paren_step, close_paren_step, close_bracket_step}
+use Rattle.justfile_round_trip.proofs.Fixed as fixed
+use Rattle.justfile_round_trip.proofs.Fixed.{close_bracket_step, close_paren_step, equals_before, open_paren_step, token_step}
 use Rattle.justfile_round_trip.proofs.RecipeBodies.Lines.{at_item, comment_no_blank, comment_step, item_next, line_end}
 use Rattle.justfile_round_trip.proofs.Canon.{newline, paren_right, space}
 use Rattle.justfile_round_trip.proofs.Attributes.CanonAttributes.{Argument, Written, ShapeEntry, bracket_right, argument_on, other_arguments_on, parenthesized_on, comment_on, written_on, attributes_on, entries_on, argument_marks, other_arguments_marks, parenthesized_marks, comment_marks, written_marks, attributes_marks, entries_marks}
@@ -64,7 +65,7 @@ module _ (limit : ℕ) where
         → LexesTo (amid (opener Paren line ∷ os) ls c i f) (other_arguments_on arguments (41 ∷ more)) (other_arguments_marks arguments (paren_right ∷ ts))
     lex_others keys os line [] h k f = close_paren_step k
     lex_others keys os line (a ∷ arguments) {more} h k f =
-        comma_step
+        token_step fixed.comma
         (space_step (argument_no_blank keys a _ h.0)
         (lex_argument keys (opener Paren line ∷ os) a h.0 (others_join arguments more) (lex_others keys os line arguments h.1 k)))
 

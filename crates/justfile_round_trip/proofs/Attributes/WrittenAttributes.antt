@@ -15,7 +15,7 @@ use Rattle.justfile_round_trip.proofs.Good.{GoodComment, GoodOptionalComment}
 use Rattle.justfile_round_trip.proofs.Attributes.GoodAttributes.{GoodEntries}
 use Rattle.justfile_round_trip.proofs.Attributes.MeantAttributes.{GoodSource, GoodSourceAttribute, AllGoodSource, AllGoodAttributes, entries_good}
 use Rattle.justfile_round_trip.proofs.Values.TokenFacts.{Around, outside, Sound}
-use Rattle.justfile_round_trip.proofs.RecipeBodies.BodyFacts.{outline_after}
+use Rattle.justfile_round_trip.proofs.RecipeBodies.BodyFacts.{situation_after}
 use Rattle.justfile_round_trip.proofs.RecipeBodies.BodyGood.{shifts, IsOutside, outside_after, Walked, walk_outside}
 use Rattle.justfile_round_trip.proofs.Items.WrittenParts.{lexed_comment}
 use Rattle.justfile_round_trip.proofs.Values.WrittenValues.{past, on, within, value_at, good_expression}
@@ -32,8 +32,8 @@ uncommented s c (t ∷ ts) h = (record { fact = h.0.fact; utf8 = h.0.utf8; apart
 -- past a token that doesn't begin or end a body
 step : (k : TokenKind) (t : SignificantToken) (ts : Tokens) → IsKind k t → shifts k ≡ false → Walked IsOutside (t ∷ ts) → Walked IsOutside ts
 step k t ts e stays w =
-    let on = outline_after t.tok.kind t.tok.lexeme w.outline in
-    record { outline = on; is = outside_after t.tok.kind t.tok.lexeme w.outline (ap shifts e ∙ stays) w.is; sound = w.sound.1 }
+    let on = situation_after t.tok.kind t.tok.lexeme w.situation in
+    record { situation = on; is = outside_after t.tok.kind t.tok.lexeme w.situation (ap shifts e ∙ stays) w.is; sound = w.sound.1 }
 
 module _ (limit : ℕ) where
   -- ---- properties of the tokens: values are good, and the same delimiters are open after them

@@ -179,8 +179,7 @@ header_marks h ts = at_marks h.quiet (word h.name ∷ header_rest_marks h ts)
 prefix_is : (k : ParameterKind) (more : List ℕ) → prefix_text k ++ more ≡ prefix_on k more
 unfolding fixed_text
 prefix_is Plus more = refl
-prefix_is Singular more = refl
-prefix_is Star more = refl
+prefix_is _ more = refl
 
 dollar_is : (b : Bool) (more : List ℕ) → if_true b (fixed_text (codes "$")) ++ more ≡ dollar_on b more
 unfolding fixed_text

@@ -12,7 +12,8 @@ use Rattle.justfile_model.specs.Lexing.Modes.{opener}
 use Rattle.justfile_model.specs.Lexing.Next.{fixed_token, token_by_class}
 use Rattle.justfile_round_trip.proofs.LiteralTexts.LexedModes.{Mark, mark, LexesTo, step}
 use Rattle.justfile_round_trip.proofs.LiteralTexts.Inline.{head_is, joins, head_word, amid, IsName, name_step, space_step}
-use Rattle.justfile_round_trip.proofs.Fixed.{dollar_step, asterisk_step, and_step, plus_before, equals_before, colon_colon_step, open_paren_step, close_paren_step}
+use Rattle.justfile_round_trip.proofs.Fixed as fixed
+use Rattle.justfile_round_trip.proofs.Fixed.{close_paren_step, equals_before, open_paren_step, plus_before, token_step}
 use Rattle.justfile_round_trip.proofs.RecipeBodies.Lines.{at_item, item_next, item_name}
 use Rattle.justfile_round_trip.proofs.RecipeBodies.BodyLines.{colon_step}
 use Rattle.justfile_round_trip.proofs.Canon.{Value, colon, expr_marks, expr_on, paren_right, word}
@@ -106,7 +107,7 @@ module _ (c : Bool) where
   lex_dollar : (b : Bool) (n : List ℕ) {more : List ℕ} {ts : List Mark} → IsName n → head_is joins more ≡ false
       → ((f : Bool) → LexesTo (amid [] [] c None f) more ts)
       → LexesTo (amid [] [] c None false) (dollar_on b (n ++ more)) (dollar_marks b (word n ∷ ts))
-  lex_dollar true n {more} h stop k = dollar_step (name_step n h (head_word more stop) (k _))
+  lex_dollar true n {more} h stop k = token_step fixed.dollar (name_step n h (head_word more stop) (k _))
   lex_dollar false n {more} h stop k = name_step n h (head_word more stop) (k _)
 
   lex_prefix : (kind : ParameterKind) (b : Bool) (n : List ℕ) {more : List ℕ} {ts : List Mark} → IsName n → head_is joins more ≡ false
@@ -114,7 +115,7 @@ module _ (c : Bool) where
       → LexesTo (amid [] [] c None false) (prefix_on kind (dollar_on b (n ++ more))) (prefix_marks kind (dollar_marks b (word n ∷ ts)))
   lex_prefix Plus b n {more} h stop k = plus_before _ (dollar_no_plus b n more h) (lex_dollar b n h stop k)
   lex_prefix Singular b n h stop k = lex_dollar b n h stop k
-  lex_prefix Star b n h stop k = asterisk_step (lex_dollar b n h stop k)
+  lex_prefix Star b n h stop k = token_step fixed.asterisk (lex_dollar b n h stop k)
 
   lex_parameters : (ps : List ShapeParameter) {more : List ℕ} {ts : List Mark} → GoodParameters ps
       → ((f : Bool) → LexesTo (amid [] [] c None f) (58 ∷ more) ts)
@@ -132,7 +133,7 @@ lex_path_rest : (c : Bool) (os : List OpenDelimiter) (names : List (List ℕ)) {
     → (f : Bool) → LexesTo (amid os [] c None f) (path_rest_on names more) (path_rest_marks names ts)
 lex_path_rest c os [] h stop k f = k f
 lex_path_rest c os (n ∷ names) {more} h stop k f =
-    colon_colon_step (name_step n h.0 (head_word _ (path_rest_joins names more stop)) (lex_path_rest c os names h.1 stop k _))
+    token_step fixed.colon_colon (name_step n h.0 (head_word _ (path_rest_joins names more stop)) (lex_path_rest c os names h.1 stop k _))
 
 pub lex_path : (c : Bool) (os : List OpenDelimiter) (names : List (List ℕ)) {more : List ℕ} {ts : List Mark} → IsPath names → head_is joins more ≡ false
     → ((f : Bool) → LexesTo (amid os [] c None f) more ts)
@@ -144,7 +145,7 @@ lex_star : (os : List OpenDelimiter) (star : Option (Unit {0})) (e : Value) {mor
     → ((f : Bool) → LexesTo (amid os [] true None f) more ts)
     → LexesTo (amid os [] true None false) (star_on star (expr_on e more)) (star_marks star (expr_marks e ts))
 lex_star os None e h stop k = lex_value [] true None os e h stop k
-lex_star os (Some star) e h stop k = asterisk_step (lex_value [] true None os e h stop k)
+lex_star os (Some star) e h stop k = token_step fixed.asterisk (lex_value [] true None os e h stop k)
 
 lex_arguments : (line : ℕ) (arguments : List ShapeArgument) {more : List ℕ} {ts : List Mark} → GoodDependencyArguments arguments
     → LexesTo (amid [] [] true None false) more ts
@@ -165,7 +166,7 @@ lex_parts : (star : Option (Unit {0})) (path : List (List ℕ)) (arguments : Lis
     → LexesTo (amid [] [] true None false) (dependency_parts_on star path arguments more) (dependency_parts_marks star path arguments ts)
 lex_parts star path [] p h stop k = lex_path true [] path p stop k
 lex_parts None path (a ∷ arguments) p h stop k = lex_parenthesis path (a ∷ arguments) p h (k false)
-lex_parts (Some star) path (a ∷ arguments) p h stop k = asterisk_step (lex_parenthesis path (a ∷ arguments) p h (k false))
+lex_parts (Some star) path (a ∷ arguments) p h stop k = token_step fixed.asterisk (lex_parenthesis path (a ∷ arguments) p h (k false))
 
 lex_dependencies : (ds : List ShapeDependency) {more : List ℕ} {ts : List Mark} → GoodDependencies ds → head_is joins more ≡ false
     → ((f : Bool) → LexesTo (amid [] [] true None f) more ts)
@@ -180,7 +181,7 @@ lex_subsequents : (ds : List ShapeDependency) {more : List ℕ} {ts : List Mark}
     → (f : Bool) → LexesTo (amid [] [] true None f) (subsequents_on ds more) (subsequents_marks ds ts)
 unfolding class_of
 lex_subsequents [] h stop k f = k f
-lex_subsequents (d ∷ ds) h stop k f = space_step refl (and_step (lex_dependencies (d ∷ ds) h stop k false))
+lex_subsequents (d ∷ ds) h stop k f = space_step refl (token_step fixed.and (lex_dependencies (d ∷ ds) h stop k false))
 
 -- the colon of a header, and the text after it
 lex_colon : (priors subsequents : List ShapeDependency) (x : ℕ) {more : List ℕ} {ts : List Mark} (c : Bool) → GoodDependencies priors → GoodDependencies subsequents

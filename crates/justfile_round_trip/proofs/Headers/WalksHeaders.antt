@@ -9,18 +9,18 @@ use Rattle.justfile_model.specs.Grammars.Headers as g
 use Rattle.justfile_model.specs.Grammars.Headers.{PathRest, PathOf, NamedParameter, ParameterOf, Parameters, DependencyArguments, DependencyOf, Dependencies, AllDependencies, HeaderOf}
 use Rattle.justfile_model.specs.Lexing.SignificantTokens.{SignificantToken}
 use Rattle.justfile_model.specs.Trees.Tree.{lexeme, nothing}
-use Rattle.justfile_round_trip.proofs.RecipeBodies.BodyFacts.{Outline, colon_after, outline_after}
+use Rattle.justfile_round_trip.proofs.RecipeBodies.BodyFacts.{Situation, colon_after, situation_after}
 use Rattle.justfile_round_trip.proofs.RecipeBodies.BodyGood.{IsOutside, Walked, outside_after, quiet_stays, shifts}
 use Rattle.justfile_round_trip.proofs.Canon.{Shown}
 use Rattle.justfile_round_trip.proofs.Headers.CanonHeaders.{ShapeParameter, ShapeArgument, ShapeDependency, ShapeHeader}
 use Rattle.justfile_round_trip.proofs.Walks.{quiet, walk, walk_value}
 
-pub past_walked : (P : Outline → Type 0) → ((k : TokenKind) (l : List ℕ) (s : Outline) → shifts k ≡ false → P s → P (outline_after k l s)) → (t : SignificantToken) (ts : List SignificantToken) (k : TokenKind) → IsKind k t → shifts k ≡ false
+pub past_walked : (P : Situation → Type 0) → ((k : TokenKind) (l : List ℕ) (s : Situation) → shifts k ≡ false → P s → P (situation_after k l s)) → (t : SignificantToken) (ts : List SignificantToken) (k : TokenKind) → IsKind k t → shifts k ≡ false
     → Walked P (t ∷ ts) → Walked P ts
-past_walked P keep t ts k e stays w = record { outline = outline_after t.tok.kind t.tok.lexeme w.outline; is = keep t.tok.kind t.tok.lexeme w.outline (ap shifts e ∙ stays) w.is; sound = w.sound.1 }
+past_walked P keep t ts k e stays w = record { situation = situation_after t.tok.kind t.tok.lexeme w.situation; is = keep t.tok.kind t.tok.lexeme w.situation (ap shifts e ∙ stays) w.is; sound = w.sound.1 }
 
 -- after the colon of a recipe
-pub record IsHeader (s : Outline) : Type 0 where
+pub record IsHeader (s : Situation) : Type 0 where
   pub is_outside : IsOutside s
   pub colon : s.colon ≡ true
 
@@ -29,18 +29,18 @@ colon_stays kinds.Colon b stays e = refl
 colon_stays kinds.Dedent b stays e = cc
 colon_stays _ b stays e = e
 
-pub header_after : (k : TokenKind) (l : List ℕ) (s : Outline) → shifts k ≡ false → IsHeader s → IsHeader (outline_after k l s)
+pub header_after : (k : TokenKind) (l : List ℕ) (s : Situation) → shifts k ≡ false → IsHeader s → IsHeader (situation_after k l s)
 header_after k l s stays h = record { is_outside = outside_after k l s stays h.is_outside; colon = colon_stays k s.colon stays h.colon }
 
 past_colon : (t : SignificantToken) (ts : List SignificantToken) → IsKind kinds.Colon t → Walked IsOutside (t ∷ ts) → Walked IsHeader ts
 past_colon t ts e w = record {
-  outline = outline_after t.tok.kind t.tok.lexeme w.outline;
-  is = record { is_outside = outside_after t.tok.kind t.tok.lexeme w.outline (ap shifts e) w.is; colon = ap (λ k. colon_after k w.outline.colon) e };
+  situation = situation_after t.tok.kind t.tok.lexeme w.situation;
+  is = record { is_outside = outside_after t.tok.kind t.tok.lexeme w.situation (ap shifts e) w.is; colon = ap (λ k. colon_after k w.situation.colon) e };
   sound = w.sound.1;
 }
 
 module _ (limit : ℕ) where
-  module _ (P : Outline → Type 0) (keep : (k : TokenKind) (l : List ℕ) (s : Outline) → shifts k ≡ false → P s → P (outline_after k l s)) where
+  module _ (P : Situation → Type 0) (keep : (k : TokenKind) (l : List ℕ) (s : Situation) → shifts k ≡ false → P s → P (situation_after k l s)) where
     on : (k : TokenKind) (t : SignificantToken) (ts : Tokens) → IsKind k t → shifts k ≡ false → Walked P (t ∷ ts) → Walked P ts
     on k t ts e stays w = past_walked P keep t ts k e stays w
 
@@ -109,4 +109,4 @@ module _ (limit : ℕ) where
 
 -- after a header, no delimiter is open either
 pub outside_header : {ts : Tokens} → Walked IsHeader ts → Walked IsOutside ts
-outside_header w = record { outline = w.outline; is = w.is.is_outside; sound = w.sound }
+outside_header w = record { situation = w.situation; is = w.is.is_outside; sound = w.sound }

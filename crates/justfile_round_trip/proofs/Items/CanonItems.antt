@@ -7,13 +7,13 @@ use Rattle.justfile_model.specs.Trees.Tree.{AliasParts, AssignmentParts, Functio
 use Rattle.justfile_model.specs.Printed.Printing.{after_line_text, fixed_text, expr_text, body_text, doc_line, if_some, if_true, header_text, alias_text, assignment_text, function_text, import_text, module_text, setting_text, names_text, file_path_text, setting_value_text, entries_text, content_text, item_text, item_end, text}
 use Rattle.justfile_model.proofs.Printed.DocsText.{none_shown}
 use Rattle.justfile_round_trip.proofs.LiteralTexts.LexedModes.{Mark, mark}
-use Rattle.justfile_round_trip.proofs.Canon.{Row, ShapeContent, ShapeItem, paren_left, paren_right, space, newline, word, expr_on, expr_marks, body_on, body_marks, then, expr_is, body_is}
+use Rattle.justfile_round_trip.proofs.Canon.{ShapeLine, ShapeContent, ShapeItem, paren_left, paren_right, space, newline, word, expr_on, expr_marks, body_on, body_marks, then, expr_is, body_is}
 use Rattle.justfile_round_trip.proofs.Attributes.CanonAttributes.{ShapeEntry, comment_on, entries_on, comment_marks, entries_marks, comment_is, entries_is}
 use Rattle.justfile_round_trip.proofs.Headers.CanonHeaders.{ShapeHeader, path_on, path_marks, path_is, header_on, header_marks, header_is}
 use Rattle.justfile_round_trip.proofs.Items.CanonParts.{colon_equals, word_on, question_on, names_on, file_path_on, optional_path_on, setting_value_on, word_marks, question_marks, names_marks, file_path_marks, optional_path_marks, setting_value_marks, word_is, question_is, names_is, file_path_is, optional_path_is, setting_value_is}
 
 -- a recipe without a doc, after attributes
-abbrev pub recipe_item : List ShapeEntry → ShapeHeader → (comment : Option (List ℕ)) → List Row → ShapeItem
+abbrev pub recipe_item : List ShapeEntry → ShapeHeader → (comment : Option (List ℕ)) → List ShapeLine → ShapeItem
 recipe_item entries header comment body = Construct entries (Recipe (bare_recipe header comment body))
 
 -- the item has no doc
@@ -78,7 +78,7 @@ item_marks (Comment t) ts = mark kinds.Comment t ∷ ts
 item_marks (Construct entries content) ts = entries_marks entries (content_marks content ts)
 
 -- the lines of the body of a recipe
-abbrev pub body_in : ShapeContent → List Row
+abbrev pub body_in : ShapeContent → List ShapeLine
 body_in (Alias parts) = []
 body_in (Assignment parts) = []
 body_in (Function parts) = []
@@ -88,7 +88,7 @@ body_in (Recipe parts) = parts.body
 body_in (Setting parts) = []
 body_in (Unexport name) = []
 
-abbrev pub body_of : ShapeItem → List Row
+abbrev pub body_of : ShapeItem → List ShapeLine
 body_of Newline = []
 body_of (Comment t) = []
 body_of (Construct entries content) = body_in content
@@ -111,7 +111,7 @@ text_on ind [] = []
 text_on ind (i ∷ items) = item_on ind i (end_on i items (text_on ind items))
 
 -- Items after a header whose body has these lines. The line end after a body is that of its last line, and its Dedent comes after it.
-abbrev pub marks_from : List ℕ → (body : List Row) → Shape → List Mark
+abbrev pub marks_from : List ℕ → (body : List ShapeLine) → Shape → List Mark
 marks_from ind body [] = []
 marks_from ind body (Newline ∷ items) = newline ∷ body_marks ind body (marks_from ind [] items)
 marks_from ind body (i ∷ items) = item_marks i (end_marks i items (marks_from ind (body_of i) items))

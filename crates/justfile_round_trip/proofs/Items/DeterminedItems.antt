@@ -15,7 +15,7 @@ use Rattle.justfile_model.specs.Grammars.Expressions.{Tokens}
 use Rattle.justfile_model.specs.Grammars.Grammar as g
 use Rattle.justfile_model.specs.Grammars.Files.{to_lexemes}
 use Rattle.justfile_model.specs.Grammars.Grammar.{LineRest, BodyLines, OnLine, Block, Items, ItemRest, LineEnd, File}
-use Rattle.justfile_round_trip.proofs.Canon.{Shown, Fragment, Row, ShapeContent, Value}
+use Rattle.justfile_round_trip.proofs.Canon.{Shown, Fragment, ShapeLine, ShapeContent, Value}
 use Rattle.justfile_round_trip.proofs.Headers.CanonHeaders.{ShapeParameter, ShapeArgument, ShapeDependency, ShapeHeader}
 use Rattle.justfile_round_trip.proofs.Determined.{value_features, values_features, of_expression, of_value, of_sequence}
 use Rattle.justfile_round_trip.proofs.Attributes.DeterminedAttributes.{written_features, of_attribute_lines}
@@ -29,7 +29,7 @@ fragments_features [] = []
 fragments_features (tree.Text t ∷ fs) = fragments_features fs
 fragments_features (tree.Interpolation v ∷ fs) = value_features false v ++ fragments_features fs
 
-abbrev pub body_features : List Row → Shown
+abbrev pub body_features : List ShapeLine → Shown
 body_features [] = []
 body_features (tree.Line number fs ∷ ls) = fragments_features fs ++ body_features ls
 
@@ -74,12 +74,12 @@ items_features (tree.Newline ∷ items) = items_features items
 items_features (tree.Comment t ∷ items) = items_features items
 items_features (Construct ws content ∷ items) = record { attributes = written_features ws; content = content_features content } ∷ items_features items
 
-trimmed_features : (ls : List Row) → body_features (trimmed ls) ≡ body_features ls
+trimmed_features : (ls : List ShapeLine) → body_features (trimmed ls) ≡ body_features ls
 trimmed_features [] = refl
 trimmed_features (tree.Line n (f ∷ fs) ∷ ls) = ap (λ ns. fragments_features (f ∷ fs) ++ ns) (trimmed_features ls)
 trimmed_features (tree.Line n [] ∷ ls) = by (trimmed ls) ∙ trimmed_features ls
   where
-    by : (ks : List Row) → body_features (line_before (tree.Line n []) ks) ≡ body_features ks
+    by : (ks : List ShapeLine) → body_features (line_before (tree.Line n []) ks) ≡ body_features ks
     by [] = refl
     by (k ∷ ks) = refl
 
@@ -90,7 +90,7 @@ module _ (MayEnter : ℕ → Option SignificantToken → Type 0) where
   of_line (g.text kind r) = of_line r
   of_line (g.interpolation kind x kind2 r) = λ i. of_expression MayEnter x i ++ of_line r i
 
-  of_lines : {ls : List Row} {ns : Shown} {ts rest : Tokens} → BodyLines to_lexemes MayEnter ls ns ts rest → ns ≡ body_features ls
+  of_lines : {ls : List ShapeLine} {ns : Shown} {ts rest : Tokens} → BodyLines to_lexemes MayEnter ls ns ts rest → ns ≡ body_features ls
   of_lines (g.no_line kind) = refl
   of_lines (g.empty_line kind r) = of_lines r
   of_lines (g.some_line l r) = λ i. of_line l i ++ of_lines r i
@@ -136,11 +136,10 @@ module _ (MayEnter : ℕ → Option SignificantToken → Type 0) where
 
   of_setting : {form : SettingForm} {v : ShapeSetting} {ns : Shown} {ts rest : Tokens} → ValueOf lexeme nothing MayEnter form v ns ts rest → ns ≡ setting_features v
   of_setting (p.bare next) = refl
-  of_setting (p.yes kind is) = refl
-  of_setting (p.no kind is) = refl
   of_setting (p.expression kind x) = of_expression MayEnter x
   of_setting (p.plain kind x) = of_expression MayEnter x
   of_setting (p.interpreter kind kind2 xs) = of_sequence MayEnter xs
+  of_setting _ = refl
 
   of_item : {c : ShapeContent} {ns : Shown} {ts rest : Tokens} → OnLine to_lexemes MayEnter c ns ts rest → ns ≡ content_features c
   of_item (g.alias is kind kind2 to) = refl
@@ -148,15 +147,9 @@ module _ (MayEnter : ℕ → Option SignificantToken → Type 0) where
   of_item (g.eager is kind kind2 x) = of_expression MayEnter x
   of_item (g.export is kind kind2 x) = of_expression MayEnter x
   of_item (g.function kind kind2 names kind3 x) = of_expression MayEnter x
-  of_item (g.import is at) = refl
-  of_item (g.optional_import is kind at) = refl
-  of_item (g.module_alone is kind next) = refl
-  of_item (g.module_at is kind at) = refl
-  of_item (g.optional_module_alone is kind kind2 next) = refl
-  of_item (g.optional_module_at is kind kind2 at) = refl
   of_item (g.setting is named form v) = of_setting v
-  of_item (g.unexport is kind next) = refl
   of_item (g.header {fs = ns} x) = sym (append-nil ns) ∙ ap (λ y. y ++ []) (of_header x)
+  of_item _ = refl
 
   of_block : {c : ShapeContent} {ns : Shown} {ts rest : Tokens} → Block to_lexemes MayEnter c ns ts rest → ns ≡ content_features c
   of_block (g.recipe {lines = lines} x start read some) = λ i. of_header x i ++ (of_lines read ∙ sym (trimmed_features lines)) i

@@ -78,31 +78,13 @@ module _ (limit : ℕ) where
   -- it has no doc
   pub content_no_doc : {content : ShapeContent} → GoodContent content → doc_of content ≡ None
   content_no_doc (alias named path) = refl
-  content_no_doc (assignment one named h) = refl
-  content_no_doc (function named names h) = refl
-  content_no_doc (import path) = refl
-  content_no_doc (module_named named path) = refl
-  content_no_doc (header h) = refl
-  content_no_doc (setting named spelled formed h) = refl
-  content_no_doc (unexport named) = refl
+  content_no_doc _ = refl
 
   pub content_undocumented : {content : ShapeContent} → GoodContent content → redocumented None content ≡ content
   content_undocumented (alias named path) = refl
-  content_undocumented (assignment one named h) = refl
-  content_undocumented (function named names h) = refl
-  content_undocumented (import path) = refl
-  content_undocumented (module_named named path) = refl
-  content_undocumented (header h) = refl
-  content_undocumented (setting named spelled formed h) = refl
-  content_undocumented (unexport named) = refl
+  content_undocumented _ = refl
 
   -- and no body
   pub content_no_body : {content : ShapeContent} → GoodContent content → body_in content ≡ []
   content_no_body (alias named path) = refl
-  content_no_body (assignment one named h) = refl
-  content_no_body (function named names h) = refl
-  content_no_body (import path) = refl
-  content_no_body (module_named named path) = refl
-  content_no_body (header h) = refl
-  content_no_body (setting named spelled formed h) = refl
-  content_no_body (unexport named) = refl
+  content_no_body _ = refl

@@ -4,7 +4,7 @@ use Rattle.std.specs.Prelude.{◌||◌, not}
 use Rattle.justfile_model.specs.Lexing.Modes.{is_empty}
 use Rattle.justfile_model.specs.Trees.Tree as tree
 use Rattle.justfile_model.specs.Trees.Tree.{Shape}
-use Rattle.justfile_round_trip.proofs.Canon.{Row, ShapeContent}
+use Rattle.justfile_round_trip.proofs.Canon.{ShapeLine, ShapeContent}
 use Rattle.justfile_round_trip.proofs.Attributes.CanonAttributes.{ShapeEntry}
 use Rattle.justfile_round_trip.proofs.Headers.CanonHeaders.{ShapeHeader}
 use Rattle.justfile_round_trip.proofs.Items.CanonItems.{NoDocs, recipe_item}
@@ -32,7 +32,7 @@ module _ (limit : ℕ) where
       comment : {t : List ℕ} {items : Shape} → GoodComment t → AtEnd items → AtStart (tree.Comment t ∷ items)
       on_line : {entries : List ShapeEntry} {content : ShapeContent} {items : Shape} → GoodEntries limit entries → GoodContent limit content → ItemRest items
           → AtStart (tree.Construct entries content ∷ items)
-      recipe : {entries : List ShapeEntry} {h : ShapeHeader} {comment : Option (List ℕ)} {l : Row} {ls : List Row} {items : Shape} → GoodEntries limit entries → GoodHeader limit h
+      recipe : {entries : List ShapeEntry} {h : ShapeHeader} {comment : Option (List ℕ)} {l : ShapeLine} {ls : List ShapeLine} {items : Shape} → GoodEntries limit entries → GoodHeader limit h
           → GoodOptionalComment comment → EndedBody limit (l ∷ ls) → AfterBody (l ∷ ls) items
           → AtStart (recipe_item entries h comment (l ∷ ls) ∷ items)
 
@@ -46,8 +46,8 @@ module _ (limit : ℕ) where
       line_end : {items : Shape} → AtStart items → AtEnd (tree.Newline ∷ items)
 
     -- after a body its last line ends; then levels close, and if they would close before that, nothing follows
-    pub data AfterBody : List Row → Shape → Type 0 where
-      body_end : {body : List Row} {items : Shape} → follows_body items ≡ true → (pale_after body ≡ true → items ≡ []) → AtStart items
+    pub data AfterBody : List ShapeLine → Shape → Type 0 where
+      body_end : {body : List ShapeLine} {items : Shape} → follows_body items ≡ true → (pale_after body ≡ true → items ≡ []) → AtStart items
           → AfterBody body (tree.Newline ∷ items)
 
   -- after a comment, or after another item

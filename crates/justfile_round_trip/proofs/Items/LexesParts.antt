@@ -9,7 +9,8 @@ use Rattle.justfile_model.specs.Trees.Tree as tree
 use Rattle.justfile_model.specs.Trees.Tree.{assignment_of, bare_module}
 use Rattle.justfile_round_trip.proofs.LiteralTexts.LexedModes.{Mark, LexesTo}
 use Rattle.justfile_round_trip.proofs.LiteralTexts.Inline.{head_is, joins, head_word, amid, IsName, name_step, space_step}
-use Rattle.justfile_round_trip.proofs.Fixed.{colon_equals_step, comma_step, question_mark_step, open_paren_step, close_paren_step, open_bracket_step, close_bracket_step}
+use Rattle.justfile_round_trip.proofs.Fixed as fixed
+use Rattle.justfile_round_trip.proofs.Fixed.{close_bracket_step, close_paren_step, open_bracket_step, open_paren_step, token_step}
 use Rattle.justfile_round_trip.proofs.RecipeBodies.Lines.{at_item, item_name}
 use Rattle.justfile_round_trip.proofs.Canon.{Value, ShapeContent, expr_on, expr_marks, paren_right, space}
 use Rattle.justfile_round_trip.proofs.Headers.CanonHeaders.{path_on, path_marks}
@@ -77,8 +78,7 @@ value_joins : (v : ShapeSetting) (more : List ℕ) → head_is joins more ≡ fa
 unfolding class_of
 value_joins (tree.Truth true) more h = h
 value_joins (tree.Truth false) more h = refl
-value_joins (tree.Value value) more h = refl
-value_joins (tree.Interpreter command arguments) more h = refl
+value_joins _ more h = refl
 
 names_of : (names : List (List ℕ)) → GoodNames names → AreNames names
 names_of [] h = tt
@@ -89,7 +89,7 @@ module _ (c : Bool) where
 
   lex_question : (b : Bool) {more : List ℕ} {ts : List Mark} → ((f : Bool) → LexesTo (amid [] [] c None f) (32 ∷ more) ts)
       → (f : Bool) → LexesTo (amid [] [] c None f) (question_on b (32 ∷ more)) (question_marks b ts)
-  lex_question true k f = question_mark_step (k false)
+  lex_question true k f = token_step fixed.question_mark (k false)
   lex_question false k f = k f
 
   lex_other_names : (line : ℕ) (names : List (List ℕ)) {more : List ℕ} {ts : List Mark} → GoodNames names → LexesTo (amid [] [] c None false) more ts
@@ -97,7 +97,7 @@ module _ (c : Bool) where
       → LexesTo (amid (opener Paren line ∷ []) [] c None f) (other_names_on names (41 ∷ more)) (other_names_marks names (paren_right ∷ ts))
   lex_other_names line [] h k f = close_paren_step k
   lex_other_names line (n ∷ names) {more} h k f =
-      comma_step (space_step (name_no_blank n _ h.0.is_name) (name_step n h.0.is_name (head_word _ (names_join names more)) (lex_other_names line names h.1 k _)))
+      token_step fixed.comma (space_step (name_no_blank n _ h.0.is_name) (name_step n h.0.is_name (head_word _ (names_join names more)) (lex_other_names line names h.1 k _)))
 
   lex_names : (line : ℕ) (names : List (List ℕ)) {more : List ℕ} {ts : List Mark} → GoodNames names → LexesTo (amid [] [] c None false) more ts
       → LexesTo (amid (opener Paren line ∷ []) [] c None false) (names_on names (41 ∷ more)) (names_marks names (paren_right ∷ ts))
@@ -121,7 +121,7 @@ module _ (c : Bool) where
       → (f : Bool) → LexesTo (amid [] [] c None f) (codes " := " ++ expr_on value more) (space ∷ colon_equals ∷ space ∷ expr_marks value ts)
   unfolding class_of
   lex_assigned value {more} h stop k f =
-      space_step refl (colon_equals_step (space_step (value_no_blank value more h) (lex_value [] c None [] value h stop k)))
+      space_step refl (token_step fixed.colon_equals (space_step (value_no_blank value more h) (lex_value [] c None [] value h stop k)))
 
   -- the names of a path, after a space
   lex_target : (names : List (List ℕ)) {more : List ℕ} {ts : List Mark} → GoodPath names → head_is joins more ≡ false
@@ -139,11 +139,11 @@ module _ (c : Bool) where
     unfolding class_of
     lex_setting_value TruthForm (tree.Truth true) h stop k f = k f
     lex_setting_value TruthForm (tree.Truth false) {more} h stop k f =
-        space_step refl (colon_equals_step (space_step refl (name_step (codes "false") false_word (head_word more stop) (k _))))
+        space_step refl (token_step fixed.colon_equals (space_step refl (name_step (codes "false") false_word (head_word more stop) (k _))))
     lex_setting_value ExpressionForm (tree.Value value) h stop k f = lex_assigned value h.lexes stop k f
     lex_setting_value PlainForm (tree.Value value) h stop k f = lex_assigned value h.lexes stop k f
     lex_setting_value InterpreterForm (tree.Interpreter command arguments) h stop k f =
-        space_step refl (colon_equals_step (space_step refl (open_bracket_step
+        space_step refl (token_step fixed.colon_equals (space_step refl (open_bracket_step
         (λ line. lex_values [] c None (opener Bracket line ∷ []) (tree.more command arguments) h.lexes refl (λ f. close_bracket_step (k false))))))
     lex_setting_value form v h stop k f = absurd h
 
@@ -169,7 +169,7 @@ module _ (c : Bool) where
     lex_content (good.alias {name = name} {target = target} named path) ind x equals colons stop k =
         item_name c (codes "alias") alias_word refl
         (space_step (name_no_blank name _ named.is_name) (name_step name named.is_name refl
-        (space_step refl (colon_equals_step (lex_target target path stop (k c))))))
+        (space_step refl (token_step fixed.colon_equals (lex_target target path stop (k c))))))
     lex_content (good.assignment {eager = eager} {export = export} {name = name} {value = value} one named h) ind x equals colons stop k =
         lex_assignment eager export name value one named h stop (k c)
     lex_content (good.function {name = name} {parameters = parameters} {body = body} named names h) ind x equals colons stop k =

@@ -120,13 +120,11 @@ delimiter_length k = go k.indented
 quote_class : (d : StringDelimiter) → class_of (quote_of d) ≡ classes.Quote
 unfolding class_of
 quote_class delimiters.Backtick = refl
-quote_class delimiters.QuoteDouble = refl
-quote_class delimiters.QuoteSingle = refl
+quote_class _ = refl
 
 quote_no_brace : (d : StringDelimiter) → eqb (quote_of d) 125 ≡ false
 quote_no_brace delimiters.Backtick = refl
-quote_no_brace delimiters.QuoteDouble = refl
-quote_no_brace delimiters.QuoteSingle = refl
+quote_no_brace _ = refl
 
 not_all : (xs ys : List ℕ) → is_empty ys ≡ false → eqb (length xs) (length (xs ++ ys)) ≡ false
 not_all xs [] h = cc
@@ -207,18 +205,15 @@ joins_quote (y ∷ ys) h = by (is_quote y) refl
 
 kind_not_eof : (d : StringDelimiter) → token_kind_of d ≢ Eof
 kind_not_eof delimiters.Backtick e = cc
-kind_not_eof delimiters.QuoteDouble e = cc
-kind_not_eof delimiters.QuoteSingle e = cc
+kind_not_eof _ e = cc
 
 after_literal : (os : List OpenDelimiter) (ls : List (List ℕ)) (c : Bool) (i : Option Tok) (d : StringDelimiter) (f : Bool) (t : Tok) → mode_after (token_kind_of d) t (amid os ls c i f) ≡ amid os ls c i false
 after_literal os ls c i delimiters.Backtick f t = refl
-after_literal os ls c i delimiters.QuoteDouble f t = refl
-after_literal os ls c i delimiters.QuoteSingle f t = refl
+after_literal os ls c i _ f t = refl
 
 no_opening : (d : StringDelimiter) (xs : List ℕ) → is_interpolation_start (quote_of d ∷ xs) ≡ false
 no_opening delimiters.Backtick xs = refl
-no_opening delimiters.QuoteDouble xs = refl
-no_opening delimiters.QuoteSingle xs = refl
+no_opening _ xs = refl
 
 brace_next : (os : List OpenDelimiter) (ls : List (List ℕ)) (c : Bool) (i : Option Tok) (k : StringKind) (line : ℕ) (xs : List ℕ) → next (amid (opener (FormatString k) line ∷ os) ls c i false) (125 ∷ 125 ∷ xs) ≡ literal_part k true 2 FormatStringContinue FormatStringEnd (125 ∷ 125 ∷ xs)
 unfolding token_by_class class_of

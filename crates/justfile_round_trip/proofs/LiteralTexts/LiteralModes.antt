@@ -2,7 +2,6 @@
 use Rattle.std.proofs.Common.{◌≡◌, ℕ, zero, suc, ◌+◌, ◌<◌, min, Bool, true, false, cond, eqb, ltb, List, [], ◌∷◌, length, get_or, take, drop, ◌⊎◌, inl, inr, ⊎_elim, refl, sym, ap, ◌∙◌, arith}
 use Rattle.std.specs.Prelude.{◌&&◌, ◌||◌, not}
 use Rattle.std.proofs.lemmas.Bool.{and_parts, cases_lt}
-use Rattle.std.proofs.lemmas.Bool.Decides.{nat_tests}
 use Rattle.std.proofs.lemmas.List.{get_or-drop}
 use Rattle.justfile_token.specs.declared.string_kind.StringDelimiter.{StringDelimiter}
 use Rattle.justfile_token.specs.declared.string_kind.StringDelimiter.TheVariants as delimiters
@@ -14,6 +13,7 @@ use Rattle.justfile_model.specs.Lexing.LiteralText.{pieces_len, hides, is_delimi
 use Rattle.justfile_model.proofs.Lexing.CutLemmas.{stops, raw_stops, raw_within}
 use Rattle.justfile_round_trip.specs.LiteralModes.{before_start, has_no_start}
 use Rattle.justfile_round_trip.proofs.LiteralTexts.Literals.{scan, delimiter_front}
+use Rattle.justfile_round_trip.proofs.LiteralTexts.RawTexts.{Braces, four_braces}
 
 -- What is hidden in format mode and is not hidden in plain mode is a brace.
 abbrev Hidden : ℕ → ℕ → List ℕ → Type 0
@@ -32,19 +32,11 @@ no_brace delimiters.QuoteDouble false bs = refl
 no_brace delimiters.QuoteSingle true bs = refl
 no_brace delimiters.QuoteSingle false bs = refl
 
-four_braces : (bs : List ℕ) → is_interpolation_escape bs ≡ true → Hidden 4 0 bs
-four_braces [] h = tt
-four_braces (a ∷ []) h = let p = (and_parts (eqb a 123 && false) _ h).0 in cc
-four_braces (a ∷ b ∷ []) h = let p = (and_parts (eqb a 123 && eqb b 123) false h).1 in cc
-four_braces (a ∷ b ∷ c ∷ []) h = let p = (and_parts (eqb c 123) false (and_parts (eqb a 123 && eqb b 123) (eqb c 123 && false) h).1).1 in cc
-four_braces (a ∷ b ∷ c ∷ d ∷ bs) h =
-    let fronts = and_parts (eqb a 123 && eqb b 123) (eqb c 123 && eqb d 123) h in
-    let first = and_parts (eqb a 123) (eqb b 123) fronts.0 in
-    let last = and_parts (eqb c 123) (eqb d 123) fronts.1 in
-    (is a first.0, (is b first.1, (is c last.0, (is d last.1, tt))))
-  where
-    is : (x : ℕ) → eqb x 123 ≡ true → x ≡ 123
-    is x e = grind (arith, nat_tests)
+-- braces at the front
+all_hidden : (n : ℕ) (bs : List ℕ) → Braces n bs → Hidden n 0 bs
+all_hidden zero bs h = tt
+all_hidden (suc n) [] h = tt
+all_hidden (suc n) (b ∷ bs) h = (h.0, all_hidden n bs h.1)
 
 hidden_after : (b : ℕ) (bs : List ℕ) → Hidden 4 0 (b ∷ bs) → (b ≡ 123) × Hidden 3 0 bs
 hidden_after b bs h = (h.0, h.1)
@@ -86,14 +78,14 @@ first_end_from k zero zero (x ∷ bs) h =
 
     braces : is_interpolation_escape (x ∷ bs) ≡ true → ((n m : ℕ) → Hidden n m bs → scan k true n bs ≡ min (scan k false m bs) (parted k n bs)) → suc (scan k true 3 bs) ≡ min (scan k false 0 (x ∷ bs)) (suc (parted k 3 bs))
     braces f ih =
-        let h = hidden_after x bs (four_braces (x ∷ bs) f) in
+        let h = hidden_after x bs (all_hidden 4 (x ∷ bs) (four_braces (x ∷ bs) f)) in
         one_more _ _ _ (ih 3 0 h.1) ∙ ap (λ p. min p (suc (parted k 3 bs))) (sym (ap (λ y. scan k false 0 (y ∷ bs)) h.0 ∙ no_brace k.delimiter k.indented bs))
 
     go : (t u v s r : Bool) → (escapes k.delimiter && eqb x 92) ≡ t → is_interpolation_escape bs ≡ u → is_interpolation_escape (x ∷ bs) ≡ v → is_delimiter k (x ∷ bs) ≡ s
         → ((n m : ℕ) → Hidden n m bs → scan k true n bs ≡ min (scan k false m bs) (parted k n bs))
         → cond (ltb 0 (cond t (cond u 4 1) (cond v 3 0))) (suc (scan k true (cond t (cond u 4 1) (cond v 3 0)) bs)) (cond (s || r) 0 (suc (scan k true 0 bs)))
         ≡ min (plain t s) (cond (ltb 0 (cond t (cond u 4 1) (cond v 3 0))) (suc (parted k (cond t (cond u 4 1) (cond v 3 0)) bs)) (cond r 0 (suc (parted k 0 bs))))
-    go true true v s r et eu ev es ih = one_more _ _ _ (ih 4 1 (escaped_braces bs (four_braces bs eu)))
+    go true true v s r et eu ev es ih = one_more _ _ _ (ih 4 1 (escaped_braces bs (all_hidden 4 bs (four_braces bs eu))))
     go true false v s r et eu ev es ih = one_more _ _ _ (ih 1 1 (hidden_one bs))
     go false u true s r et eu ev es ih = braces ev ih ∙ ap (λ p. min p (suc (parted k 3 bs))) (λ i. plain (et i) (es i))
     go false u false true r et eu ev es ih = no_more 0 _ (inl refl)
@@ -107,8 +99,7 @@ first_end k bs = first_end_from k 0 0 bs tt
 
 quote_differs : (d : StringDelimiter) → eqb (quote_of d) 123 ≡ false
 quote_differs delimiters.Backtick = refl
-quote_differs delimiters.QuoteDouble = refl
-quote_differs delimiters.QuoteSingle = refl
+quote_differs _ = refl
 
 delimiter_no_brace : (k : StringKind) (bs : List ℕ) → is_delimiter k bs ≡ true → eqb (get_or bs 0 0) 123 ≡ false
 delimiter_no_brace k bs d = ap (λ xs. eqb (get_or xs 0 0) 123) (delimiter_front k bs d) ∙ quote_differs k.delimiter

@@ -55,8 +55,7 @@ quote_byte b e = (subst (HasQuote b) e (has_quote b)).fact
 
 quote_positive : (d : StringDelimiter) → 0 < quote_of d
 quote_positive delimiters.Backtick = omega arith
-quote_positive delimiters.QuoteDouble = omega arith
-quote_positive delimiters.QuoteSingle = omega arith
+quote_positive _ = omega arith
 
 -- if the byte at the front isn't 0, the text begins with it
 pub front_byte : (bs : List ℕ) (q : ℕ) → 0 < q → eqb (get_or bs 0 0) q ≡ true → bs ≡ q ∷ drop 1 bs
@@ -169,8 +168,7 @@ stable k zero (x ∷ xs) a b e =
 
 pub no_quote : (d : StringDelimiter) (b : ℕ) → is_quote b ≡ false → eqb b (quote_of d) ≡ false
 no_quote delimiters.Backtick b h = grind (arith, nat_tests)
-no_quote delimiters.QuoteDouble b h = grind (arith, nat_tests)
-no_quote delimiters.QuoteSingle b h = grind (arith, nat_tests)
+no_quote _ b h = grind (arith, nat_tests)
 
 -- before a text that doesn't begin with a quote, the kind of a literal is read again
 pub same_opening : (d : StringDelimiter) (i : Bool) (inner following more : List ℕ) → is_quote (get_or more 0 0) ≡ false

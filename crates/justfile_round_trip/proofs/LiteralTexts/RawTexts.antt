@@ -19,12 +19,12 @@ abbrev pub scan : ℕ → List ℕ → ℕ
 scan = pieces_len (hides raw_texts.Body) (ends raw_texts.Body)
 
 -- this many braces are at the front
-abbrev Braces : ℕ → List ℕ → Type 0
+abbrev pub Braces : ℕ → List ℕ → Type 0
 Braces zero bs = Unit {0}
 Braces (suc n) [] = ⊥
 Braces (suc n) (b ∷ bs) = (b ≡ 123) × Braces n bs
 
-four_braces : (bs : List ℕ) → is_interpolation_escape bs ≡ true → Braces 4 bs
+pub four_braces : (bs : List ℕ) → is_interpolation_escape bs ≡ true → Braces 4 bs
 four_braces [] h = cc
 four_braces (a ∷ []) h = let p = (and_parts (eqb a 123 && false) _ h).0 in let q = (and_parts (eqb a 123) false p).1 in cc
 four_braces (a ∷ b ∷ []) h = let p = (and_parts (eqb a 123 && eqb b 123) false h).1 in cc

@@ -11,7 +11,7 @@ use Rattle.justfile_round_trip.proofs.LiteralTexts.Inline.{head_is, amid, space_
 use Rattle.justfile_round_trip.proofs.RecipeBodies.Lines.{at_item, line_end}
 use Rattle.justfile_round_trip.proofs.RecipeBodies.BodyLines.{at_line, in_line, IsLevel, text_step, body_line_end, interpolation_start, interpolation_end, empty_step, indent_step, level_step, white_blanks, closes_over, closes_feed, closes_nothing, ends_body, dedent_step}
 use Rattle.justfile_round_trip.proofs.LiteralTexts.RawTexts.{NoFeed, raw_no_feed, not_blank_line, text_no_end}
-use Rattle.justfile_round_trip.proofs.Canon.{Value, Fragment, Row, newline, space, fragment_on, fragments_on, lines_on, body_on, body_on_is, fragment_marks, fragments_marks, lines_marks, body_marks}
+use Rattle.justfile_round_trip.proofs.Canon.{Value, Fragment, ShapeLine, newline, space, fragment_on, fragments_on, lines_on, body_on, body_on_is, fragment_marks, fragments_marks, lines_marks, body_marks}
 use Rattle.justfile_round_trip.proofs.Good.{GoodComment, GoodExpression, GoodFragments, IsShown, IsFirst, GoodLines, GoodBody, pale, pale_line, all_pale, pale_after}
 use Rattle.justfile_round_trip.proofs.Attributes.LexesAttributes.{trailing}
 use Rattle.justfile_round_trip.proofs.Values.LexesValues.{value_no_blank, lex_value}
@@ -85,7 +85,7 @@ module _ (limit : ℕ) where
   over_fragments (Interpolation e ∷ fs) rest good = refl
 
   -- levels stay open if a line that isn't pale follows, or if the body is at the end of the text
-  stays_open : (ind : List ℕ) (ls : List Row) (more : List ℕ) → IsLevel ind → GoodLines limit ls → (all_pale ls ≡ true → more ≡ []) → closes_levels true (lines_on ind ls more) ≡ false
+  stays_open : (ind : List ℕ) (ls : List ShapeLine) (more : List ℕ) → IsLevel ind → GoodLines limit ls → (all_pale ls ≡ true → more ≡ []) → closes_levels true (lines_on ind ls more) ≡ false
   stays_open ind [] more i good h = ap (closes_levels true) (h refl) ∙ closes_nothing true
   stays_open ind (Line n [] ∷ ls) more i good h = closes_feed true _ ∙ stays_open ind ls more i good.2 h
   stays_open ind (Line n (f ∷ fs) ∷ ls) more i good h =
@@ -101,7 +101,7 @@ module _ (limit : ℕ) where
 
   -- ---- lines, and the whole body
 
-  pub lines_step : (ind : List ℕ) (ls : List Row) (more : List ℕ) (ts : List Mark) → IsLevel ind → GoodLines limit ls → (pale_after ls ≡ true → more ≡ []) → LexesTo (at_line ind) more ts → LexesTo (at_line ind) (lines_on ind ls more) (lines_marks ind ls ts)
+  pub lines_step : (ind : List ℕ) (ls : List ShapeLine) (more : List ℕ) (ts : List Mark) → IsLevel ind → GoodLines limit ls → (pale_after ls ≡ true → more ≡ []) → LexesTo (at_line ind) more ts → LexesTo (at_line ind) (lines_on ind ls more) (lines_marks ind ls ts)
   lines_step ind [] more ts i good h k = k
   lines_step ind (Line n [] ∷ ls) more ts i good h k =
       empty_step ind _ _ (stays_open ind ls more i good.2 (λ p. h (ap (λ b. b || pale_after ls) p))) (lines_step ind ls more ts i good.2 (λ p. h (ap (λ b. all_pale ls || b) p ∙ or_true (all_pale ls))) k)
@@ -113,7 +113,7 @@ module _ (limit : ℕ) where
       level_step ind _ _ i (shown f fs _ good.0 good.1) (fragments_step ind (f ∷ fs) _ _ good.0 (body_line_end ind _ _ (lines_step ind ls more ts i good.2 h k)))
 
   -- a body is lexed back from the start of its first line, and the text after it from the start of an item
-  pub lex_body : (ind : List ℕ) (ls : List Row) (more : List ℕ) (ts : List Mark) → IsLevel ind → GoodBody limit ls → ends_body more ≡ true → (pale_after ls ≡ true → more ≡ [])
+  pub lex_body : (ind : List ℕ) (ls : List ShapeLine) (more : List ℕ) (ts : List Mark) → IsLevel ind → GoodBody limit ls → ends_body more ≡ true → (pale_after ls ≡ true → more ≡ [])
       → LexesTo (at_item false) more ts → LexesTo (at_item true) (lines_on ind ls more) (body_marks ind ls ts)
   lex_body ind [] more ts i good following h k = absurd good
   lex_body ind (Line n [] ∷ ls) more ts i good following h k = absurd good.0
@@ -122,13 +122,13 @@ module _ (limit : ℕ) where
       (fragments_step ind (f ∷ fs) _ _ good.1 (body_line_end ind _ _ (lines_step ind ls more (mark kinds.Dedent [] ∷ ts) i good.2 h (dedent_step ind more ts i following k))))
 
   -- after the header of a recipe: its line end, the body, and the line end of the body's last line
-  pub lex_after_header : (f : Bool) (ind : List ℕ) (ls : List Row) (more : List ℕ) (ts : List Mark) → IsLevel ind → GoodBody limit ls → ends_body more ≡ true → (pale_after ls ≡ true → more ≡ [])
+  pub lex_after_header : (f : Bool) (ind : List ℕ) (ls : List ShapeLine) (more : List ℕ) (ts : List Mark) → IsLevel ind → GoodBody limit ls → ends_body more ≡ true → (pale_after ls ≡ true → more ≡ [])
       → LexesTo (at_item false) more ts → LexesTo (amid [] [] true None f) (body_on ind ls (10 ∷ more)) (newline ∷ body_marks ind ls ts)
   lex_after_header f ind ls more ts i good following h k =
       subst (λ x. LexesTo (amid [] [] true None f) x (newline ∷ body_marks ind ls ts)) (sym (body_on_is ind ls more)) (line_end true f (lex_body ind ls more ts i good following h k))
 
   -- after the header of a recipe and the blank after it: a comment, its line end, the body, and the line end of the body's last line
-  pub lex_after_comment : (f : Bool) (ind t : List ℕ) (ls : List Row) (more : List ℕ) (ts : List Mark) → IsLevel ind → GoodComment t → GoodBody limit ls
+  pub lex_after_comment : (f : Bool) (ind t : List ℕ) (ls : List ShapeLine) (more : List ℕ) (ts : List Mark) → IsLevel ind → GoodComment t → GoodBody limit ls
       → ends_body more ≡ true → (pale_after ls ≡ true → more ≡ []) → LexesTo (at_item false) more ts
       → LexesTo (amid [] [] true None f) (32 ∷ (t ++ body_on ind ls (10 ∷ more))) (space ∷ mark kinds.Comment t ∷ newline ∷ body_marks ind ls ts)
   lex_after_comment f ind t ls more ts i commented good following h k =

@@ -4,7 +4,7 @@ use Rattle.justfile_vocabulary.specs.declared.token_kind.TokenKind.TheVariants a
 use Rattle.justfile_model.specs.Trees.Tree.{Text, Interpolation, Line}
 use Rattle.justfile_model.specs.Grammars.Grammar as g
 use Rattle.justfile_round_trip.proofs.LiteralTexts.LexedModes.{Mark, mark}
-use Rattle.justfile_round_trip.proofs.Canon.{Shown, Fragment, Row, newline, fragments_marks, lines_marks}
+use Rattle.justfile_round_trip.proofs.Canon.{Shown, Fragment, ShapeLine, newline, fragments_marks, lines_marks}
 use Rattle.justfile_round_trip.proofs.Good.{GoodFragments, GoodLines, GoodBody, significant}
 use Rattle.justfile_round_trip.proofs.RecipeBodies.BodyGood.{Tokens, LineOf, LinesOf}
 
@@ -18,11 +18,11 @@ module _ (limit : ℕ) where
   line_back glued (Interpolation e ∷ fs) ts h = let r = line_back true fs ts h.1 in (h.0.features ++ r.0, g.interpolation refl (h.0.derives.derives false _ refl) refl r.1)
 
   -- a line that begins with a fragment begins with a token
-  begun : {f : Fragment} {fs : List Fragment} {ls : List Row} {ns ms : Shown} {tokens between rest : Tokens} → LineOf limit (f ∷ fs) ns tokens between → LinesOf limit ls ms between rest → LinesOf limit (Line tt (f ∷ fs) ∷ ls) (ns ++ ms) tokens rest
+  begun : {f : Fragment} {fs : List Fragment} {ls : List ShapeLine} {ns ms : Shown} {tokens between rest : Tokens} → LineOf limit (f ∷ fs) ns tokens between → LinesOf limit ls ms between rest → LinesOf limit (Line tt (f ∷ fs) ∷ ls) (ns ++ ms) tokens rest
   begun (g.text e r) k = g.some_line (g.text e r) k
   begun (g.interpolation e reads e' r) k = g.some_line (g.interpolation e reads e' r) k
 
-  lines_back : (glued : Bool) (ind : List ℕ) (ls : List Row) (ts : List Mark) → GoodLines limit ls → (ns : Shown) × LinesOf limit ls ns (significant glued (lines_marks ind ls (mark kinds.Dedent [] ∷ ts))) (significant true ts)
+  lines_back : (glued : Bool) (ind : List ℕ) (ls : List ShapeLine) (ts : List Mark) → GoodLines limit ls → (ns : Shown) × LinesOf limit ls ns (significant glued (lines_marks ind ls (mark kinds.Dedent [] ∷ ts))) (significant true ts)
   lines_back glued ind [] ts h = ([], g.no_line refl)
   lines_back glued ind (Line n [] ∷ ls) ts h = let r = lines_back true ind ls ts h.2 in (r.0, g.empty_line refl r.1)
   lines_back glued ind (Line n (f ∷ fs) ∷ ls) ts h =
@@ -31,7 +31,7 @@ module _ (limit : ℕ) where
       (l.0 ++ r.0, begun l.1 r.1)
 
   -- after its Indent
-  pub body_back : (ind : List ℕ) (n : Unit {0}) (fs : List Fragment) (ls : List Row) (ts : List Mark) → GoodBody limit (Line n fs ∷ ls)
+  pub body_back : (ind : List ℕ) (n : Unit {0}) (fs : List Fragment) (ls : List ShapeLine) (ts : List Mark) → GoodBody limit (Line n fs ∷ ls)
       → (ns : Shown) × LinesOf limit (Line n fs ∷ ls) ns (significant true (fragments_marks fs (newline ∷ lines_marks ind ls (mark kinds.Dedent [] ∷ ts)))) (significant true ts)
   body_back ind n [] ls ts h = absurd h.0
   body_back ind n (f ∷ fs) ls ts h =

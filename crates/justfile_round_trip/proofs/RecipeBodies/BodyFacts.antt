@@ -381,7 +381,7 @@ module _ (m : Mode) (s : Tok) (k : TokenKind) (n : ℕ) (clear : Clear m) (b : I
 -- ---- along the tokens
 
 -- The place of the next token, by the tokens so far: its position in a body, whether levels are held open, whether there is a colon since the last dedent, whether a body and an interpolation in it are open, and the number of open levels.
-pub record Outline : Type 0 where
+pub record Situation : Type 0 where
   pub at : At
   pub held : Bool
   pub colon : Bool
@@ -413,14 +413,14 @@ levels_after kinds.Indent n = suc n
 levels_after kinds.Dedent n = fewer n
 levels_after _ n = n
 
-abbrev pub outline_after : TokenKind → List ℕ → Outline → Outline
-outline_after k l s = record { at = place_after k s.at; held = held_after k l s.at s.held; colon = colon_after k s.colon; body = body_after k s.colon s.body; interpolation = interpolation_after k s.interpolation; levels = levels_after k s.levels }
+abbrev pub situation_after : TokenKind → List ℕ → Situation → Situation
+situation_after k l s = record { at = place_after k s.at; held = held_after k l s.at s.held; colon = colon_after k s.colon; body = body_after k s.colon s.body; interpolation = interpolation_after k s.interpolation; levels = levels_after k s.levels }
 
 -- before the first token
-abbrev pub no_body : Outline
+abbrev pub no_body : Situation
 no_body = record { at = Amid; held = false; colon = false; body = false; interpolation = false; levels = 0 }
 
-record IsOutline (m : Mode) (rest : List ℕ) (s : Outline) : Type 0 where
+record IsSituation (m : Mode) (rest : List ℕ) (s : Situation) : Type 0 where
   clear : Clear m
   ready : Ready s.at m rest
   held : Held s.held m rest
@@ -453,8 +453,8 @@ levels_step kinds.Dedent t m n e = less m.levels n e
     less (l ∷ ls) n e = ap fewer e
 levels_step _ t m n e = e
 
-outline_step : (m : Mode) (l following : List ℕ) (k : TokenKind) (t : Tok) (s : Outline) → t.lexeme ≡ l → TokenFact s.at m (l ++ following) k (length l) → IsOutline m (l ++ following) s → IsOutline (mode_after k t m) following (outline_after k l s)
-outline_step m l following k t s same f o = record {
+situation_step : (m : Mode) (l following : List ℕ) (k : TokenKind) (t : Tok) (s : Situation) → t.lexeme ≡ l → TokenFact s.at m (l ++ following) k (length l) → IsSituation m (l ++ following) s → IsSituation (mode_after k t m) following (situation_after k l s)
+situation_step m l following k t s same f o = record {
   clear = clear_after s.at m (l ++ following) k (length l) t f o.clear;
   ready = subst (Ready (place_after k s.at) (mode_after k t m)) (drop_front l following) (ready_after s.at m (l ++ following) k (length l) t f o.ready);
   held = held_step s.at m l following k t s.held same f o.held;
@@ -470,15 +470,15 @@ NextIs p [] = Unit {0}
 NextIs p (t ∷ ts) = p t.tok.kind
 
 -- A text of a body ends before the text that is printed after it. The first line of a body isn't empty. A body whose last lines hold its level open is at the end of the file.
-abbrev pub BodyToken : Outline → TokenKind → List ℕ → List SignificantToken → Type 0
+abbrev pub BodyToken : Situation → TokenKind → List ℕ → List SignificantToken → Type 0
 BodyToken s kinds.Text l ts = NextIs (TextKnown s.at l) ts
 BodyToken s kinds.Eol l ts = s.body ≡ true → s.interpolation ≡ false → NotFirst s.at
 BodyToken s kinds.Dedent l ts = s.body ≡ true → NotFirst s.at × (s.held ≡ true → s.levels ≡ 1 → NextIs (λ k. k ≡ kinds.Eof) ts)
 BodyToken s _ l ts = Unit {0}
 
-abbrev pub BodySound : Outline → List SignificantToken → Type 0
+abbrev pub BodySound : Situation → List SignificantToken → Type 0
 BodySound s [] = Unit {0}
-BodySound s (t ∷ ts) = BodyToken s t.tok.kind t.tok.lexeme ts × BodySound (outline_after t.tok.kind t.tok.lexeme s) ts
+BodySound s (t ∷ ts) = BodyToken s t.tok.kind t.tok.lexeme ts × BodySound (situation_after t.tok.kind t.tok.lexeme s) ts
 
 next_is : (p : TokenKind → Type 0) → (p kinds.Whitespace → ⊥) → (g : Bool) (u : Tok) (us : List Tok) → p u.kind → NextIs p (significant_from g (u ∷ us))
 next_is p none g u us h = by (is_whitespace u.kind) refl
@@ -505,7 +505,7 @@ no_bytes : (l : List ℕ) → length l ≡ 0 → l ≡ []
 no_bytes [] e = refl
 no_bytes (x ∷ xs) e = absurd (omega (arith, e))
 
-module _ (m : Mode) (l following : List ℕ) (t : Tok) (s : Outline) (g : Bool) (o : IsOutline m (l ++ following) s) where
+module _ (m : Mode) (l following : List ℕ) (t : Tok) (s : Situation) (g : Bool) (o : IsSituation m (l ++ following) s) where
   text_token : (ts : List Tok) → TokenFact s.at m (l ++ following) kinds.Text (length l) → Runs (mode_after kinds.Text t m) following ts → NextIs (TextKnown s.at l) (significant_from g ts)
   text_token [] f r = tt
   text_token (u ∷ us) f r = next_is (TextKnown s.at l) (λ h. h) g u us (text_known s.at m l following t u.kind (length u.lexeme) o.clear f r.2)
@@ -525,30 +525,30 @@ module _ (m : Mode) (l following : List ℕ) (t : Tok) (s : Outline) (g : Bool) 
       ((f.2 b).1, dedent_token ts f b r)
   token_known _ ts f r = tt
 
-body_sound : (ts : List Tok) (m : Mode) (rest : List ℕ) (s : Outline) (glued : Bool) → IsOutline m rest s → Runs m rest ts → BodySound s (significant_from glued ts)
+body_sound : (ts : List Tok) (m : Mode) (rest : List ℕ) (s : Situation) (glued : Bool) → IsSituation m rest s → Runs m rest ts → BodySound s (significant_from glued ts)
 body_sound [] m rest s glued o r = tt
 body_sound (t ∷ ts) m rest s glued o r = by (is_whitespace t.kind) refl (λ s' g' o'. body_sound ts (mode_after t.kind t m) following s' g' o' r.3)
   where
     following : List ℕ
     following = r.0
 
-    here : IsOutline m (t.lexeme ++ following) s
-    here = subst (λ q. IsOutline m q s) r.1 o
+    here : IsSituation m (t.lexeme ++ following) s
+    here = subst (λ q. IsSituation m q s) r.1 o
 
     fact : TokenFact s.at m (t.lexeme ++ following) t.kind (length t.lexeme)
     fact = token_fact s.at m (t.lexeme ++ following) t.kind (length t.lexeme) here.clear here.ready (sym (ap (next m) r.1) ∙ r.2)
 
-    moved : IsOutline (mode_after t.kind t m) following (outline_after t.kind t.lexeme s)
-    moved = outline_step m t.lexeme following t.kind t s refl fact here
+    moved : IsSituation (mode_after t.kind t m) following (situation_after t.kind t.lexeme s)
+    moved = situation_step m t.lexeme following t.kind t s refl fact here
 
     whitespace_kind : (k : TokenKind) → is_whitespace k ≡ true → k ≡ kinds.Whitespace
     whitespace_kind kinds.Whitespace h = refl
     whitespace_kind _ h = cc
 
-    by : (w : Bool) → is_whitespace t.kind ≡ w → ((s' : Outline) (g' : Bool) → IsOutline (mode_after t.kind t m) following s' → BodySound s' (significant_from g' ts))
+    by : (w : Bool) → is_whitespace t.kind ≡ w → ((s' : Situation) (g' : Bool) → IsSituation (mode_after t.kind t m) following s' → BodySound s' (significant_from g' ts))
         → BodySound s (cond w (significant_from false ts) (record { tok = t; glued = glued } ∷ significant_from true ts))
-    by true e ih = ih s false (subst (λ k. IsOutline (mode_after t.kind t m) following (outline_after k t.lexeme s)) (whitespace_kind t.kind e) moved)
-    by false e ih = (token_known m t.lexeme following t s true here t.kind ts fact r.3, ih (outline_after t.kind t.lexeme s) true moved)
+    by true e ih = ih s false (subst (λ k. IsSituation (mode_after t.kind t m) following (situation_after k t.lexeme s)) (whitespace_kind t.kind e) moved)
+    by false e ih = (token_known m t.lexeme following t s true here t.kind ts fact r.3, ih (situation_after t.kind t.lexeme s) true moved)
 
 -- the bodies of any text have these properties
 pub lexed_bodies : (text : List ℕ) (tokens : List Tok) → Lexed text tokens → BodySound no_body (significant_from false tokens)

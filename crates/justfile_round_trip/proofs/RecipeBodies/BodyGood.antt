@@ -12,11 +12,11 @@ use Rattle.justfile_model.specs.Grammars.Expressions.{BelowLimit, Expression}
 use Rattle.justfile_model.specs.Grammars.Files.{to_lexemes}
 use Rattle.justfile_model.specs.Grammars.Grammar.{LineRest, BodyLines}
 use Rattle.justfile_model.specs.Printed.Printing.{ends_in_return, printable_fragments, printable_body}
-use Rattle.justfile_round_trip.proofs.Canon.{Shown, Value, Fragment, Row}
+use Rattle.justfile_round_trip.proofs.Canon.{Shown, Value, Fragment, ShapeLine}
 use Rattle.justfile_round_trip.proofs.Good.{GoodExpression, GoodFragments, IsShown, IsFirst, GoodLines, GoodBody, pale, pale_line, all_pale, pale_after}
 use Rattle.justfile_round_trip.proofs.Walks.{quiet, walk}
 use Rattle.justfile_round_trip.proofs.RecipeBodies.BodyTokens.{At, First, Start, Amid, NotFirst}
-use Rattle.justfile_round_trip.proofs.RecipeBodies.BodyFacts.{TextKnown, LastKnown, Outline, outline_after, no_body, NextIs, BodyToken, BodySound}
+use Rattle.justfile_round_trip.proofs.RecipeBodies.BodyFacts.{TextKnown, LastKnown, Situation, situation_after, no_body, NextIs, BodyToken, BodySound}
 
 abbrev pub Tokens : Type 0
 Tokens = List SignificantToken
@@ -24,13 +24,13 @@ Tokens = List SignificantToken
 -- ---- the places of the tokens of a body
 
 -- in a body, and in an interpolation of it
-abbrev pub inner : At → Bool → Bool → Outline
+abbrev pub inner : At → Bool → Bool → Situation
 inner w held colon = record { at = w; held = held; colon = colon; body = true; interpolation = false; levels = 1 }
 
-abbrev pub interpolating : Bool → Outline
+abbrev pub interpolating : Bool → Situation
 interpolating colon = record { at = Amid; held = false; colon = colon; body = true; interpolation = true; levels = 1 }
 
-quiet_keeps : (k : TokenKind) (l : List ℕ) (colon : Bool) → quiet k ≡ true → outline_after k l (interpolating colon) ≡ interpolating colon
+quiet_keeps : (k : TokenKind) (l : List ℕ) (colon : Bool) → quiet k ≡ true → situation_after k l (interpolating colon) ≡ interpolating colon
 quiet_keeps kinds.Colon l colon h = cc
 quiet_keeps kinds.Indent l colon h = cc
 quiet_keeps kinds.Dedent l colon h = cc
@@ -42,7 +42,7 @@ quiet_keeps kinds.InterpolationEnd l colon h = cc
 quiet_keeps _ l colon h = refl
 
 -- an Indent after a colon, where no level is
-pub indent_leads : (l : List ℕ) (s : Outline) → s.colon ≡ true → s.interpolation ≡ false → s.levels ≡ 0 → outline_after kinds.Indent l s ≡ inner First false true
+pub indent_leads : (l : List ℕ) (s : Situation) → s.colon ≡ true → s.interpolation ≡ false → s.levels ≡ 0 → situation_after kinds.Indent l s ≡ inner First false true
 indent_leads l s colon interpolation levels = λ i. record { at = First; held = false; colon = colon i; body = whole i; interpolation = interpolation i; levels = one i }
   where
     or_true : (b : Bool) → (b || true) ≡ true
@@ -52,7 +52,7 @@ indent_leads l s colon interpolation levels = λ i. record { at = First; held = 
     whole : (s.body || s.colon) ≡ true
     whole = ap (λ b. s.body || b) colon ∙ or_true s.body
 
-    one : (outline_after kinds.Indent l s).levels ≡ 1
+    one : (situation_after kinds.Indent l s).levels ≡ 1
     one = ap suc levels
 
 and_assoc : (a b c : Bool) → ((a && b) && c) ≡ (a && (b && c))
@@ -79,7 +79,7 @@ InLine _ [] = ⊥
 InLine _ (f ∷ fs) = Unit {0}
 
 -- outside bodies, before an item or in it
-pub record IsOutside (s : Outline) : Type 0 where
+pub record IsOutside (s : Situation) : Type 0 where
   pub body : s.body ≡ false
   pub interpolation : s.interpolation ≡ false
   pub levels : s.levels ≡ 0
@@ -92,7 +92,7 @@ shifts kinds.InterpolationStart = true
 shifts kinds.InterpolationEnd = true
 shifts _ = false
 
-pub outside_after : (k : TokenKind) (l : List ℕ) (s : Outline) → shifts k ≡ false → IsOutside s → IsOutside (outline_after k l s)
+pub outside_after : (k : TokenKind) (l : List ℕ) (s : Situation) → shifts k ≡ false → IsOutside s → IsOutside (situation_after k l s)
 outside_after kinds.Indent l s h o = cc
 outside_after kinds.Dedent l s h o = cc
 outside_after kinds.InterpolationStart l s h o = cc
@@ -102,15 +102,15 @@ outside_after _ l s h o = record { body = o.body; interpolation = o.interpolatio
 pub outside_first : IsOutside no_body
 outside_first = record { body = refl; interpolation = refl; levels = refl }
 
--- An expression keeps the properties of the outline, as each of its tokens does.
-pub record Walked (P : Outline → Type 0) (ts : Tokens) : Type 0 where
-  pub outline : Outline
-  pub is : P outline
-  pub sound : BodySound outline ts
+-- An expression keeps the properties of the situation, as each of its tokens does.
+pub record Walked (P : Situation → Type 0) (ts : Tokens) : Type 0 where
+  pub situation : Situation
+  pub is : P situation
+  pub sound : BodySound situation ts
 
-module _ (P : Outline → Type 0) (keep : (k : TokenKind) (l : List ℕ) (s : Outline) → quiet k ≡ true → P s → P (outline_after k l s)) where
+module _ (P : Situation → Type 0) (keep : (k : TokenKind) (l : List ℕ) (s : Situation) → quiet k ≡ true → P s → P (situation_after k l s)) where
   quiet_walk : (k : TokenKind) (t : SignificantToken) (rest : Tokens) → t.tok.kind ≡ k → quiet k ≡ true → Walked P (t ∷ rest) → Walked P rest
-  quiet_walk k t rest e h w = record { outline = outline_after t.tok.kind t.tok.lexeme w.outline; is = keep t.tok.kind t.tok.lexeme w.outline (ap quiet e ∙ h) w.is; sound = w.sound.1 }
+  quiet_walk k t rest e h w = record { situation = situation_after t.tok.kind t.tok.lexeme w.situation; is = keep t.tok.kind t.tok.lexeme w.situation (ap quiet e ∙ h) w.is; sound = w.sound.1 }
 
   walk_past : (limit : ℕ) {condition : Bool} {depth : ℕ} {e : Value} {ns : Shown} {tokens rest : Tokens} → Expression lexeme nothing (BelowLimit limit) condition depth e ns tokens rest → Walked P tokens → Walked P rest
   walk_past limit = walk lexeme nothing (BelowLimit limit) (Walked P) quiet_walk
@@ -125,27 +125,27 @@ quiet_stays _ h = refl
 -- ---- lines that are left out
 
 -- whether levels are held open after the lines
-abbrev held_later : Bool → List Row → Bool
+abbrev held_later : Bool → List ShapeLine → Bool
 held_later held [] = held
 held_later held (Line n [] ∷ ls) = held_later true ls
 held_later held (Line n (f ∷ fs) ∷ ls) = held_later (held && pale_line (f ∷ fs)) ls
 
-all_held : (ls : List Row) → all_pale (trimmed ls) ≡ true → held_later true ls ≡ true
+all_held : (ls : List ShapeLine) → all_pale (trimmed ls) ≡ true → held_later true ls ≡ true
 all_held [] h = refl
 all_held (Line n [] ∷ ls) h = all_held ls (by (trimmed ls) h)
   where
-    by : (ls : List Row) → all_pale (line_before (Line n []) ls) ≡ true → all_pale ls ≡ true
+    by : (ls : List ShapeLine) → all_pale (line_before (Line n []) ls) ≡ true → all_pale ls ≡ true
     by [] h = refl
     by (l ∷ ls) h = h
 all_held (Line n (f ∷ fs) ∷ ls) h =
     let parts = and_parts (pale_line (f ∷ fs)) (all_pale (trimmed ls)) h in
     ap (λ b. held_later b ls) parts.0 ∙ all_held ls parts.1
 
-after_held : (ls : List Row) (held : Bool) → pale_after (trimmed ls) ≡ true → held_later held ls ≡ true
+after_held : (ls : List ShapeLine) (held : Bool) → pale_after (trimmed ls) ≡ true → held_later held ls ≡ true
 after_held [] held h = cc
 after_held (Line n [] ∷ ls) held h = by (trimmed ls) h (all_held ls) (after_held ls true)
   where
-    by : (ks : List Row) → pale_after (line_before (Line n []) ks) ≡ true → (all_pale ks ≡ true → held_later true ls ≡ true) → (pale_after ks ≡ true → held_later true ls ≡ true) → held_later true ls ≡ true
+    by : (ks : List ShapeLine) → pale_after (line_before (Line n []) ks) ≡ true → (all_pale ks ≡ true → held_later true ls ≡ true) → (pale_after ks ≡ true → held_later true ls ≡ true) → held_later true ls ≡ true
     by [] h all some = cc
     by (k ∷ ks) h all some = go (all_pale (k ∷ ks)) (pale_after (k ∷ ks)) h all some
       where
@@ -154,10 +154,10 @@ after_held (Line n [] ∷ ls) held h = by (trimmed ls) h (all_held ls) (after_he
         go false b h all some = some h
 after_held (Line n (f ∷ fs) ∷ ls) held h = after_held ls (held && pale_line (f ∷ fs)) h
 
-sound_after : (s : Outline) (k : TokenKind) (t : SignificantToken) (rest : Tokens) → t.tok.kind ≡ k → BodySound s (t ∷ rest) → BodySound (outline_after k t.tok.lexeme s) rest
-sound_after s k t rest e sound = subst (λ k. BodySound (outline_after k t.tok.lexeme s) rest) e sound.1
+sound_after : (s : Situation) (k : TokenKind) (t : SignificantToken) (rest : Tokens) → t.tok.kind ≡ k → BodySound s (t ∷ rest) → BodySound (situation_after k t.tok.lexeme s) rest
+sound_after s k t rest e sound = subst (λ k. BodySound (situation_after k t.tok.lexeme s) rest) e sound.1
 
-known_of : (s : Outline) (k : TokenKind) (t : SignificantToken) (rest : Tokens) → t.tok.kind ≡ k → BodySound s (t ∷ rest) → BodyToken s k t.tok.lexeme rest
+known_of : (s : Situation) (k : TokenKind) (t : SignificantToken) (rest : Tokens) → t.tok.kind ≡ k → BodySound s (t ∷ rest) → BodyToken s k t.tok.lexeme rest
 known_of s k t rest e sound = subst (λ k. BodyToken s k t.tok.lexeme rest) e sound.0
 
 printable_rest : (f : Fragment) (fs : List Fragment) → printable_fragments (f ∷ fs) ≡ true → printable_fragments fs ≡ true
@@ -171,7 +171,7 @@ module _ (limit : ℕ) where
   LineOf = LineRest lexeme nothing (BelowLimit limit)
 
   -- lines, and the dedent after them
-  abbrev pub LinesOf : List Row → Shown → Tokens → Tokens → Type 0
+  abbrev pub LinesOf : List ShapeLine → Shown → Tokens → Tokens → Type 0
   LinesOf = BodyLines to_lexemes (BelowLimit limit)
 
   -- the properties of the single parts of a line
@@ -180,25 +180,25 @@ module _ (limit : ℕ) where
   PartsGood (Text t ∷ fs) = IsUtf8 t × PartsGood fs
   PartsGood (Interpolation e ∷ fs) = GoodExpression limit e × PartsGood fs
 
-  abbrev pub AllPartsGood : List Row → Type 0
+  abbrev pub AllPartsGood : List ShapeLine → Type 0
   AllPartsGood [] = Unit {0}
   AllPartsGood (Line number fs ∷ ls) = PartsGood fs × AllPartsGood ls
 
   -- in an interpolation
   walk_inside : {condition : Bool} {depth : ℕ} {e : Value} {ns : Shown} {tokens rest : Tokens} (colon : Bool) → Expression lexeme nothing (BelowLimit limit) condition depth e ns tokens rest → BodySound (interpolating colon) tokens → BodySound (interpolating colon) rest
   walk_inside {rest} colon x s =
-      let w = walk_past (λ o. o ≡ interpolating colon) (λ k l o h e. ap (outline_after k l) e ∙ quiet_keeps k l colon h) limit x (record { outline = interpolating colon; is = refl; sound = s }) in
+      let w = walk_past (λ o. o ≡ interpolating colon) (λ k l o h e. ap (situation_after k l) e ∙ quiet_keeps k l colon h) limit x (record { situation = interpolating colon; is = refl; sound = s }) in
       subst (λ o. BodySound o rest) w.is w.sound
 
   -- outside bodies
   pub walk_outside : {condition : Bool} {depth : ℕ} {e : Value} {ns : Shown} {tokens rest : Tokens} → Expression lexeme nothing (BelowLimit limit) condition depth e ns tokens rest → Walked IsOutside tokens → Walked IsOutside rest
   walk_outside = walk_past IsOutside (λ k l s h o. outside_after k l s (quiet_stays k h) o) limit
 
-  trimmed_good : (ls : List Row) → GoodLines limit ls → GoodLines limit (trimmed ls)
+  trimmed_good : (ls : List ShapeLine) → GoodLines limit ls → GoodLines limit (trimmed ls)
   trimmed_good [] g = tt
   trimmed_good (Line n [] ∷ ls) g = by (trimmed ls) (trimmed_good ls g.2)
     where
-      by : (ls : List Row) → GoodLines limit ls → GoodLines limit (line_before (Line n []) ls)
+      by : (ls : List ShapeLine) → GoodLines limit ls → GoodLines limit (line_before (Line n []) ls)
       by [] g = tt
       by (l ∷ ls) g = (tt, tt, g)
   trimmed_good (Line n (f ∷ fs) ∷ ls) g = (g.0, g.1, trimmed_good ls g.2)
@@ -276,8 +276,7 @@ module _ (limit : ℕ) where
 
       begins : (w : At) (gs : List Fragment) → LineBegins w (Interpolation e ∷ gs)
       begins First gs = tt
-      begins Start gs = tt
-      begins Amid gs = tt
+      begins _ gs = tt
 
       following : {ns : Shown} {gs : List Fragment} → LineOf gs ns mid rest → PartsGood (Interpolation e ∷ gs) → printable_fragments (Interpolation e ∷ gs) ≡ true → (PartsGood gs → printable_fragments gs ≡ true → LineGood Amid false colon gs rest) → LineGood w held colon (Interpolation e ∷ gs) rest
       following {gs} r v p more =
@@ -286,7 +285,7 @@ module _ (limit : ℕ) where
 
   -- ---- lines up to the dedent
 
-  record LinesGood (held : Bool) (ls : List Row) (rest : Tokens) : Type 0 where
+  record LinesGood (held : Bool) (ls : List ShapeLine) (rest : Tokens) : Type 0 where
     good : GoodLines limit ls
     last : held_later held ls ≡ true → NextIs (λ k. k ≡ kinds.Eof) rest
     sound : BodySound no_body rest
@@ -299,13 +298,13 @@ module _ (limit : ℕ) where
   }
 
   -- a dedent doesn't begin a line
-  dedent_good : {ns : Shown} (w : At) (held colon : Bool) {ls : List Row} {tokens rest : Tokens} → NotFirst w → NextIs (λ k. k ≡ kinds.Dedent) tokens → LinesOf ls ns tokens rest → BodySound (inner w held colon) tokens → LinesGood held ls rest
+  dedent_good : {ns : Shown} (w : At) (held colon : Bool) {ls : List ShapeLine} {tokens rest : Tokens} → NotFirst w → NextIs (λ k. k ≡ kinds.Dedent) tokens → LinesOf ls ns tokens rest → BodySound (inner w held colon) tokens → LinesGood held ls rest
   dedent_good w held colon later d (g.no_line {token = t} {rest} e) s = closed_good w held colon t rest later e s
   dedent_good w held colon later d (g.empty_line e r) s = let bad : kinds.Eol ≡ kinds.Dedent = sym e ∙ d in cc
   dedent_good w held colon later d (g.some_line (g.text e l) r) s = let bad : kinds.Text ≡ kinds.Dedent = sym e ∙ d in cc
   dedent_good w held colon later d (g.some_line (g.interpolation e reads e' l) r) s = let bad : kinds.InterpolationStart ≡ kinds.Dedent = sym e ∙ d in cc
 
-  lines_good : {ns : Shown} (held colon : Bool) {ls : List Row} {tokens rest : Tokens} → LinesOf ls ns tokens rest → BodySound (inner Start held colon) tokens → AllPartsGood ls → printable_body ls ≡ true → LinesGood held ls rest
+  lines_good : {ns : Shown} (held colon : Bool) {ls : List ShapeLine} {tokens rest : Tokens} → LinesOf ls ns tokens rest → BodySound (inner Start held colon) tokens → AllPartsGood ls → printable_body ls ≡ true → LinesGood held ls rest
   lines_good held colon (g.no_line {token = t} {rest} e) s v p = closed_good Start held colon t rest tt e s
   lines_good held colon (g.empty_line {lines = ls} {token = t} {tokens} e r) s v p =
       let m = lines_good true colon r (sound_after (inner Start held colon) kinds.Eol t tokens e s) v.1 p in
@@ -323,13 +322,13 @@ module _ (limit : ℕ) where
           record { good = (m.good, m.begins, k.good); last = k.last; sound = k.sound }
 
   -- A body that was read has good lines, and where its last lines hold levels open it is the last item of the file.
-  pub record BodyRead (ls : List Row) (rest : Tokens) : Type 0 where
+  pub record BodyRead (ls : List ShapeLine) (rest : Tokens) : Type 0 where
     pub good : GoodBody limit (trimmed ls)
     pub last : pale_after (trimmed ls) ≡ true → NextIs (λ k. k ≡ kinds.Eof) rest
     pub sound : BodySound no_body rest
 
   -- from the token after the Indent on
-  pub body_read : {ns : Shown} (colon : Bool) {ls : List Row} {tokens rest : Tokens} → LinesOf ls ns tokens rest → BodySound (inner First false colon) tokens → AllPartsGood ls → printable_body ls ≡ true → BodyRead ls rest
+  pub body_read : {ns : Shown} (colon : Bool) {ls : List ShapeLine} {tokens rest : Tokens} → LinesOf ls ns tokens rest → BodySound (inner First false colon) tokens → AllPartsGood ls → printable_body ls ≡ true → BodyRead ls rest
   body_read colon (g.no_line {token = t} {rest} e) s v p = absurd ((known_of (inner First false colon) kinds.Dedent t rest e s refl).0)
   body_read colon (g.empty_line {lines = ls} {token = t} {tokens} e r) s v p = absurd (known_of (inner First false colon) kinds.Eol t tokens e s refl refl)
   body_read colon {tokens} {rest} (g.some_line {f} {fragments = fs} {lines = ls} {between = mid} l r) s v p =

@@ -7,7 +7,7 @@ use Rattle.justfile_model.specs.Lexing.Bytes.{blank}
 use Rattle.justfile_model.specs.Trees.Tree.{Text, Interpolation, Line}
 use Rattle.justfile_model.proofs.Lexing.CutLemmas.{blank_ascii}
 use Rattle.justfile_round_trip.proofs.LiteralTexts.Inline.{Each}
-use Rattle.justfile_round_trip.proofs.Canon.{Fragment, Row, fragments_on, line_on, body_on}
+use Rattle.justfile_round_trip.proofs.Canon.{Fragment, ShapeLine, fragments_on, line_on, body_on}
 use Rattle.justfile_round_trip.proofs.Good.{GoodFragments, GoodLines, GoodBody}
 use Rattle.justfile_round_trip.proofs.RecipeBodies.BodyLines.{IsLevel}
 
@@ -39,15 +39,15 @@ module _ (limit : ℕ) where
   fragments_utf8 (Text t ∷ Interpolation e ∷ fs) more h u = IsUtf8-append t _ h.1 (fragments_utf8 (Interpolation e ∷ fs) more h.2 u)
   fragments_utf8 (Interpolation e ∷ fs) more h u = IsUtf8-append _ _ opened_utf8 (h.0.utf8 _ (IsUtf8-append _ _ closed_utf8 (fragments_utf8 fs more h.1 u)))
 
-  line_utf8 : (ind : List ℕ) (l : Row) (more : List ℕ) → IsLevel ind → GoodLines limit (l ∷ []) → IsUtf8 more → IsUtf8 (line_on ind l more)
+  line_utf8 : (ind : List ℕ) (l : ShapeLine) (more : List ℕ) → IsLevel ind → GoodLines limit (l ∷ []) → IsUtf8 more → IsUtf8 (line_on ind l more)
   line_utf8 ind (Line n []) more i h u = u
   line_utf8 ind (Line n (f ∷ fs)) more i h u = IsUtf8-append ind _ (level_utf8 ind i) (fragments_utf8 (f ∷ fs) more h.0 u)
 
-  lines_utf8 : (ind : List ℕ) (ls : List Row) (more : List ℕ) → IsLevel ind → GoodLines limit ls → IsUtf8 more → IsUtf8 (body_on ind ls more)
+  lines_utf8 : (ind : List ℕ) (ls : List ShapeLine) (more : List ℕ) → IsLevel ind → GoodLines limit ls → IsUtf8 more → IsUtf8 (body_on ind ls more)
   lines_utf8 ind [] more i h u = u
   lines_utf8 ind (Line n fs ∷ ls) more i h u = IsUtf8-append (10 ∷ []) _ newline_utf8 (line_utf8 ind (Line n fs) _ i (h.0, h.1, tt) (lines_utf8 ind ls more i h.2 u))
 
-  pub body_utf8 : (ind : List ℕ) (ls : List Row) (more : List ℕ) → IsLevel ind → GoodBody limit ls → IsUtf8 more → IsUtf8 (body_on ind ls more)
+  pub body_utf8 : (ind : List ℕ) (ls : List ShapeLine) (more : List ℕ) → IsLevel ind → GoodBody limit ls → IsUtf8 more → IsUtf8 (body_on ind ls more)
   body_utf8 ind [] more i h u = u
   body_utf8 ind (Line n [] ∷ ls) more i h u = absurd h.0
   body_utf8 ind (Line n (f ∷ fs) ∷ ls) more i h u = IsUtf8-append (10 ∷ []) _ newline_utf8 (IsUtf8-append ind _ (level_utf8 ind i) (fragments_utf8 (f ∷ fs) _ h.1 (lines_utf8 ind ls more i h.2 u)))

@@ -23,8 +23,9 @@ use Rattle.justfile_model.specs.Trees.Tree as tree
 use Rattle.justfile_model.specs.Trees.Tree.{Or, And, Comparison, Concatenation, ListConcatenation, Join, Root, If, IfElse, Not, StringLiteral, FormatLiteral, FormatString, Backtick, Assert, AssertMessage, Variable, Call, Group, ListOf, Last, Continue}
 use Rattle.justfile_round_trip.proofs.LiteralTexts.LexedModes.{Mark, mark, LexesTo}
 use Rattle.justfile_round_trip.proofs.LiteralTexts.Inline.{head_is, joins, head_word, amid, IsName, IsLiteral, name_step, space_step, literal_step, whole_step, start_step, continue_step, end_step}
-use Rattle.justfile_round_trip.proofs.Fixed.{slash_step, comma_step, and_step, or_step, plus_step, plus_plus_step, bang_step, equals_equals_step, equals_tilde_step, bang_equals_step, bang_tilde_step, open_paren_step, close_paren_step, open_bracket_step, close_bracket_step, open_brace_step, close_brace_step}
-use Rattle.justfile_round_trip.proofs.Canon.{Value, Values, Pieces, operator_codes, expr_on, exprs_on, others_on, parts_on, expr_marks, exprs_marks, others_marks, parts_marks}
+use Rattle.justfile_round_trip.proofs.Fixed as fixed
+use Rattle.justfile_round_trip.proofs.Fixed.{bang_step, close_brace_step, close_bracket_step, close_paren_step, open_brace_step, open_bracket_step, open_paren_step, plus_step, token_step}
+use Rattle.justfile_round_trip.proofs.Canon.{Value, Values, ShapeParts, operator_codes, expr_on, exprs_on, others_on, parts_on, expr_marks, exprs_marks, others_marks, parts_marks}
 use Rattle.justfile_round_trip.proofs.Good.{IsDelimited, IsFormatLiteral, IsFormatStart, IsPartOf, GoodValue, GoodValues, GoodParts}
 
 -- ---- how a value begins
@@ -42,14 +43,12 @@ pub record Begins (t : List ℕ) : Type 0 where
 quote_no_word : (d : StringDelimiter) → in_word (class_of (quote_of d)) ≡ false
 unfolding class_of
 quote_no_word delimiters.Backtick = refl
-quote_no_word delimiters.QuoteDouble = refl
-quote_no_word delimiters.QuoteSingle = refl
+quote_no_word _ = refl
 
 quote_begins : (d : StringDelimiter) (xs : List ℕ) → Begins (quote_of d ∷ xs)
 unfolding class_of
 quote_begins delimiters.Backtick xs = record { no_blank = refl; no_equals = refl; no_tilde = refl }
-quote_begins delimiters.QuoteDouble xs = record { no_blank = refl; no_equals = refl; no_tilde = refl }
-quote_begins delimiters.QuoteSingle xs = record { no_blank = refl; no_equals = refl; no_tilde = refl }
+quote_begins _ xs = record { no_blank = refl; no_equals = refl; no_tilde = refl }
 
 pub start_no : (x y : ℕ) → class_of x ≡ classes.IdentifierStart → (class_of y ≡ classes.IdentifierStart → ⊥) → eqb x y ≡ false
 start_no x y h not = go (eqb x y) refl
@@ -94,16 +93,7 @@ value_begins (Variable (x ∷ xs)) more h = name_begins x _ h.0
 value_begins (Call [] es) more h = absurd h.0
 value_begins (Call (x ∷ xs) es) more h = name_begins x _ h.0.0
 value_begins (Root operator r) more h = record { no_blank = refl; no_equals = refl; no_tilde = refl }
-value_begins (If c b) more h = record { no_blank = refl; no_equals = refl; no_tilde = refl }
-value_begins (IfElse c b o) more h = record { no_blank = refl; no_equals = refl; no_tilde = refl }
-value_begins (Not e) more h = record { no_blank = refl; no_equals = refl; no_tilde = refl }
-value_begins (StringLiteral true l) more h = record { no_blank = refl; no_equals = refl; no_tilde = refl }
-value_begins (FormatLiteral l) more h = record { no_blank = refl; no_equals = refl; no_tilde = refl }
-value_begins (FormatString s e ps) more h = record { no_blank = refl; no_equals = refl; no_tilde = refl }
-value_begins (Assert name c) more h = record { no_blank = refl; no_equals = refl; no_tilde = refl }
-value_begins (AssertMessage name c m) more h = record { no_blank = refl; no_equals = refl; no_tilde = refl }
-value_begins (Group e) more h = record { no_blank = refl; no_equals = refl; no_tilde = refl }
-value_begins (ListOf opener es) more h = record { no_blank = refl; no_equals = refl; no_tilde = refl }
+value_begins _ more h = record { no_blank = refl; no_equals = refl; no_tilde = refl }
 
 -- a value begins with no blank
 pub value_no_blank : (e : Value) (more : List ℕ) → GoodValue e → head_is blank (expr_on e more) ≡ false
@@ -117,7 +107,7 @@ part_no_blank : (k : StringKind) (fin : Bool) (l more : List ℕ) → IsPartOf k
 unfolding class_of
 part_no_blank k fin l more h = ap (λ t. head_is blank (t ++ more)) h.is
 
-parts_no_blank : (k : StringKind) (ps : Pieces) (more : List ℕ) → GoodParts k ps → head_is blank (parts_on ps more) ≡ false
+parts_no_blank : (k : StringKind) (ps : ShapeParts) (more : List ℕ) → GoodParts k ps → head_is blank (parts_on ps more) ≡ false
 parts_no_blank k (Last l) more h = part_no_blank k true l more h
 parts_no_blank k (Continue l e ps) more h = part_no_blank k false l _ h.0
 
@@ -168,30 +158,28 @@ module _ (ls : List (List ℕ)) (c : Bool) (i : Option Tok) where
 
   -- an operator of a comparison, and the space after it
   compared_step : (os : List OpenDelimiter) (by : ConditionalOperator) {more : List ℕ} {ts : List Mark} → LexesTo (amid os ls c i false) (32 ∷ more) ts → LexesTo (amid os ls c i false) (operator_codes by ++ (32 ∷ more)) (mark (operator_kind by) (operator_codes by) ∷ ts)
-  compared_step os Equality k = equals_equals_step k
-  compared_step os Inequality k = bang_equals_step k
-  compared_step os RegexMatch k = equals_tilde_step k
-  compared_step os RegexMismatch k = bang_tilde_step k
+  compared_step os Equality k = token_step fixed.equals_equals k
+  compared_step os Inequality k = token_step fixed.bang_equals k
+  compared_step os RegexMatch k = token_step fixed.equals_tilde k
+  compared_step os RegexMismatch k = token_step fixed.bang_tilde k
 
   operator_no_blank : (by : ConditionalOperator) (more : List ℕ) → head_is blank (operator_codes by ++ more) ≡ false
   unfolding class_of
   operator_no_blank Equality more = refl
-  operator_no_blank Inequality more = refl
-  operator_no_blank RegexMatch more = refl
-  operator_no_blank RegexMismatch more = refl
+  operator_no_blank _ more = refl
 
   mutual
     unfolding class_of
 
     -- after a value the mode is known but for whether an `f` came last
     pub lex_value : (os : List OpenDelimiter) (e : Value) {more : List ℕ} {ts : List Mark} → GoodValue e → head_is joins more ≡ false → ((f : Bool) → LexesTo (amid os ls c i f) more ts) → LexesTo (amid os ls c i false) (expr_on e more) (expr_marks e ts)
-    lex_value os (Or l r) h stop k = lex_value os l h.0 refl (λ f. space_step refl (or_step (space_step (value_no_blank r _ h.1) (lex_value os r h.1 stop k))))
-    lex_value os (And l r) h stop k = lex_value os l h.0 refl (λ f. space_step refl (and_step (space_step (value_no_blank r _ h.1) (lex_value os r h.1 stop k))))
+    lex_value os (Or l r) h stop k = lex_value os l h.0 refl (λ f. space_step refl (token_step fixed.or (space_step (value_no_blank r _ h.1) (lex_value os r h.1 stop k))))
+    lex_value os (And l r) h stop k = lex_value os l h.0 refl (λ f. space_step refl (token_step fixed.and (space_step (value_no_blank r _ h.1) (lex_value os r h.1 stop k))))
     lex_value os (Comparison l by token r) h stop k = lex_value os l h.0 refl (λ f. space_step (operator_no_blank by _) (compared_step os by (space_step (value_no_blank r _ h.1) (lex_value os r h.1 stop k))))
     lex_value os (Concatenation l operator r) h stop k = lex_value os l h.0 refl (λ f. space_step refl (plus_step (space_step (value_no_blank r _ h.1) (lex_value os r h.1 stop k))))
-    lex_value os (ListConcatenation l operator r) h stop k = lex_value os l h.0 refl (λ f. space_step refl (plus_plus_step (space_step (value_no_blank r _ h.1) (lex_value os r h.1 stop k))))
-    lex_value os (Join l operator r) h stop k = lex_value os l h.0 refl (λ f. space_step refl (slash_step (space_step (value_no_blank r _ h.1) (lex_value os r h.1 stop k))))
-    lex_value os (Root operator r) h stop k = slash_step (space_step (value_no_blank r _ h) (lex_value os r h stop k))
+    lex_value os (ListConcatenation l operator r) h stop k = lex_value os l h.0 refl (λ f. space_step refl (token_step fixed.plus_plus (space_step (value_no_blank r _ h.1) (lex_value os r h.1 stop k))))
+    lex_value os (Join l operator r) h stop k = lex_value os l h.0 refl (λ f. space_step refl (token_step fixed.slash (space_step (value_no_blank r _ h.1) (lex_value os r h.1 stop k))))
+    lex_value os (Root operator r) h stop k = token_step fixed.slash (space_step (value_no_blank r _ h) (lex_value os r h stop k))
     lex_value os (If c' b) h stop k =
         name_step (codes "if") if_name refl (space_step (value_no_blank c' _ h.0) (lex_value os c' h.0 refl (λ f. space_step refl (open_brace_step (λ line. space_step (value_no_blank b _ h.1)
         (lex_value (opener Brace line ∷ os) b h.1 refl (λ f. space_step refl (close_brace_step (k false)))))))))
@@ -211,7 +199,7 @@ module _ (ls : List (List ℕ)) (c : Bool) (i : Option Tok) where
     lex_value os (Backtick l) {more} {ts} h stop k = delimited_step os kinds.Backtick l more ts h stop (k false)
     lex_value os (Assert name c') h stop k = name_step (codes "assert") assert_name refl (open_paren_step (λ line. lex_value (opener Paren line ∷ os) c' h refl (λ f. close_paren_step (k false))))
     lex_value os (AssertMessage name c' m) h stop k =
-        name_step (codes "assert") assert_name refl (open_paren_step (λ line. lex_value (opener Paren line ∷ os) c' h.0 refl (λ f. comma_step (space_step (value_no_blank m _ h.1)
+        name_step (codes "assert") assert_name refl (open_paren_step (λ line. lex_value (opener Paren line ∷ os) c' h.0 refl (λ f. token_step fixed.comma (space_step (value_no_blank m _ h.1)
         (lex_value (opener Paren line ∷ os) m h.1 refl (λ f. close_paren_step (k false)))))))
     lex_value os (Variable n) {more} h stop k = name_step n h (head_word more stop) (k _)
     lex_value os (Call n es) h stop k = name_step n h.0 refl (open_paren_step (λ line. lex_values (opener Paren line ∷ os) es h.1 refl (λ f. close_paren_step (k false))))
@@ -224,9 +212,9 @@ module _ (ls : List (List ℕ)) (c : Bool) (i : Option Tok) where
 
     lex_others : (os : List OpenDelimiter) (es : Values) {more : List ℕ} {ts : List Mark} → GoodValues es → head_is joins more ≡ false → ((f : Bool) → LexesTo (amid os ls c i f) more ts) → (f : Bool) → LexesTo (amid os ls c i f) (others_on es more) (others_marks es ts)
     lex_others os tree.none h stop k f = k f
-    lex_others os (tree.more e es) {more} h stop k f = comma_step (space_step (value_no_blank e _ h.0) (lex_value os e h.0 (others_join es more stop) (lex_others os es h.1 stop k)))
+    lex_others os (tree.more e es) {more} h stop k f = token_step fixed.comma (space_step (value_no_blank e _ h.0) (lex_value os e h.0 (others_join es more stop) (lex_others os es h.1 stop k)))
 
-    lex_parts : (os : List OpenDelimiter) (k : StringKind) (line : ℕ) (ps : Pieces) {more : List ℕ} {ts : List Mark} → GoodParts k ps → LexesTo (amid os ls c i false) more ts → LexesTo (amid (opener (FormatString k) line ∷ os) ls c i false) (parts_on ps more) (parts_marks ps ts)
+    lex_parts : (os : List OpenDelimiter) (k : StringKind) (line : ℕ) (ps : ShapeParts) {more : List ℕ} {ts : List Mark} → GoodParts k ps → LexesTo (amid os ls c i false) more ts → LexesTo (amid (opener (FormatString k) line ∷ os) ls c i false) (parts_on ps more) (parts_marks ps ts)
     lex_parts os k line (Last l) {more} h r = end_step k line l more h r
     lex_parts os k line (Continue l e ps) {more} h r =
         continue_step k line l _ h.0 (space_step (value_no_blank e _ h.1)

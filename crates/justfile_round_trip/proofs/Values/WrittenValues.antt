@@ -17,7 +17,7 @@ use Rattle.justfile_model.specs.Grammars.Expressions as g
 use Rattle.justfile_model.specs.Grammars.Expressions.{Tokens, IsKind, operator_kind, BelowLimit, Expression, Disjunct, Compared, Conjunct, Condition, Braced, Conditional, Value, Sequence, FormatParts}
 use Rattle.justfile_model.specs.Printed.Printing.{is_conditional}
 use Rattle.justfile_round_trip.proofs.Canon as canon
-use Rattle.justfile_round_trip.proofs.Canon.{Shown, Values, Pieces, operator_codes, expr_on, exprs_on, others_on, parts_on}
+use Rattle.justfile_round_trip.proofs.Canon.{Shown, Values, ShapeParts, operator_codes, expr_on, exprs_on, others_on, parts_on}
 use Rattle.justfile_round_trip.proofs.Good.{GoodValue, GoodValues, GoodParts, GoodExpression, significant, ends_value}
 use Rattle.justfile_round_trip.proofs.Items.GoodContents.{GoodSequence}
 use Rattle.justfile_round_trip.proofs.Values.TokenFacts.{Around, around, Known, LexemeFact, is_comment, Sound}
@@ -66,15 +66,11 @@ on s c t ts k e same no_comment h = subst (λ b. Sound s b ts) no_comment (subst
 
 pub operator_around : (by : ConditionalOperator) (s : Around) (l : List ℕ) → around (operator_kind by) l s ≡ s
 operator_around Equality s l = refl
-operator_around Inequality s l = refl
-operator_around RegexMatch s l = refl
-operator_around RegexMismatch s l = refl
+operator_around _ s l = refl
 
 pub operator_no_comment : (by : ConditionalOperator) → is_comment (operator_kind by) ≡ false
 operator_no_comment Equality = refl
-operator_no_comment Inequality = refl
-operator_no_comment RegexMatch = refl
-operator_no_comment RegexMismatch = refl
+operator_no_comment _ = refl
 
 -- the open delimiters inside one more
 abbrev pub within : Around → Option StringKind → Around
@@ -91,7 +87,7 @@ pub record ValuesAt (s : Around) (es : Values) (rest : Tokens) : Type 0 where
   pub utf8 : (more : List ℕ) → IsUtf8 more → IsUtf8 (exprs_on es more)
   pub following : Sound s false rest
 
-record PartsAt (s : Around) (k : StringKind) (ps : Pieces) (rest : Tokens) : Type 0 where
+record PartsAt (s : Around) (k : StringKind) (ps : ShapeParts) (rest : Tokens) : Type 0 where
   lexes : GoodParts k ps
   utf8 : (more : List ℕ) → IsUtf8 more → IsUtf8 (parts_on ps more)
   following : Sound s false rest
@@ -235,7 +231,7 @@ module _ (MayEnter : ℕ → Option SignificantToken → Type 0) where
         record { lexes = (y.lexes, z.lexes); utf8 = λ more u. y.utf8 _ (others_utf8 es more u (z.utf8 more u)); following = z.following }
 
     -- inside a format string of this kind, up to its end
-    parts_at : {d : ℕ} {ps : Pieces} {fs : Shown} {ts rest : Tokens} → FormatParts lexeme nothing MayEnter d ps fs ts rest → (s : Around) (k : StringKind) (c : Bool) → Sound (within s (Some k)) c ts → PartsAt s k ps rest
+    parts_at : {d : ℕ} {ps : ShapeParts} {fs : Shown} {ts rest : Tokens} → FormatParts lexeme nothing MayEnter d ps fs ts rest → (s : Around) (k : StringKind) (c : Bool) → Sound (within s (Some k)) c ts → PartsAt s k ps rest
     parts_at (g.end {token = t} {rest = rest} kind) s k c h =
         record { lexes = fact_as t kinds.FormatStringEnd kind h.0; utf8 = λ more u. IsUtf8-append t.tok.lexeme more h.0.utf8 u; following = past (within s (Some k)) t rest kinds.FormatStringEnd kind h.2 }
     parts_at (g.next {token = t} {tokens = ts} kind x ps) s k c h =

@@ -1,6 +1,5 @@
 use Rattle.std.proofs.Common.{ap, ◌∙◌, sym, subst, List, map, All, Contains}
 use Rattle.std.proofs.lemmas.Result.{IfErr-weaker}
-use Rattle.justfile_token.specs.Modulepath.{module_names}
 use Rattle.justfile_model.specs.Lexing.Tok.{tok_of}
 use Rattle.justfile_parse_expression.specs.FormatStrings.{IsTable}
 use Rattle.justfile_parse_expression.specs.Significant.{TableEntry, significant_of}
@@ -29,11 +28,11 @@ pub returns-clause-parsed : goal.returns-clause-parsed
 returns-clause-parsed g c =
     let Q : List TableEntry → Type 0 = λ t. All (λ entry. Contains c.args.tokens.now entry.0) t in
     parsed_if (conditions_of g.X.Expander.answer c.args.expander.now c.args.current c.args.limit) c.args.tokens.now c.as_slice.result.now c.args.numerator.now c.parse_significant.new.numerator
-    (ap (map significant_of) c.as_slice.ensures.value ∙ c.in_ok-table.ensures.table) (subst Q (sym c.as_slice.ensures.value) (entries_among c.args.tokens.now c.in_ok-table.table.items c.in_ok-table.ensures.tokens)) c.args.file_depth c.args.import_offsets.now
-    (module_names c.args.module_namepath) c.args.working_directory.now c.parse_significant.result c.parse_significant.ensures.file
+    (ap (map significant_of) c.as_slice.ensures.value ∙ c.in_ok-table.ensures.table) (subst Q (sym c.as_slice.ensures.value) (entries_among c.args.tokens.now c.in_ok-table.table.items c.in_ok-table.ensures.tokens))
+    _ c.parse_significant.result c.parse_significant.ensures.file
 
 pub returns-clause-module_path : goal.returns-clause-module_path
-returns-clause-module_path g c = module_path_of _ _ _ _ _ _ _ _ c.parse_significant.result c.parse_significant.ensures.file
+returns-clause-module_path g c = module_path_of _ _ _ _ _ c.parse_significant.result c.parse_significant.ensures.file
 
 pub returns-clause-working_directory : goal.returns-clause-working_directory
-returns-clause-working_directory g c = working_directory_of _ _ _ _ _ _ _ _ c.parse_significant.result c.parse_significant.ensures.file
+returns-clause-working_directory g c = working_directory_of _ _ _ _ _ c.parse_significant.result c.parse_significant.ensures.file

@@ -1,9 +1,8 @@
-use Rattle.std.proofs.Common.{arith, rules, sym, subst, List, map}
+use Rattle.std.proofs.Common.{arith, rules, sym, subst, List}
 use Rattle.std.proofs.lemmas.Grind.{common_steps}
 use Rattle.std.proofs.lemmas.Result.{err_from_is_err_and}
 use Rattle.justfile_item.specs.declared.item.Item.{Item}
-use Rattle.justfile_parse_file.specs.MethodResults.{IsRead}
-use Rattle.justfile_parse_expression.specs.Significant.{significant_of}
+use Rattle.justfile_parse_file.specs.MethodResults.{IsRead, run_from}
 use Rattle.justfile_parse_expression.specs.Conditions.{conditions_of}
 use Rattle.justfile_parse_file.proofs.file.parse_significant.Goals as goal
 
@@ -11,7 +10,7 @@ pub returns-clause-file : goal.returns-clause-file
 returns-clause-file g c =
     let conditions = conditions_of g.X.Expander.answer c.args.expander.now c.args.current c.args.limit in
     let table = c.args.table.now in
-    let P : List Item → Type 0 = λ items. IsRead conditions table c.args.file_depth c.args.import_offsets.now (map significant_of table) c.args.numerator.now c.parse_table.new.numerator (items, c.in_ok-items.list_features.items) in
+    let P : List Item → Type 0 = λ items. IsRead (run_from conditions table c.args.source.now) c.args.numerator.now c.parse_table.new.numerator (items, c.in_ok-items.list_features.items) in
     record {
       read = subst P (sym c.in_ok-items-2.ensures.items) c.in_ok-items.ensures.ok;
       unstable = c.in_ok-items-2.ensures.features;

@@ -1,6 +1,5 @@
 use Rattle.std.proofs.Common.{◌≡◌, ◌∙◌, sym, ap, subst, List, map, All, Contains}
 use Rattle.std.proofs.lemmas.Result.{err_from_is_err_and, IfErr-weaker, IfOk-weaker}
-use Rattle.justfile_token.specs.Modulepath.{module_names}
 use Rattle.justfile_model.specs.Lexing.SignificantTokens.{SignificantToken, identifiers, significant_tokens}
 use Rattle.justfile_model.specs.Lexing.Tok.{Tok, tok_of}
 use Rattle.justfile_model.proofs.Lexing.LexedLaws.{one_list}
@@ -44,8 +43,7 @@ returns-clause-parsed g c =
     IfOk-weaker c.parse_significant.result _ _
     (text_parsed conditions c.args.path.now c.args.src.now c.utf8.src t.tokens t.lexed t.sources old new c.args.source.now.file_depth c.args.source.now.import_offsets.now)
     (parsed_if conditions t.tokens c.as_slice.result.now old new (ap (map significant_of) c.as_slice.ensures.value ∙ t.significant.marked)
-    (subst Q (sym c.as_slice.ensures.value) (entries_among t.tokens c.in_ok-table.table.items t.significant.kept)) c.args.source.now.file_depth c.args.source.now.import_offsets.now
-    (module_names c.args.source.now.namepath) c.args.source.now.working_directory.now c.parse_significant.result c.parse_significant.ensures.file)
+    (subst Q (sym c.as_slice.ensures.value) (entries_among t.tokens c.in_ok-table.table.items t.significant.kept)) c.args.source.now c.parse_significant.result c.parse_significant.ensures.file)
 
 pub returns-clause-moved : goal.returns-clause-moved
 returns-clause-moved g c tokens lexed =
@@ -68,7 +66,7 @@ returns-clause-unmoved g c none =
     absurd (none (map tok_of t.tokens) t.lexed)
 
 pub returns-clause-module_path : goal.returns-clause-module_path
-returns-clause-module_path g c = module_path_of _ _ _ _ _ _ _ _ c.parse_significant.result c.parse_significant.ensures.file
+returns-clause-module_path g c = module_path_of _ _ _ _ _ c.parse_significant.result c.parse_significant.ensures.file
 
 pub returns-clause-working_directory : goal.returns-clause-working_directory
-returns-clause-working_directory g c = working_directory_of _ _ _ _ _ _ _ _ c.parse_significant.result c.parse_significant.ensures.file
+returns-clause-working_directory g c = working_directory_of _ _ _ _ _ c.parse_significant.result c.parse_significant.ensures.file

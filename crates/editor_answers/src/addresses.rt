@@ -1,0 +1,74 @@
+//! Addresses of files, and the paths that they stand for.
+ghost use Rattle.std.specs.Prelude.{◌≡◌, IfOk, IfSome, option_copied, option_map, string_bytes};
+ghost use Rattle.editor_answers.specs.Links.{address, IsFolderOf, IsFolderPath};
+
+use percent_encoding::{AsciiSet, NON_ALPHANUMERIC, ascii_set, percent_decode, percent_encode};
+use std::alloc::{AllocError, Global};
+
+/// What the address of a file begins with.
+const SCHEME: &str = "file://";
+
+/// The characters of a path that its address has escaped.
+const ESCAPED: AsciiSet = ascii_set!(
+    NON_ALPHANUMERIC
+        .remove(b'/')
+        .remove(b'-')
+        .remove(b'.')
+        .remove(b'_')
+        .remove(b'~')
+);
+
+/// Returns the address of the folder of the document with an address.
+pub(crate) fn folder_of(uri: &str) -> &str
+    ensures { IsFolderOf uri.now result.now }
+{
+    match uri.rsplit_once('/') {
+        Some((folder, _)) => folder,
+        None => "",
+    }
+}
+
+/// Returns the address of the file at a path that is seen from the folder with an address.
+pub(crate) fn address(alloc: Global, folder: &str, path: &str) -> Result<String, AllocError>
+    ensures { IfOk result (λ made. string_bytes made ≡ address folder.now path.now) }
+{
+    let mut address = String::new(alloc);
+    if path.starts_with('/') {
+        address.push_str(SCHEME)?;
+    } else {
+        address.push_str(folder)?;
+        address.push_str("/")?;
+    }
+    percent_encode(path.as_bytes(), ESCAPED).append_to(&mut address)?;
+    Ok(address)
+}
+
+/// Returns the path that the address of a folder stands for, without a slash at its end, if it is that
+/// of a folder with files.
+pub(crate) fn folder_path(alloc: Global, folder: &str) -> Result<Option<String>, AllocError>
+    ensures { IfOk result
+        (λ made. IfSome (option_map string_bytes made) (IsFolderPath folder.now)) }
+{
+    let Some(encoded) = folder.strip_prefix(SCHEME) else {
+        return Ok(None);
+    };
+    if !encoded.is_empty() && !encoded.starts_with('/') {
+        return Ok(None);
+    }
+    let mut path = Vec::new(alloc);
+    percent_decode(encoded.as_bytes()).append_to(&mut path)?;
+    match String::from_utf8(path) {
+        Ok(path) => Ok(Some(path)),
+        Err(_) => Ok(None),
+    }
+}
+
+/// Returns a text, if there is one.
+pub(crate) fn text_of(text: &Option<String>) -> Option<&str>
+    ensures { option_copied result ≡ option_map string_bytes text.now }
+{
+    match text {
+        Some(text) => Some(text.as_str()),
+        None => None,
+    }
+}

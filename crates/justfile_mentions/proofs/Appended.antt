@@ -1,0 +1,74 @@
+-- Mentions that are appended.
+use Rattle.std.proofs.Common.{◌≡◌, ◌∙◌, ◌<◌, ◌+◌, ℕ, suc, Bool, Option, List, [], ◌∷◌, ◌++◌, length, map, take, get_or, Result, Ok, Err, OnOk, IsPermutation, refl, sym, ap, subst, append_assoc, append-nil, arith}
+use Rattle.std.specs.List.Sorted.{IsNonDecreasingBy}
+use Rattle.std.proofs.lemmas.List.{length-take-le, map_push, take_more}
+use Rattle.justfile_item.specs.declared.item.Item.{Item}
+use Rattle.justfile_references.proofs.Gathered.{mapped}
+use Rattle.justfile_references.specs.References.{item_references}
+use Rattle.justfile_references.specs.declared.reference.Reference.{Reference}
+use Rattle.justfile_token.specs.Token.{lexeme_of}
+use Rattle.justfile_token.specs.declared.token.Token.{Token}
+use Rattle.editor_language.specs.declared.mention.Mention.{Mention}
+use Rattle.editor_language.specs.declared.mention.Role.{Role}
+use Rattle.justfile_mentions.specs.Defaults.{defaults_of}
+use Rattle.justfile_mentions.specs.Mentions.{Adds, AreMentions, AreOfItem, Noted, meaning, mentions_by, noted, parameters_among, scope_of, to_note}
+use Rattle.justfile_mentions.specs.declared.defaults.Defaults.{Defaults}
+
+-- the mention that a reference is
+pub made : (index : ℕ) (defaults : Defaults) (parameters : List Token) (r : Reference) (role : Role) (name : List ℕ) (scope : Option ℕ) (start end : ℕ) (defines : Bool)
+    → role ≡ meaning defaults parameters r → name ≡ lexeme_of r.token → scope ≡ scope_of index role → start ≡ r.token.offset → end ≡ r.token.offset + r.token.length → defines ≡ r.defines
+    → ◌≡◌ {A = Noted} (record { role = role; name = name; scope = scope; span = record { start = start; end = end }; defines = defines }) (to_note index defaults parameters r)
+made index defaults parameters r role name scope start end defines is_role is_name is_scope is_start is_end is_defines =
+    λ i. record {
+      role = is_role i;
+      name = is_name i;
+      scope = (is_scope ∙ ap (scope_of index) is_role) i;
+      span = record { start = is_start i; end = is_end i };
+      defines = is_defines i;
+    }
+
+-- the mention that one more reference is
+pub noted_more : (f : Reference → Noted) (xs : List Reference) (i : ℕ) (x : Reference) → i < length xs → x ≡ get_or xs i x → (start : List Noted) (old new : List Mention) (m : Mention)
+    → map noted old ≡ start ++ map f (take i xs) → new ≡ old ++ m ∷ [] → noted m ≡ f x → map noted new ≡ start ++ map f (take (i + 1) xs)
+noted_more f xs i x lt is start old new m h e n =
+    mapped xs i x lt is start (map noted old) (map noted new) f h (ap (map noted) e ∙ map_push noted old m ∙ ap (λ (v : Noted). map noted old ++ v ∷ []) n)
+
+-- the mentions that all references of an item are
+pub added : {A E : Type 0} (r : Result A E) (index : ℕ) (item : Item) (old new : List Mention) (defaults : Defaults) (found passed lent : List Reference) (parameters kept : List Token)
+    → OnOk r (map noted new ≡ map noted old ++ map (to_note index defaults parameters) passed) → parameters ≡ kept → kept ≡ parameters_among lent → lent ≡ found → passed ≡ found
+    → IsPermutation (item_references item) found → IsNonDecreasingBy (λ (x : Reference). x.token.offset) found → defaults ≡ defaults_of item → OnOk r (Adds index item old new)
+added (Ok a) index item old new defaults found passed lent parameters kept is p k l s all order d =
+    let known : parameters ≡ parameters_among found = p ∙ k ∙ ap parameters_among l in
+    record {
+      added = mentions_by index item found;
+      are = record { found = found; are_references = record { all = all; in_order = order }; are = refl };
+      is = is ∙ (λ i. map noted old ++ map (to_note index (d i) (known i)) (s i));
+    }
+added (Err e) index item old new defaults found passed lent parameters kept is p k l s all order d = tt
+
+-- the mentions in one more item
+one_more : (index : ℕ) (xs : List Item) (x : Item) (found own : List Noted) → AreMentions index xs found → AreOfItem (index + length xs) x own → AreMentions index (xs ++ x ∷ []) (found ++ own)
+one_more index [] x found own h o = record {
+  first = own;
+  rest = [];
+  is = ap (λ (f : List Noted). f ++ own) h ∙ sym (append-nil own);
+  are_own = let e : index + 0 ≡ index = omega arith in subst (λ (n : ℕ). AreOfItem n x own) e o;
+  are_others = refl;
+}
+one_more index (y ∷ xs) x found own h o = record {
+  first = h.first;
+  rest = h.rest ++ own;
+  is = ap (λ (f : List Noted). f ++ own) h.is ∙ append_assoc h.first h.rest own;
+  are_own = h.are_own;
+  are_others = let e : index + suc (length xs) ≡ suc index + length xs = omega arith in one_more (suc index) xs x h.rest own h.are_others (subst (λ (n : ℕ). AreOfItem n x own) e o);
+}
+
+-- those of an item of a list were appended to those of the items before it
+pub appended : (xs : List Item) (i : ℕ) (x : Item) (found next : List Mention) → i < length xs → x ≡ get_or xs i x → AreMentions 0 (take i xs) (map noted found) → Adds i x found next
+    → AreMentions 0 (take (i + 1) xs) (map noted next)
+appended xs i x found next lt is h a =
+    let e : take i xs ++ x ∷ [] ≡ take (i + 1) xs = sym (take_more xs i x lt ∙ ap (λ (y : Item). take i xs ++ y ∷ []) (sym is)) in
+    let n : i ≡ 0 + length (take i xs) = omega (arith, length-take-le i xs (omega arith)) in
+    let own : AreOfItem (0 + length (take i xs)) x a.added = subst (λ (m : ℕ). AreOfItem m x a.added) n a.are in
+    subst (λ (l : List Noted). AreMentions 0 (take (i + 1) xs) l) (sym a.is)
+    (subst (λ (ys : List Item). AreMentions 0 ys (map noted found ++ a.added)) e (one_more 0 (take i xs) x (map noted found) a.added h own))

@@ -1,0 +1,107 @@
+//! The files that the imports and the modules of a justfile lead to.
+ghost use Rattle.std.specs.Prelude.{◌≡◌, IfOk, option_copied, option_map, string_bytes};
+ghost use Rattle.justfile_server.specs.Links.{given, given_in};
+
+use crate::chunk::chunk_text;
+use crate::modules::{Folders, module_path};
+use editor_language::{Analysis, FileLink, Item};
+use editor_messages::SymbolKind;
+use justfile_ast::Ast;
+use justfile_canonical::reading::{Query, query_root};
+use justfile_item::Item as TreeItem;
+use justfile_token::Fault;
+use std::alloc::{AllocError, Global};
+
+/// Asks a text for the path that its first module with a path is given.
+#[derive(Drop)]
+struct PathQuery;
+
+impl Query for PathQuery {
+    type Answer = Option<String>;
+
+    ghost answers = { λ query ast path. option_map string_bytes path ≡ given_in ast.items.items };
+
+    fn answer(
+        ast: &mut Ast<'_>,
+        _alloc: Global,
+        _query: &Self,
+    ) -> Result<Option<String>, AllocError> {
+        given_in(&ast.items)
+    }
+}
+
+/// Returns the path that an item is given, if it is a module with a path.
+fn given<'a>(item: &'a TreeItem<'_>) -> Option<&'a String>
+    ensures { option_map string_bytes (option_copied result) ≡ given item.now }
+{
+    match item {
+        TreeItem::Module {
+            relative: Some(relative),
+            ..
+        } => Some(&relative.cooked),
+        _ => None,
+    }
+}
+
+/// Returns the path that the first module with a path is given among items.
+#[tactic(auto, using(crate::proofs::Given::not_here, crate::proofs::Given::here))]
+fn given_in(items: &[TreeItem<'_>]) -> Result<Option<String>, AllocError>
+    ensures { IfOk result (λ path. option_map string_bytes path ≡ given_in items.now) }
+{
+    for item in items {
+        if let Some(path) = given(item) {
+            return Ok(Some(path.clone()?));
+        }
+    }
+    Ok(None)
+}
+
+/// Returns the path that the module in a text is given, if it is.
+fn given_path(alloc: Global, chunk: &str) -> Result<Option<String>, AllocError> {
+    match query_root(alloc, "justfile", chunk, &PathQuery) {
+        Ok(path) => Ok(path),
+        Err(Fault::Memory) => Err(AllocError),
+        Err(_) => Ok(None),
+    }
+}
+
+/// Returns the path of the file that an item of a text leads to, if it leads to one.
+fn path_of<F: Folders>(
+    alloc: Global,
+    folders: &F,
+    folder: Option<&str>,
+    text: &str,
+    item: &Item,
+) -> Result<Option<String>, AllocError> {
+    if item.is_link {
+        return Ok(Some(item.name.clone()?));
+    }
+    let Some(folder) = folder else {
+        return Ok(None);
+    };
+    match item.kind {
+        SymbolKind::Module => {
+            let path = given_path(alloc, chunk_text(text, item.span))?;
+            module_path(alloc, folders, folder, item.name.as_str(), &path)
+        }
+        SymbolKind::Property | SymbolKind::Function | SymbolKind::Variable => Ok(None),
+    }
+}
+
+/// Returns what leads to files in a text. Its document is in the folder at a path, if it is a file.
+pub(crate) fn links_of<F: Folders>(
+    alloc: Global,
+    folders: &F,
+    folder: Option<&str>,
+    text: &str,
+    analysis: &Analysis,
+) -> Result<Vec<FileLink>, AllocError> {
+    let mut links = Vec::new(alloc);
+    for item in &analysis.items {
+        if let Some(path) = path_of(alloc, folders, folder, text, item)? {
+            let span = item.name_span;
+            links.push(FileLink { span, path })?;
+        }
+    }
+    Ok(links)
+}
