@@ -40,7 +40,3 @@ known_if_ok (Err x) text s h e n f = tt
 -- without problems these items are known
 pub listed_known : (text : List ℕ) (problems : List Problem) (items : List Item) → problems ≡ [] → Lists text items → IsKnown text true problems items
 listed_known text problems items e h = subst (λ ps. IsKnown text true ps items) (sym e) h
-
--- what is known by chunks, and without problems, is listed
-pub known_listed : (text : List ℕ) (a : Analysis) → Knows text a → a.in_chunks ≡ true → a.problems.items ≡ [] → Lists text a.items.items
-known_listed text a h e f = subst (λ ps. IsKnown text true ps a.items.items) f (subst (λ (b : Bool). IsKnown text b a.problems.items a.items.items) e h)

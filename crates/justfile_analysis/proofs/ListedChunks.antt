@@ -3,7 +3,7 @@ use Rattle.std.proofs.Common.{◌≡◌, ◌≢◌, ◌∙◌, ℕ, zero, suc, �
 use Rattle.std.specs.Global.{Vec}
 use Rattle.std.specs.Prelude.{All, IfOk, IfSome}
 use Rattle.std.specs.List.{AllByRecursion, flat_map}
-use Rattle.std.proofs.lemmas.List.{length-drop, length-take-le, take_all, take_more}
+use Rattle.std.proofs.lemmas.List.{length-drop, length-take-le, take_more}
 use Rattle.std.proofs.lemmas.List.Elements.{All-cons, All-head, All-nil, All-push, All-tail}
 use Rattle.std.proofs.lemmas.Simd.{map-map}
 use Rattle.std.specs.Str.{IsUtf8}
@@ -264,7 +264,3 @@ module _ (text : List ℕ) (spans : List Span) (first : Span) (others : List Spa
       subst (λ l. AreListed text (take (suc (n + 1)) l) new) (sym are)
       (subst (λ l. AreListed text (first ∷ l) new) (sym (take_more others n s below ∙ ap (λ (x : Span). take n others ++ (x ∷ [])) (sym at)))
       (added text (first ∷ take n others) s old new (subst (λ l. AreListed text (take (suc n) l) old) are listed) (λ ne. is.0) is.1))
-
-  -- all parts
-  pub all_listed : (n : ℕ) (items : List Placed) → length others ≤ n → AreListed text (take (suc n) spans) items → AreListed text spans items
-  all_listed n items end listed = subst (λ l. AreListed text l items) (take_all (suc n) spans (omega (arith, end, ap length are))) listed
