@@ -36,7 +36,3 @@ known_if_ok (Ok a) text s h e n f =
 known_if_ok (Err x) text s h e n f = tt
 
 -- ---- by chunks
-
--- without problems these items are known
-pub listed_known : (text : List ℕ) (problems : List Problem) (items : List Item) → problems ≡ [] → Lists text items → IsKnown text true problems items
-listed_known text problems items e h = subst (λ ps. IsKnown text true ps items) (sym e) h
