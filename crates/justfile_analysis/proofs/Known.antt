@@ -1,6 +1,5 @@
 -- What is known by a survey, and by chunks.
-use Rattle.std.proofs.Common.{◌≡◌, ◌∙◌, ℕ, suc, Bool, true, false, List, [], ◌∷◌, map, length, codes, sym, subst, arith, Result, Ok, Err}
-use Rattle.std.specs.Global.{Vec}
+use Rattle.std.proofs.Common.{◌≡◌, ◌∙◌, ℕ, suc, Bool, false, List, [], ◌∷◌, map, length, codes, sym, subst, arith, Result, Ok, Err}
 use Rattle.std.specs.Prelude.{IfOk}
 use Rattle.std.proofs.lemmas.Simd.{map-map}
 use Rattle.justfile_survey.specs.Seen.{seen}
@@ -11,8 +10,7 @@ use Rattle.justfile_survey.specs.declared.surveys.SurveyedItem.{SurveyedItem}
 use Rattle.editor_language.specs.declared.parts.Analysis.{Analysis}
 use Rattle.editor_language.specs.declared.parts.Item.{Item}
 use Rattle.editor_language.specs.declared.parts.Problem.{Problem}
-use Rattle.justfile_analysis.specs.Knowledge.{AreItems, IsKnown, Knows}
-use Rattle.justfile_analysis.specs.Lists.{Lists}
+use Rattle.justfile_analysis.specs.Knowledge.{IsKnown, Knows}
 use Rattle.justfile_analysis.specs.Names.{named, surveyed, to_name}
 
 apart : (n : ℕ) → suc n ≡ 0 → ⊥

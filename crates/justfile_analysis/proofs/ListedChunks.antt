@@ -1,5 +1,5 @@
 -- What is listed of the chunks of a text is what is listed of the text.
-use Rattle.std.proofs.Common.{◌≡◌, ◌≢◌, ◌∙◌, ℕ, zero, suc, ◌+◌, ◌-◌, ◌<◌, ◌≤◌, Bool, true, false, List, [], ◌∷◌, ◌++◌, length, map, take, drop, get_or, codes, Option, Some, None, Result, Ok, Err, refl, sym, ap, subst, arith, append_assoc, append-nil}
+use Rattle.std.proofs.Common.{◌≡◌, ◌≢◌, ◌∙◌, ℕ, suc, ◌+◌, ◌-◌, ◌<◌, ◌≤◌, Bool, true, false, List, [], ◌∷◌, ◌++◌, length, map, take, drop, get_or, codes, Option, Some, None, Result, Ok, Err, refl, sym, ap, subst, arith, append_assoc, append-nil}
 use Rattle.std.specs.Global.{Vec}
 use Rattle.std.specs.Prelude.{All, IfOk, IfSome}
 use Rattle.std.specs.List.{AllByRecursion, flat_map}
@@ -10,8 +10,7 @@ use Rattle.std.specs.Str.{IsUtf8}
 use Rattle.justfile_token.specs.Slice.{slice_of}
 use Rattle.justfile_model.specs.Lexing.Lexed.{Lexed}
 use Rattle.justfile_model.specs.Lexing.Tok.{Tok}
-use Rattle.justfile_chunks_grammar.specs.Chunks.{AreParts, Chunk, after_feed, chunk_texts, chunks_of, first_chunk, first_offset, later_chunk, text_of}
-use Rattle.justfile_chunks.specs.JoinedTexts.{HasParsed}
+use Rattle.justfile_chunks_grammar.specs.Chunks.{after_feed, chunk_texts, chunks_of, first_chunk, first_offset, later_chunk, text_of}
 use Rattle.justfile_round_trip.specs.RoundTrip.{TextDerives}
 use Rattle.justfile_ast.specs.declared.ast.Ast.{Ast}
 use Rattle.justfile_canonical.specs.Root.{IsRoot, conditions}
@@ -24,7 +23,7 @@ use Rattle.justfile_spans.specs.Spans.{AreChunks, IsIn, Tile, span, span_of, tex
 use Rattle.editor_language.specs.declared.parts.Item.{Item}
 use Rattle.justfile_analysis.specs.Names.{surveyed, to_name}
 use Rattle.justfile_analysis.specs.Listing.{AddsFile, AddsLater, AreFiles, AreListed, IsAdded, all_in, editor_span, placed_in}
-use Rattle.justfile_analysis.specs.Lists.{ChunkFile, Lists, Placed, all_placed, first_placed, first_span, later_placed, later_span, parsed_of, placed, placed_at}
+use Rattle.justfile_analysis.specs.Lists.{ChunkFile, Lists, Placed, all_placed, first_placed, later_placed, parsed_of, placed, placed_at}
 
 -- ---- one more part
 
