@@ -1,4 +1,5 @@
 pub mod CopiedLists
+mod KindHalves
 pub mod PathLemmas
 pub mod PutLemmas
 mod TokenStart

@@ -127,3 +127,49 @@ kind_message _ kinds.UnterminatedString = codes "unterminated string"
 
 abbrev pub message_text : CompileError → List ℕ
 message_text error = kind_message error.token.line error.kind
+
+-- whether the name of an error kind begins with M or a later letter
+abbrev pub is_from_m : CompileErrorKind → Bool
+is_from_m kinds.MappedDependencyMultipleStarredArguments = true
+is_from_m kinds.MappedDependencyWithoutListsSetting = true
+is_from_m kinds.MappedDependencyWithoutStarredArgument = true
+is_from_m (kinds.MinimumVersion _ _) = true
+is_from_m (kinds.MismatchedClosingDelimiter _ _ _) = true
+is_from_m (kinds.MixedLeadingWhitespace _) = true
+is_from_m (kinds.NoCdAndWorkingDirectoryAttribute _) = true
+is_from_m (kinds.OptionNameContainsEqualSign _) = true
+is_from_m (kinds.OptionNameEmpty _) = true
+is_from_m (kinds.OptionNameStartsWithDash _) = true
+is_from_m (kinds.ParameterFollowsVariadicParameter _) = true
+is_from_m kinds.ParsingRecursionDepthExceeded = true
+is_from_m (kinds.Redefinition _ _ _ _) = true
+is_from_m (kinds.RequiredParameterFollowsDefaultParameter _) = true
+is_from_m (kinds.ScriptAndShellAttribute _) = true
+is_from_m (kinds.SettingExpression _) = true
+is_from_m (kinds.ShellExpansion _) = true
+is_from_m (kinds.ShortOptionWithMultipleCharacters _) = true
+is_from_m kinds.StarredArgumentOutsideMappedDependency = true
+is_from_m (kinds.UndefinedArgAttribute _) = true
+is_from_m (kinds.UndefinedFunction _) = true
+is_from_m (kinds.UndefinedVariable _) = true
+is_from_m (kinds.UnexpectedCharacter _) = true
+is_from_m (kinds.UnexpectedClosingDelimiter _) = true
+is_from_m (kinds.UnexpectedEndOfToken _) = true
+is_from_m (kinds.UnexpectedToken _ _) = true
+is_from_m (kinds.UnicodeEscapeCharacter _) = true
+is_from_m (kinds.UnicodeEscapeDelimiter _) = true
+is_from_m kinds.UnicodeEscapeEmpty = true
+is_from_m (kinds.UnicodeEscapeLength _) = true
+is_from_m (kinds.UnicodeEscapeRange _) = true
+is_from_m kinds.UnicodeEscapeUnterminated = true
+is_from_m (kinds.UnknownAliasTarget _ _) = true
+is_from_m (kinds.UnknownAttribute _) = true
+is_from_m (kinds.UnknownAttributeKey _ _) = true
+is_from_m (kinds.UnknownDependency _ _) = true
+is_from_m (kinds.UnknownSetting _) = true
+is_from_m (kinds.UnknownStartOfToken _) = true
+is_from_m kinds.UnpairedCarriageReturn = true
+is_from_m kinds.UnterminatedBacktick = true
+is_from_m kinds.UnterminatedInterpolation = true
+is_from_m kinds.UnterminatedString = true
+is_from_m _ = false

@@ -129,11 +129,20 @@ impl StringKind {
     {
         match StringKind::from_token_start(token.lexeme()) {
             Some(kind) => Ok(kind),
-            None => Err(token.error(CompileErrorKind::Internal {
-                message: "StringKind::from_token: expected string or backtick",
-            })),
+            None => Err(no_literal(token)),
         }
     }
+}
+
+/// Returns the error that the token isn't a literal.
+fn no_literal(token: Token<'_>) -> CompileError<'_>
+    ensures token { result.token ≡ token.entry }
+    ensures kind { internal_message result.kind ≡ Some no_literal_message }
+{
+    let kind = CompileErrorKind::Internal {
+        message: "StringKind::from_token: expected string or backtick",
+    };
+    CompileError { kind, token }
 }
 
 /// Whether the first three bytes are equal. A missing byte counts as 0.

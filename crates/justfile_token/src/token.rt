@@ -50,7 +50,7 @@ impl<'src> Token<'src> {
         ensures kind { result.kind ≡ kind.entry }
         ensures token { result.token ≡ self.now }
     {
-        CompileError::new(*self, kind)
+        CompileError { kind, token: *self }
     }
 }
 
