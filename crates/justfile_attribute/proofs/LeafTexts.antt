@@ -1,6 +1,5 @@
 -- Every literal among the arguments of an attribute has a text, since its leaf has one.
 use Rattle.std.proofs.Common.{◌≡◌, Bool, true, false, List, get_or, Option, Some, None, refl, subst}
-use Rattle.std.specs.Global.{Box}
 use Rattle.std.specs.Option.{is_some, option_map}
 use Rattle.std.proofs.lemmas.List.Elements.{All-map}
 use Rattle.justfile_token.specs.declared.token.Token.{Token}
@@ -9,8 +8,8 @@ use Rattle.justfile_model.specs.Meanings.Meaning.{KeyArgument, PositionalArgumen
 use Rattle.justfile_model.specs.Trees.Tree.{Expr, Quoted}
 use Rattle.justfile_expression.specs.LeafTree.{Leaf, Literal, LiteralText, leaf_tree_of, literal_of}
 use Rattle.justfile_expression.specs.declared.expression.Expression.{Expression, StringLiteral}
-use Rattle.justfile_attribute_rules.specs.Keys.{KeyMap, key_argument, key_arguments, views_keys}
-use Rattle.justfile_attribute_rules.specs.Made.{positional_leaf, positional_leaves}
+use Rattle.justfile_attribute.specs.ByValue.{Keyword, Placed, keyword_leaf, keyword_leaves, placed_leaf, placed_leaves}
+use Rattle.justfile_attribute_rules.specs.Keys.{views_keys}
 use Rattle.justfile_attribute_rules.proofs.Quoted.{not_quoted}
 
 literal_text : (expanded : Bool) (l : LiteralText) → is_some (quoted_text views_keys (record { expanded = expanded; token = Literal l })) ≡ true
@@ -26,12 +25,12 @@ expression_text (StringLiteral l) q is =
     subst (λ (q : Quoted Leaf). is_some (quoted_text views_keys q) ≡ true) same (literal_text l.expand (literal_of l))
 expression_text e q is = no_literal (leaf_tree_of e) (not_quoted e (λ l h. cc)) q is
 
-given_text : (o : Option (Box Expression)) → ValueHasText views_keys (option_map (λ (b : Box Expression). leaf_tree_of b.value) o)
+given_text : (o : Option Expression) → ValueHasText views_keys (option_map leaf_tree_of o)
 given_text None e is = cc
-given_text (Some b) e is = let same : leaf_tree_of b.value ≡ e = cc in subst (HasText views_keys) same (expression_text b.value)
+given_text (Some value) e is = let same : leaf_tree_of value ≡ e = cc in subst (HasText views_keys) same (expression_text value)
 
-pub have_texts : (placed : List (Token × Box Expression)) (keys : KeyMap) → HasTexts views_keys (positional_leaves placed) (key_arguments keys)
-have_texts placed keys = record {
-  values = All-map (λ (p : PositionalArgument Leaf Token). HasText views_keys p.value) positional_leaf placed (λ k d lt. expression_text (get_or placed k d).1.value);
-  given = All-map (λ (k : KeyArgument Leaf Token). ValueHasText views_keys k.value) key_argument keys.entries (λ k d lt. given_text (get_or keys.entries k d).1.1);
+pub have_texts : (placed : List Placed) (keywords : List Keyword) → HasTexts views_keys (placed_leaves placed) (keyword_leaves keywords)
+have_texts placed keywords = record {
+  values = All-map (λ (p : PositionalArgument Leaf Token). HasText views_keys p.value) placed_leaf placed (λ k d lt. expression_text (get_or placed k d).1);
+  given = All-map (λ (k : KeyArgument Leaf Token). ValueHasText views_keys k.value) keyword_leaf keywords (λ k d lt. given_text (get_or keywords k d).1.1);
 }

@@ -1,4 +1,6 @@
 mod ArgumentTree
+pub mod Boxed
+pub mod ByValue
 pub mod Cached
 pub mod Counted
 mod Equalities

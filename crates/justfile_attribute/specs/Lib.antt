@@ -1,4 +1,6 @@
 pub mod Attribute
+pub mod Boxes
+pub mod ByValue
 pub mod Copies
 pub mod Cached
 pub mod New

@@ -1,5 +1,5 @@
 //! Laws of attributes. Each is the contract of a function that does nothing.
-ghost use Rattle.std.specs.Prelude.{◌≡◌, List, [], Contains, Some, Ok, Err};
+ghost use Rattle.std.specs.Prelude.{◌≡◌, List, [], Contains, Some, Ok, Err, map};
 ghost use Rattle.std.specs.Global.{Box};
 ghost use Rattle.justfile_vocabulary.specs.declared.attribute_kind.AttributeKind.{AttributeKind};
 ghost use Rattle.justfile_token.specs.declared.token.Token.{Token};
@@ -11,6 +11,8 @@ ghost use Rattle.justfile_model.specs.Trees.Tree.{Attribute};
 ghost use Rattle.justfile_expression.specs.LeafTree.{Leaf};
 ghost use Rattle.justfile_expression.specs.Orders.{IsOrder};
 ghost use Rattle.justfile_expression.specs.declared.expression.Expression.{Expression};
+ghost use Rattle.justfile_attribute.specs.Boxes.{unboxed_entry, unboxed_pair};
+ghost use Rattle.justfile_attribute.specs.ByValue.{Keyword, Placed, keyword_leaves, placed_leaves};
 ghost use Rattle.justfile_attribute.specs.Equal.{attribute_eq};
 ghost use Rattle.justfile_attribute.specs.InterpreterOrder.{interpreter_cmp, interpreter_eq};
 ghost use Rattle.justfile_attribute.specs.contracts.attribute.AttributePartialEq.TheImpl as equality;
@@ -23,25 +25,32 @@ use crate::interpreter::Interpreter;
 
 /// `Attribute::new` returns what its arguments mean by the definitions, and then they break no
 /// rule. If it returns an error, they break the rule that the error reports. If the arguments break
-/// no rule, it returns an attribute.
+/// no rule, it returns an attribute. Arguments in boxes, as `Attribute::from_boxes` takes them, are
+/// to the definitions those that the boxes hold.
 pub fn new_attributes()
     ensures made { (at : Token) (kind : AttributeKind)
-        (placed : List (Token × Box Expression)) (keys : KeyMap) (a : Attribute Leaf Token)
-        → new_attribute views_keys at kind (positional_leaves placed) (key_arguments keys) ≡ Ok a
-        → (attribute_of views_keys kind (positional_leaves placed) (key_arguments keys) ≡ Some a)
-        × (arguments_broken views_keys at kind (positional_leaves placed)
-        (key_arguments keys) ≡ []) }
+        (placed : List Placed) (keys : List Keyword) (a : Attribute Leaf Token)
+        → new_attribute views_keys at kind (placed_leaves placed) (keyword_leaves keys) ≡ Ok a
+        → (attribute_of views_keys kind (placed_leaves placed) (keyword_leaves keys) ≡ Some a)
+        × (arguments_broken views_keys at kind (placed_leaves placed)
+        (keyword_leaves keys) ≡ []) }
     ensures refused { (at : Token) (kind : AttributeKind)
-        (placed : List (Token × Box Expression)) (keys : KeyMap) (r : Broken Token)
-        → new_attribute views_keys at kind (positional_leaves placed) (key_arguments keys) ≡ Err r
-        → Contains
-        (arguments_broken views_keys at kind (positional_leaves placed) (key_arguments keys)) r }
+        (placed : List Placed) (keys : List Keyword) (r : Broken Token)
+        → new_attribute views_keys at kind (placed_leaves placed)
+        (keyword_leaves keys) ≡ Err r
+        → Contains (arguments_broken views_keys at kind (placed_leaves placed)
+        (keyword_leaves keys)) r }
     ensures unbroken { (at : Token) (kind : AttributeKind)
-        (placed : List (Token × Box Expression)) (keys : KeyMap)
-        → arguments_broken views_keys at kind (positional_leaves placed) (key_arguments keys) ≡ []
+        (placed : List Placed) (keys : List Keyword)
+        → arguments_broken views_keys at kind (placed_leaves placed)
+        (keyword_leaves keys) ≡ []
         → (a : Attribute Leaf Token)
-        × (new_attribute views_keys at kind (positional_leaves placed)
-        (key_arguments keys) ≡ Ok a) }
+        × (new_attribute views_keys at kind (placed_leaves placed)
+        (keyword_leaves keys) ≡ Ok a) }
+    ensures boxed { (placed : List (Token × Box Expression))
+        → positional_leaves placed ≡ placed_leaves (map unboxed_pair placed) }
+    ensures boxed_keys { (keys : KeyMap)
+        → key_arguments keys ≡ keyword_leaves (map unboxed_entry keys.entries) }
 {}
 
 /// Two attributes are equal exactly if they are of the same case and all their fields are equal,

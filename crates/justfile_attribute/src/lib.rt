@@ -2,6 +2,7 @@
 #![tactic(auto)]
 
 pub mod attribute;
+mod boxes;
 mod cache_values;
 mod copy;
 mod expressions;

@@ -9,6 +9,7 @@ ghost use Rattle.justfile_model.specs.Readers.NewAttribute as new;
 ghost use Rattle.justfile_model.specs.Trees.Tree as tree;
 ghost use Rattle.justfile_expression.specs.LeafTree.{leaf_tree_of};
 ghost use Rattle.justfile_attribute.specs.Attribute.{leaf_attribute_of};
+ghost use Rattle.justfile_attribute.specs.ByValue.{keyword_leaves, placed_leaves};
 ghost use Rattle.justfile_attribute.specs.Cached.{cache_of, cache_read};
 ghost use Rattle.justfile_attribute.specs.New.{IsCounted, HasDerivedAttributeFields, continue_made, has_no_own_rules, takes_no_arguments, values_of, with_known};
 ghost use Rattle.justfile_attribute_rules.specs.ArgumentRules.{AreNamed, rules_of};
@@ -16,6 +17,7 @@ ghost use Rattle.justfile_attribute_rules.specs.Keys.{IsTaken, key_arguments, vi
 ghost use Rattle.justfile_attribute_rules.specs.Made.{Makes, positional_leaves, quoted_leaf, quoted_leaves};
 
 use crate::attribute::Attribute;
+use crate::boxes::{boxed_pairs, boxed_values};
 use crate::cache_values::CacheValues;
 use crate::interpreter::Interpreter;
 use justfile_attribute_rules::{
@@ -26,6 +28,7 @@ use justfile_expression::Expression;
 use justfile_token::{CompileResult, Name, StringLiteral, Token};
 use justfile_vocabulary::AttributeKind;
 use std::alloc::{AllocError, Global};
+use std::collections::BTreeMap;
 
 impl<'src> Attribute<'src> {
     /// Returns the attribute of this kind with these arguments. Each positional argument comes with
@@ -35,8 +38,35 @@ impl<'src> Attribute<'src> {
     /// # Errors
     ///
     /// `Compile` for the first broken rule; `Memory` if out of memory.
-    #[tactic(auto, using(justfile_attribute_rules::proofs::Refused::refused_first, crate::proofs::Counted::as_many), unfolding(justfile_model::specs::Readers::NewAttribute::new_attribute))]
+    #[tactic(auto, using(crate::proofs::ByValue::made_same))]
     pub fn new(
+        alloc: Global,
+        name: Name<'src>,
+        kind: AttributeKind,
+        arguments: Vec<(Token<'src>, Expression<'src>)>,
+        keyword_arguments: BTreeMap<&'src str, (Name<'src>, Option<Expression<'src>>)>,
+    ) -> CompileResult<'src, Self>
+        ensures made { Makes leaf_attribute_of result (new.new_attribute views_keys
+            name.entry.token kind (placed_leaves arguments.entry.items)
+            (keyword_leaves keyword_arguments.entry.entries)) }
+        // The fields of an `arg` that follow from others. With a `long_key` (the key of a `long`
+        // without a value) `long` is a copy of `name`; the same for `short`. `min` is there exactly
+        // if `min_key` is; the same for `max`. `help` is `None`: its expression, `help_property`,
+        // isn't evaluated.
+        ensures fields { IfOk result HasDerivedAttributeFields }
+    {
+        let arguments = boxed_pairs(alloc, arguments)?;
+        let keyword_arguments = boxed_values(alloc, keyword_arguments)?;
+        Attribute::from_boxes(alloc, name, kind, arguments, keyword_arguments)
+    }
+
+    /// Returns what `new` does, of arguments that are in boxes already.
+    ///
+    /// # Errors
+    ///
+    /// `Compile` for the first broken rule; `Memory` if out of memory.
+    #[tactic(auto, using(justfile_attribute_rules::proofs::Refused::refused_first, crate::proofs::Counted::as_many), unfolding(justfile_model::specs::Readers::NewAttribute::new_attribute))]
+    pub fn from_boxes(
         alloc: Global,
         name: Name<'src>,
         kind: AttributeKind,
@@ -46,10 +76,6 @@ impl<'src> Attribute<'src> {
         ensures made { Makes leaf_attribute_of result (new.new_attribute views_keys
             name.entry.token kind (positional_leaves arguments.entry.items)
             (key_arguments keyword_arguments.entry)) }
-        // The fields of an `arg` that follow from others. With a `long_key` (the key of a `long`
-        // without a value) `long` is a copy of `name`; the same for `short`. `min` is there exactly
-        // if `min_key` is; the same for `max`. `help` is `None`: its expression, `help_property`,
-        // isn't evaluated.
         ensures fields { IfOk result HasDerivedAttributeFields }
     {
         check_count(name, kind, arguments.len())?;

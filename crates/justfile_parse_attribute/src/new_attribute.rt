@@ -93,7 +93,7 @@ fn is_group(kind: AttributeKind) -> bool
 }
 
 /// Appends a `group` with one argument, as most are. It needs no list of literals, and is copied
-/// less often than what `Attribute::new` returns.
+/// less often than what `Attribute::from_boxes` returns.
 ///
 /// # Errors
 ///
@@ -202,7 +202,7 @@ fn new_attribute<'src>(
         texts: _,
     } = arguments;
     let keys = keys_by_text(alloc, keyed)?;
-    Attribute::new(alloc, name, kind, positional, keys)
+    Attribute::from_boxes(alloc, name, kind, positional, keys)
 }
 
 /// Collects keyword arguments into a map by the texts of their keys.

@@ -1,6 +1,6 @@
 //! Attributes made of expressions, and with keys that the parser never passes for their kind.
 
-use crate::attribute::{Attribute, AttributeKind, KeyMap};
+use crate::attribute::{Attribute, AttributeKind};
 use crate::compile_error::CompileError;
 use crate::compile_error_kind::CompileErrorKind;
 use crate::expression::Expression;
@@ -38,27 +38,39 @@ static MADE: &[(&str, usize, &str)] = &[
     ),
 ];
 
+/// Keys by their texts.
+type Keys<'src> = BTreeMap<&'src str, (Name<'src>, Option<Expression<'src>>)>;
+
+/// Appends a positional argument, a variable with this name.
+fn push<'src>(
+    arguments: &mut Vec<(Token<'src>, Expression<'src>)>,
+    name: Name<'src>,
+) -> Result<(), AllocError> {
+    let number = None;
+    arguments.reserve(1)?;
+    arguments.push_reserved((*name, Expression::Variable { name, number }));
+    Ok(())
+}
+
 /// Makes `count` positional arguments, each a variable with this name.
 fn arguments<'src>(
     rt: &impl Abort,
     alloc: Global,
     name: Name<'src>,
     count: usize,
-) -> Vec<(Token<'src>, Box<Expression<'src>>)> {
+) -> Vec<(Token<'src>, Expression<'src>)> {
     let mut arguments = Vec::new(alloc);
     for _ in 0..count {
-        let variable = Expression::Variable { name, number: None };
-        let value = Box::new(alloc, variable).expect(rt, "no memory");
-        arguments.push((*name, value)).expect(rt, "no memory");
+        push(&mut arguments, name).expect(rt, "no memory");
     }
     arguments
 }
 
 /// Inserts a key by a text.
 fn insert<'src>(
-    keys: &mut KeyMap<'src>,
+    keys: &mut Keys<'src>,
     text: &'src str,
-    given: (Name<'src>, Option<Box<Expression<'src>>>),
+    given: (Name<'src>, Option<Expression<'src>>),
 ) -> Result<(), AllocError> {
     match keys.insert(text, given) {
         Ok(_before) => Ok(()),
@@ -67,12 +79,26 @@ fn insert<'src>(
 }
 
 /// Makes keyword arguments without values, by their texts.
-fn keys<'src>(rt: &impl Abort, alloc: Global, names: &[Name<'src>]) -> KeyMap<'src> {
+fn keys<'src>(rt: &impl Abort, alloc: Global, names: &[Name<'src>]) -> Keys<'src> {
     let mut keys = BTreeMap::new(alloc);
     for name in names {
         insert(&mut keys, name.lexeme(), (*name, None)).expect(rt, "no memory");
     }
     keys
+}
+
+/// Inserts a key by a text. Its value is a variable with its name.
+fn insert_variable<'src>(
+    keys: &mut Keys<'src>,
+    text: &'src str,
+    name: Name<'src>,
+) -> Result<(), AllocError> {
+    let number = None;
+    insert(
+        keys,
+        text,
+        (name, Some(Expression::Variable { name, number })),
+    )
 }
 
 /// Checks that an error is about an unknown key `wanted` of the attribute `of`, at this offset.
@@ -125,18 +151,15 @@ fn compare(rt: &impl Abort, alloc: Global, text: &str, wanted: (usize, &str, Opt
     }
 }
 
-/// Checks that a key is found by its text in the map, whatever its name.
+/// Checks that keys are found by their texts in the map, whatever their names.
 fn compare_found<'src>(rt: &impl Abort, alloc: Global, name: Name<'src>, given: Name<'src>) {
     let mut keys = BTreeMap::new(alloc);
-    let variable = Expression::Variable {
-        name: given,
-        number: None,
-    };
-    let value = Box::new(alloc, variable).expect(rt, "no memory");
-    insert(&mut keys, "inputs", (given, Some(value))).expect(rt, "no memory");
-    let kind = AttributeKind::Cache;
-    match Attribute::new(alloc, name, kind, Vec::new(alloc), keys) {
-        Ok(attribute) => compare_text(rt, alloc, &attribute, "cache(inputs=given)"),
+    for text in ["outputs", "extra", "inputs"] {
+        insert_variable(&mut keys, text, given).expect(rt, "no memory");
+    }
+    let wanted = "cache(extra=given, inputs=given, outputs=given)";
+    match Attribute::new(alloc, name, AttributeKind::Cache, Vec::new(alloc), keys) {
+        Ok(attribute) => compare_text(rt, alloc, &attribute, wanted),
         Err(_) => panic!(rt; "no attribute"),
     }
 }
