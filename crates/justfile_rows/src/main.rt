@@ -11,12 +11,16 @@
 #![tactic(auto)]
 
 mod beginnings;
+mod callers;
+mod calls;
 mod expansion;
 mod fields;
 mod files;
 mod printing;
+mod program;
 mod resolution;
 mod roots;
+mod surveys;
 mod symbols;
 mod word;
 

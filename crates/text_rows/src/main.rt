@@ -7,8 +7,12 @@
 //! words.
 #![tactic(auto)]
 
+mod displayed;
+mod format_parts;
 mod lexing;
+mod messages;
 mod names;
+mod paths;
 mod texts;
 mod word;
 

@@ -1,10 +1,10 @@
 //! Runs of the program `justfmt`.
 
 use crate::word::Word;
-use formatted::{formatted, formatted_as_set};
+use formatted::formatted_as_set;
 use justfile_format::system::Justfmt;
 use justfile_syntax::format::format_text;
-use row_notation::{Answer, Stream, field_at, indentation_at, number_at, push_fault};
+use row_notation::{Answer, Stream, field_at, number_at, push_fault};
 use std::alloc::{AllocError, Global};
 use system_run::Program;
 
@@ -184,15 +184,6 @@ pub(crate) fn formats(answer: &mut Answer, source: &str) {
 fn push_caller(answer: &mut Answer, source: &str, expected: &str) {
     match formatted_as_set(answer.alloc(), source) {
         Ok(text) => answer.push_if("caller", text.as_str() != expected),
-        Err(fault) => push_fault(answer, source, &fault),
-    }
-}
-
-/// Writes what `formatted` returns for a text at an indentation.
-pub(crate) fn formats_at(answer: &mut Answer, fields: &[String]) {
-    let source = field_at(fields, 1);
-    match formatted(answer.alloc(), source, indentation_at(fields, 0)) {
-        Ok(text) => answer.push(text.as_str()),
         Err(fault) => push_fault(answer, source, &fault),
     }
 }

@@ -1,7 +1,7 @@
 use Rattle.std.proofs.Common.{◌≡◌, ◌+◌, length, subst, arith}
 use Rattle.std.specs.Str.{IsCharBoundary}
 use Rattle.std.proofs.lemmas.Str.{IsCharBoundary-start, IsCharBoundary-end}
-use Rattle.justfile_syntax.proofs.tests.format_parts.whole.Goals as goal
+use Rattle.text_rows.proofs.format_parts.whole.Goals as goal
 
 pub invariant_of-result : goal.invariant_of-result
 invariant_of-result c =
