@@ -58,7 +58,8 @@ pub(crate) fn fault_lines(answer: &mut Answer, which: &str) {
 
 /// Returns the path of the names of a text, which has one.
 fn path_of<'row>(alloc: Global, text: &'row str) -> Result<Namepath<'row>, AllocError> {
-    match names_of(alloc, text)?.split_first() {
+    let names = names_of(alloc, text)?;
+    match names.split_first() {
         Some((first, others)) => path_from(alloc, *first, others),
         None => Err(AllocError),
     }

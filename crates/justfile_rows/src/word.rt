@@ -6,6 +6,7 @@ use crate::fields::are_readable;
 use crate::files::push_fields;
 use crate::program::{breaks_each, formats, runs};
 use crate::roots::roots;
+use crate::scarce::scarcely;
 use crate::surveys::surveys;
 use crate::symbols::push_symbols_of;
 use row_notation::{Answer, RowWord, field_at};
@@ -60,6 +61,7 @@ pub(crate) enum Word {
     Resolves,
     Roots,
     Run,
+    Scarcely,
     ScriptInterpreter,
     Sets,
     Settings,
@@ -120,6 +122,7 @@ static WORDS: &[(&str, Word, usize)] = &[
     ("resolves", Word::Resolves, 3),
     ("roots", Word::Roots, 2),
     ("run", Word::Run, 2),
+    ("scarcely", Word::Scarcely, 0),
     ("script_interpreter", Word::ScriptInterpreter, 0),
     ("sets", Word::Sets, 1),
     ("settings", Word::Settings, 1),
@@ -167,6 +170,7 @@ impl RowWord for Word {
             Word::Makes => makes(answer, fields),
             Word::MakesKeyed => makes_keyed(answer, fields),
             Word::Roots => roots(answer, fields),
+            Word::Scarcely => scarcely(answer),
             Word::ScriptInterpreter => push_default(answer),
             Word::Surveys => surveys(answer, text),
             Word::Symbols => push_symbols_of(answer, text),

@@ -1,5 +1,6 @@
 //! Attributes that are made of expressions, and of keys that the parser never passes for their kind.
 
+use crate::orders::boxed;
 use justfile_attribute::Attribute;
 use justfile_attribute_rules::KeyMap;
 use justfile_expression::Expression;
@@ -11,10 +12,7 @@ use std::collections::BTreeMap;
 
 /// Makes a variable.
 fn variable<'src>(alloc: Global, name: Name<'src>) -> Result<Box<Expression<'src>>, AllocError> {
-    match Box::new(alloc, Expression::Variable { name, number: None }) {
-        Ok(variable) => Ok(variable),
-        Err(_) => Err(AllocError),
-    }
+    boxed(alloc, Ok(Expression::Variable { name, number: None }))
 }
 
 /// Makes positional arguments, each a variable with this name.
@@ -70,21 +68,32 @@ pub fn push_new<'src>(names: &[Name<'src>], answer: &mut Answer, count: usize) {
     let Some((name, others)) = names.split_first() else {
         return answer.push("none");
     };
-    let alloc = answer.alloc();
-    match (arguments(alloc, *name, count), keys(alloc, others)) {
-        (Ok(arguments), Ok(keys)) => push_made(answer, *name, arguments, keys),
-        _ => answer.fail(),
+    match keys(answer.alloc(), others) {
+        Ok(keys) => push_with_keys(answer, *name, keys, count),
+        Err(_) => answer.fail(),
     }
 }
 
 /// Writes the attribute with the first of these names, which has the key `key`, whose name and whose
 /// value are the second one; or why it is refused.
 pub fn push_keyed<'src>(names: &[Name<'src>], answer: &mut Answer, key: &'src str) {
-    let [name, given] = names else {
-        return answer.push("none");
-    };
-    match keyed(answer.alloc(), key, *given) {
-        Ok(keys) => push_made(answer, *name, Vec::new(answer.alloc()), keys),
+    match names {
+        [name, given] => push_with_value(answer, *name, key, *given),
+        _ => answer.push("none"),
+    }
+}
+
+fn push_with_value<'src>(answer: &mut Answer, name: Name<'src>, key: &'src str, given: Name<'src>) {
+    match keyed(answer.alloc(), key, given) {
+        Ok(keys) => push_with_keys(answer, name, keys, 0),
+        Err(_) => answer.fail(),
+    }
+}
+
+/// Writes the attribute with these keys and with `count` arguments.
+fn push_with_keys<'src>(answer: &mut Answer, name: Name<'src>, keys: KeyMap<'src>, count: usize) {
+    match arguments(answer.alloc(), name, count) {
+        Ok(arguments) => push_made(answer, name, arguments, keys),
         Err(_) => answer.fail(),
     }
 }
@@ -96,14 +105,12 @@ fn push_made<'src>(
     arguments: Vec<(Token<'src>, Box<Expression<'src>>)>,
     keys: KeyMap<'src>,
 ) {
-    match AttributeKind::from_name(name.lexeme()) {
-        Some(kind) => push_result(
-            answer,
-            name.src,
-            Attribute::new(answer.alloc(), name, kind, arguments, keys),
-        ),
-        None => answer.push("none"),
-    }
+    let kind = AttributeKind::from_name(name.lexeme()).unwrap_or(AttributeKind::Private);
+    push_result(
+        answer,
+        name.src,
+        Attribute::new(answer.alloc(), name, kind, arguments, keys),
+    );
 }
 
 /// Writes an attribute, or why there is none.

@@ -192,7 +192,8 @@ pub(crate) fn marks(answer: &mut Answer, fields: &[String]) {
     let alloc = answer.alloc();
     let is_expanded = field_at(fields, 0) == "expanded";
     let part = part_of(field_at(fields, 1));
-    match ("a".to_string(alloc), tokens_of(alloc, "'a'").first()) {
+    let tokens = tokens_of(alloc, "'a'");
+    match ("a".to_string(alloc), tokens.first()) {
         (Ok(cooked), Some(token)) => push_marks(answer, cooked, *token, (is_expanded, part)),
         _ => answer.fail(),
     }
@@ -244,11 +245,13 @@ pub(crate) fn excerpt(answer: &mut Answer, fields: &[String]) {
 }
 
 fn push_excerpt_in(answer: &mut Answer, which: &str, tokens: &[Token<'_>]) {
-    let token = if which == "first" {
-        tokens.first()
-    } else {
-        tokens.last()
-    };
+    match which {
+        "first" => push_excerpt_if(answer, tokens.first()),
+        _ => push_excerpt_if(answer, tokens.last()),
+    }
+}
+
+fn push_excerpt_if(answer: &mut Answer, token: Option<&Token<'_>>) {
     if let Some(token) = token {
         push_excerpt(answer, *token);
     }

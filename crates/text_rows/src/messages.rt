@@ -43,12 +43,12 @@ static ERRORS: &[&str] = &[
 /// Returns the error at an index of `ERRORS`.
 fn kind_at(index: usize) -> CompileErrorKind<'static> {
     if index < 6 {
-        return repeated(index);
+        repeated(index)
+    } else if index < 14 {
+        named(index)
+    } else {
+        other(index)
     }
-    if index < 14 {
-        return named(index);
-    }
-    other(index)
 }
 
 /// Returns an error for repeated definitions.
@@ -243,7 +243,8 @@ pub(crate) fn unexpanded(answer: &mut Answer, reason: &str) {
 pub(crate) fn untrue(answer: &mut Answer, text: &str) {
     let alloc = answer.alloc();
     let expected = vec![in alloc; Keyword::True, Keyword::False];
-    match (expected, tokens_of(alloc, text).first()) {
+    let tokens = tokens_of(alloc, text);
+    match (expected, tokens.first()) {
         (Ok(expected), Some(found)) => push_untrue(answer, expected, *found),
         _ => answer.fail(),
     }

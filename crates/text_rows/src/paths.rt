@@ -23,7 +23,8 @@ pub(crate) fn names_of<'row>(
 
 /// Makes the path of the names of a text, which has one.
 pub(crate) fn path_of<'row>(alloc: Global, text: &'row str) -> Result<Namepath<'row>, AllocError> {
-    match names_of(alloc, text)?.split_first() {
+    let names = names_of(alloc, text)?;
+    match names.split_first() {
         Some((first, others)) => path_from(alloc, *first, others),
         None => Err(AllocError),
     }
@@ -47,11 +48,25 @@ fn push_path<'row>(answer: &mut Answer, path: &Namepath<'row>, names: &[Name<'ro
     answer.push_number(path.components());
     answer.push_if("apart", !has_names(path, names));
     push_copy(path, path.clone(answer.alloc()), answer);
-    if let [first, others @ .., last] = names {
-        match joined(answer.alloc(), *first, others, *last) {
-            Ok(joined) => answer.push_if("unjoined", joined != *path),
-            Err(_) => answer.fail(),
-        }
+    if let Some((last, before)) = names.split_last() {
+        push_joined(answer, path, before, *last);
+    }
+}
+
+/// Writes `unjoined` if a path isn't that of the names `before` joined with `last`. One that has no
+/// names before the last isn't joined.
+fn push_joined<'row>(
+    answer: &mut Answer,
+    path: &Namepath<'row>,
+    before: &[Name<'row>],
+    last: Name<'row>,
+) {
+    let Some((first, others)) = before.split_first() else {
+        return;
+    };
+    match joined(answer.alloc(), *first, others, last) {
+        Ok(joined) => answer.push_if("unjoined", joined != *path),
+        Err(_) => answer.fail(),
     }
 }
 

@@ -5,7 +5,7 @@ use crate::displayed::{
     list_features, marks, operators, padded, unpadded, version_order,
 };
 use crate::format_parts::format_parts;
-use crate::lexing::lex;
+use crate::lexing::{lex, push_token_count};
 use crate::messages::{argument_counts, circle, error, unexpanded, unknown, untrue};
 use crate::names::{attribute_kind, signal, switch};
 use crate::paths::{modulepath, namepath};
@@ -47,6 +47,7 @@ pub(crate) enum Word {
     Signal,
     Significant,
     Switch,
+    TokenCount,
     Unexpanded,
     Unindents,
     Unknown,
@@ -90,6 +91,7 @@ static WORDS: &[(&str, Word, usize)] = &[
     ("signal", Word::Signal, 1),
     ("significant", Word::Significant, 1),
     ("switch", Word::Switch, 2),
+    ("token_count", Word::TokenCount, 1),
     ("unexpanded", Word::Unexpanded, 1),
     ("unindents", Word::Unindents, 1),
     ("unknown", Word::Unknown, 1),
@@ -157,6 +159,7 @@ impl RowWord for Word {
             Word::Padded => padded(answer, fields),
             Word::Signal => signal(answer, text),
             Word::Switch => switch(answer, fields),
+            Word::TokenCount => push_token_count(answer, text),
             Word::Unexpanded => unexpanded(answer, text),
             Word::Unindents => unindents(answer, text),
             Word::Unknown => unknown(answer, text),

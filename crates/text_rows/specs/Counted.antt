@@ -1,7 +1,7 @@
 -- What the program prints for a text.
 use Rattle.std.specs.Prelude.{◌≡◌, ℕ, List, length}
-use Rattle.bench_lex.specs.declared.answer.Answer.{Answer}
-use Rattle.bench_lex.specs.declared.answer.Answer.TheVariants.{Tokens, Rejected}
+use Rattle.text_rows.specs.declared.token_count.TokenCount.{TokenCount}
+use Rattle.text_rows.specs.declared.token_count.TokenCount.TheVariants.{Tokens, Rejected}
 use Rattle.justfile_model.specs.Lexing.LexicalFault.{LexicalFault}
 use Rattle.justfile_model.specs.Lexing.Lexed.{Lexed, IsFault}
 use Rattle.justfile_model.specs.Lexing.Tok.{Tok}
@@ -19,6 +19,6 @@ pub record HasFaultAt (text : List ℕ) (offset : ℕ) : Type 0 where
   pub is_fault : IsFault text fault span
   pub offset_is : span.offset ≡ offset
 
-abbrev pub IsAnswer : List ℕ → Answer → Type 0
+abbrev pub IsAnswer : List ℕ → TokenCount → Type 0
 IsAnswer text (Tokens count) = IsCount text count
 IsAnswer text (Rejected offset) = HasFaultAt text offset

@@ -1,8 +1,8 @@
 //! The calls, and whether what they return is right.
 
-use crate::counts::Outcome;
-use crate::scarcity::Scarcity;
-use crate::text::{BINDINGS, PRINTED, RECIPES};
+use crate::scarce::counts::Outcome;
+use crate::scarce::scarcity::Scarcity;
+use crate::scarce::text::{BINDINGS, PRINTED, RECIPES};
 use justfile_syntax::ast::Ast;
 use justfile_syntax::expander::Unchanged;
 use justfile_syntax::fault::{CompileResult, Fault};

@@ -1,14 +1,10 @@
-//! Checks what lexing, parsing and printing return if memory runs out.
+//! What lexing, parsing and printing return if memory runs out.
 //!
-//! The program takes all memory that the system gives, in blocks that it doesn't write to, except
-//! one block. It makes a call with that block. The call has to return that memory ran out, or what
-//! it returns with ample memory; and the same call has to succeed directly afterwards, with ample
+//! A row takes all memory that the system gives, in blocks that it doesn't write to, except one
+//! block. It makes a call with that block. The call has to return that memory ran out, or what it
+//! returns with ample memory; and the same call has to succeed directly afterwards, with ample
 //! memory. This is repeated for each size of the block, in steps of the smallest unit of the
 //! system's heap, until the block is more than large enough.
-//!
-//! With an argument, the program takes no memory and makes each call once, between lines that it
-//! writes: a library that is loaded before it can refuse one of the call's requests.
-#![tactic(auto)]
 
 mod answers;
 mod counts;
@@ -16,17 +12,18 @@ mod once;
 mod scarcity;
 mod text;
 
-use crate::answers::{lex, lex_with, parse, parse_with, print_with};
-use crate::counts::Counts;
-use crate::once::run_once;
-use crate::scarcity::{AMPLE, Scarcity};
-use crate::text::TEXT;
+use crate::scarce::answers::{lex, lex_with, parse, parse_with, print_with};
+use crate::scarce::counts::Counts;
+use crate::scarce::once::run_once;
+use crate::scarce::scarcity::{AMPLE, Scarcity};
+use crate::scarce::text::TEXT;
 use justfile_syntax::ast::Ast;
 use justfile_syntax::fault::Fault;
 use justfile_syntax::numerator::Numerator;
 use justfile_syntax::token::Token;
+use row_notation::Answer;
 use std::alloc::{AllocError, Global};
-use std::{env, io};
+use std::io;
 
 /// The step between two sizes of the block, in bytes.
 const STEP: usize = 16;
@@ -74,24 +71,31 @@ fn run(alloc: Global, text: &str) -> Result<Outcomes, Fault<'_>> {
     }
 }
 
-/// Makes the calls with scarce memory, and writes what is to be said about their outcomes.
-fn run_scarcely(rt: &HostRuntime, text: &str) -> io::Result<()> {
-    match run(rt.alloc(), text) {
-        Ok(outcomes) => {
-            println!(rt; "lexing: {}", outcomes.lexing.verdict())?;
-            println!(rt; "parsing: {}", outcomes.parsing.verdict())?;
-            println!(rt; "printing: {}", outcomes.printing.verdict())
-        }
-        Err(_) => println!(rt; "no answer with ample memory"),
+/// Makes the calls with scarce memory, and writes what is to be said about the outcomes of lexing,
+/// of parsing and of printing. Writes `changed` if the text isn't as it was.
+pub(crate) fn scarcely(answer: &mut Answer) {
+    match TEXT.to_string(answer.alloc()) {
+        Ok(text) => push_outcomes(answer, text.as_str()),
+        Err(_) => answer.fail(),
     }
 }
 
-fn main(rt: HostRuntime) -> io::Result<()> {
-    let text = TEXT.to_string(rt.alloc())?;
-    if env::args(&rt)?.count() > 1 {
-        run_once(&rt, text.as_str())?;
-    } else {
-        run_scarcely(&rt, text.as_str())?;
+fn push_outcomes(answer: &mut Answer, text: &str) {
+    match run(answer.alloc(), text) {
+        Ok(outcomes) => {
+            answer.push(outcomes.lexing.verdict());
+            answer.push(outcomes.parsing.verdict());
+            answer.push(outcomes.printing.verdict());
+        }
+        Err(_) => answer.push("no answer with ample memory"),
     }
+    answer.push_if("changed", text != TEXT);
+}
+
+/// Takes no memory, and makes each call once, between lines that it writes: a library that is loaded
+/// before the program can refuse one of the call's requests.
+pub(crate) fn run_calls(rt: &HostRuntime) -> io::Result<()> {
+    let text = TEXT.to_string(rt.alloc())?;
+    run_once(rt, text.as_str())?;
     println!(rt; "the text is unchanged: {}", text.as_str() == TEXT)
 }

@@ -1,8 +1,8 @@
 //! Each call once, after a line on standard output and before another, so that its requests for
 //! memory can be told from those of the rest of the program; and the same call again.
 
-use crate::answers::{judge_file, judge_text, judge_tokens, lex, parse};
-use crate::counts::Outcome;
+use crate::scarce::answers::{judge_file, judge_text, judge_tokens, lex, parse};
+use crate::scarce::counts::Outcome;
 use justfile_syntax::ast::Ast;
 use justfile_syntax::indentation::Indentation;
 use justfile_syntax::numerator::Numerator;
