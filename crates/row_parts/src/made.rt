@@ -65,11 +65,23 @@ fn keyed<'src>(
 /// Writes the attribute with the first of these names, with the others as its keys, and with `count`
 /// positional arguments, each a variable with the attribute's name; or why it is refused.
 pub fn push_new<'src>(names: &[Name<'src>], answer: &mut Answer, count: usize) {
-    let Some((name, others)) = names.split_first() else {
+    match names.split_first() {
+        Some((name, others)) => push_with_others(answer, *name, others, count),
+        None => answer.push("none"),
+    }
+}
+
+fn push_with_others<'src>(
+    answer: &mut Answer,
+    name: Name<'src>,
+    others: &[Name<'src>],
+    count: usize,
+) {
+    let Some(kind) = AttributeKind::from_name(name.lexeme()) else {
         return answer.push("none");
     };
     match keys(answer.alloc(), others) {
-        Ok(keys) => push_with_keys(answer, *name, keys, count),
+        Ok(keys) => push_with_keys(answer, (name, kind), keys, count),
         Err(_) => answer.fail(),
     }
 }
@@ -84,33 +96,30 @@ pub fn push_keyed<'src>(names: &[Name<'src>], answer: &mut Answer, key: &'src st
 }
 
 fn push_with_value<'src>(answer: &mut Answer, name: Name<'src>, key: &'src str, given: Name<'src>) {
+    let Some(kind) = AttributeKind::from_name(name.lexeme()) else {
+        return answer.push("none");
+    };
     match keyed(answer.alloc(), key, given) {
-        Ok(keys) => push_with_keys(answer, name, keys, 0),
+        Ok(keys) => push_with_keys(answer, (name, kind), keys, 0),
         Err(_) => answer.fail(),
     }
 }
 
 /// Writes the attribute with these keys and with `count` arguments.
-fn push_with_keys<'src>(answer: &mut Answer, name: Name<'src>, keys: KeyMap<'src>, count: usize) {
+fn push_with_keys<'src>(
+    answer: &mut Answer,
+    (name, kind): (Name<'src>, AttributeKind),
+    keys: KeyMap<'src>,
+    count: usize,
+) {
     match arguments(answer.alloc(), name, count) {
-        Ok(arguments) => push_made(answer, name, arguments, keys),
+        Ok(arguments) => push_result(
+            answer,
+            name.src,
+            Attribute::new(answer.alloc(), name, kind, arguments, keys),
+        ),
         Err(_) => answer.fail(),
     }
-}
-
-/// Makes an attribute, and writes it.
-fn push_made<'src>(
-    answer: &mut Answer,
-    name: Name<'src>,
-    arguments: Vec<(Token<'src>, Box<Expression<'src>>)>,
-    keys: KeyMap<'src>,
-) {
-    let kind = AttributeKind::from_name(name.lexeme()).unwrap_or(AttributeKind::Private);
-    push_result(
-        answer,
-        name.src,
-        Attribute::new(answer.alloc(), name, kind, arguments, keys),
-    );
 }
 
 /// Writes an attribute, or why there is none.
