@@ -66,9 +66,19 @@ fn sweep<'src>(
 fn run(alloc: Global, text: &str) -> Result<Outcomes, Fault<'_>> {
     let tokens = lex(alloc, text)?;
     match parse(alloc, &mut Numerator::new(0), text) {
-        Ok(mut ast) => Ok(sweep(&mut ast, alloc, text, &tokens)?),
+        Ok(mut ast) => swept(&mut ast, alloc, text, &tokens),
         Err(fault) => Err(fault),
     }
+}
+
+/// Makes the calls for a file, its text and its tokens, and returns their outcomes.
+fn swept<'src>(
+    ast: &mut Ast<'src>,
+    alloc: Global,
+    text: &'src str,
+    tokens: &[Token<'src>],
+) -> Result<Outcomes, Fault<'src>> {
+    Ok(sweep(ast, alloc, text, tokens)?)
 }
 
 /// Makes the calls with scarce memory, and writes what is to be said about the outcomes of lexing,

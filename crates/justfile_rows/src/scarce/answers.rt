@@ -72,14 +72,17 @@ pub(crate) fn judge_file<'src>(
 ) -> Outcome {
     let (bindings, recipes) = numbers(numerator).unwrap_or((u32::MAX, u32::MAX));
     match answer {
-        Ok(mut ast) if bindings == BINDINGS && recipes == RECIPES => judge_printed(&mut ast, alloc),
+        Ok(mut ast) => judge_printed(&mut ast, alloc, (bindings, recipes)),
         Err(Fault::Memory) if bindings <= BINDINGS && recipes <= RECIPES => Outcome::Refused,
-        _ => Outcome::Wrong,
+        Err(_) => Outcome::Wrong,
     }
 }
 
-/// Checks what a file prints.
-fn judge_printed(ast: &mut Ast<'_>, alloc: Global) -> Outcome {
+/// Checks what a file prints, and how many numbers were given to its bindings and its recipes.
+fn judge_printed(ast: &mut Ast<'_>, alloc: Global, given: (u32, u32)) -> Outcome {
+    if given != (BINDINGS, RECIPES) {
+        return Outcome::Wrong;
+    }
     judge_text(ast.print(alloc, Indentation::default()))
 }
 
