@@ -75,7 +75,9 @@ pub(crate) fn in_module(answer: &mut Answer, fields: &[String]) {
 }
 
 fn push_parsed(answer: &mut Answer, path: &Namepath<'_>, text: &str) {
-    let tokens = tokens_of(answer.alloc(), text);
+    let Ok(tokens) = Lexer::lex(answer.alloc(), "justfile", text) else {
+        return answer.push("none");
+    };
     match Parser::parse(
         answer.alloc(),
         3,

@@ -283,17 +283,15 @@ fn sign(one: Version, other: Version) -> &'static str {
 /// Writes the numbers of two constants of three, of the first binding, and of a constant after it.
 pub(crate) fn constants(answer: &mut Answer) {
     let mut numerator = Numerator::new(3);
-    push_constant(answer, &numerator, 0);
-    push_constant(answer, &numerator, 2);
-    if let Some(Number(number)) = numerator.next_binding() {
+    let (first, third) = (numerator.constant(0), numerator.constant(2));
+    let binding = numerator.next_binding();
+    let again = numerator.constant(2);
+    answer.push_number(first.0 as usize);
+    answer.push_number(third.0 as usize);
+    if let Some(Number(number)) = binding {
         answer.push_number(number as usize);
     }
-    push_constant(answer, &numerator, 2);
-}
-
-fn push_constant(answer: &mut Answer, numerator: &Numerator, index: u32) {
-    let Number(number) = numerator.constant(index);
-    answer.push_number(number as usize);
+    answer.push_number(again.0 as usize);
 }
 
 /// Writes `memory` for each fault that a failed allocation becomes.

@@ -146,8 +146,12 @@ pub(crate) fn argument_counts(answer: &mut Answer, fields: &[String]) {
         Ok(dependency) => push_dependency(answer, dependency, found, (least, most)),
         Err(_) => answer.fail(),
     }
+    push_function(answer, found, (least, most));
+}
+
+fn push_function(answer: &mut Answer, arguments: usize, (least, most): (usize, usize)) {
     let kind = CompileErrorKind::FunctionArgumentCountMismatch {
-        arguments: found,
+        arguments,
         expected: least..=most,
         function: "a",
     };
@@ -234,9 +238,13 @@ fn push_target<'src>(answer: &mut Answer, target: Namepath<'src>) {
 /// Writes the message for a text that an expander refuses for this reason.
 pub(crate) fn unexpanded(answer: &mut Answer, reason: &str) {
     match reason.to_string(answer.alloc()) {
-        Ok(err) => push_message(answer, &NAME, CompileErrorKind::ShellExpansion { err }),
+        Ok(err) => push_unexpanded(answer, err),
         Err(_) => answer.fail(),
     }
+}
+
+fn push_unexpanded(answer: &mut Answer, err: String) {
+    push_message(answer, &NAME, CompileErrorKind::ShellExpansion { err });
 }
 
 /// Writes the message for a text's first token in place of `true` or `false`.
