@@ -7,7 +7,7 @@
 # nothing failed, or with status 3 and the one line for it, having written a beginning of the text.
 # Prints a row for each kind of run.
 #
-# CALLS is justfile_growths. With an argument it makes each call of the library once and then again, and
+# CALLS is justfile_rows. Without arguments it makes each call of the library once and then again, and
 # judges both results. In each run one allocation of one call is refused, alone or with all after it of
 # that call. The call has to return that memory ran out, or its plain result, and all others their plain
 # results. Prints a row for each call.
@@ -16,7 +16,7 @@
 set -u
 top=$(cd "$(dirname "$0")/.." && pwd)
 program=${1:-$top/crates/justfmt/out/justfmt}
-calls=${2:-$top/crates/justfile_growths/out/justfile_growths}
+calls=${2:-$top/crates/justfile_rows/out/justfile_rows}
 work=$(mktemp -d) || exit 2
 trap 'rm -rf "$work"' EXIT
 for it in "$program" "$calls"; do
@@ -105,7 +105,7 @@ sweep_call() {
         number=$((number + 1))
         rm -f "$work/mark"
         run LD_PRELOAD="$work/faults.so" FAULT_CALL=malloc FAULT_AT="$number" FAULT_HOW="$2" \
-            FAULT_AFTER="$1" FAULT_MARK="$work/mark" "$calls" once
+            FAULT_AFTER="$1" FAULT_MARK="$work/mark" "$calls"
         ended=$?
         [ -e "$work/mark" ] || break
         if [ "$ended" = 0 ] && cmp -s "$work/output" "$work/line" && [ ! -s "$work/errors" ]; then
@@ -124,7 +124,7 @@ sweep_call() {
 # All sweeps over calls of the library. Where nothing is refused, each call has to return its plain result.
 sweep_calls() {
     : >"$work/input"
-    run "$calls" once
+    run "$calls"
     plain=$?
     mv "$work/output" "$work/plain_output"
     mv "$work/errors" "$work/plain_errors"

@@ -1,6 +1,6 @@
 #!/bin/sh
 # Counts the instructions of lexing and of formatting justfiles of 100 KB, as valgrind counts them:
-# instructions.sh BENCH_LEX JUSTFMT. The programs are those that `rt run` builds in crates/bench_lex and
+# instructions.sh TEXT_ROWS JUSTFMT. The programs are those that `rt run` builds in crates/text_rows and
 # crates/justfmt. Prints a row for each justfile. Needs valgrind and python3; what it writes lies in
 # bench/out.
 set -eu

@@ -1,5 +1,5 @@
 #!/bin/sh
-# Times the lexer and the formatter: builds the programs bench_lex and justfmt, writes inputs of
+# Times the lexer and the formatter: builds the programs text_rows, which lexes, and justfmt, writes inputs of
 # three sizes, and prints two tables, of lexing alone and of formatting compared with lexing. Each time
 # is the least of nine runs. Needs rt and python3; its files are in bench/out and in the crates' folders
 # out.
@@ -19,9 +19,9 @@ build() {
 
 rm -rf "$out"
 mkdir "$out"
-build bench_lex
+build text_rows
 build justfmt
-lexer="$top/crates/bench_lex/out/bench_lex"
+lexer="$top/crates/text_rows/out/text_rows"
 formatter="$top/crates/justfmt/out/justfmt"
 
 python3 "$top/bench/inputs.py" "$out/inputs" $sizes

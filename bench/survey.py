@@ -1,7 +1,8 @@
 #!/usr/bin/env python3
 """Surveys texts that are broken: survey.py PROGRAM RECIPES [COUNT]
 
-PROGRAM is crates/surveyed, built, and RECIPES crates/recipes, which tells whether a text is a justfile.
+PROGRAM is crates/justfile_rows, built, which surveys the texts of rows with the word `surveys`, and RECIPES
+crates/recipes, which tells whether a text is a justfile.
 Breaks COUNT texts (2,000 unless given) of the rows of
 crates/justfile_rows that are justfiles with at least two named items: by a byte that is taken out or
 put in place of another one, or by a bracket or a quote that is put in. Prints in how many of those that
@@ -17,6 +18,7 @@ import re
 import resource
 import subprocess
 import sys
+import tempfile
 
 TOP = os.path.dirname(os.path.dirname(os.path.abspath(__file__)))
 ROWS = os.path.join(TOP, "crates", "justfile_rows", "data", "*.rows")
@@ -66,20 +68,35 @@ last:
 SEVEN_ITEMS = ["indentation", "target", "flags", "make", "m", "send", "last"]
 FOUR_LINES = {11, 14, 19, 27}
 
-ITEM = re.compile(r"item (\d+)-(\d+) name (\d+)-(\d+)(?: body (\d+)-(\d+))?( private)? (\S+) (.*)")
-ERROR = re.compile(r"error (\d+)-(\d+) (\d+):(\d+) (.*)")
+ITEM = re.compile(r"(\w+) (.*) (\d+)-(\d+) name (\d+)-(\d+)(?: body (\d+)-(\d+))?( private)?")
+ERROR = re.compile(r"error (\d+)-(\d+) (\d+):(\d+) (.*)", re.S)
+
+
+def escaped(text):
+    """The text as a field of a row has it."""
+    def one(found):
+        known = {"\n": "\\n", "\r": "\\r", "\t": "\\t", "\\": "\\\\"}
+        return known.get(found[0]) or f"\\u{{{ord(found[0]):x}}}"
+    return re.sub(r"[\x00-\x1f\x7f\\«»]", one, text)
 
 
 def surveyed(program, text):
-    """The items of a survey, as (start, end, kind, name), and its errors, as (offset, line)."""
-    out = subprocess.run([program], input=text.encode(), capture_output=True, check=True).stdout.decode()
+    """The items of a survey, as (start, end, kind, name), and its errors, as (offset, line).
+
+    The row expects nothing, so the program prints what it finds, unless that is nothing."""
+    with tempfile.NamedTemporaryFile("w", suffix=".rows", encoding="utf-8", newline="") as rows:
+        rows.write(f"surveys «{escaped(text)}»\n")
+        rows.flush()
+        out = subprocess.run([program, rows.name], capture_output=True).stdout.decode()
+    found = re.search(r"^  found:    (.*)$", out, re.M)
     items, errors = [], []
-    for line in out.splitlines():
-        item, error = ITEM.fullmatch(line), ERROR.fullmatch(line)
-        if item:
-            items.append((int(item[1]), int(item[2]), item[8], item[9]))
-        elif error:
+    for quoted in re.findall(r"«([^»]*)»", found[1] if found else ""):
+        field = unescaped(quoted)
+        item, error = ITEM.fullmatch(field), ERROR.fullmatch(field)
+        if error:
             errors.append((int(error[1]), int(error[3])))
+        elif item:
+            items.append((int(item[3]), int(item[4]), item[1], item[2]))
     return items, errors
 
 

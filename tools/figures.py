@@ -6,7 +6,7 @@
 - Times in sentences, each that stands soon after a command. A command has one time in all documents, and one that
   proves a crate from nothing has that of the crate and of all below it.
 
-Counts of rows aren't stated anywhere: the outputs of `text_rows`, `justfile_rows` and `program_rows` have them.
+Counts of rows aren't stated anywhere: the outputs of `text_rows` and `justfile_rows` have them.
 """
 import re
 import textwrap

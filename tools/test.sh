@@ -4,7 +4,7 @@
 #
 # Each is compiled with checks by `rt try`; its output and its status are compared with those that `rt ci` wants. Prints
 # a line for each, and what differs. Ends with 1 if something differs. JOBS=N runs N at a time; without it, one for every
-# two processors. The program justfile_growths isn't run: it takes all memory, which the checks need, too.
+# two processors. The row in scarce.rows isn't run: it takes all memory, which the checks need, too.
 set -u
 top=$(cd "$(dirname "$0")/.." && pwd)
 work=$(mktemp -d) || exit 2
@@ -20,7 +20,7 @@ if [ -z "$words" ]; then
     for file in data/*; do
         if [ -e "$file" ]; then words="$words --data ${file#data/}=$file"; fi
     done
-    words="$words -- $(grep -v long_rows args 2>/dev/null)"
+    words="$words -- $(grep -v -e long_rows -e scarce args 2>/dev/null)"
     wanted=$(cat status 2>/dev/null || echo 0)
     cp stdout "$at.wanted"
     # The last line counts the rows, also those that are left out.
@@ -42,7 +42,7 @@ EOF
 
 cd "$top/crates" || exit 2
 for crate in ${*:-*}; do
-    if [ -e "$crate/stdout" ] && [ "$crate" != justfile_growths ]; then printf '%s\0\0' "$crate"; fi
+    if [ -e "$crate/stdout" ]; then printf '%s\0\0' "$crate"; fi
     if grep -rqs '#\[test\]' "$crate/src"; then printf '%s\0--test\0' "$crate"; fi
 done >"$work/all"
 xargs -0 -r -n 2 -P "${JOBS:-$((($(nproc) + 1) / 2))}" sh "$work/one" <"$work/all" || exit 1

@@ -17,7 +17,7 @@ use row_items::copies::copies_items;
 use row_items::items::{WORKING_DIRECTORY, file};
 use row_items::items_part::{ItemsPart, push_of_items};
 use row_items::names::{features, unstable};
-use row_items::printing::{copies, prints_item};
+use row_items::printing::{copies, prints_item, stops};
 use row_items::recipes::{FILE_DEPTH, IMPORT_OFFSETS, RecipePart};
 use row_notation::{
     Answer, Text, field_at, indentation_at, number_at, push_expected, push_fault, push_message,
@@ -77,7 +77,8 @@ fn push_file(ast: &mut Ast<'_>, answer: &mut Answer, word: Word, fields: &[Strin
         | Word::Prints
         | Word::PrintsAt
         | Word::PrintsItem
-        | Word::PrintsUnder => push_printed(ast, answer, word, fields),
+        | Word::PrintsUnder
+        | Word::Stops => push_printed(ast, answer, word, fields),
         _ => push_of_items(&ast.items, answer, items_part(word, fields)),
     }
 }
@@ -140,6 +141,7 @@ fn push_printed(ast: &mut Ast<'_>, answer: &mut Answer, word: Word, fields: &[St
         }
         Word::ExpandsTo => push_value_and_text(ast, answer),
         Word::PrintsItem => prints_item(ast, answer, indentation),
+        Word::Stops => stops(ast, answer, number_at(fields, 1), field_at(fields, 0)),
         _ => prints(ast, answer, indentation, limit_of(word, fields)),
     }
 }
@@ -282,7 +284,7 @@ fn text_of(word: Word, fields: &[String]) -> &str {
         | Word::PrintsUnder
         | Word::RefusedUnder
         | Word::Sigils => field_at(fields, 1),
-        Word::Numbers => field_at(fields, 2),
+        Word::Numbers | Word::Stops => field_at(fields, 2),
         _ => field_at(fields, 0),
     }
 }

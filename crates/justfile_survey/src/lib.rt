@@ -13,6 +13,3 @@ mod whole;
 
 pub use crate::surveys::{Survey, SurveyedError, SurveyedItem};
 pub use crate::text::survey;
-
-#[cfg(test)]
-mod tests;

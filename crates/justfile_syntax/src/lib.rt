@@ -377,6 +377,3 @@ pub mod version {
 
     pub use justfile_numbers::Version;
 }
-
-#[cfg(test)]
-mod tests;

@@ -2,8 +2,8 @@
 
 use justfile_item::{Alias, Assignment, FunctionDefinition, Item, UnresolvedRecipe};
 use justfile_token::Namepath;
-use row_notation::Answer;
-use row_parts::copies::{copies_dependency, copies_parameter, push_copy};
+use row_notation::{Answer, push_copy};
+use row_parts::copies::{copies_dependency, copies_parameter};
 
 /// Writes `uncopied` if the copy of an assignment isn't equal to it.
 pub(crate) fn copies_assignment(assignment: &Assignment<'_>, answer: &mut Answer) {

@@ -6,6 +6,7 @@ use justfile_item::Item;
 use justfile_vocabulary::Indentation;
 use row_notation::{Answer, Stream, Text};
 use std::alloc::Global;
+use std::io::ErrorKind;
 
 /// Writes a file's printed text at an indentation.
 pub fn copies(ast: &Ast<'_>, answer: &mut Answer, indentation: Indentation) {
@@ -62,6 +63,26 @@ fn writes_at(
     if writer.text() != printed {
         answer.push("written");
         answer.push(writer.text());
+    }
+}
+
+/// Writes what a file prints to a writer that takes one byte in each of `calls` calls, and then is
+/// `broken`, `interrupted`, or takes `nothing`; and the fault, or `written` if there is none.
+pub fn stops(ast: &Ast<'_>, answer: &mut Answer, calls: u32, how: &str) {
+    let mut writer = Stream::new(answer.alloc(), b"", 1);
+    match how {
+        "interrupted" => writer.fail_with(ErrorKind::Interrupted),
+        _ => writer.fail_with(ErrorKind::BrokenPipe),
+    }
+    match how {
+        "nothing" => writer.fail_after(calls.saturating_add(1), 0),
+        _ => writer.fail_after(calls, 1),
+    }
+    let result = ast.print_to(Indentation::default(), &mut writer);
+    answer.push(writer.text());
+    match result {
+        Ok(()) => answer.push("written"),
+        Err(fault) => answer.push_made(format!(in answer.alloc(); "{fault:?}")),
     }
 }
 

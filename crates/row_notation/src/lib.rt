@@ -3,9 +3,11 @@
 #![tactic(auto)]
 
 mod answer;
+mod copy;
 mod field_reader;
 mod fields;
 mod literal;
+mod names;
 mod refusal;
 mod row;
 mod run;
@@ -13,10 +15,12 @@ mod stream;
 mod text;
 
 pub use crate::answer::Answer;
+pub use crate::copy::push_copy;
 pub use crate::fields::{
     field_at, indentation_at, indentation_of, is_indentation, is_number, number_at,
 };
 pub use crate::literal::push_string_kind;
+pub use crate::names::{names_in, path_from};
 pub use crate::refusal::{
     kind_of, place_after, push_expected, push_fault, push_message, push_refusal,
 };

@@ -17,6 +17,8 @@ pub struct Stream<'row> {
     calls: u32,
     /// How many bytes the last of these calls reads or writes at most.
     last_bytes: usize,
+    /// The error with which it fails.
+    fault: ErrorKind,
     /// Whether it has failed.
     pub has_failed: bool,
     /// Whether flushing it fails.
@@ -33,6 +35,7 @@ impl<'row> Stream<'row> {
             most_bytes,
             calls: u32::MAX,
             last_bytes: most_bytes,
+            fault: ErrorKind::BrokenPipe,
             has_failed: false,
             fails_at_flush: false,
         }
@@ -43,6 +46,11 @@ impl<'row> Stream<'row> {
     pub fn fail_after(&mut self, calls: u32, last_bytes: usize) {
         self.calls = calls;
         self.last_bytes = last_bytes;
+    }
+
+    /// Makes the stream fail with this error, once it fails.
+    pub fn fail_with(&mut self, fault: ErrorKind) {
+        self.fault = fault;
     }
 
     /// Returns what was written, or `not UTF-8`.
@@ -63,7 +71,7 @@ impl<'row> Stream<'row> {
             }
             None => {
                 self.has_failed = true;
-                Err(io::Error::from(ErrorKind::BrokenPipe))
+                Err(io::Error::from(self.fault))
             }
         }
     }

@@ -2,16 +2,7 @@
 
 use justfile_line::{Fragment, Line};
 use justfile_recipe_header::{DependencyArgument, Parameter, UnresolvedDependency};
-use row_notation::Answer;
-use std::alloc::AllocError;
-
-/// Writes `uncopied` if the copy of a value isn't equal to the value.
-pub fn push_copy<T: PartialEq + Drop>(value: &T, copy: Result<T, AllocError>, answer: &mut Answer) {
-    match copy {
-        Ok(copy) => answer.push_if("uncopied", copy != *value),
-        Err(_) => answer.fail(),
-    }
-}
+use row_notation::{Answer, push_copy};
 
 fn copies_fragment(fragment: &Fragment<'_>, answer: &mut Answer) {
     push_copy(fragment, fragment.clone(answer.alloc()), answer);

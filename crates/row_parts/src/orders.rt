@@ -6,7 +6,10 @@ use std::alloc::{AllocError, Global};
 use std::cmp::Ordering;
 
 /// Moves a value into a box, if it was made.
-fn boxed<T: Drop>(alloc: Global, made: Result<T, AllocError>) -> Result<Box<T>, AllocError> {
+pub(crate) fn boxed<T: Drop>(
+    alloc: Global,
+    made: Result<T, AllocError>,
+) -> Result<Box<T>, AllocError> {
     match made {
         Ok(value) => match Box::new(alloc, value) {
             Ok(value) => Ok(value),

@@ -1,5 +1,6 @@
 //! Tokens of texts, as rows show them.
 
+use crate::token_count::token_count;
 use crate::word::Word;
 use justfile_lex::Lexer;
 use justfile_parse_expression::significant::significant;
@@ -185,5 +186,13 @@ pub(crate) fn lex(answer: &mut Answer, word: Word, text: &str) {
     match Lexer::lex(answer.alloc(), "justfile", text) {
         Ok(tokens) => push_lexed(answer, word, text, tokens.as_slice()),
         Err(fault) => push_lexical_fault(answer, text, &fault),
+    }
+}
+
+/// Writes the number of a text's tokens, or the offset at which it is rejected.
+pub(crate) fn push_token_count(answer: &mut Answer, text: &str) {
+    match token_count(answer.alloc(), text) {
+        Ok(count) => answer.push_made(count.to_string(answer.alloc())),
+        Err(_) => answer.fail(),
     }
 }

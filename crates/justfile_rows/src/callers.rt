@@ -1,0 +1,54 @@
+//! Callers of the library, and a query.
+
+use formatted::formatted;
+use justfile_syntax::ast::Ast;
+use justfile_syntax::parser::{Query, query_root};
+use row_notation::{Answer, field_at, indentation_at, push_fault};
+use std::alloc::{AllocError, Global};
+use variables::variables_of;
+
+/// Writes what `formatted` returns for a text at an indentation.
+pub(crate) fn formats_at(answer: &mut Answer, fields: &[String]) {
+    let source = field_at(fields, 1);
+    match formatted(answer.alloc(), source, indentation_at(fields, 0)) {
+        Ok(text) => answer.push(text.as_str()),
+        Err(fault) => push_fault(answer, source, &fault),
+    }
+}
+
+/// Writes the names that `variables_of` returns for a text.
+pub(crate) fn variables(answer: &mut Answer, text: &str) {
+    match variables_of(answer.alloc(), text) {
+        Ok(names) => push_names(answer, &names),
+        Err(fault) => push_fault(answer, text, &fault),
+    }
+}
+
+fn push_names(answer: &mut Answer, names: &[&str]) {
+    for name in names {
+        answer.push(name);
+    }
+}
+
+/// Asks how many items a file has.
+struct Count;
+
+impl Query for Count {
+    ghost use Rattle.std.specs.Prelude.{◌≡◌, length};
+
+    type Answer = usize;
+
+    ghost answers = { λ _ ast count. count ≡ length ast.items.items };
+
+    fn answer(ast: &mut Ast<'_>, _alloc: Global, _query: &Self) -> Result<usize, AllocError> {
+        Ok(ast.items.len())
+    }
+}
+
+/// Writes how many items a text has, as a query answers.
+pub(crate) fn item_count(answer: &mut Answer, text: &str) {
+    match query_root(answer.alloc(), "justfile", text, &Count) {
+        Ok(count) => answer.push_number(count),
+        Err(fault) => push_fault(answer, text, &fault),
+    }
+}

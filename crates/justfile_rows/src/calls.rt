@@ -1,0 +1,102 @@
+//! Calls that no text leads to: attributes and interpreters that are made, files of modules, and
+//! faults.
+
+use justfile_syntax::ast::Ast;
+use justfile_syntax::expander::Unchanged;
+use justfile_syntax::format::FormatFault;
+use justfile_syntax::lexer::Lexer;
+use justfile_syntax::name::Name;
+use justfile_syntax::namepath::Namepath;
+use justfile_syntax::numerator::Numerator;
+use justfile_syntax::parser::{Parser, RECURSION_LIMIT};
+use justfile_syntax::token::Token;
+use justfile_syntax::version::Version;
+use row_items::items::push_items;
+use row_notation::{Answer, field_at, names_in, number_at, path_from, push_fault};
+use row_parts::made::{push_keyed, push_new};
+use std::alloc::{AllocError, AllocFailed, Global};
+
+/// Returns the tokens of a text, or none if it is rejected.
+fn tokens_of<'row>(alloc: Global, text: &'row str) -> Vec<Token<'row>> {
+    match Lexer::lex(alloc, "justfile", text) {
+        Ok(tokens) => tokens,
+        Err(_) => Vec::new(alloc),
+    }
+}
+
+/// Returns the names of a text, in order.
+fn names_of<'row>(alloc: Global, text: &'row str) -> Result<Vec<Name<'row>>, AllocError> {
+    names_in(alloc, &tokens_of(alloc, text))
+}
+
+/// Writes the attribute that is made of a number of arguments and the names of a text.
+pub(crate) fn makes(answer: &mut Answer, fields: &[String]) {
+    match names_of(answer.alloc(), field_at(fields, 1)) {
+        Ok(names) => push_new(&names, answer, number_at(fields, 0) as usize),
+        Err(_) => answer.fail(),
+    }
+}
+
+/// Writes the attribute that is made of keys and the two names of a text.
+pub(crate) fn makes_keyed(answer: &mut Answer, fields: &[String]) {
+    match names_of(answer.alloc(), field_at(fields, 1)) {
+        Ok(names) => push_keyed(&names, answer, field_at(fields, 0)),
+        Err(_) => answer.fail(),
+    }
+}
+
+/// Writes the lines of the fault that a failed allocation or a failed list becomes, or those of the
+/// fault that numbers ran out.
+pub(crate) fn fault_lines(answer: &mut Answer, which: &str) {
+    let fault = match which {
+        "memory" => FormatFault::from(AllocError),
+        "list" => FormatFault::from(AllocFailed { value: 1u8 }),
+        _ => FormatFault::Numbers,
+    };
+    answer.push(fault.lines());
+}
+
+/// Returns the path of the names of a text, which has one.
+fn path_of<'row>(alloc: Global, text: &'row str) -> Result<Namepath<'row>, AllocError> {
+    let names = names_of(alloc, text)?;
+    match names.split_first() {
+        Some((first, others)) => path_from(alloc, *first, others),
+        None => Err(AllocError),
+    }
+}
+
+/// Parses the tokens of a text as the file of the module with a path. Writes the file's module, its
+/// working directory and its items.
+pub(crate) fn in_module(answer: &mut Answer, fields: &[String]) {
+    match path_of(answer.alloc(), field_at(fields, 0)) {
+        Ok(path) => push_parsed(answer, &path, field_at(fields, 1)),
+        Err(_) => answer.fail(),
+    }
+}
+
+fn push_parsed(answer: &mut Answer, path: &Namepath<'_>, text: &str) {
+    let Ok(tokens) = Lexer::lex(answer.alloc(), "justfile", text) else {
+        return answer.push("none");
+    };
+    match Parser::parse(
+        answer.alloc(),
+        3,
+        &[],
+        Some(path),
+        &mut Numerator::new(5),
+        tokens.as_slice(),
+        "/home/m",
+        &Unchanged,
+        Version::CURRENT,
+        RECURSION_LIMIT,
+    ) {
+        Ok(mut ast) => push_file(&mut ast, answer),
+        Err(fault) => push_fault(answer, text, &fault),
+    }
+}
+
+fn push_file(ast: &mut Ast<'_>, answer: &mut Answer) {
+    answer.push_made(ast.module_path.to_string(answer.alloc()));
+    answer.push(ast.working_directory.as_str());
+    push_items(&ast.items, answer);
+}
