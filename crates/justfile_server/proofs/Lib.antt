@@ -1,4 +1,4 @@
 pub mod Firsts
 pub mod Given
+pub mod ItemMentions
 pub mod Linked
-pub mod Trees

@@ -1,7 +1,8 @@
 -- The files that the imports and the modules of a justfile lead to.
-use Rattle.std.specs.Prelude.{◌≡◌, ◌-◌, ℕ, Bool, false, true, List, [], ◌∷◌, Option, None, Some, codes, option_map, string_bytes, String}
+use Rattle.std.specs.Prelude.{◌≡◌, ◌≤◌, ◌-◌, ℕ, Bool, false, true, List, [], ◌∷◌, Option, None, Some, codes, option_map, string_bytes, String}
 use Rattle.std.specs.List.{slice_range}
 use Rattle.std.specs.Option.{option_or}
+use Rattle.std.specs.Str.{IsCharBoundary}
 use Rattle.std.specs.declared.alloc.Global.{Global}
 use Rattle.justfile_token.specs.declared.fault.Fault.{Fault}
 use Rattle.justfile_token.specs.declared.string_literal.StringLiteral.{StringLiteral}
@@ -31,10 +32,14 @@ pub data HasGiven (text : List ℕ) (path : Option (List ℕ)) : Type 0 where
   parsed : (ast : Ast) → IsRoot (codes "justfile") text ast → path ≡ given_in ast.items.items → HasGiven text path
   refused : (fault : Fault) → HasNoRoot (codes "justfile") text fault → path ≡ None → HasGiven text path
 
--- the text of an item: with the line feed before it
+-- the text from one offset up to another one is a part of the text
+abbrev pub HasPart : (text : List ℕ) (start end : ℕ) → Type 0
+HasPart text start end = (start ≤ end) × IsCharBoundary text start × IsCharBoundary text end
+
+-- the text of an item: with the line feed before it, and nothing if that is no part of the text
 pub data IsChunk (text : List ℕ) (span : Span) (chunk : List ℕ) : Type 0 where
   cut : chunk ≡ slice_range text (span.start - 1) span.end → IsChunk text span chunk
-  outside : chunk ≡ [] → IsChunk text span chunk
+  outside : (HasPart text (span.start - 1) span.end → ⊥) → chunk ≡ [] → IsChunk text span chunk
 
 -- the path of the file that a module leads to
 pub record IsPathOfModule (has : List ℕ → List (String Global) → Type 0) (folder text : List ℕ) (item : Item) (path : Option (List ℕ)) : Type 0 where

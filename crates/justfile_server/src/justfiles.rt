@@ -2,6 +2,8 @@
 ghost use Rattle.justfile_canonical.specs.Formatting.{IsFormatted};
 ghost use Rattle.justfile_mentions.specs.Names.{IsName};
 ghost use Rattle.justfile_analysis.specs.Knowledge.{Knows};
+ghost use Rattle.justfile_server.specs.Links.{IsPathOf, Links};
+ghost use Rattle.justfile_server.specs.Mentioned.{Mentioned};
 
 use crate::chunk::description_of;
 use crate::colors::colors_of;
@@ -30,11 +32,12 @@ impl<F: Folders> Language for Justfiles<'_, F> {
 
     ghost knows = { Knows };
 
-    ghost mentioned = { λ text analysis mentions. Unit {0} };
+    ghost mentioned = { Mentioned };
 
     ghost names = { IsName };
 
-    ghost linked = { λ folder text analysis links. Unit {0} };
+    ghost linked = { λ folder text analysis links.
+        Links (IsPathOf F.has folder text) analysis.items.items links };
 
     fn analysis(&self, alloc: Global, text: &str) -> Result<Analysis, AllocError> {
         analysis_of(alloc, text)
@@ -84,7 +87,7 @@ impl<F: Folders> Language for Justfiles<'_, F> {
         text: &str,
         analysis: &Analysis,
     ) -> Result<Vec<FileLink>, AllocError> {
-        links_of(alloc, self.folders, folder, text, analysis)
+        links_of(alloc, self.folders, folder, text, &analysis.items)
     }
 
     fn description(

@@ -1,10 +1,10 @@
 //! The files that the imports and the modules of a justfile lead to.
 ghost use Rattle.std.specs.Prelude.{◌≡◌, IfOk, option_copied, option_map, string_bytes};
-ghost use Rattle.justfile_server.specs.Links.{given, given_in};
+ghost use Rattle.justfile_server.specs.Links.{HasGiven, IsPathOf, Links, given, given_in};
 
 use crate::chunk::chunk_text;
 use crate::modules::{Folders, module_path};
-use editor_language::{Analysis, FileLink, Item};
+use editor_language::{FileLink, Item};
 use editor_messages::SymbolKind;
 use justfile_ast::Ast;
 use justfile_canonical::reading::{Query, query_root};
@@ -57,7 +57,9 @@ fn given_in(items: &[TreeItem<'_>]) -> Result<Option<String>, AllocError>
 }
 
 /// Returns the path that the module in a text is given, if it is.
-fn given_path(alloc: Global, chunk: &str) -> Result<Option<String>, AllocError> {
+fn given_path(alloc: Global, chunk: &str) -> Result<Option<String>, AllocError>
+    ensures { IfOk result (λ path. HasGiven chunk.now (option_map string_bytes path)) }
+{
     match query_root(alloc, "justfile", chunk, &PathQuery) {
         Ok(path) => Ok(path),
         Err(Fault::Memory) => Err(AllocError),
@@ -72,7 +74,10 @@ fn path_of<F: Folders>(
     folder: Option<&str>,
     text: &str,
     item: &Item,
-) -> Result<Option<String>, AllocError> {
+) -> Result<Option<String>, AllocError>
+    ensures { IfOk result (λ path. IsPathOf F.has (option_copied folder.entry) text.now item.now
+        (option_map string_bytes path)) }
+{
     if item.is_link {
         return Ok(Some(item.name.clone()?));
     }
@@ -88,20 +93,25 @@ fn path_of<F: Folders>(
     }
 }
 
-/// Returns what leads to files in a text. Its document is in the folder at a path, if it is a file.
+/// Returns what leads to files among the items of a text. Its document is in the folder at a path, if it
+/// is a file.
 pub(crate) fn links_of<F: Folders>(
     alloc: Global,
     folders: &F,
     folder: Option<&str>,
     text: &str,
-    analysis: &Analysis,
-) -> Result<Vec<FileLink>, AllocError> {
+    items: &[Item],
+) -> Result<Vec<FileLink>, AllocError>
+    ensures { IfOk result (λ links. Links (IsPathOf F.has (option_copied folder.entry) text.now)
+        items.now links.items) }
+{
     let mut links = Vec::new(alloc);
-    for item in &analysis.items {
-        if let Some(path) = path_of(alloc, folders, folder, text, item)? {
-            let span = item.name_span;
-            links.push(FileLink { span, path })?;
-        }
+    for item in items {
+        let Some(path) = path_of(alloc, folders, folder, text, item)? else {
+            continue;
+        };
+        let span = item.name_span;
+        links.push(FileLink { span, path })?;
     }
     Ok(links)
 }

@@ -1,6 +1,7 @@
 //! Where the names of a justfile are defined and used.
-ghost use Rattle.std.specs.Prelude.{map};
+ghost use Rattle.std.specs.Prelude.{◌≡◌, ◌++◌, IfOk, OnOk, map, option_map};
 ghost use Rattle.justfile_mentions.specs.Mentions.{AreMentions, noted};
+ghost use Rattle.justfile_server.specs.Mentioned.{AddsChunk, AreInItems, AreInText, AreMentioned, moved};
 
 use crate::chunk::{chunk_start, chunk_text};
 use editor_language::{Item, Mention, Problem, Span};
@@ -19,7 +20,7 @@ impl Query for MentionQuery {
 
     ghost answers = { λ query ast found. AreMentions 0 ast.items.items (map noted found.items) };
 
-    #[tactic(auto, using(crate::proofs::Trees::same_items))]
+    #[tactic(auto, using(crate::proofs::ItemMentions::same_items))]
     fn answer(ast: &mut Ast<'_>, alloc: Global, _query: &Self) -> Result<Vec<Mention>, AllocError> {
         mentions(&ast.items, alloc)
     }
@@ -32,7 +33,10 @@ pub(crate) fn mentions_of(
     text: &str,
     problems: &[Problem],
     items: &[Item],
-) -> Result<Vec<Mention>, AllocError> {
+) -> Result<Vec<Mention>, AllocError>
+    ensures { IfOk result
+        (λ found. AreMentioned text.now problems.now items.now (map noted found.items)) }
+{
     match problems {
         [] => mentions_of_text(alloc, text, items),
         [_, ..] => mentions_of_items(alloc, text, items),
@@ -40,7 +44,9 @@ pub(crate) fn mentions_of(
 }
 
 /// Returns where names are defined and used in the tree of a text, or in its items if it has none.
-fn mentions_of_text(alloc: Global, text: &str, items: &[Item]) -> Result<Vec<Mention>, AllocError> {
+fn mentions_of_text(alloc: Global, text: &str, items: &[Item]) -> Result<Vec<Mention>, AllocError>
+    ensures { IfOk result (λ found. AreInText text.now items.now (map noted found.items)) }
+{
     match query_root(alloc, "justfile", text, &MentionQuery) {
         Ok(found) => Ok(found),
         Err(Fault::Memory) => Err(AllocError),
@@ -49,11 +55,9 @@ fn mentions_of_text(alloc: Global, text: &str, items: &[Item]) -> Result<Vec<Men
 }
 
 /// Returns where names are defined and used in the items of a text that can be parsed.
-fn mentions_of_items(
-    alloc: Global,
-    text: &str,
-    items: &[Item],
-) -> Result<Vec<Mention>, AllocError> {
+fn mentions_of_items(alloc: Global, text: &str, items: &[Item]) -> Result<Vec<Mention>, AllocError>
+    ensures { IfOk result (λ found. AreInItems text.now items.now (map noted found.items)) }
+{
     let mut mentions = Vec::new(alloc);
     for item in items {
         push_chunk(
@@ -72,7 +76,9 @@ pub(crate) fn push_chunk(
     mentions: &mut Vec<Mention>,
     chunk: &str,
     base: usize,
-) -> Result<(), AllocError> {
+) -> Result<(), AllocError>
+    ensures { OnOk result (AddsChunk base chunk.now mentions.old.items mentions.new.items) }
+{
     match query_root(alloc, "justfile", chunk, &MentionQuery) {
         Ok(found) => push_moved(mentions, found, base),
         Err(Fault::Memory) => Err(AllocError),
@@ -85,7 +91,10 @@ fn push_moved(
     mentions: &mut Vec<Mention>,
     found: Vec<Mention>,
     base: usize,
-) -> Result<(), AllocError> {
+) -> Result<(), AllocError>
+    ensures { OnOk result (map noted mentions.new.items
+        ≡ map noted mentions.old.items ++ map (moved base) (map noted found.items)) }
+{
     for mention in found {
         mentions.push(moved(mention, base))?;
     }
@@ -93,18 +102,27 @@ fn push_moved(
 }
 
 /// Returns a mention in a text that begins at an offset of another one, as it is in that one.
-fn moved(mention: Mention, base: usize) -> Mention {
+fn moved(mention: Mention, base: usize) -> Mention
+    ensures { noted result ≡ moved base (noted mention) }
+{
     Mention {
         role: mention.role,
         name: mention.name,
-        scope: match mention.scope {
-            Some(_) => Some(base),
-            None => None,
-        },
+        scope: moved_scope(mention.scope, base),
         span: Span {
             start: base.saturating_add(mention.span.start),
             end: base.saturating_add(mention.span.end),
         },
         defines: mention.defines,
+    }
+}
+
+/// Returns the item in which alone a name is known, in a text that begins at an offset of another one.
+fn moved_scope(scope: Option<usize>, base: usize) -> Option<usize>
+    ensures { result ≡ option_map (λ index. base) scope }
+{
+    match scope {
+        Some(_) => Some(base),
+        None => None,
     }
 }
