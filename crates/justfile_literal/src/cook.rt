@@ -7,7 +7,7 @@ ghost use Rattle.justfile_literal_parts.specs.Pieces.{piece_fault};
 
 use justfile_literal_parts::escape::{read_piece, split_first};
 use justfile_literal_parts::escape_fault::EscapeFault;
-use justfile_token::{CompileResult, Fault, StringKind, Token};
+use justfile_token::{CompileError, CompileResult, Fault, StringKind, Token};
 use std::alloc::{AllocError, Global};
 
 /// Returns the text of a literal of this kind, with its escapes replaced if its quotes are double.
@@ -65,7 +65,7 @@ fn escape_fault<'src>(alloc: Global, token: Token<'src>, fault: EscapeFault<'_>)
         → IsCookFault text token.entry result }
 {
     match fault.into_kind(alloc) {
-        Ok(kind) => Fault::Compile(token.error(kind)),
+        Ok(kind) => Fault::Compile(CompileError { kind, token }),
         Err(_) => Fault::Memory,
     }
 }

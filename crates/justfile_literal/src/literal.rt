@@ -1,15 +1,16 @@
 //! Strings and commands, made of their tokens.
-ghost use Rattle.std.specs.Prelude.{◌≡◌, IfErr, IfOk, IfSome, IsFalse, IsTrue, Ok, string_bytes};
+ghost use Rattle.std.specs.Prelude.{◌≡◌, ℕ, List, Result, Ok, Err, IfErr, IfOk, IfSome, IsFalse, IsTrue, string_bytes};
 ghost use Rattle.justfile_token.specs.StringKind.{kind_of};
 ghost use Rattle.justfile_token.specs.Token.{lexeme_of};
 ghost use Rattle.justfile_model.specs.LiteralTexts.Cook.{Cooks};
-ghost use Rattle.justfile_model.specs.LiteralTexts.Literals.{Expansions, Command, between_quotes, by_answer, cooked_text, flush_text, string_of, string_text};
+ghost use Rattle.justfile_model.specs.LiteralTexts.Literals.{Expansions, Command, LiteralFault, Refused, Shebang, between_quotes, by_answer, cooked_text, flush_text, string_of, string_text};
 ghost use Rattle.justfile_literal.specs.Literal.{IsStringOf, IsTextFault, answers_by, is_quoted};
 
 use crate::cook::replace_escapes;
 use justfile_literal_parts::unindent::unindent;
 use justfile_token::{
-    CompileErrorKind, CompileResult, ExpandFault, Expander, Fault, StringKind, StringLiteral, Token,
+    CompileError, CompileErrorKind, CompileResult, ExpandFault, Expander, Fault, StringKind,
+    StringLiteral, Token,
 };
 use std::alloc::{AllocError, Global};
 
@@ -87,9 +88,18 @@ pub fn command<'src>(alloc: Global, token: Token<'src>) -> CompileResult<'src, S
 {
     let text = read_flush_text(alloc, token.lexeme())?;
     if text.as_str().starts_with("#!") {
-        return Err(Fault::Compile(token.error(CompileErrorKind::BacktickShebang)));
+        return Err(shebang_fault(token));
     }
     Ok(text)
+}
+
+/// Returns the error at the token for a command that begins with `#!`.
+fn shebang_fault(token: Token<'_>) -> Fault<'_>
+    ensures { (text : Result (List ℕ) LiteralFault) → text ≡ Err Shebang
+        → IsTextFault text token.entry result }
+{
+    let kind = CompileErrorKind::BacktickShebang;
+    Fault::Compile(CompileError { kind, token })
 }
 
 /// Returns the text of a string, with its escapes replaced if the quotes are double.
@@ -147,9 +157,16 @@ fn expand_text<'src, X: Expander>(
 {
     match expander.expand(alloc, text) {
         Ok(expanded) => Ok(expanded),
-        Err(ExpandFault::Refused(err)) => Err(Fault::Compile(token.error(
-            CompileErrorKind::ShellExpansion { err },
-        ))),
+        Err(ExpandFault::Refused(err)) => Err(expansion_fault(token, err)),
         Err(ExpandFault::Memory) => Err(Fault::Memory),
     }
+}
+
+/// Returns the error at the token for a text that the expander can't expand, for this reason.
+fn expansion_fault(token: Token<'_>, err: String) -> Fault<'_>
+    ensures { (text : Result (List ℕ) LiteralFault) → text ≡ Err (Refused (string_bytes err))
+        → IsTextFault text token.entry result }
+{
+    let kind = CompileErrorKind::ShellExpansion { err };
+    Fault::Compile(CompileError { kind, token })
 }
