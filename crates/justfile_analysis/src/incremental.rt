@@ -171,22 +171,18 @@ fn with_rest(
     }
 }
 
-/// Returns the index of the first item that ends at an offset or after it.
+/// Returns the index of the first item that ends at an offset or after it, or the number of items.
 fn first_ending_from(items: &[Item], offset: usize) -> usize {
-    for (index, item) in items.iter().enumerate() {
-        if item.span.end >= offset {
-            return index;
-        }
-    }
-    items.len()
+    items
+        .iter()
+        .position(|item| item.span.end >= offset)
+        .unwrap_or(items.len())
 }
 
-/// Returns the index of the first item that begins at an offset or after it.
+/// Returns the index of the first item that begins at an offset or after it, or the number of items.
 fn first_beginning_from(items: &[Item], offset: usize) -> usize {
-    for (index, item) in items.iter().enumerate() {
-        if item.span.start >= offset {
-            return index;
-        }
-    }
-    items.len()
+    items
+        .iter()
+        .position(|item| item.span.start >= offset)
+        .unwrap_or(items.len())
 }
