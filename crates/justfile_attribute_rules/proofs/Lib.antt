@@ -5,3 +5,4 @@ pub mod Loops
 pub mod Quoted
 pub mod Refused
 pub mod StepLaws
+pub mod Takes
