@@ -1,5 +1,4 @@
 pub mod CopiedLists
-mod KindHalves
 pub mod PathLemmas
 pub mod PutLemmas
 mod TokenStart

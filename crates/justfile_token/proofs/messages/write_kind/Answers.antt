@@ -1,4 +1,3 @@
-use Rattle.justfile_token.proofs.KindHalves.{from_m}
 use Rattle.justfile_token.proofs.messages.write_kind.Goals as goal
 
 pub returns-in-ArgAttributeMinExceedsMax : goal.returns-in-ArgAttributeMinExceedsMax
@@ -109,8 +108,77 @@ returns-in-InvalidMinimumVersion g c = rw c.in-InvalidMinimumVersion.is c.write_
 pub returns-in-InvalidSignal : goal.returns-in-InvalidSignal
 returns-in-InvalidSignal g c = rw c.in-InvalidSignal.is c.write_around-in-InvalidSignal.ensures
 
-pub write_kind_from_m-requires : goal.write_kind_from_m-requires
-write_kind_from_m-requires g c = from_m c.args.kind.now c.in_default.not-ArgAttributeMinExceedsMax c.in_default.not-ArgAttributeRequiresMultipleOrVariadic c.in_default.not-ArgAttributeRequiresOption c.in_default.not-ArgumentCountParse c.in_default.not-ArgumentCountValue c.in_default.not-AttributeArgumentCountMismatch c.in_default.not-AttributeArgumentExpression c.in_default.not-AttributeKeyMissingValue c.in_default.not-AttributeKeyTakesNoValue c.in_default.not-AttributePositionalFollowsKeyword c.in_default.not-BacktickShebang c.in_default.not-CircularRecipeDependency c.in_default.not-CircularVariableDependency c.in_default.not-DependencyArgumentCountMismatch c.in_default.not-DuplicateArgAttribute c.in_default.not-DuplicateAttribute c.in_default.not-DuplicateAttributeKey c.in_default.not-DuplicateDefault c.in_default.not-DuplicateFunctionParameter c.in_default.not-DuplicateGroupAttribute c.in_default.not-DuplicateOption c.in_default.not-DuplicateParameter c.in_default.not-DuplicateSet c.in_default.not-DuplicateUnexport c.in_default.not-DuplicateVariable c.in_default.not-EscapeEndOfFile c.in_default.not-ExitMessageAndNoExitMessageAttribute c.in_default.not-ExpectedKeyword c.in_default.not-ExportUnexported c.in_default.not-ExtraLeadingWhitespace c.in_default.not-ExtraneousAttributes c.in_default.not-FlagAndPatternArgAttribute c.in_default.not-FlagAndValueArgAttribute c.in_default.not-FlagAttributeTakesNoValue c.in_default.not-FlagWithDefault c.in_default.not-FunctionArgumentCountMismatch c.in_default.not-GuardAndInfallibleSigil c.in_default.not-IncompatibleSettings c.in_default.not-InconsistentLeadingWhitespace c.in_default.not-Internal c.in_default.not-InvalidAttribute c.in_default.not-InvalidEscapeSequence c.in_default.not-InvalidIndentation c.in_default.not-InvalidMinimumVersion c.in_default.not-InvalidShellRecipeAttribute c.in_default.not-InvalidSignal c.in_default.not-ListFeature
+pub returns-in-MinimumVersion : goal.returns-in-MinimumVersion
+returns-in-MinimumVersion g c = rw c.in-MinimumVersion.is c.write_minimum_version.ensures
 
-pub returns-in_default : goal.returns-in_default
-returns-in_default g c = c.write_kind_from_m.ensures
+pub returns-in-MismatchedClosingDelimiter : goal.returns-in-MismatchedClosingDelimiter
+returns-in-MismatchedClosingDelimiter g c = rw c.in-MismatchedClosingDelimiter.is c.write_mismatched.ensures
+
+pub returns-in-MixedLeadingWhitespace : goal.returns-in-MixedLeadingWhitespace
+returns-in-MixedLeadingWhitespace g c = rw c.in-MixedLeadingWhitespace.is c.write_mixed.ensures
+
+pub returns-in-NoCdAndWorkingDirectoryAttribute : goal.returns-in-NoCdAndWorkingDirectoryAttribute
+returns-in-NoCdAndWorkingDirectoryAttribute g c = rw c.in-NoCdAndWorkingDirectoryAttribute.is c.write_around-in-NoCdAndWorkingDirectoryAttribute.ensures
+
+pub returns-in-OptionNameContainsEqualSign : goal.returns-in-OptionNameContainsEqualSign
+returns-in-OptionNameContainsEqualSign g c = rw c.in-OptionNameContainsEqualSign.is c.write_around-in-OptionNameContainsEqualSign.ensures
+
+pub returns-in-OptionNameEmpty : goal.returns-in-OptionNameEmpty
+returns-in-OptionNameEmpty g c = rw c.in-OptionNameEmpty.is c.write_around-in-OptionNameEmpty.ensures
+
+pub returns-in-OptionNameStartsWithDash : goal.returns-in-OptionNameStartsWithDash
+returns-in-OptionNameStartsWithDash g c = rw c.in-OptionNameStartsWithDash.is c.write_around-in-OptionNameStartsWithDash.ensures
+
+pub returns-in-ParameterFollowsVariadicParameter : goal.returns-in-ParameterFollowsVariadicParameter
+returns-in-ParameterFollowsVariadicParameter g c = rw c.in-ParameterFollowsVariadicParameter.is c.write_around-in-ParameterFollowsVariadicParameter.ensures
+
+pub returns-in-Redefinition : goal.returns-in-Redefinition
+returns-in-Redefinition g c = rw c.in-Redefinition.is c.write_redefinition.ensures
+
+pub returns-in-RequiredParameterFollowsDefaultParameter : goal.returns-in-RequiredParameterFollowsDefaultParameter
+returns-in-RequiredParameterFollowsDefaultParameter g c = rw c.in-RequiredParameterFollowsDefaultParameter.is c.write_around-in-RequiredParameterFollowsDefaultParameter.ensures
+
+pub returns-in-ScriptAndShellAttribute : goal.returns-in-ScriptAndShellAttribute
+returns-in-ScriptAndShellAttribute g c = rw c.in-ScriptAndShellAttribute.is c.write_around-in-ScriptAndShellAttribute.ensures
+
+pub returns-in-SettingExpression : goal.returns-in-SettingExpression
+returns-in-SettingExpression g c = rw c.in-SettingExpression.is c.write_around-in-SettingExpression.ensures
+
+pub returns-in-ShortOptionWithMultipleCharacters : goal.returns-in-ShortOptionWithMultipleCharacters
+returns-in-ShortOptionWithMultipleCharacters g c = rw c.in-ShortOptionWithMultipleCharacters.is c.write_around-in-ShortOptionWithMultipleCharacters.ensures
+
+pub returns-in-UndefinedArgAttribute : goal.returns-in-UndefinedArgAttribute
+returns-in-UndefinedArgAttribute g c = rw c.in-UndefinedArgAttribute.is c.write_around-in-UndefinedArgAttribute.ensures
+
+pub returns-in-UndefinedFunction : goal.returns-in-UndefinedFunction
+returns-in-UndefinedFunction g c = rw c.in-UndefinedFunction.is c.write_around-in-UndefinedFunction.ensures
+
+pub returns-in-UndefinedVariable : goal.returns-in-UndefinedVariable
+returns-in-UndefinedVariable g c = rw c.in-UndefinedVariable.is c.write_around-in-UndefinedVariable.ensures
+
+pub returns-in-UnicodeEscapeCharacter : goal.returns-in-UnicodeEscapeCharacter
+returns-in-UnicodeEscapeCharacter g c = rw c.in-UnicodeEscapeCharacter.is c.write_around-in-UnicodeEscapeCharacter.ensures
+
+pub returns-in-UnicodeEscapeDelimiter : goal.returns-in-UnicodeEscapeDelimiter
+returns-in-UnicodeEscapeDelimiter g c = rw c.in-UnicodeEscapeDelimiter.is c.write_around-in-UnicodeEscapeDelimiter.ensures
+
+pub returns-in-UnicodeEscapeLength : goal.returns-in-UnicodeEscapeLength
+returns-in-UnicodeEscapeLength g c = rw c.in-UnicodeEscapeLength.is c.write_around-in-UnicodeEscapeLength.ensures
+
+pub returns-in-UnicodeEscapeRange : goal.returns-in-UnicodeEscapeRange
+returns-in-UnicodeEscapeRange g c = rw c.in-UnicodeEscapeRange.is c.write_around-in-UnicodeEscapeRange.ensures
+
+pub returns-in-UnknownAliasTarget : goal.returns-in-UnknownAliasTarget
+returns-in-UnknownAliasTarget g c = rw c.in-UnknownAliasTarget.is c.write_both-in-UnknownAliasTarget.ensures
+
+pub returns-in-UnknownAttribute : goal.returns-in-UnknownAttribute
+returns-in-UnknownAttribute g c = rw c.in-UnknownAttribute.is c.write_around-in-UnknownAttribute.ensures
+
+pub returns-in-UnknownAttributeKey : goal.returns-in-UnknownAttributeKey
+returns-in-UnknownAttributeKey g c = rw c.in-UnknownAttributeKey.is c.write_both-in-UnknownAttributeKey.ensures
+
+pub returns-in-UnknownDependency : goal.returns-in-UnknownDependency
+returns-in-UnknownDependency g c = rw c.in-UnknownDependency.is c.write_both-in-UnknownDependency.ensures
+
+pub returns-in-UnknownSetting : goal.returns-in-UnknownSetting
+returns-in-UnknownSetting g c = rw c.in-UnknownSetting.is c.write_around-in-UnknownSetting.ensures
