@@ -1,4 +1,3 @@
-use Rattle.std.proofs.Common.{◌≡◌, ap, codes}
 use Rattle.justfile_token.specs.declared.token.Token.{Token}
 use Rattle.justfile_model.specs.Readers.NewAttribute.{◌>>=◌, Made}
 use Rattle.justfile_attribute_rules.specs.ArgumentRules.{rules_of}

@@ -1,6 +1,6 @@
 use Rattle.std.proofs.Common.{◌∙◌, ap, codes, Option, Ok}
 use Rattle.justfile_token.specs.declared.token.Token.{Token}
-use Rattle.justfile_model.specs.Readers.NewAttribute.{◌>>=◌, Made, if_given}
+use Rattle.justfile_model.specs.Readers.NewAttribute.{Made, if_given}
 use Rattle.justfile_attribute_rules.specs.ArgumentRules.{rules_of}
 use Rattle.justfile_attribute_rules.specs.Keys.{key_arguments, without}
 use Rattle.justfile_attribute_rules.specs.Steps.{Keys, Rules, at, flag_made, multiple_made, multiple_of}

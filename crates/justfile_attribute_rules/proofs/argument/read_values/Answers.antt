@@ -1,7 +1,7 @@
 use Rattle.std.proofs.Common.{◌∙◌, ap, codes, Option, Ok}
 use Rattle.std.specs.Option.{option_map}
 use Rattle.justfile_token.specs.declared.token.Token.{Token}
-use Rattle.justfile_model.specs.Readers.NewAttribute.{◌>>=◌, Made, if_given, property}
+use Rattle.justfile_model.specs.Readers.NewAttribute.{Made, if_given, property}
 use Rattle.justfile_model.specs.Trees.Tree.{Expr, Property}
 use Rattle.justfile_expression.specs.LeafTree.{Leaf, leaf_tree_of}
 use Rattle.justfile_attribute_rules.specs.ArgumentRules.{property_of, rules_of}

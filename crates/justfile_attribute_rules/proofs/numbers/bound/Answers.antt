@@ -1,4 +1,4 @@
-use Rattle.std.proofs.Common.{◌≡◌, ◌∙◌, ℕ, Option, Some, None, Ok, ap}
+use Rattle.std.proofs.Common.{◌∙◌, ℕ, Option, Some, None, Ok, ap}
 use Rattle.std.specs.Option.{option_map}
 use Rattle.justfile_token.specs.declared.token.Token.{Token}
 use Rattle.justfile_model.specs.Readers.NewAttribute.{◌>>=◌, Made, literal}
