@@ -14,15 +14,15 @@ ghost use Rattle.justfile_attribute.specs.Cached.{cache_of, cache_read};
 ghost use Rattle.justfile_attribute.specs.New.{IsCounted, HasDerivedAttributeFields, continue_made, has_no_own_rules, takes_no_arguments, values_of, with_known};
 ghost use Rattle.justfile_attribute_rules.specs.ArgumentRules.{AreNamed, rules_of};
 ghost use Rattle.justfile_attribute_rules.specs.Keys.{IsTaken, key_arguments, views_keys};
-ghost use Rattle.justfile_attribute_rules.specs.Made.{Makes, MakesBoxed, positional_leaves, quoted_leaf, quoted_leaves};
+ghost use Rattle.justfile_attribute_rules.specs.Made.{Makes, positional_leaves, quoted_leaf, quoted_leaves};
 
 use crate::attribute::Attribute;
 use crate::boxes::{boxed_pairs, boxed_values};
 use crate::cache_values::CacheValues;
 use crate::interpreter::Interpreter;
 use justfile_attribute_rules::{
-    ArgumentRules, KeyMap, RuleResult, accepts_expressions, check_count, check_keys,
-    read_argument_rules, signal_set, string_literals, take_value,
+    ArgumentRules, KeyMap, accepts_expressions, check_count, check_keys, read_argument_rules,
+    signal_set, string_literals, take_value,
 };
 use justfile_expression::Expression;
 use justfile_token::{CompileResult, Name, StringLiteral, Token};
@@ -65,6 +65,7 @@ impl<'src> Attribute<'src> {
     /// # Errors
     ///
     /// `Compile` for the first broken rule; `Memory` if out of memory.
+    #[tactic(auto, using(justfile_attribute_rules::proofs::Refused::refused_first, crate::proofs::Counted::as_many), unfolding(justfile_model::specs::Readers::NewAttribute::new_attribute))]
     pub fn from_boxes(
         alloc: Global,
         name: Name<'src>,
@@ -77,49 +78,31 @@ impl<'src> Attribute<'src> {
             (key_arguments keyword_arguments.entry)) }
         ensures fields { IfOk result HasDerivedAttributeFields }
     {
-        Ok(by_rules(alloc, name, kind, arguments, keyword_arguments)?)
-    }
-}
-
-/// Returns the attribute of this kind with these arguments.
-#[tactic(auto, using(justfile_attribute_rules::proofs::Refused::boxed_first, crate::proofs::Counted::as_many), unfolding(justfile_model::specs::Readers::NewAttribute::new_attribute))]
-fn by_rules<'src>(
-    alloc: Global,
-    name: Name<'src>,
-    kind: AttributeKind,
-    arguments: Vec<(Token<'src>, Box<Expression<'src>>)>,
-    keys: KeyMap<'src>,
-) -> RuleResult<'src, Attribute<'src>>
-    ensures made { MakesBoxed leaf_attribute_of result (new.new_attribute views_keys
-        name.entry.token kind (positional_leaves arguments.entry.items)
-        (key_arguments keys.entry)) }
-    ensures fields { IfOk result HasDerivedAttributeFields }
-{
-    check_count(alloc, name, kind, arguments.len())?;
-    if accepts_expressions(kind) {
-        from_expressions(alloc, name, kind, arguments, keys)
-    } else {
-        from_literals(alloc, name, kind, arguments, keys)
+        check_count(name, kind, arguments.len())?;
+        if accepts_expressions(kind) {
+            from_expressions(name, kind, arguments, keyword_arguments)
+        } else {
+            from_literals(alloc, name, kind, arguments, keyword_arguments)
+        }
     }
 }
 
 /// Returns an attribute whose positional arguments are any expressions.
-#[tactic(auto, using(justfile_attribute_rules::proofs::Refused::boxed_first))]
+#[tactic(auto, using(justfile_attribute_rules::proofs::Refused::refused_first))]
 fn from_expressions<'src>(
-    alloc: Global,
     name: Name<'src>,
     kind: AttributeKind,
     arguments: Vec<(Token<'src>, Box<Expression<'src>>)>,
     keys: KeyMap<'src>,
-) -> RuleResult<'src, Attribute<'src>>
+) -> CompileResult<'src, Attribute<'src>>
     requires kind { takes_expressions kind ≡ true }
     requires counted { IsCounted name.token kind (length (positional_leaves arguments.items)) }
-    ensures made { MakesBoxed leaf_attribute_of result (new.from_expressions views_keys
+    ensures made { Makes leaf_attribute_of result (new.from_expressions views_keys
         name.entry.token kind (positional_leaves arguments.entry.items)
         (key_arguments keys.entry)) }
     ensures fields { IfOk result HasDerivedAttributeFields }
 {
-    check_keys(alloc, name, kind, &keys)?;
+    check_keys(name, kind, &keys)?;
     match kind {
         AttributeKind::Confirm => Ok(Attribute::Confirm(first(arguments))),
         AttributeKind::Doc => Ok(Attribute::Doc(first(arguments))),
@@ -173,17 +156,17 @@ fn env<'src>(mut arguments: Vec<(Token<'src>, Box<Expression<'src>>)>) -> Attrib
 }
 
 /// Returns an attribute whose positional arguments are literals.
-#[tactic(auto, using(justfile_attribute_rules::proofs::Refused::boxed_first))]
+#[tactic(auto, using(justfile_attribute_rules::proofs::Refused::refused_first))]
 fn from_literals<'src>(
     alloc: Global,
     name: Name<'src>,
     kind: AttributeKind,
     arguments: Vec<(Token<'src>, Box<Expression<'src>>)>,
     mut keys: KeyMap<'src>,
-) -> RuleResult<'src, Attribute<'src>>
+) -> CompileResult<'src, Attribute<'src>>
     requires kind { takes_expressions kind ≡ false }
     requires counted { IsCounted name.token kind (length (positional_leaves arguments.items)) }
-    ensures made { MakesBoxed leaf_attribute_of result (new.from_literals views_keys name.entry.token
+    ensures made { Makes leaf_attribute_of result (new.from_literals views_keys name.entry.token
         kind (positional_leaves arguments.entry.items) (key_arguments keys.entry)) }
     ensures fields { IfOk result HasDerivedAttributeFields }
 {
@@ -200,10 +183,10 @@ fn of_literals<'src>(
     kind: AttributeKind,
     literals: Vec<StringLiteral<'src>>,
     keys: &mut KeyMap<'src>,
-) -> RuleResult<'src, Attribute<'src>>
+) -> CompileResult<'src, Attribute<'src>>
     requires kind { takes_expressions kind ≡ false }
     requires counted { IsCounted name.token kind (length (quoted_leaves literals.items)) }
-    ensures made { MakesBoxed leaf_attribute_of result
+    ensures made { Makes leaf_attribute_of result
         (with_known (new.check_keys views_keys name.entry.token kind (key_arguments keys.old))
         (new.new_of_literals views_keys name.entry.token kind (quoted_leaves literals.entry.items)
         (key_arguments keys.old))) }
@@ -213,29 +196,28 @@ fn of_literals<'src>(
         AttributeKind::Arg => arg(alloc, name, literals, keys),
         AttributeKind::Cache => cache(alloc, name, keys),
         AttributeKind::Continue => continue_attribute(alloc, name, literals, keys),
-        _ => of_plain_literals(alloc, name, kind, literals, keys),
+        _ => of_plain_literals(name, kind, literals, keys),
     }
 }
 
 /// Returns an attribute that has only literals, or no arguments at all.
-#[tactic(auto, using(justfile_attribute_rules::proofs::Refused::boxed_first, crate::proofs::Counted::known_made))]
+#[tactic(auto, using(justfile_attribute_rules::proofs::Refused::refused_first, crate::proofs::Counted::known_made))]
 fn of_plain_literals<'src>(
-    alloc: Global,
     name: Name<'src>,
     kind: AttributeKind,
     literals: Vec<StringLiteral<'src>>,
     keys: &KeyMap<'src>,
-) -> RuleResult<'src, Attribute<'src>>
+) -> CompileResult<'src, Attribute<'src>>
     requires kind { takes_expressions kind ≡ false }
     requires texts { IsTrue (has_no_own_rules kind) }
     requires counted { IsCounted name.token kind (length (quoted_leaves literals.items)) }
-    ensures made { MakesBoxed leaf_attribute_of result
+    ensures made { Makes leaf_attribute_of result
         (with_known (new.check_keys views_keys name.entry.token kind (key_arguments keys.now))
         (new.new_of_literals views_keys name.entry.token kind (quoted_leaves literals.entry.items)
         (key_arguments keys.now))) }
     ensures fields { IfOk result HasDerivedAttributeFields }
 {
-    check_keys(alloc, name, kind, keys)?;
+    check_keys(name, kind, keys)?;
     match kind {
         AttributeKind::Extension => Ok(Attribute::Extension(only(literals))),
         AttributeKind::Group => Ok(Attribute::Group(only(literals))),
@@ -302,21 +284,21 @@ pub fn plain_attribute<'src>(kind: AttributeKind) -> Attribute<'src>
 }
 
 /// Returns a `continue` attribute.
-#[tactic(auto, using(justfile_attribute_rules::proofs::Refused::boxed_first))]
+#[tactic(auto, using(justfile_attribute_rules::proofs::Refused::refused_first))]
 #[inline(never)]
 fn continue_attribute<'src>(
     alloc: Global,
     name: Name<'src>,
     literals: Vec<StringLiteral<'src>>,
     keys: &KeyMap<'src>,
-) -> RuleResult<'src, Attribute<'src>>
-    ensures made { MakesBoxed leaf_attribute_of result
+) -> CompileResult<'src, Attribute<'src>>
+    ensures made { Makes leaf_attribute_of result
         (with_known (new.check_keys views_keys name.entry.token kinds.Continue
         (key_arguments keys.now)) (continue_made (quoted_leaves literals.entry.items))) }
     ensures fields { IfOk result HasDerivedAttributeFields }
 {
     let signals = signal_set(alloc, literals)?;
-    check_keys(alloc, name, AttributeKind::Continue, keys)?;
+    check_keys(name, AttributeKind::Continue, keys)?;
     Ok(Attribute::Continue(signals))
 }
 
@@ -345,15 +327,15 @@ fn cache<'src>(
     alloc: Global,
     name: Name<'src>,
     keys: &mut KeyMap<'src>,
-) -> RuleResult<'src, Attribute<'src>>
-    ensures made { MakesBoxed leaf_attribute_of result (with_known
+) -> CompileResult<'src, Attribute<'src>>
+    ensures made { Makes leaf_attribute_of result (with_known
         (new.check_keys views_keys name.entry.token kinds.Cache (key_arguments keys.old))
         (new.new_cache views_keys name.entry.token (key_arguments keys.old))) }
     ensures fields { IfOk result HasDerivedAttributeFields }
 {
     let mut values = no_values(alloc)?;
-    let known = check_keys(alloc, name, AttributeKind::Cache, keys);
-    match read_cache(alloc, name, keys, &mut values) {
+    let known = check_keys(name, AttributeKind::Cache, keys);
+    match read_cache(name, keys, &mut values) {
         Ok(()) => match known {
             Ok(()) => Ok(of_values(values)),
             Err(fault) => Err(fault),
@@ -373,35 +355,33 @@ fn no_values<'src>(alloc: Global) -> Result<Box<CacheValues<'src>>, AllocError> 
 }
 
 /// Takes the keys of `cache` out of the map, one after another, and sets the values.
-#[tactic(auto, using(justfile_attribute_rules::proofs::Refused::boxed_first))]
+#[tactic(auto, using(justfile_attribute_rules::proofs::Refused::refused_first))]
 fn read_cache<'src>(
-    alloc: Global,
     name: Name<'src>,
     keys: &mut KeyMap<'src>,
     values: &mut CacheValues<'src>,
-) -> RuleResult<'src>
-    ensures { MakesBoxed (λ _. cache_of values.new) result
+) -> CompileResult<'src>
+    ensures { Makes (λ _. cache_of values.new) result
         (cache_read name.entry.token (key_arguments keys.old)) }
 {
-    read_value(alloc, name, keys, "extra", &mut values.extra)?;
-    read_value(alloc, name, keys, "inputs", &mut values.inputs)?;
-    read_value(alloc, name, keys, "outputs", &mut values.outputs)
+    read_value(name, keys, "extra", &mut values.extra)?;
+    read_value(name, keys, "inputs", &mut values.inputs)?;
+    read_value(name, keys, "outputs", &mut values.outputs)
 }
 
 /// Takes one key of `cache` out of the map, and sets `value` to its value, or to `None` if there is
 /// no such key.
 fn read_value<'src>(
-    alloc: Global,
     name: Name<'src>,
     keys: &mut KeyMap<'src>,
     word: &str,
     value: &mut Option<Box<Expression<'src>>>,
-) -> RuleResult<'src>
-    ensures read { MakesBoxed (λ _. option_map (λ b. leaf_tree_of b.value) value.new) result
+) -> CompileResult<'src>
+    ensures read { Makes (λ _. option_map (λ b. leaf_tree_of b.value) value.new) result
         (new.required_at views_keys name.entry.token word.now (key_arguments keys.old)) }
     ensures removed { IsTaken word.now keys.old keys.new }
 {
-    match take_value(alloc, name, keys, word) {
+    match take_value(name, keys, word) {
         Ok(given) => {
             *value = given;
             Ok(())
@@ -424,23 +404,23 @@ fn of_values(values: Box<CacheValues<'_>>) -> Attribute<'_>
 }
 
 /// Returns an `arg` attribute.
-#[tactic(auto, using(justfile_attribute_rules::proofs::Refused::boxed_first))]
+#[tactic(auto, using(justfile_attribute_rules::proofs::Refused::refused_first))]
 #[inline(never)]
 fn arg<'src>(
     alloc: Global,
     name: Name<'src>,
     literals: Vec<StringLiteral<'src>>,
     keys: &mut KeyMap<'src>,
-) -> RuleResult<'src, Attribute<'src>>
+) -> CompileResult<'src, Attribute<'src>>
     requires counted { length literals.items ≡ 1 }
-    ensures made { MakesBoxed leaf_attribute_of result (with_known
+    ensures made { Makes leaf_attribute_of result (with_known
         (new.check_keys views_keys name.entry.token kinds.Arg (key_arguments keys.old))
         (new.new_arg views_keys name.entry.token (quoted_leaves literals.entry.items)
         (key_arguments keys.old))) }
     ensures fields { IfOk result HasDerivedAttributeFields }
 {
     let argument = only(literals);
-    let known = check_keys(alloc, name, AttributeKind::Arg, keys);
+    let known = check_keys(name, AttributeKind::Arg, keys);
     match read_argument_rules(alloc, name, argument, keys) {
         Ok(rules) => match known {
             Ok(()) => Ok(of_rules(rules)),

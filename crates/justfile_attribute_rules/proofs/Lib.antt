@@ -5,4 +5,3 @@ pub mod Loops
 pub mod Quoted
 pub mod Refused
 pub mod StepLaws
-pub mod Takes

@@ -1,5 +1,5 @@
 -- Loops over a list that make one value of each element.
-use Rattle.std.proofs.Common.{◌≡◌, ◌∙◌, List, [], ◌∷◌, ◌++◌, Bool, true, false, ◌||◌, Ok, Err, refl, sym, subst, ap}
+use Rattle.std.proofs.Common.{◌≡◌, ◌∙◌, List, [], ◌∷◌, ◌++◌, Bool, true, false, ◌||◌, Ok, Err, refl, sym, ap}
 use Rattle.std.specs.BTreeSet.{insert_key}
 use Rattle.std.specs.Global.{Box}
 use Rattle.std.specs.List.{filter, list_any}
@@ -18,9 +18,7 @@ use Rattle.justfile_model.specs.Trees.Tree.{Quoted}
 use Rattle.justfile_attribute_rules.specs.Keys.{views_keys}
 use Rattle.justfile_expression.specs.LeafTree.{Leaf}
 use Rattle.justfile_expression.specs.declared.expression.Expression.{Expression}
-use Rattle.justfile_attribute_rules.specs.Made.{IsRefusedBy, fault_of, quoted_leaf, quoted_leaves, positional_leaf, positional_leaves, signal_made, signals_made}
-use Rattle.justfile_attribute_rules.specs.declared.rule_fault.RuleFault.{RuleFault}
-use Rattle.justfile_attribute_rules.proofs.Refused.{boxed_first}
+use Rattle.justfile_attribute_rules.specs.Made.{quoted_leaf, quoted_leaves, positional_leaf, positional_leaves, signal_made, signals_made}
 
 module _ {X Y : Type 0} (f : X → Made Token Y) where
   -- the result for the whole list, from the values made so far and the elements that are left
@@ -154,23 +152,3 @@ set_more keys q rest s e = rw e (go (make_all signal_made rest))
 pub set_turn : (keys : List Signal) (rest others : List StringLiteral) (x : StringLiteral) (s : Signal) → rest ≡ x ∷ others
     → signal_made (quoted_leaf x) ≡ Ok s → adds_up keys (quoted_leaves rest) ≡ adds_up (added keys s) (quoted_leaves others)
 set_turn keys rest others x s e f = ap (λ xs. adds_up keys (quoted_leaves xs)) e ∙ set_more keys (quoted_leaf x) (quoted_leaves others) s f
-
--- the next literal names no signal
-pub set_refused : (texts : List (Quoted Leaf)) (keys : List Signal) (rest others : List StringLiteral) (x : StringLiteral) (fault : RuleFault)
-    → signals_made texts ≡ adds_up keys (quoted_leaves rest) → rest ≡ x ∷ others → IsRefusedBy (signal_made (quoted_leaf x)) (fault_of fault)
-    → IsRefusedBy (signals_made texts) (fault_of fault)
-set_refused texts keys rest others x fault so_far taken h =
-    subst (λ made. IsRefusedBy made (fault_of fault)) (sym (so_far ∙ ap (λ xs. adds_up keys (quoted_leaves xs)) taken))
-    (boxed_first (make_all signal_made (quoted_leaves (x ∷ others))) (λ given. Ok (added_all keys given)) fault
-    (boxed_first (signal_made (quoted_leaf x)) (λ s. make_all signal_made (quoted_leaves others) >>= (λ ss. Ok (s ∷ ss))) fault h))
-
--- the next argument is not a literal
-pub literal_refused : (at : Token) (all : List (Token × Box Expression)) (made : List StringLiteral) (rest others : List (Token × Box Expression)) (p : Token × Box Expression) (fault : RuleFault)
-    → make_all (placed_literal views_keys at) (positional_leaves all) ≡ goes_on (placed_literal views_keys at) (quoted_leaves made) (positional_leaves rest)
-    → rest ≡ p ∷ others → IsRefusedBy (placed_literal views_keys at (positional_leaf p)) (fault_of fault)
-    → IsRefusedBy (make_all (placed_literal views_keys at) (positional_leaves all)) (fault_of fault)
-literal_refused at all made rest others p fault so_far taken h =
-    let f = placed_literal views_keys at in
-    subst (λ m. IsRefusedBy m (fault_of fault)) (sym (so_far ∙ ap (λ xs. goes_on f (quoted_leaves made) (positional_leaves xs)) taken))
-    (boxed_first (make_all f (positional_leaves (p ∷ others))) (λ ys. Ok (quoted_leaves made ++ ys)) fault
-    (boxed_first (f (positional_leaf p)) (λ y. make_all f (positional_leaves others) >>= (λ ys. Ok (y ∷ ys))) fault h))

@@ -6,6 +6,7 @@ use Rattle.std.specs.Option.{is_some}
 use Rattle.std.specs.Str.{bytes_eq}
 use Rattle.std.proofs.lemmas.Slice.Eq.{bytes_eq-Decides}
 use Rattle.justfile_token.specs.declared.token.Token.{Token}
+use Rattle.justfile_token.specs.declared.fault.Fault.{Fault}
 use Rattle.justfile_token.specs.declared.string_literal.StringLiteral.{StringLiteral}
 use Rattle.justfile_model.specs.LiteralTexts.Literals.{string_of, token_of}
 use Rattle.justfile_model.specs.Trees.LeafView.{or_empty}
@@ -16,8 +17,7 @@ use Rattle.justfile_model.specs.Trees.Tree.{Bound, Expr, OptionName, Property, Q
 use Rattle.justfile_expression.specs.LeafViews.{leaf_cooked}
 use Rattle.justfile_expression.specs.LeafTree.{Leaf, Literal, literal_of}
 use Rattle.justfile_attribute_rules.specs.Keys.{views_keys, without}
-use Rattle.justfile_attribute_rules.specs.Made.{MakesBoxed, quoted_leaf, bounds_checked}
-use Rattle.justfile_attribute_rules.specs.declared.rule_fault.RuleFault.{RuleFault}
+use Rattle.justfile_attribute_rules.specs.Made.{Makes, quoted_leaf, bounds_checked}
 use Rattle.justfile_attribute_rules.specs.Steps.{Key, Keys, Rules, at, bounds_of, help_of, named_only, names_of, rules_read, short_of, switches_of, values_of, with_long}
 
 -- a text that is one key isn't another
@@ -211,7 +211,7 @@ rules_are name argument keys =
     (at (codes "multiple") keys) (at (codes "max") keys) (at (codes "min") keys) (at (codes "help") keys)
 
 -- the text of a literal, marked `x` or not
-pub text_is : (l : StringLiteral) → text_of views_keys (quoted_leaf l) ≡ string_bytes l.cooked
+text_is : (l : StringLiteral) → text_of views_keys (quoted_leaf l) ≡ string_bytes l.cooked
 text_is l = go l.expand
   where
     go : (b : Bool) → or_empty (leaf_cooked (token_of (string_of b (Literal (literal_of l))))) ≡ string_bytes l.cooked
@@ -227,6 +227,6 @@ rules_are_of name argument keys r e =
 
 -- a result that agrees with the steps agrees with `new_rules`
 pub makes_of : (name : Token) (argument : StringLiteral) (keys : Keys) (r : Rules) → r ≡ named_only (quoted_leaf argument) → {X : Type 0} (see : X → Rules)
-    (result : Result X RuleFault) → MakesBoxed see result (rules_read name keys r)
-    → MakesBoxed see result (new_rules views_keys name (string_bytes argument.cooked) (quoted_leaf argument) keys)
-makes_of name argument keys r e see result h = subst (MakesBoxed see result) (sym (rules_are_of name argument keys r e)) h
+    (result : Result X Fault) → Makes see result (rules_read name keys r)
+    → Makes see result (new_rules views_keys name (string_bytes argument.cooked) (quoted_leaf argument) keys)
+makes_of name argument keys r e see result h = subst (Makes see result) (sym (rules_are_of name argument keys r e)) h

@@ -2,7 +2,6 @@
 use Rattle.std.specs.Prelude.{◌≡◌, ℕ, Bool, not, nat_lt, List, map, codes, Option, Some, None, Result, Ok, Err, if◌then◌else◌}
 use Rattle.std.specs.Global.{Box}
 use Rattle.justfile_vocabulary.specs.Signal.{signal_named}
-use Rattle.justfile_token.specs.declared.compile_error_kind.CompileErrorKind.{CompileErrorKind}
 use Rattle.justfile_token.specs.declared.fault.Fault.{Fault}
 use Rattle.justfile_token.specs.declared.fault.Fault.TheVariants as faults
 use Rattle.justfile_token.specs.declared.name.Name.{Name}
@@ -17,8 +16,6 @@ use Rattle.justfile_attribute_rules.specs.Keys.{views_keys}
 use Rattle.justfile_expression.specs.LeafTree.{Leaf, Literal, Named, leaf_tree_of, literal_of}
 use Rattle.justfile_expression.specs.declared.expression.Expression.{Expression}
 use Rattle.justfile_attribute_rules.specs.RuleErrors.{IsErrorOfRule}
-use Rattle.justfile_attribute_rules.specs.declared.rule_fault.RuleFault.{RuleFault}
-use Rattle.justfile_attribute_rules.specs.declared.rule_fault.RuleFault.TheVariants as boxed
 
 -- The fault is the error for the rule that the definitions find broken. Nothing is claimed if out of memory.
 abbrev pub IsRefusedBy : {Y : Type 0} → Made Token Y → Fault → Type 0
@@ -35,29 +32,6 @@ IsFaultOfRule rule token fault = IsRefusedBy (refuse {X = Unit {0}} rule token) 
 abbrev pub Makes : {X Y : Type 0} → (see : X → Y) → Result X Fault → Made Token Y → Type 0
 Makes see (Ok x) made = made ≡ Ok (see x)
 Makes see (Err fault) made = IsRefusedBy made fault
-
--- ---- errors in boxes
-
--- the fault with its error out of the box
-abbrev pub fault_of : RuleFault → Fault
-fault_of (boxed.Broken error) = faults.Compile error.value
-fault_of boxed.Memory = faults.Memory
-
--- The fault is an error of this kind, at this token. Nothing is claimed if out of memory.
-abbrev pub IsFaultAt : Token → CompileErrorKind → RuleFault → Type 0
-IsFaultAt token kind (boxed.Broken error) = (error.value.token ≡ token) × (error.value.kind ≡ kind)
-IsFaultAt token kind boxed.Memory = Unit {0}
-
--- the fault is the error for this rule, broken at this token
-abbrev pub IsBoxedFaultOfRule : Rule Token → Token → RuleFault → Type 0
-IsBoxedFaultOfRule rule token fault = IsFaultOfRule rule token (fault_of fault)
-
--- The result is the definitions' value, viewed by `see`, or an error for the rule that they find broken.
-abbrev pub MakesBoxed : {X Y : Type 0} → (see : X → Y) → Result X RuleFault → Made Token Y → Type 0
-MakesBoxed see (Ok x) made = made ≡ Ok (see x)
-MakesBoxed see (Err fault) made = IsRefusedBy made (fault_of fault)
-
--- ---- what is made
 
 -- a literal as the parser's trees have it
 abbrev pub quoted_leaf : StringLiteral → Quoted Leaf

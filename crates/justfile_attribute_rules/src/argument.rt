@@ -5,16 +5,15 @@ ghost use Rattle.justfile_token.specs.declared.string_literal.StringLiteral.{Str
 ghost use Rattle.justfile_model.specs.Readers.NewAttribute as new;
 ghost use Rattle.justfile_attribute_rules.specs.ArgumentRules.{AreNamed, option_of, rules_of};
 ghost use Rattle.justfile_attribute_rules.specs.Keys.{IsTaken, key_arguments, views_keys};
-ghost use Rattle.justfile_attribute_rules.specs.Made.{MakesBoxed, bound_at, quoted_leaf};
+ghost use Rattle.justfile_attribute_rules.specs.Made.{Makes, bound_at, quoted_leaf};
 ghost use Rattle.justfile_attribute_rules.specs.Steps.{after_bounds, after_names, after_switches, after_values, bounds_read, help_read, named_only, names_read, rules_read, switches_read, values_read, at, long_of, short_of, with_long, with_short, with_bounds};
 
 use crate::argument_rules::ArgumentRules;
 use crate::keys::{KeyMap, take_required};
 use crate::numbers::{check_bounds, take_bound};
 use crate::options::{OptionName, name_option, take_option};
-use crate::rule_fault::RuleResult;
 use crate::switches::{take_flag, take_multiple, take_value};
-use justfile_token::{Name, StringLiteral};
+use justfile_token::{CompileResult, Name, StringLiteral};
 use std::alloc::{AllocError, Global};
 
 /// Returns what an `arg` attribute sets for its parameter. The keys are taken out of the map one
@@ -22,14 +21,14 @@ use std::alloc::{AllocError, Global};
 ///
 /// # Errors
 ///
-/// `Broken` for the first broken rule; `Memory` if out of memory.
+/// `Compile` for the first broken rule; `Memory` if out of memory.
 pub fn read_argument_rules<'src>(
     alloc: Global,
     name: Name<'src>,
     argument: StringLiteral<'src>,
     keys: &mut KeyMap<'src>,
-) -> RuleResult<'src, Box<ArgumentRules<'src>>>
-    ensures made { MakesBoxed (λ rules. rules_of rules.value) result
+) -> CompileResult<'src, Box<ArgumentRules<'src>>>
+    ensures made { Makes (λ rules. rules_of rules.value) result
         (new.new_rules views_keys name.entry.token (string_bytes argument.entry.cooked)
         (quoted_leaf argument.entry) (key_arguments keys.old)) }
     ensures named { IfOk result (λ rules. AreNamed rules.value) }
@@ -48,17 +47,7 @@ fn boxed<'src>(
     ensures { IfOk result (λ rules. rules_of rules.value
         ≡ named_only (quoted_leaf argument.entry)) }
 {
-    in_box(alloc, named(argument))
-}
-
-/// Returns the value in a box.
-fn in_box<T: Drop>(alloc: Global, value: T) -> Result<Box<T>, AllocError>
-    ensures { IfOk result (λ held. held.value ≡ value) }
-{
-    match Box::new(alloc, value) {
-        Ok(held) => Ok(held),
-        Err(_) => Err(AllocError),
-    }
+    Ok(Box::new(alloc, named(argument))?)
 }
 
 /// Returns the defaults for a parameter: only its name is set.
@@ -82,32 +71,32 @@ fn named(argument: StringLiteral<'_>) -> ArgumentRules<'_>
 }
 
 /// Takes all keys out of the map, in the order in which they are checked, and sets the rules.
-#[tactic(auto, using(crate::proofs::Refused::boxed_first))]
+#[tactic(auto, using(crate::proofs::Refused::refused_first))]
 fn read_rules<'src>(
     alloc: Global,
     name: Name<'src>,
     keys: &mut KeyMap<'src>,
     rules: &mut ArgumentRules<'src>,
-) -> RuleResult<'src>
-    ensures { MakesBoxed (λ _. rules_of rules.new) result
+) -> CompileResult<'src>
+    ensures { Makes (λ _. rules_of rules.new) result
         (rules_read name.entry.token (key_arguments keys.old) (rules_of rules.old)) }
 {
     read_names(alloc, name, keys, rules)?;
-    read_values(alloc, name, keys, rules)?;
+    read_values(name, keys, rules)?;
     read_switches(alloc, keys, rules)?;
     read_bounds(alloc, name, keys, rules)?;
-    read_help(alloc, name, keys, rules)
+    read_help(name, keys, rules)
 }
 
 /// Takes `long` and `short` out of the keys and sets both option names.
-#[tactic(auto, using(crate::proofs::Refused::boxed_first))]
+#[tactic(auto, using(crate::proofs::Refused::refused_first))]
 fn read_names<'src>(
     alloc: Global,
     name: Name<'src>,
     keys: &mut KeyMap<'src>,
     rules: &mut ArgumentRules<'src>,
-) -> RuleResult<'src>
-    ensures read { MakesBoxed (λ _. rules_of rules.new) result
+) -> CompileResult<'src>
+    ensures read { Makes (λ _. rules_of rules.new) result
         (names_read name.entry.token (key_arguments keys.old) (rules_of rules.old)) }
     ensures rest { OnOk result (key_arguments keys.new ≡ after_names (key_arguments keys.old)) }
 {
@@ -116,14 +105,14 @@ fn read_names<'src>(
 }
 
 /// Takes `long` out of the keys and sets the name of the long option.
-#[tactic(auto, using(crate::proofs::Refused::boxed_first))]
+#[tactic(auto, using(crate::proofs::Refused::refused_first))]
 fn read_long<'src>(
     alloc: Global,
     name: Name<'src>,
     keys: &mut KeyMap<'src>,
     rules: &mut ArgumentRules<'src>,
-) -> RuleResult<'src>
-    ensures read { MakesBoxed (λ _. rules_of rules.new) result (long_of name.entry.token
+) -> CompileResult<'src>
+    ensures read { Makes (λ _. rules_of rules.new) result (long_of name.entry.token
         (at (codes "long") (key_arguments keys.old)) (rules_of rules.old)) }
     ensures removed { IsTaken (codes "long") keys.old keys.new }
 {
@@ -147,14 +136,14 @@ fn set_long<'src>(rules: &mut ArgumentRules<'src>, long: OptionName<'src>)
 }
 
 /// Takes `short` out of the keys and sets the name of the short option.
-#[tactic(auto, using(crate::proofs::Refused::boxed_first))]
+#[tactic(auto, using(crate::proofs::Refused::refused_first))]
 fn read_short<'src>(
     alloc: Global,
     name: Name<'src>,
     keys: &mut KeyMap<'src>,
     rules: &mut ArgumentRules<'src>,
-) -> RuleResult<'src>
-    ensures read { MakesBoxed (λ _. rules_of rules.new) result (short_of name.entry.token
+) -> CompileResult<'src>
+    ensures read { Makes (λ _. rules_of rules.new) result (short_of name.entry.token
         (at (codes "short") (key_arguments keys.old)) (rules_of rules.old)) }
     ensures removed { IsTaken (codes "short") keys.old keys.new }
 {
@@ -178,53 +167,52 @@ fn set_short<'src>(rules: &mut ArgumentRules<'src>, short: OptionName<'src>)
 }
 
 /// Takes `pattern` and `value` out of the keys and sets both.
-#[tactic(auto, using(crate::proofs::Refused::boxed_first))]
+#[tactic(auto, using(crate::proofs::Refused::refused_first))]
 fn read_values<'src>(
-    alloc: Global,
     name: Name<'src>,
     keys: &mut KeyMap<'src>,
     rules: &mut ArgumentRules<'src>,
-) -> RuleResult<'src>
-    ensures read { MakesBoxed (λ _. rules_of rules.new) result
+) -> CompileResult<'src>
+    ensures read { Makes (λ _. rules_of rules.new) result
         (values_read name.entry.token (key_arguments keys.old) (rules_of rules.old)) }
     ensures rest { OnOk result (key_arguments keys.new ≡ after_values (key_arguments keys.old)) }
 {
-    rules.pattern_property = take_required(alloc, name, keys, "pattern")?;
-    rules.value = take_value(alloc, keys, rules)?;
+    rules.pattern_property = take_required(name, keys, "pattern")?;
+    rules.value = take_value(keys, rules)?;
     Ok(())
 }
 
 /// Takes `flag` and `multiple` out of the keys and sets both.
-#[tactic(auto, using(crate::proofs::Refused::boxed_first))]
+#[tactic(auto, using(crate::proofs::Refused::refused_first))]
 fn read_switches<'src>(
     alloc: Global,
     keys: &mut KeyMap<'src>,
     rules: &mut ArgumentRules<'src>,
-) -> RuleResult<'src>
-    ensures read { MakesBoxed (λ _. rules_of rules.new) result
+) -> CompileResult<'src>
+    ensures read { Makes (λ _. rules_of rules.new) result
         (switches_read rules.old.name.token (key_arguments keys.old) (rules_of rules.old)) }
     ensures rest { OnOk result (key_arguments keys.new ≡ after_switches (key_arguments keys.old)) }
 {
     rules.flag = take_flag(alloc, keys, rules)?;
-    rules.multiple = take_multiple(alloc, keys, rules)?;
+    rules.multiple = take_multiple(keys, rules)?;
     Ok(())
 }
 
 /// Takes `max` and `min` out of the keys and sets both.
-#[tactic(auto, using(crate::proofs::Refused::boxed_first))]
+#[tactic(auto, using(crate::proofs::Refused::refused_first))]
 fn read_bounds<'src>(
     alloc: Global,
     name: Name<'src>,
     keys: &mut KeyMap<'src>,
     rules: &mut ArgumentRules<'src>,
-) -> RuleResult<'src>
-    ensures read { MakesBoxed (λ _. rules_of rules.new) result
+) -> CompileResult<'src>
+    ensures read { Makes (λ _. rules_of rules.new) result
         (bounds_read name.entry.token (key_arguments keys.old) (rules_of rules.old)) }
     ensures rest { OnOk result (key_arguments keys.new ≡ after_bounds (key_arguments keys.old)) }
 {
     let max = take_bound(alloc, name, keys, "max")?;
     let min = take_bound(alloc, name, keys, "min")?;
-    check_bounds(alloc, min, max)?;
+    check_bounds(min, max)?;
     set_bounds(rules, min, max);
     Ok(())
 }
@@ -243,17 +231,16 @@ fn set_bounds<'src>(
 }
 
 /// Takes `help` out of the keys and sets it.
-#[tactic(auto, using(crate::proofs::Refused::boxed_first))]
+#[tactic(auto, using(crate::proofs::Refused::refused_first))]
 fn read_help<'src>(
-    alloc: Global,
     name: Name<'src>,
     keys: &mut KeyMap<'src>,
     rules: &mut ArgumentRules<'src>,
-) -> RuleResult<'src>
-    ensures { MakesBoxed (λ _. rules_of rules.new) result
+) -> CompileResult<'src>
+    ensures { Makes (λ _. rules_of rules.new) result
         (help_read name.entry.token (key_arguments keys.old) (rules_of rules.old)) }
 {
-    rules.help_property = take_required(alloc, name, keys, "help")?;
+    rules.help_property = take_required(name, keys, "help")?;
     Ok(())
 }
 

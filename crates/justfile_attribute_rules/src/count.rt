@@ -3,13 +3,11 @@ ghost use Rattle.std.specs.Prelude.{◌≡◌};
 ghost use Rattle.justfile_model.specs.Meanings.AttributeKinds.{least_count, most_count, takes_expressions};
 ghost use Rattle.justfile_model.specs.Readers.NewAttribute as new;
 ghost use Rattle.justfile_attribute_rules.specs.Keys.{views_keys};
-ghost use Rattle.justfile_attribute_rules.specs.Made.{MakesBoxed};
+ghost use Rattle.justfile_attribute_rules.specs.Made.{Makes};
 ghost use Rattle.justfile_attribute_rules.specs.RuleErrors.{IsMost};
 
-use crate::rule_fault::{RuleResult, broken};
-use justfile_token::{CompileErrorKind, Name};
+use justfile_token::{CompileErrorKind, CompileResult, Fault, Name};
 use justfile_vocabulary::AttributeKind;
-use std::alloc::Global;
 
 /// Whether an attribute of this kind takes any expressions as its positional arguments. Other kinds
 /// take string literals only.
@@ -30,25 +28,19 @@ pub fn accepts_expressions(kind: AttributeKind) -> bool
 ///
 /// # Errors
 ///
-/// `Broken` at the attribute's name; `Memory` if out of memory.
+/// `Compile` at the attribute's name.
 #[tactic(auto, using(crate::proofs::Counts::more_is))]
-pub fn check_count<'src>(
-    alloc: Global,
-    name: Name<'src>,
-    kind: AttributeKind,
-    found: usize,
-) -> RuleResult<'src>
-    ensures { MakesBoxed (λ _. tt) result (new.check_count views_keys name.entry.token kind found) }
+pub fn check_count<'src>(name: Name<'src>, kind: AttributeKind, found: usize) -> CompileResult<'src>
+    ensures { Makes (λ _. tt) result (new.check_count views_keys name.entry.token kind found) }
 {
     let (min, max) = argument_range(kind);
     if found < min || max < found {
-        let kind = CompileErrorKind::AttributeArgumentCountMismatch {
+        return Err(Fault::Compile(name.error(CompileErrorKind::AttributeArgumentCountMismatch {
             attribute: name,
             found,
             min,
             max,
-        };
-        return Err(broken(alloc, *name, kind));
+        })));
     }
     Ok(())
 }

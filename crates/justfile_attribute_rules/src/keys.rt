@@ -9,22 +9,17 @@ ghost use Rattle.justfile_model.specs.Readers.NewAttribute as new;
 ghost use Rattle.justfile_expression.specs.LeafTree.{leaf_tree_of};
 ghost use Rattle.justfile_attribute_rules.specs.ArgumentRules.{property_of};
 ghost use Rattle.justfile_attribute_rules.specs.Keys.{IsTaken, key_arguments, keyed, views_keys};
-ghost use Rattle.justfile_model.specs.Meanings.Rules.{AttributeKeyMissingValue, UnknownAttributeKey};
-ghost use Rattle.justfile_attribute_rules.specs.Made.{IsBoxedFaultOfRule, MakesBoxed};
+ghost use Rattle.justfile_model.specs.Meanings.Rules.{AttributeKeyMissingValue};
+ghost use Rattle.justfile_attribute_rules.specs.Made.{IsFaultOfRule, Makes};
 
-use crate::rule_fault::{RuleFault, RuleResult, broken};
 use justfile_expression::Expression;
-use justfile_token::{CompileErrorKind, Name};
+use justfile_token::{CompileErrorKind, CompileResult, Fault, Name};
 use justfile_vocabulary::AttributeKind;
-use std::alloc::Global;
 use std::collections::BTreeMap;
 
 /// The keys of an attribute, by their texts. Each has its name, which errors name, and an optional
 /// value.
 pub type KeyMap<'src> = BTreeMap<&'src str, (Name<'src>, Option<Box<Expression<'src>>>)>;
-
-/// A key with its value.
-pub(crate) type Property<'src> = (Name<'src>, Box<Expression<'src>>);
 
 /// The keys that `arg` accepts.
 static ARGUMENT_KEYS: [&str; 9] = [
@@ -38,14 +33,13 @@ static CACHE_KEYS: [&str; 3] = ["extra", "inputs", "outputs"];
 ///
 /// # Errors
 ///
-/// `Broken` at the key if it has no value; `Memory` if out of memory.
+/// `Compile` at the key if it has no value.
 pub fn take_required<'src>(
-    alloc: Global,
     name: Name<'src>,
     keys: &mut KeyMap<'src>,
     word: &str,
-) -> RuleResult<'src, Option<Property<'src>>>
-    ensures made { MakesBoxed (option_map property_of) result
+) -> CompileResult<'src, Option<(Name<'src>, Box<Expression<'src>>)>>
+    ensures made { Makes (option_map property_of) result
         (new.if_given (new.property views_keys name.entry.token)
         (at_key views_keys word.now (key_arguments keys.old))) }
     ensures removed { IsTaken word.now keys.old keys.new }
@@ -53,7 +47,7 @@ pub fn take_required<'src>(
     match take(keys, word) {
         None => Ok(None),
         Some((key, Some(value))) => Ok(Some((key, value))),
-        Some((key, None)) => Err(missing_value_fault(alloc, key)),
+        Some((key, None)) => Err(missing_value_fault(key)),
     }
 }
 
@@ -61,21 +55,20 @@ pub fn take_required<'src>(
 ///
 /// # Errors
 ///
-/// `Broken` at the key if it has no value; `Memory` if out of memory.
+/// `Compile` at the key if it has no value.
 pub fn take_value<'src>(
-    alloc: Global,
     name: Name<'src>,
     keys: &mut KeyMap<'src>,
     word: &str,
-) -> RuleResult<'src, Option<Box<Expression<'src>>>>
-    ensures made { MakesBoxed (option_map (λ e. leaf_tree_of e.value)) result
+) -> CompileResult<'src, Option<Box<Expression<'src>>>>
+    ensures made { Makes (option_map (λ e. leaf_tree_of e.value)) result
         (new.required_at views_keys name.entry.token word.now (key_arguments keys.old)) }
     ensures removed { IsTaken word.now keys.old keys.new }
 {
     match take(keys, word) {
         None => Ok(None),
         Some((_key, Some(value))) => Ok(Some(value)),
-        Some((key, None)) => Err(missing_value_fault(alloc, key)),
+        Some((key, None)) => Err(missing_value_fault(key)),
     }
 }
 
@@ -92,14 +85,10 @@ pub fn take<'src>(
 }
 
 /// Returns the error for a key without the value that it needs.
-pub(crate) fn missing_value_fault(alloc: Global, key: Name<'_>) -> RuleFault<'_>
-    ensures { IsBoxedFaultOfRule (AttributeKeyMissingValue key.entry.token) key.entry.token result }
+pub(crate) fn missing_value_fault(key: Name<'_>) -> Fault<'_>
+    ensures { IsFaultOfRule (AttributeKeyMissingValue key.entry.token) key.entry.token result }
 {
-    broken(
-        alloc,
-        *key,
-        CompileErrorKind::AttributeKeyMissingValue { key },
-    )
+    Fault::Compile(key.error(CompileErrorKind::AttributeKeyMissingValue { key }))
 }
 
 /// Refuses the first key, in the order of their texts, that an attribute of this kind doesn't
@@ -107,34 +96,24 @@ pub(crate) fn missing_value_fault(alloc: Global, key: Name<'_>) -> RuleFault<'_>
 ///
 /// # Errors
 ///
-/// `Broken` at the key; `Memory` if out of memory.
+/// `Compile` at the key.
 pub fn check_keys<'src>(
-    alloc: Global,
     name: Name<'src>,
     kind: AttributeKind,
     keys: &KeyMap<'src>,
-) -> RuleResult<'src>
-    ensures { MakesBoxed (λ _. tt) result
+) -> CompileResult<'src>
+    ensures { Makes (λ _. tt) result
         (new.check_keys views_keys name.entry.token kind (key_arguments keys.now)) }
 {
     for (text, (key, _value)) in keys {
         if !is_known(kind, text) {
-            return Err(unknown_key_fault(alloc, name, *key));
+            return Err(Fault::Compile(key.error(CompileErrorKind::UnknownAttributeKey {
+                attribute: name.lexeme(),
+                key: key.lexeme(),
+            })));
         }
     }
     Ok(())
-}
-
-/// Makes the fault for a key that an attribute with this name doesn't accept.
-fn unknown_key_fault<'src>(alloc: Global, name: Name<'src>, key: Name<'src>) -> RuleFault<'src>
-    ensures { IsBoxedFaultOfRule (UnknownAttributeKey name.entry.token key.entry.token)
-        key.entry.token result }
-{
-    let kind = CompileErrorKind::UnknownAttributeKey {
-        attribute: name.lexeme(),
-        key: key.lexeme(),
-    };
-    broken(alloc, *key, kind)
 }
 
 /// Whether an attribute of this kind accepts the key.

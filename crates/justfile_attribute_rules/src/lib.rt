@@ -8,7 +8,6 @@ mod keys;
 mod literals;
 mod numbers;
 mod options;
-mod rule_fault;
 mod signals;
 mod switches;
 
@@ -17,5 +16,4 @@ pub use crate::argument_rules::ArgumentRules;
 pub use crate::count::{accepts_expressions, check_count};
 pub use crate::keys::{KeyMap, check_keys, take, take_required, take_value};
 pub use crate::literals::string_literals;
-pub use crate::rule_fault::{RuleFault, RuleResult};
 pub use crate::signals::signal_set;

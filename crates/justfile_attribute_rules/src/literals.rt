@@ -6,30 +6,30 @@ ghost use Rattle.justfile_model.specs.Readers.NewAttribute as new;
 ghost use Rattle.justfile_model.specs.Meanings.Rules.{AttributeArgumentExpression};
 ghost use Rattle.justfile_attribute_rules.specs.Keys.{views_keys};
 ghost use Rattle.justfile_expression.specs.LeafTree.{Named, leaf_tree_of};
-ghost use Rattle.justfile_attribute_rules.specs.Made.{IsBoxedFaultOfRule, MakesBoxed, positional_leaf, positional_leaves, quoted_leaf, quoted_leaves};
+ghost use Rattle.justfile_attribute_rules.specs.Made.{IsFaultOfRule, Makes, positional_leaf, positional_leaves, quoted_leaf, quoted_leaves};
 
-use crate::rule_fault::{RuleFault, RuleResult, broken};
 use justfile_expression::Expression;
-use justfile_token::{CompileErrorKind, Name, StringLiteral, Token};
+use justfile_token::{
+    CompileError, CompileErrorKind, CompileResult, Fault, Name, StringLiteral, Token,
+};
 use std::alloc::Global;
 
 /// Returns the value of a key as a literal.
 ///
 /// # Errors
 ///
-/// `Broken` at the key if the value isn't a literal; `Memory` if out of memory.
+/// `Compile` at the key if the value isn't a literal.
 pub(crate) fn key_literal<'src>(
-    alloc: Global,
     name: Name<'src>,
     key: Name<'src>,
     value: Box<Expression<'src>>,
-) -> RuleResult<'src, StringLiteral<'src>>
-    ensures { MakesBoxed quoted_leaf result (new.literal views_keys name.entry.token
+) -> CompileResult<'src, StringLiteral<'src>>
+    ensures { Makes quoted_leaf result (new.literal views_keys name.entry.token
         (Named key.entry.token None) (leaf_tree_of value.entry.value)) }
 {
     match literal_of(value) {
         Some(literal) => Ok(literal),
-        None => Err(not_literal_fault(alloc, name, *key)),
+        None => Err(not_literal_fault(name, *key)),
     }
 }
 
@@ -37,20 +37,20 @@ pub(crate) fn key_literal<'src>(
 ///
 /// # Errors
 ///
-/// `Broken` at the first token of the first argument that isn't a literal; `Memory` if out of
+/// `Compile` at the first token of the first argument that isn't a literal; `Memory` if out of
 /// memory.
 pub fn string_literals<'src>(
     alloc: Global,
     name: Name<'src>,
     arguments: Vec<(Token<'src>, Box<Expression<'src>>)>,
-) -> RuleResult<'src, Vec<StringLiteral<'src>>>
-    ensures { MakesBoxed (λ literals. quoted_leaves literals.items) result (new.make_all
+) -> CompileResult<'src, Vec<StringLiteral<'src>>>
+    ensures { Makes (λ literals. quoted_leaves literals.items) result (new.make_all
         (new.placed_literal views_keys name.entry.token)
         (positional_leaves arguments.entry.items)) }
 {
     let mut literals = Vec::new(alloc);
     for (first, value) in arguments {
-        let literal = placed_literal(alloc, name, first, value)?;
+        let literal = placed_literal(name, first, value)?;
         literals.push(literal)?;
     }
     Ok(literals)
@@ -60,19 +60,18 @@ pub fn string_literals<'src>(
 ///
 /// # Errors
 ///
-/// `Broken` at its first token if it isn't a literal; `Memory` if out of memory.
+/// `Compile` at its first token if it isn't a literal.
 fn placed_literal<'src>(
-    alloc: Global,
     name: Name<'src>,
     first: Token<'src>,
     value: Box<Expression<'src>>,
-) -> RuleResult<'src, StringLiteral<'src>>
-    ensures { MakesBoxed quoted_leaf result (new.placed_literal views_keys name.entry.token
+) -> CompileResult<'src, StringLiteral<'src>>
+    ensures { Makes quoted_leaf result (new.placed_literal views_keys name.entry.token
         (positional_leaf (first.entry, value.entry))) }
 {
     match literal_of(value) {
         Some(literal) => Ok(literal),
-        None => Err(not_literal_fault(alloc, name, first)),
+        None => Err(not_literal_fault(name, first)),
     }
 }
 
@@ -85,9 +84,8 @@ fn literal_of(value: Box<Expression<'_>>) -> Option<StringLiteral<'_>>
 }
 
 /// Returns the error, at `token`, for an expression that isn't a literal.
-fn not_literal_fault<'src>(alloc: Global, name: Name<'src>, token: Token<'src>) -> RuleFault<'src>
-    ensures { IsBoxedFaultOfRule (AttributeArgumentExpression name.entry.token) token.entry result }
+fn not_literal_fault<'src>(name: Name<'src>, token: Token<'src>) -> Fault<'src>
+    ensures { IsFaultOfRule (AttributeArgumentExpression name.entry.token) token.entry result }
 {
-    let kind = CompileErrorKind::AttributeArgumentExpression { attribute: name };
-    broken(alloc, token, kind)
+    Fault::Compile(token.error(CompileErrorKind::AttributeArgumentExpression { attribute: name }))
 }

@@ -5,17 +5,15 @@ ghost use Rattle.std.specs.Option.{option_map};
 ghost use Rattle.justfile_model.proofs.Lists.CountLaws.{is_digit_byte};
 ghost use Rattle.justfile_model.specs.Meanings.Meaning as means;
 ghost use Rattle.justfile_model.specs.Meanings.Meaning.{at_key};
-ghost use Rattle.justfile_model.specs.Meanings.Rules as rule;
 ghost use Rattle.justfile_model.specs.Readers.NewAttribute as new;
 ghost use Rattle.justfile_expression.specs.LeafTree.{leaf_tree_of};
 ghost use Rattle.justfile_attribute_rules.specs.Keys.{IsTaken, key_arguments, views_keys};
-ghost use Rattle.justfile_attribute_rules.specs.Made.{IsBoxedFaultOfRule, MakesBoxed, bound_at, bound_made, count_made, quoted_leaf, bounds_checked};
+ghost use Rattle.justfile_attribute_rules.specs.Made.{Makes, bound_at, bound_made, count_made, quoted_leaf, bounds_checked};
 
 use crate::keys::{KeyMap, missing_value_fault, take};
 use crate::literals::key_literal;
-use crate::rule_fault::{RuleFault, RuleResult, broken};
 use justfile_expression::Expression;
-use justfile_token::{CompileErrorKind, Name, StringLiteral};
+use justfile_token::{CompileErrorKind, CompileResult, Fault, Name, StringLiteral};
 use std::alloc::Global;
 
 /// The message for a number that doesn't fit into 64 bits.
@@ -26,39 +24,39 @@ const TOO_LARGE: &str = "number too large to fit in target type";
 ///
 /// # Errors
 ///
-/// `Broken` at the key if its value is missing or isn't a literal, and at the literal if it isn't
+/// `Compile` at the key if its value is missing or isn't a literal, and at the literal if it isn't
 /// a number of 64 bits; `Memory` if out of memory.
-#[tactic(auto, using(crate::proofs::Refused::boxed_first))]
+#[tactic(auto, using(crate::proofs::Refused::refused_first))]
 pub(crate) fn take_bound<'src>(
     alloc: Global,
     name: Name<'src>,
     keys: &mut KeyMap<'src>,
     word: &str,
-) -> RuleResult<'src, Option<(Name<'src>, u64)>>
-    ensures made { MakesBoxed (option_map bound_at) result
+) -> CompileResult<'src, Option<(Name<'src>, u64)>>
+    ensures made { Makes (option_map bound_at) result
         (new.if_given (new.bound views_keys name.entry.token [])
         (at_key views_keys word.now (key_arguments keys.old))) }
     ensures removed { IsTaken word.now keys.old keys.new }
 {
     match take(keys, word) {
         None => Ok(None),
-        Some((key, None)) => Err(missing_value_fault(alloc, key)),
+        Some((key, None)) => Err(missing_value_fault(key)),
         Some((key, Some(value))) => bound(alloc, name, key, value),
     }
 }
 
 /// Returns a key with the number that is its value.
-#[tactic(auto, using(crate::proofs::Refused::boxed_first))]
+#[tactic(auto, using(crate::proofs::Refused::refused_first))]
 fn bound<'src>(
     alloc: Global,
     name: Name<'src>,
     key: Name<'src>,
     value: Box<Expression<'src>>,
-) -> RuleResult<'src, Option<(Name<'src>, u64)>>
-    ensures { MakesBoxed (option_map bound_at) result
+) -> CompileResult<'src, Option<(Name<'src>, u64)>>
+    ensures { Makes (option_map bound_at) result
         (bound_made name.entry.token key.entry.token (leaf_tree_of value.entry.value)) }
 {
-    let literal = key_literal(alloc, name, key, value)?;
+    let literal = key_literal(name, key, value)?;
     let number = read_count(alloc, key, &literal)?;
     Ok(Some((key, number)))
 }
@@ -68,59 +66,31 @@ fn read_count<'src>(
     alloc: Global,
     key: Name<'src>,
     literal: &StringLiteral<'src>,
-) -> RuleResult<'src, u64>
-    ensures { MakesBoxed (λ number. number) result
+) -> CompileResult<'src, u64>
+    ensures { Makes (λ number. number) result
         (count_made key.entry.token (quoted_leaf literal.now)) }
 {
     let text = literal.cooked.as_str();
     if !is_count(text.as_bytes()) {
-        return Err(not_count_fault(alloc, key, literal));
+        let value = text.to_string(alloc)?;
+        return Err(Fault::Compile(
+            literal
+                .token
+                .error(CompileErrorKind::ArgumentCountValue { key, value }),
+        ));
     }
     match parse_count(text) {
         Some(number) => Ok(number),
-        None => Err(too_large_fault(alloc, key, literal)),
-    }
-}
-
-/// Makes the fault for a literal that isn't a number.
-fn not_count_fault<'src>(
-    alloc: Global,
-    key: Name<'src>,
-    literal: &StringLiteral<'src>,
-) -> RuleFault<'src>
-    ensures { IsBoxedFaultOfRule
-        (rule.ArgumentCountValue key.entry.token (string_bytes literal.now.cooked))
-        literal.now.token result }
-{
-    match literal.cooked.as_str().to_string(alloc) {
-        Ok(value) => {
-            let kind = CompileErrorKind::ArgumentCountValue { key, value };
-            broken(alloc, literal.token, kind)
+        None => {
+            let value = text.to_string(alloc)?;
+            Err(Fault::Compile(
+                literal.token.error(CompileErrorKind::ArgumentCountParse {
+                    key,
+                    source: TOO_LARGE,
+                    value,
+                }),
+            ))
         }
-        Err(_) => RuleFault::Memory,
-    }
-}
-
-/// Makes the fault for a number that doesn't fit into 64 bits.
-fn too_large_fault<'src>(
-    alloc: Global,
-    key: Name<'src>,
-    literal: &StringLiteral<'src>,
-) -> RuleFault<'src>
-    ensures { IsBoxedFaultOfRule
-        (rule.ArgumentCountParse key.entry.token (string_bytes literal.now.cooked))
-        literal.now.token result }
-{
-    match literal.cooked.as_str().to_string(alloc) {
-        Ok(value) => {
-            let kind = CompileErrorKind::ArgumentCountParse {
-                key,
-                source: TOO_LARGE,
-                value,
-            };
-            broken(alloc, literal.token, kind)
-        }
-        Err(_) => RuleFault::Memory,
     }
 }
 
@@ -153,19 +123,20 @@ fn parse_count(text: &str) -> Option<u64>
 ///
 /// # Errors
 ///
-/// `Broken` at the key `min`; `Memory` if out of memory.
+/// `Compile` at the key `min`.
 pub(crate) fn check_bounds<'src>(
-    alloc: Global,
     min: Option<(Name<'src>, u64)>,
     max: Option<(Name<'src>, u64)>,
-) -> RuleResult<'src>
-    ensures { MakesBoxed (λ _. tt) result
+) -> CompileResult<'src>
+    ensures { Makes (λ _. tt) result
         (bounds_checked (option_map bound_at min.entry) (option_map bound_at max.entry)) }
 {
     if let (Some((key, min)), Some((_, max))) = (min, max) {
         if max < min {
-            let kind = CompileErrorKind::ArgAttributeMinExceedsMax { min, max };
-            return Err(broken(alloc, *key, kind));
+            return Err(Fault::Compile(key.error(CompileErrorKind::ArgAttributeMinExceedsMax {
+                min,
+                max,
+            })));
         }
     }
     Ok(())

@@ -3,18 +3,16 @@ ghost use Rattle.std.specs.Prelude.{◌≡◌, ◌==◌, length, IfOk, OnOk, Som
 ghost use Rattle.std.specs.Option.{option_map};
 ghost use Rattle.std.specs.Str.{chars};
 ghost use Rattle.justfile_model.specs.Meanings.Meaning.{at_key};
-ghost use Rattle.justfile_model.specs.Meanings.Rules as rule;
 ghost use Rattle.justfile_model.specs.Readers.NewAttribute as new;
 ghost use Rattle.justfile_expression.specs.LeafTree.{Named, leaf_tree_of};
 ghost use Rattle.justfile_attribute_rules.specs.ArgumentRules.{IsNamedAs, option_of};
 ghost use Rattle.justfile_attribute_rules.specs.Keys.{IsTaken, key_arguments, views_keys};
-ghost use Rattle.justfile_attribute_rules.specs.Made.{IsBoxedFaultOfRule, MakesBoxed, option_word, quoted_leaf};
+ghost use Rattle.justfile_attribute_rules.specs.Made.{Makes, option_word, quoted_leaf};
 
 use crate::keys::{KeyMap, take};
 use crate::literals::key_literal;
-use crate::rule_fault::{RuleFault, RuleResult, broken};
 use justfile_expression::Expression;
-use justfile_token::{CompileErrorKind, Name, StringLiteral, Token};
+use justfile_token::{CompileErrorKind, CompileResult, Fault, Name, StringLiteral};
 use std::alloc::{AllocError, Global};
 
 /// The name of an option: a literal, or a key without a value that gives it the parameter's name.
@@ -25,7 +23,7 @@ pub(crate) type OptionName<'src> = (Option<StringLiteral<'src>>, Option<Name<'sr
 ///
 /// # Errors
 ///
-/// `Broken` at the key if its value isn't a literal, and at the literal if it isn't a valid name;
+/// `Compile` at the key if its value isn't a literal, and at the literal if it isn't a valid name;
 /// `Memory` if out of memory.
 pub(crate) fn take_option<'src>(
     alloc: Global,
@@ -33,8 +31,8 @@ pub(crate) fn take_option<'src>(
     argument: &StringLiteral<'src>,
     is_short: bool,
     keys: &mut KeyMap<'src>,
-) -> RuleResult<'src, OptionName<'src>>
-    ensures made { MakesBoxed (λ p. option_of p.1 p.0) result
+) -> CompileResult<'src, OptionName<'src>>
+    ensures made { Makes (λ p. option_of p.1 p.0) result
         (new.option views_keys name.entry.token (string_bytes argument.now.cooked) is_short
         (at_key views_keys (option_word is_short) (key_arguments keys.old))) }
     ensures removed { IsTaken (option_word is_short) keys.old keys.new }
@@ -48,7 +46,7 @@ pub(crate) fn take_option<'src>(
 }
 
 /// Returns the name of an option from the value of its key.
-#[tactic(auto, using(crate::proofs::Refused::boxed_first))]
+#[tactic(auto, using(crate::proofs::Refused::refused_first))]
 fn option_name<'src>(
     alloc: Global,
     name: Name<'src>,
@@ -56,12 +54,12 @@ fn option_name<'src>(
     is_short: bool,
     key: Name<'src>,
     value: Box<Expression<'src>>,
-) -> RuleResult<'src, OptionName<'src>>
-    ensures { MakesBoxed (λ p. option_of p.1 p.0) result
+) -> CompileResult<'src, OptionName<'src>>
+    ensures { Makes (λ p. option_of p.1 p.0) result
         (new.option_by views_keys name.entry.token (string_bytes argument.now.cooked) is_short
         (Named key.entry.token None) (Some (leaf_tree_of value.entry.value))) }
 {
-    let literal = key_literal(alloc, name, key, value)?;
+    let literal = key_literal(name, key, value)?;
     check_option_name(alloc, argument, &literal)?;
     check_short(alloc, argument, is_short, &literal)?;
     Ok((Some(literal), None))
@@ -88,76 +86,35 @@ fn check_option_name<'src>(
     alloc: Global,
     argument: &StringLiteral<'src>,
     literal: &StringLiteral<'src>,
-) -> RuleResult<'src>
-    ensures { MakesBoxed (λ _. tt) result
+) -> CompileResult<'src>
+    ensures { Makes (λ _. tt) result
         (new.check_option_name views_keys literal.now.token (string_bytes argument.now.cooked)
         (quoted_leaf literal.now) (string_bytes literal.now.cooked)) }
 {
     let option = literal.cooked.as_str().as_bytes();
     if option.contains(&b'=') {
-        return Err(equal_sign_fault(alloc, argument, literal.token));
+        let parameter = argument_text(alloc, argument)?;
+        return Err(Fault::Compile(
+            literal.token.error(CompileErrorKind::OptionNameContainsEqualSign { parameter }),
+        ));
     }
     if option.first().copied() == Some(b'-') {
-        return Err(dash_fault(alloc, argument, literal.token));
+        let parameter = argument_text(alloc, argument)?;
+        return Err(Fault::Compile(
+            literal
+                .token
+                .error(CompileErrorKind::OptionNameStartsWithDash { parameter }),
+        ));
     }
     if option.is_empty() {
-        return Err(empty_name_fault(alloc, argument, literal.token));
+        let parameter = argument_text(alloc, argument)?;
+        return Err(Fault::Compile(
+            literal
+                .token
+                .error(CompileErrorKind::OptionNameEmpty { parameter }),
+        ));
     }
     Ok(())
-}
-
-/// Makes the fault, at `token`, for an option name that contains `=`.
-fn equal_sign_fault<'src>(
-    alloc: Global,
-    argument: &StringLiteral<'src>,
-    token: Token<'src>,
-) -> RuleFault<'src>
-    ensures { IsBoxedFaultOfRule
-        (rule.OptionNameContainsEqualSign (string_bytes argument.now.cooked)) token.entry result }
-{
-    match argument_text(alloc, argument) {
-        Ok(parameter) => {
-            let kind = CompileErrorKind::OptionNameContainsEqualSign { parameter };
-            broken(alloc, token, kind)
-        }
-        Err(_) => RuleFault::Memory,
-    }
-}
-
-/// Makes the fault, at `token`, for an option name that begins with `-`.
-fn dash_fault<'src>(
-    alloc: Global,
-    argument: &StringLiteral<'src>,
-    token: Token<'src>,
-) -> RuleFault<'src>
-    ensures { IsBoxedFaultOfRule (rule.OptionNameStartsWithDash (string_bytes argument.now.cooked))
-        token.entry result }
-{
-    match argument_text(alloc, argument) {
-        Ok(parameter) => {
-            let kind = CompileErrorKind::OptionNameStartsWithDash { parameter };
-            broken(alloc, token, kind)
-        }
-        Err(_) => RuleFault::Memory,
-    }
-}
-
-/// Makes the fault, at `token`, for an empty option name.
-fn empty_name_fault<'src>(
-    alloc: Global,
-    argument: &StringLiteral<'src>,
-    token: Token<'src>,
-) -> RuleFault<'src>
-    ensures { IsBoxedFaultOfRule (rule.OptionNameEmpty (string_bytes argument.now.cooked))
-        token.entry result }
-{
-    match argument_text(alloc, argument) {
-        Ok(parameter) => {
-            let kind = CompileErrorKind::OptionNameEmpty { parameter };
-            broken(alloc, token, kind)
-        }
-        Err(_) => RuleFault::Memory,
-    }
 }
 
 /// Refuses the name of a short option unless it is one character long.
@@ -166,34 +123,18 @@ fn check_short<'src>(
     argument: &StringLiteral<'src>,
     is_short: bool,
     literal: &StringLiteral<'src>,
-) -> RuleResult<'src>
-    ensures { MakesBoxed (λ _. tt) result
+) -> CompileResult<'src>
+    ensures { Makes (λ _. tt) result
         (new.check_short views_keys literal.now.token (string_bytes argument.now.cooked) is_short
         (quoted_leaf literal.now) (string_bytes literal.now.cooked)) }
 {
     if is_short && !has_one_char(literal.cooked.as_str()) {
-        return Err(long_name_fault(alloc, argument, literal.token));
+        let parameter = argument_text(alloc, argument)?;
+        return Err(Fault::Compile(
+            literal.token.error(CompileErrorKind::ShortOptionWithMultipleCharacters { parameter }),
+        ));
     }
     Ok(())
-}
-
-/// Makes the fault, at `token`, for a short option whose name isn't one character long.
-fn long_name_fault<'src>(
-    alloc: Global,
-    argument: &StringLiteral<'src>,
-    token: Token<'src>,
-) -> RuleFault<'src>
-    ensures { IsBoxedFaultOfRule
-        (rule.ShortOptionWithMultipleCharacters (string_bytes argument.now.cooked))
-        token.entry result }
-{
-    match argument_text(alloc, argument) {
-        Ok(parameter) => {
-            let kind = CompileErrorKind::ShortOptionWithMultipleCharacters { parameter };
-            broken(alloc, token, kind)
-        }
-        Err(_) => RuleFault::Memory,
-    }
 }
 
 /// Whether the text is one character.

@@ -3,42 +3,38 @@ ghost use Rattle.std.specs.Prelude.{◌≡◌, ◌&&◌, not, codes, string_byte
 ghost use Rattle.std.specs.Option.{is_some, option_map};
 ghost use Rattle.justfile_model.specs.Meanings.Meaning.{at_key};
 ghost use Rattle.justfile_model.specs.Readers.NewAttribute as new;
-ghost use Rattle.justfile_model.specs.Meanings.Rules as rule;
+ghost use Rattle.justfile_model.specs.Meanings.Rules as broken;
 ghost use Rattle.justfile_expression.specs.LeafTree.{leaf_tree_of};
 ghost use Rattle.justfile_attribute_rules.specs.ArgumentRules.{rules_of};
 ghost use Rattle.justfile_attribute_rules.specs.Keys.{IsTaken, key_arguments, keyed, views_keys};
-ghost use Rattle.justfile_attribute_rules.specs.Made.{IsBoxedFaultOfRule, MakesBoxed};
+ghost use Rattle.justfile_attribute_rules.specs.Made.{Makes};
 ghost use Rattle.justfile_attribute_rules.specs.Steps.{flag_made, multiple_made, value_made, lacks_option};
 
 use crate::argument_rules::ArgumentRules;
 use crate::keys::{KeyMap, missing_value_fault, take};
 use crate::options::argument_text;
-use crate::rule_fault::{RuleFault, RuleResult, broken};
 use justfile_expression::Expression;
-use justfile_token::{CompileErrorKind, Name, StringLiteral, Token};
+use justfile_token::{CompileErrorKind, CompileResult, Fault, Name, Token};
 use std::alloc::Global;
 
 /// Removes the key `value` and returns its value.
 ///
 /// # Errors
 ///
-/// `Broken` at the key if it has no value, or if the parameter isn't an option; `Memory` if out of
-/// memory.
-#[tactic(auto, using(crate::proofs::Refused::boxed_first))]
+/// `Compile` at the key if it has no value, or if the parameter isn't an option.
 pub(crate) fn take_value<'src>(
-    alloc: Global,
     keys: &mut KeyMap<'src>,
     rules: &ArgumentRules<'src>,
-) -> RuleResult<'src, Option<Box<Expression<'src>>>>
-    ensures made { MakesBoxed (option_map (λ e. leaf_tree_of e.value)) result
+) -> CompileResult<'src, Option<Box<Expression<'src>>>>
+    ensures made { Makes (option_map (λ e. leaf_tree_of e.value)) result
         (new.if_given (value_made (rules_of rules.now))
         (at_key views_keys (codes "value") (key_arguments keys.old))) }
     ensures removed { IsTaken (codes "value") keys.old keys.new }
 {
     match take(keys, "value") {
         None => Ok(None),
-        Some((key, None)) => Err(missing_value_fault(alloc, key)),
-        Some((key, Some(value))) => match check_has_option(alloc, key, rules) {
+        Some((key, None)) => Err(missing_value_fault(key)),
+        Some((key, Some(value))) => match check_has_option(key, rules) {
             Ok(()) => Ok(Some(value)),
             Err(fault) => Err(fault),
         },
@@ -49,15 +45,14 @@ pub(crate) fn take_value<'src>(
 ///
 /// # Errors
 ///
-/// `Broken` at the key if it has a value, if the parameter isn't an option, or if it has a `value`
+/// `Compile` at the key if it has a value, if the parameter isn't an option, or if it has a `value`
 /// or a `pattern`; `Memory` if out of memory.
-#[tactic(auto, using(crate::proofs::Refused::boxed_first))]
 pub(crate) fn take_flag<'src>(
     alloc: Global,
     keys: &mut KeyMap<'src>,
     rules: &ArgumentRules<'src>,
-) -> RuleResult<'src, Option<Token<'src>>>
-    ensures made { MakesBoxed (λ token. token) result (new.if_given (flag_made (rules_of rules.now))
+) -> CompileResult<'src, Option<Token<'src>>>
+    ensures made { Makes (λ token. token) result (new.if_given (flag_made (rules_of rules.now))
         (at_key views_keys (codes "flag") (key_arguments keys.old))) }
     ensures removed { IsTaken (codes "flag") keys.old keys.new }
 {
@@ -72,104 +67,54 @@ pub(crate) fn take_flag<'src>(
 
 /// Refuses a `flag` that has a value, one for a parameter that isn't an option, and one beside
 /// `value` or `pattern`.
-#[tactic(auto, using(crate::proofs::Refused::boxed_first))]
+#[tactic(auto, using(crate::proofs::Refused::refused_first))]
 fn check_flag<'src>(
     alloc: Global,
     key: Name<'src>,
     value: &Option<Box<Expression<'src>>>,
     rules: &ArgumentRules<'src>,
-) -> RuleResult<'src>
-    ensures { MakesBoxed (λ _. key.entry.token) result
+) -> CompileResult<'src>
+    ensures { Makes (λ _. key.entry.token) result
         (flag_made (rules_of rules.now) (keyed (codes "flag") (key.entry, value.now))) }
 {
     if value.is_some() {
-        return Err(valued_flag_fault(alloc, &rules.name, key));
+        let parameter = argument_text(alloc, &rules.name)?;
+        return Err(Fault::Compile(key.error(CompileErrorKind::FlagAttributeTakesNoValue {
+            parameter,
+        })));
     }
-    check_has_option(alloc, key, rules)?;
+    check_has_option(key, rules)?;
     if rules.value.is_some() {
-        return Err(flag_and_value_fault(alloc, &rules.name, key));
+        let parameter = argument_text(alloc, &rules.name)?;
+        return Err(Fault::Compile(key.error(CompileErrorKind::FlagAndValueArgAttribute {
+            parameter,
+        })));
     }
     if rules.pattern_property.is_some() {
-        return Err(flag_and_pattern_fault(alloc, &rules.name, key));
+        let parameter = argument_text(alloc, &rules.name)?;
+        return Err(Fault::Compile(key.error(CompileErrorKind::FlagAndPatternArgAttribute {
+            parameter,
+        })));
     }
     Ok(())
-}
-
-/// Makes the fault, at `key`, for a `flag` that has a value.
-fn valued_flag_fault<'src>(
-    alloc: Global,
-    argument: &StringLiteral<'src>,
-    key: Name<'src>,
-) -> RuleFault<'src>
-    ensures { IsBoxedFaultOfRule (rule.FlagAttributeTakesNoValue (string_bytes argument.now.cooked))
-        key.entry.token result }
-{
-    match argument_text(alloc, argument) {
-        Ok(parameter) => {
-            let kind = CompileErrorKind::FlagAttributeTakesNoValue { parameter };
-            broken(alloc, *key, kind)
-        }
-        Err(_) => RuleFault::Memory,
-    }
-}
-
-/// Makes the fault, at `key`, for a `flag` beside `value`.
-fn flag_and_value_fault<'src>(
-    alloc: Global,
-    argument: &StringLiteral<'src>,
-    key: Name<'src>,
-) -> RuleFault<'src>
-    ensures { IsBoxedFaultOfRule (rule.FlagAndValueArgAttribute (string_bytes argument.now.cooked))
-        key.entry.token result }
-{
-    match argument_text(alloc, argument) {
-        Ok(parameter) => {
-            let kind = CompileErrorKind::FlagAndValueArgAttribute { parameter };
-            broken(alloc, *key, kind)
-        }
-        Err(_) => RuleFault::Memory,
-    }
-}
-
-/// Makes the fault, at `key`, for a `flag` beside `pattern`.
-fn flag_and_pattern_fault<'src>(
-    alloc: Global,
-    argument: &StringLiteral<'src>,
-    key: Name<'src>,
-) -> RuleFault<'src>
-    ensures { IsBoxedFaultOfRule
-        (rule.FlagAndPatternArgAttribute (string_bytes argument.now.cooked))
-        key.entry.token result }
-{
-    match argument_text(alloc, argument) {
-        Ok(parameter) => {
-            let kind = CompileErrorKind::FlagAndPatternArgAttribute { parameter };
-            broken(alloc, *key, kind)
-        }
-        Err(_) => RuleFault::Memory,
-    }
 }
 
 /// Removes the key `multiple` and returns its token.
 ///
 /// # Errors
 ///
-/// `Broken` at the key if it has a value, or if the parameter isn't an option; `Memory` if out of
-/// memory.
-#[tactic(auto, using(crate::proofs::Refused::boxed_first))]
+/// `Compile` at the key if it has a value, or if the parameter isn't an option.
 pub(crate) fn take_multiple<'src>(
-    alloc: Global,
     keys: &mut KeyMap<'src>,
     rules: &ArgumentRules<'src>,
-) -> RuleResult<'src, Option<Token<'src>>>
-    ensures made { MakesBoxed (λ token. token) result
-        (new.if_given (multiple_made (rules_of rules.now))
+) -> CompileResult<'src, Option<Token<'src>>>
+    ensures made { Makes (λ token. token) result (new.if_given (multiple_made (rules_of rules.now))
         (at_key views_keys (codes "multiple") (key_arguments keys.old))) }
     ensures removed { IsTaken (codes "multiple") keys.old keys.new }
 {
     match take(keys, "multiple") {
         None => Ok(None),
-        Some((key, value)) => match check_multiple(alloc, key, &value, rules) {
+        Some((key, value)) => match check_multiple(key, &value, rules) {
             Ok(()) => Ok(Some(*key)),
             Err(fault) => Err(fault),
         },
@@ -177,39 +122,31 @@ pub(crate) fn take_multiple<'src>(
 }
 
 /// Refuses a `multiple` that has a value, and one for a parameter that isn't an option.
-#[tactic(auto, using(crate::proofs::Refused::boxed_first))]
 fn check_multiple<'src>(
-    alloc: Global,
     key: Name<'src>,
     value: &Option<Box<Expression<'src>>>,
     rules: &ArgumentRules<'src>,
-) -> RuleResult<'src>
-    ensures { MakesBoxed (λ _. key.entry.token) result
+) -> CompileResult<'src>
+    ensures { Makes (λ _. key.entry.token) result
         (multiple_made (rules_of rules.now)
         (keyed (codes "multiple") (key.entry, value.now))) }
 {
     if value.is_some() {
-        let kind = CompileErrorKind::AttributeKeyTakesNoValue { key };
-        return Err(broken(alloc, *key, kind));
+        return Err(Fault::Compile(key.error(CompileErrorKind::AttributeKeyTakesNoValue { key })));
     }
-    match check_has_option(alloc, key, rules) {
+    match check_has_option(key, rules) {
         Ok(()) => Ok(()),
         Err(fault) => Err(fault),
     }
 }
 
 /// Refuses a key if the parameter isn't an option.
-fn check_has_option<'src>(
-    alloc: Global,
-    key: Name<'src>,
-    rules: &ArgumentRules<'src>,
-) -> RuleResult<'src>
-    ensures { MakesBoxed (λ _. tt) result (new.check (lacks_option (rules_of rules.now))
-        (rule.ArgAttributeRequiresOption key.entry.token) key.entry.token) }
+fn check_has_option<'src>(key: Name<'src>, rules: &ArgumentRules<'src>) -> CompileResult<'src>
+    ensures { Makes (λ _. tt) result (new.check (lacks_option (rules_of rules.now))
+        (broken.ArgAttributeRequiresOption key.entry.token) key.entry.token) }
 {
     if lacks_option(rules) {
-        let kind = CompileErrorKind::ArgAttributeRequiresOption { key };
-        return Err(broken(alloc, *key, kind));
+        return Err(Fault::Compile(key.error(CompileErrorKind::ArgAttributeRequiresOption { key })));
     }
     Ok(())
 }

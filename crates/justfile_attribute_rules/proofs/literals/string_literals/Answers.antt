@@ -3,8 +3,7 @@ use Rattle.std.specs.Vec.Iter.{into_iter_items}
 use Rattle.justfile_model.specs.Readers.NewAttribute.{placed_literal}
 use Rattle.justfile_attribute_rules.specs.Keys.{views_keys}
 use Rattle.justfile_attribute_rules.specs.Made.{positional_leaves, quoted_leaves}
-use Rattle.justfile_attribute_rules.proofs.Loops.{goes_on, literal_refused, literal_turn}
-use Rattle.justfile_attribute_rules.proofs.Refused.{stopped}
+use Rattle.justfile_attribute_rules.proofs.Loops.{goes_on, literal_turn}
 use Rattle.justfile_attribute_rules.proofs.literals.string_literals.Goals as goal
 
 pub loop-first-preserved : goal.loop-first-preserved
@@ -17,9 +16,3 @@ loop-first-preserved c =
           (c.in-Some.first, c.in-Some.value) c.in-Some.ensures.steps.0 c.in_ok-literal.ensures
           ∙ ap (λ ls. goes_on (placed_literal views_keys c.args.name.token) (quoted_leaves ls) (positional_leaves rest)) (sym c.in_ok-push.ensures.items),
     )
-
-pub returns-in_err-literal : goal.returns-in_err-literal
-returns-in_err-literal c =
-    stopped _ _ c.in_err-literal.field-0.0 c.from_residual.result c.from_residual.ensures.1
-    (literal_refused c.args.name.token c.args.arguments.items c.loop-first.literals.items (into_iter_items c.loop-first.first-iterator) (into_iter_items c.next.new.self)
-    (c.in-Some.first, c.in-Some.value) c.in_err-literal.field-0.0 c.loop-first.invariant.2 c.in-Some.ensures.steps.0 c.in_err-literal.ensures)

@@ -1,8 +1,7 @@
 use Rattle.std.proofs.Common.{◌∙◌, ap, sym}
 use Rattle.std.specs.Vec.Iter.{into_iter_items}
 use Rattle.justfile_attribute_rules.specs.Made.{quoted_leaves}
-use Rattle.justfile_attribute_rules.proofs.Loops.{adds_up, set_refused, set_started, set_turn}
-use Rattle.justfile_attribute_rules.proofs.Refused.{stopped}
+use Rattle.justfile_attribute_rules.proofs.Loops.{adds_up, set_started, set_turn}
 use Rattle.justfile_attribute_rules.proofs.signals.signal_set.Goals as goal
 
 pub loop-literal-init : goal.loop-literal-init
@@ -23,9 +22,3 @@ loop-literal-preserved c =
           c.in-Some.ensures.steps.0 c.in_ok-signal.ensures
           ∙ ap (λ keys. adds_up keys (quoted_leaves rest)) (sym c.in_ok-insert.ensures.keys),
     )
-
-pub returns-in_err-signal : goal.returns-in_err-signal
-returns-in_err-signal c =
-    stopped _ _ c.in_err-signal.field-0.0 c.from_residual.result c.from_residual.ensures.1
-    (set_refused (quoted_leaves c.args.literals.items) c.loop-literal.signals.keys (into_iter_items c.loop-literal.literal-iterator)
-    (into_iter_items c.next.new.self) c.in-Some.literal c.in_err-signal.field-0.0 c.loop-literal.invariant.2 c.in-Some.ensures.steps.0 c.in_err-signal.ensures)
