@@ -1,32 +1,7 @@
 -- Lists of items to which copies of others were appended, and what of them is listed.
-use Rattle.std.proofs.Common.{◌≡◌, ◌∙◌, ℕ, ◌+◌, ◌<◌, List, [], ◌∷◌, ◌++◌, length, get_or, map, take, drop, refl, sym, ap, append_assoc}
-use Rattle.std.proofs.lemmas.List.{map-append, take_more}
+use Rattle.std.proofs.Common.{◌≡◌, ◌∙◌, ℕ, ◌+◌, List, [], ◌++◌, map, take, drop, ap}
 use Rattle.editor_language.specs.declared.parts.Item.{Item}
 use Rattle.justfile_analysis.specs.Lists.{Placed, placed}
-
--- one more of them was appended
-pub one_more : (f : Placed → Placed) (old now new more : List Item) (i : ℕ) (item made : Item) → i < length more → item ≡ get_or more i item
-    → map placed now ≡ map placed old ++ map f (map placed (take i more)) → new ≡ now ++ (made ∷ []) → placed made ≡ f (placed item)
-    → map placed new ≡ map placed old ++ map f (map placed (take (i + 1) more))
-one_more f old now new more i item made l is so e m =
-    let next : take (i + 1) more ≡ take i more ++ (item ∷ []) = take_more more i item l ∙ ap (λ x. take i more ++ (x ∷ [])) (sym is) in
-    let front = map f (map placed (take i more)) in
-    ap (map placed) e ∙ map-append placed now (made ∷ []) ∙ (λ k. so k ++ (m k ∷ []))
-    ∙ append_assoc (map placed old) front (f (placed item) ∷ [])
-    ∙ ap (λ x. map placed old ++ x) (sym (ap (λ x. map f (map placed x)) next ∙ ap (map f) (map-append placed (take i more) (item ∷ []))
-    ∙ map-append f (map placed (take i more)) (placed item ∷ [])))
-
-pub same_id : (ps : List Placed) → map (λ (p : Placed). p) ps ≡ ps
-same_id [] = refl
-same_id (p ∷ ps) = ap (λ l. p ∷ l) (same_id ps)
-
-pub one_more_copy : (old now new more : List Item) (i : ℕ) (item made : Item) → i < length more → item ≡ get_or more i item
-    → map placed now ≡ map placed old ++ map placed (take i more) → new ≡ now ++ (made ∷ []) → placed made ≡ placed item
-    → map placed new ≡ map placed old ++ map placed (take (i + 1) more)
-one_more_copy old now new more i item made l is so e m =
-    let id = λ (p : Placed). p in
-    one_more id old now new more i item made l is (so ∙ ap (λ x. map placed old ++ x) (sym (same_id (map placed (take i more))))) e m
-    ∙ ap (λ x. map placed old ++ x) (same_id (map placed (take (i + 1) more)))
 
 -- copies of the first ones, and then others, moved
 pub front_moved : (f : Placed → Placed) (at : ℕ) (old found none front copies new : List Item) → front ≡ take at old → none ≡ []
