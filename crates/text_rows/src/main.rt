@@ -1,5 +1,5 @@
 //! Runs rows of data about texts that aren't parsed: their tokens, their literals, and the words of
-//! justfiles.
+//! justfiles; and about values and messages of errors that no text leads to.
 //!
 //! The arguments are the names of files of rows. The program prints the rows that fail or can't be
 //! read, and at the end how many hold, fail and can't be read. The exit status is 1 if a row of
