@@ -89,7 +89,8 @@ impl<'run, 'src, X: Expander> ParserState<'run, 'src, X> {
         let condition = self.parse_condition()?;
         let then = self.parse_braced()?;
         let Some(_else) = self.accept_keyword(Keyword::Else) else {
-            self.note(ListFeature::IfWithoutElse, word.0)?;
+            let (token, _) = word;
+            self.note(ListFeature::IfWithoutElse, *token)?;
             return self.end_if(condition, then);
         };
         let Some(word) = self.accept_keyword(Keyword::If) else {

@@ -101,11 +101,10 @@ impl<'run, 'src, X: Expander> ParserState<'run, 'src, X> {
         if let Some(word) = self.accept_keyword(Keyword::If) {
             return self.parse_conditional(word);
         }
-        let Some(slash) = self.accept(TokenKind::Slash) else {
+        let Some((token, _)) = self.accept(TokenKind::Slash) else {
             let lhs = self.parse_value()?;
             return self.parse_operation(lhs, Level::Conjunct, condition);
         };
-        let token = &slash.0;
         self.parse_row(Link::Root { token }, Level::Conjunct)
     }
 
@@ -166,8 +165,7 @@ impl<'run, 'src, X: Expander> ParserState<'run, 'src, X> {
         if let Some(word) = self.accept_keyword(Keyword::If) {
             return Ok(Step::Last(self.parse_conditional(word)?));
         }
-        if let Some(slash) = self.accept(TokenKind::Slash) {
-            let token = &slash.0;
+        if let Some((token, _)) = self.accept(TokenKind::Slash) {
             return Ok(Step::Next(Link::Root { token }));
         }
         let lhs = self.parse_value()?;
@@ -187,11 +185,10 @@ impl<'run, 'src, X: Expander> ParserState<'run, 'src, X> {
             (λ s. chains.link level (leaf_tree_of lhs.entry.value, s)) }
         ensures progress { OnOk result (tokens_left self.new ≤ tokens_left self.old) }
     {
-        let Some((operator, entry)) = self.accept_operator(level) else {
+        let Some((operator, (token, _))) = self.accept_operator(level) else {
             self.expected_tokens.add_operators(level);
             return Ok(Step::Last(lhs));
         };
-        let token = &entry.0;
         self.note_if(find_feature(operator, false), *token)?;
         Ok(Step::Next(Link::Operation {
             lhs,
@@ -244,12 +241,11 @@ impl<'run, 'src, X: Expander> ParserState<'run, 'src, X> {
             (λ s. reader.operation level condition (leaf_tree_of lhs.entry.value, s)) }
         ensures progress { OnOk result (tokens_left self.new ≤ tokens_left self.old) }
     {
-        let Some((operator, entry)) = self.accept_operator(level) else {
+        let Some((operator, (token, _))) = self.accept_operator(level) else {
             self.expected_tokens.add_operators(level);
             self.leave(level);
             return Ok(lhs);
         };
-        let token = &entry.0;
         self.note_if(find_feature(operator, condition), *token)?;
         self.parse_row(
             Link::Operation {
@@ -379,7 +375,8 @@ impl<'run, 'src, X: Expander> ParserState<'run, 'src, X> {
         ensures moves { Moves result self.old self.new }
     {
         let entry = self.peek()?;
-        let operator = find_operator(entry.0.kind)?;
+        let (token, _) = entry;
+        let operator = find_operator(token.kind)?;
         if is_at(level, operator) {
             self.next += 1;
             self.expected_tokens.clear();
@@ -393,7 +390,8 @@ impl<'run, 'src, X: Expander> ParserState<'run, 'src, X> {
     fn peek_operator(&self) -> Option<Operator>
         ensures { result ≡ reader.front_operator (state_of X.answer self.now).left }
     {
-        find_operator(self.peek()?.0.kind)
+        let (token, _) = self.peek()?;
+        find_operator(token.kind)
     }
 }
 

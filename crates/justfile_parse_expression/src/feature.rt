@@ -26,7 +26,7 @@ impl<'src, X: Expander> ParserState<'_, 'src, X> {
         ensures stays { tokens_left self.new ≡ tokens_left self.old }
     {
         match first {
-            Some(first) => self.note_if(find_condition_feature(condition), first.0),
+            Some((first, _)) => self.note_if(find_condition_feature(condition), first),
             None => Ok(()),
         }
     }

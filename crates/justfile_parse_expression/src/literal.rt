@@ -62,7 +62,8 @@ impl<'run, 'src, X: Expander> ParserState<'run, 'src, X> {
             (λ s. reader.literal_string expand (entry.now, s)) }
     {
         if !expand {
-            if let Some(text) = verbatim_text(entry.0.lexeme()) {
+            let (token, _) = entry;
+            if let Some(text) = verbatim_text(token.lexeme()) {
                 return self.box_verbatim(entry, text);
             }
         }
@@ -115,13 +116,14 @@ impl<'run, 'src, X: Expander> ParserState<'run, 'src, X> {
             (λ s. reader.string_leaf false (entry.now, s)) }
         ensures expand { IfOk result (λ l. l.expand ≡ false) }
     {
+        let (token, _) = entry;
         let cooked = text.to_string(self.alloc)?;
         Ok(StringLiteral {
             cooked,
             expand: false,
             kind: find_kind(entry),
             part: None,
-            token: entry.0,
+            token: *token,
         })
     }
 
@@ -142,7 +144,8 @@ impl<'run, 'src, X: Expander> ParserState<'run, 'src, X> {
             (λ s. reader.string_leaf expand (entry.now, s)) }
         ensures expand { IfOk result (λ l. l.expand ≡ expand) }
     {
-        match string_literal(self.alloc, entry.0, expand, self.expander) {
+        let (token, _) = entry;
+        match string_literal(self.alloc, *token, expand, self.expander) {
             Ok(literal) => Ok(literal),
             Err(fault) => Err(literal_error(self.alloc, fault)),
         }
@@ -158,10 +161,11 @@ impl<'run, 'src, X: Expander> ParserState<'run, 'src, X> {
         ensures reads { Parses X.answer (λ e. leaf_tree_of e.value) result self.now self.now
             (λ s. reader.backtick (entry.now, s)) }
     {
-        match command(self.alloc, entry.0) {
+        let (token, _) = entry;
+        match command(self.alloc, *token) {
             Ok(contents) => Ok(self.box_expression(Expression::Backtick {
                 contents,
-                token: entry.0,
+                token: *token,
             })?),
             Err(fault) => Err(literal_error(self.alloc, fault)),
         }
@@ -193,7 +197,8 @@ impl<'run, 'src, X: Expander> ParserState<'run, 'src, X> {
         ensures reads { Parses X.answer (λ l. Literal (literal_of l)) result self.now self.now
             (λ s. reader.part_by kind part (entry.now, s)) }
     {
-        match format_part(self.alloc, entry.0, kind, part) {
+        let (token, _) = entry;
+        match format_part(self.alloc, *token, kind, part) {
             Ok(literal) => Ok(literal),
             Err(fault) => Err(literal_error(self.alloc, fault)),
         }
@@ -204,7 +209,8 @@ impl<'run, 'src, X: Expander> ParserState<'run, 'src, X> {
 pub(crate) fn find_kind(entry: &SignificantToken<'_>) -> StringKind
     ensures { result ≡ kind_of (lexeme_of entry.now.0) }
 {
-    StringKind::of_opening(entry.0.lexeme().as_bytes())
+    let (token, _) = entry;
+    StringKind::of_opening(token.lexeme().as_bytes())
 }
 
 /// Makes the error for the fault of a literal. It is `Memory` if there is no memory for its box.

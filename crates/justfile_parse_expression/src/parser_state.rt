@@ -199,8 +199,8 @@ impl<'run, 'src, X: Expander> ParserState<'run, 'src, X> {
         if self.tokens.len() - self.next < 2 {
             return false;
         }
-        let entry = &self.tokens[self.next + 1];
-        entry.0.kind == kind
+        let (token, _) = &self.tokens[self.next + 1];
+        token.kind == kind
     }
 
     /// Takes the next token if it is this mark, together with the string of this kind that is glued
@@ -322,7 +322,7 @@ impl<'run, 'src, X: Expander> ParserState<'run, 'src, X> {
         ensures entry { IfSome result (λ entry. IsOf kind entry.now) }
     {
         match self.peek() {
-            Some(entry) if entry.0.kind == kind => Some(entry),
+            Some(entry @ (token, _)) if token.kind == kind => Some(entry),
             _ => None,
         }
     }
@@ -371,7 +371,7 @@ impl<'run, 'src, X: Expander> ParserState<'run, 'src, X> {
         let mut next = self.next;
         for kind in kinds {
             match self.tokens.get(next) {
-                Some(entry) if entry.0.kind == *kind => next += 1,
+                Some((token, _)) if token.kind == *kind => next += 1,
                 _ => return false,
             }
         }
@@ -411,7 +411,8 @@ pub(crate) fn is_marked(
         ≡ marks word.now kind (significant_of mark.now) (significant_of entry.now) }
     ensures kind { IsTrue result → entry.now.0.kind ≡ kind }
 {
-    entry.0.kind == kind && entry.1 && is_word(mark, word)
+    let (token, glued) = entry;
+    token.kind == kind && *glued && is_word(mark, word)
 }
 
 /// Whether the token is this word. Compares the lengths first, because most names differ in length
@@ -422,9 +423,10 @@ pub fn is_word(entry: &SignificantToken<'_>, word: &str) -> bool
     ensures word { result ≡ is_word word.now (significant_of entry.now) }
     ensures kind { IsTrue result → entry.now.0.kind ≡ kinds.Identifier }
 {
-    if entry.0.kind != TokenKind::Identifier {
+    let (token, _) = entry;
+    if token.kind != TokenKind::Identifier {
         return false;
     }
-    let lexeme = entry.0.lexeme();
+    let lexeme = token.lexeme();
     lexeme.len() == word.len() && lexeme == word
 }

@@ -90,8 +90,8 @@ impl<'run, 'src, X: Expander> ParserState<'run, 'src, X> {
     {
         let most = self.count_left();
         let mut count = 0;
-        while let Some(bang) = self.accept_unrecorded(TokenKind::Bang) {
-            self.note(ListFeature::NegationOperator, bang.0)?;
+        while let Some((bang, _)) = self.accept_unrecorded(TokenKind::Bang) {
+            self.note(ListFeature::NegationOperator, *bang)?;
             prove!(count < most);
             count += 1;
         }
@@ -140,10 +140,10 @@ impl<'run, 'src, X: Expander> ParserState<'run, 'src, X> {
         ensures { chains.bare (state_of X.answer self.now)
             ≡ values.read_form result (state_of X.answer self.now) }
     {
-        let Some(entry) = self.peek() else {
+        let Some((token, _)) = self.peek() else {
             return ValueForm::Missing;
         };
-        match entry.0.kind {
+        match token.kind {
             TokenKind::StringToken | TokenKind::Backtick => ValueForm::Literal,
             TokenKind::Identifier => self.form_of_word(),
             TokenKind::ParenL => ValueForm::Group,
@@ -289,10 +289,10 @@ impl<'run, 'src, X: Expander> ParserState<'run, 'src, X> {
             values.assertion }
         ensures progress { OnOk result (tokens_left self.new < tokens_left self.old) }
     {
-        let Some(word) = self.accept_keyword(Keyword::Assert) else {
+        let Some((word, _)) = self.accept_keyword(Keyword::Assert) else {
             return self.refuse_value();
         };
-        let name = Name::from_identifier(word.0);
+        let name = Name::from_identifier(*word);
         self.expect(TokenKind::ParenL)?;
         let condition = self.parse_condition()?;
         let Some(_comma) = self.accept(TokenKind::Comma) else {
@@ -339,8 +339,9 @@ impl<'run, 'src, X: Expander> ParserState<'run, 'src, X> {
         ensures { UnlessMemory result (λ e. leaf_tree_of e.value
             ≡ tree.Variable (Named entry.now.0 None)) }
     {
+        let (token, _) = entry;
         self.box_expression(Expression::Variable {
-            name: Name::from_identifier(entry.0),
+            name: Name::from_identifier(*token),
             number: None,
         })
     }
@@ -358,9 +359,10 @@ impl<'run, 'src, X: Expander> ParserState<'run, 'src, X> {
             (reader.call entry.now) }
         ensures progress { OnOk result (tokens_left self.new < tokens_left self.old) }
     {
+        let (token, _) = entry;
         let arguments = self.parse_sequence(TokenKind::ParenR)?;
-        self.note_if(find_function_feature(entry.0.lexeme()), entry.0)?;
-        let name = Name::from_identifier(entry.0);
+        self.note_if(find_function_feature(token.lexeme()), *token)?;
+        let name = Name::from_identifier(*token);
         self.box_expression(make_call(name, arguments))
     }
 
@@ -389,12 +391,12 @@ impl<'run, 'src, X: Expander> ParserState<'run, 'src, X> {
             reader.list }
         ensures progress { OnOk result (tokens_left self.new < tokens_left self.old) }
     {
-        let Some(opener) = self.accept_unrecorded(TokenKind::BracketL) else {
+        let Some((opener, _)) = self.accept_unrecorded(TokenKind::BracketL) else {
             return self.refuse_value();
         };
-        self.note(ListFeature::ListLiteral, opener.0)?;
+        self.note(ListFeature::ListLiteral, *opener)?;
         let elements = self.parse_sequence(TokenKind::BracketR)?;
-        self.box_expression(make_list(opener.0, elements))
+        self.box_expression(make_list(*opener, elements))
     }
 
     /// Parses expressions separated by commas, and the closing delimiter.
