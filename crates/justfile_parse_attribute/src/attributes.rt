@@ -201,10 +201,11 @@ fn parse_attribute<'src, X: Expander>(
     let name = parser.expect(TokenKind::Identifier)?;
     let kind = find_attribute_kind(parser, name)?;
     let arguments = parse_arguments(parser, name, kind.accepts_keyword_arguments())?;
+    let (token, _) = name;
     push_attribute(
         parser,
         attributes,
-        Name::from_identifier(name.0),
+        Name::from_identifier(*token),
         kind,
         arguments,
     )
@@ -223,9 +224,10 @@ fn find_attribute_kind<'src, X: Expander>(
     ensures { ParsesRuled X.answer (λ kind. kind) result parser.now parser.now
         (reader.kind_at name.now) }
 {
-    match AttributeKind::from_name(name.0.lexeme()) {
+    let (token, _) = name;
+    match AttributeKind::from_name(token.lexeme()) {
         Some(kind) => Ok(kind),
-        None => Err(rule_error(parser.alloc, unknown_attribute_fault(name.0))),
+        None => Err(rule_error(parser.alloc, unknown_attribute_fault(*token))),
     }
 }
 
@@ -356,12 +358,13 @@ fn parse_keyed<'src, X: Expander>(
         parser.old parser.new (reader.one_keyed name.now (arguments_of arguments.old)) }
     ensures progress { OnOk result (tokens_left parser.new < tokens_left parser.old) }
 {
-    let key = parser.expect(TokenKind::Identifier)?;
+    let (key, _) = parser.expect(TokenKind::Identifier)?;
     let value = parse_key_value(parser)?;
-    if arguments.has_text(key.0.lexeme()) {
-        return Err(rule_error(parser.alloc, repeated_key_fault(name.0, key.0)));
+    if arguments.has_text(key.lexeme()) {
+        let (token, _) = name;
+        return Err(rule_error(parser.alloc, repeated_key_fault(*token, *key)));
     }
-    arguments.push_keyed(Name::from_identifier(key.0), value)?;
+    arguments.push_keyed(Name::from_identifier(*key), value)?;
     Ok(())
 }
 
@@ -411,7 +414,7 @@ fn parse_placed<'src, X: Expander>(
     let first = parser.peek_front();
     let value = parse_expression(parser)?;
     match first {
-        Some(entry) => Ok((entry.0, value)),
+        Some((token, _)) => Ok((token, value)),
         None => Err(ExpressionError::Refused(SyntaxError::Unexpected)),
     }
 }

@@ -233,7 +233,8 @@ fn insert_key<'src>(
     ensures err { OnErr result (keys.new.entries ≡ keys.old.entries) }
     ensures keyed { AreKeyed keys.new }
 {
-    let text = given.0.lexeme();
+    let (key, _) = &given;
+    let text = key.lexeme();
     match keys.insert(text, given) {
         Ok(_before) => Ok(()),
         Err(_failed) => Err(AllocError),
