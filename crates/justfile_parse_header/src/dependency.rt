@@ -202,13 +202,11 @@ fn refuse_second<'src>(
 {
     match find_second(before, star) {
         None => Ok(()),
-        Some(second) => Err(rule_error(
+        Some((second, _)) => Err(rule_error(
             alloc,
-            Fault::Compile(
-                second
-                    .0
-                    .error(CompileErrorKind::MappedDependencyMultipleStarredArguments),
-            ),
+            Fault::Compile(second.error(
+                CompileErrorKind::MappedDependencyMultipleStarredArguments,
+            )),
         )),
     }
 }
@@ -245,20 +243,13 @@ fn check_stars<'src>(
         result }
 {
     match (star, find_star(arguments)) {
-        (None, Some(first)) => Err(rule_error(
+        (None, Some((first, _))) => Err(rule_error(
             alloc,
-            Fault::Compile(
-                first
-                    .0
-                    .error(CompileErrorKind::StarredArgumentOutsideMappedDependency),
-            ),
+            Fault::Compile(first.error(CompileErrorKind::StarredArgumentOutsideMappedDependency)),
         )),
-        (Some(star), None) => Err(rule_error(
+        (Some((star, _)), None) => Err(rule_error(
             alloc,
-            Fault::Compile(
-                star.0
-                    .error(CompileErrorKind::MappedDependencyWithoutStarredArgument),
-            ),
+            Fault::Compile(star.error(CompileErrorKind::MappedDependencyWithoutStarredArgument)),
         )),
         (None, None) | (Some(_), Some(_)) => Ok(()),
     }

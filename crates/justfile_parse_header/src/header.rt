@@ -56,7 +56,8 @@ pub fn parse_header<'src, X: Expander>(
 {
     let name = parser.expect(TokenKind::Identifier)?;
     note_arg_attributes(attributes, parser)?;
-    check_options(attributes, parser.alloc, name.0)?;
+    let (token, _) = name;
+    check_options(attributes, parser.alloc, *token)?;
     let parameters = parse_parameters(attributes, parser, numerator)?;
     check_defined(attributes, parser.alloc, &parameters)?;
     let mut dependencies = Vec::new(parser.alloc);

@@ -149,7 +149,7 @@ fn expect_no_name<'src, X: Expander>(
 {
     match parser.probe_if(TokenKind::Identifier) {
         None => Ok(()),
-        Some(name) => Err(rule_error(parser.alloc, after_variadic_fault(name.0))),
+        Some((name, _)) => Err(rule_error(parser.alloc, after_variadic_fault(*name))),
     }
 }
 
@@ -196,14 +196,14 @@ fn parse_named<'src, X: Expander>(
         numerator.new parser.old parser.new
         (λ rules x. reader.named_parameter rules kind export x.0 x.1) }
 {
-    let name = parser.expect(TokenKind::Identifier)?;
+    let (name, _) = parser.expect(TokenKind::Identifier)?;
     let default = parse_default(parser)?;
-    let arg = find_arg(arg_attributes, parameters, name.0);
-    check_arg_attribute(arg, parser.alloc, name.0, default.is_some(), kind)?;
+    let arg = find_arg(arg_attributes, parameters, *name);
+    check_arg_attribute(arg, parser.alloc, *name, default.is_some(), kind)?;
     let arg_attribute = copy_arg_attribute(parser.alloc, arg)?;
     let number = next_binding_number(numerator)?;
     parameters.push(make_parameter(
-        Name::from_identifier(name.0),
+        Name::from_identifier(*name),
         number,
         kind,
         export,

@@ -28,7 +28,7 @@ took_number g c left least =
     let s1 = state_of g.X.Expander.answer c.expect.new.self in
     let s2 = state_of g.X.Expander.answer c.parse_default.new.parser in
     let fewer = fewer_at s1 (reader.default_value s1) (value_tree c.in_ok-default.default, s2) (default_fewer s1) c.in_ok-default.ensures in
-    let one = name_fewer s (c.in_ok-name.name.now, s1) c.in_ok-name.ensures.reads in
+    let one = name_fewer s (c.in_ok-name.field-0.now, s1) c.in_ok-name.ensures.reads in
     took_for_name c.args.numerator.now c.next_binding_number.new.numerator _ s s2 left (c.in_ok-number.ensures.reads s2) (omega (arith, fewer, one)) least
 
 pub returns-in_err-name : goal.returns-in_err-name
@@ -58,7 +58,7 @@ pub returns-in_err-check_arg_attribute : goal.returns-in_err-check_arg_attribute
 returns-in_err-check_arg_attribute g c =
     let s = state_of g.X.Expander.answer c.args.parser.now in
     let s2 = state_of g.X.Expander.answer c.parse_default.new.parser in
-    let broken = arg_attribute_broken c.in_ok-name.name.now.0 c.is_some.result c.args.kind (rules_by c.find_arg-arg.result) in
+    let broken = arg_attribute_broken c.in_ok-name.field-0.now.0 c.is_some.result c.args.kind (rules_by c.find_arg-arg.result) in
     let p = err_from_is_err_and c.from_residual-in_err-check_arg_attribute.result c.from_residual-in_err-check_arg_attribute.ensures.1 in
     let fails =
     arg_attribute_fails (rules_of c.args.arg_attributes.now.attributes.now) c.args.kind c.args.export c.args.parameters.now.list.items c.args.numerator.now s
@@ -118,7 +118,7 @@ returns g c =
           (c.in_ok-number.ensures.reads s2) c.push.new.self.list.items _ c.in_ok-push.ensures token c.make_parameter.ensures.tree;
       fields =
           pushed_fields rules before c.push.new.self.list.items _ c.in_ok-push.ensures
-          (named_fields rules (map parameter_tree before) _ (rules_by c.find_arg-arg.result) c.in_ok-name.name.now.0 c.find_arg-arg.ensures.rules token
+          (named_fields rules (map parameter_tree before) _ (rules_by c.find_arg-arg.result) c.in_ok-name.field-0.now.0 c.find_arg-arg.ensures.rules token
           (c.make_parameter.ensures.fields (rules_by c.find_arg-arg.result) c.in_ok-arg_attribute.ensures));
       numbers = took_number g (goal.at.returns g c).In_ok-number (identifiers_left s2) (omega arith);
     }
