@@ -112,7 +112,7 @@ fn peek_line<X: Expander>(parser: &ParserState<'_, '_, X>) -> usize
     ensures { result ≡ reader.line_at (state_of X.answer parser.now).left }
 {
     match parser.peek_front() {
-        Some(entry) => entry.0.line,
+        Some((token, _)) => token.line,
         None => 0,
     }
 }
@@ -184,8 +184,8 @@ fn push_fragment<'src, X: Expander>(
     ensures progress { OnOk result (tokens_left parser.new < tokens_left parser.old) }
 {
     fragments.reserve(1)?;
-    if let Some(text) = parser.accept(TokenKind::Text) {
-        fragments.push_reserved(Fragment::Text { token: text.0 });
+    if let Some((text, _)) = parser.accept(TokenKind::Text) {
+        fragments.push_reserved(Fragment::Text { token: *text });
         return Ok(());
     }
     fragments.push_reserved(parse_interpolation(parser)?);

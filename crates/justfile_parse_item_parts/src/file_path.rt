@@ -77,9 +77,10 @@ fn parse_mark<'src, X: Expander>(
     if is_word(mark, Keyword::X.lexeme()) {
         Ok(true)
     } else {
+        let (token, _) = mark;
         Err(rule_error(
             parser.alloc,
-            expected_keyword_fault(parser.alloc, &[Keyword::X], mark.0),
+            expected_keyword_fault(parser.alloc, &[Keyword::X], *token),
         ))
     }
 }

@@ -73,8 +73,8 @@ fn parse_numbered_name<'src, X: Expander>(
         (identifiers_left_after result (state_of X.answer parser.new)) }
     ensures progress { OnOk result (tokens_left parser.new < tokens_left parser.old) }
 {
-    let name = parser.expect(TokenKind::Identifier)?;
+    let (name, _) = parser.expect(TokenKind::Identifier)?;
     let number = next_binding_number(numerator)?;
-    parameters.push((Name::from_identifier(name.0), number))?;
+    parameters.push((Name::from_identifier(*name), number))?;
     Ok(())
 }

@@ -37,9 +37,10 @@ pub fn setting_keyword<'src>(
     ensures { (s : State)
         → ReadsRuled (λ keyword. keyword) result s (reader.setting_keyword name.now s) }
 {
-    match Keyword::from_lexeme(name.0.lexeme()) {
+    let (token, _) = name;
+    match Keyword::from_lexeme(token.lexeme()) {
         Some(keyword) => Ok(keyword),
-        None => Err(rule_error(alloc, unknown_setting_fault(name.0))),
+        None => Err(rule_error(alloc, unknown_setting_fault(*token))),
     }
 }
 
@@ -107,9 +108,10 @@ fn find_truth<'src>(alloc: Global, word: &SignificantToken<'src>) -> Result<bool
     } else if is_word(word, Keyword::False.lexeme()) {
         Ok(false)
     } else {
+        let (token, _) = word;
         Err(rule_error(
             alloc,
-            expected_keyword_fault(alloc, &[Keyword::True, Keyword::False], word.0),
+            expected_keyword_fault(alloc, &[Keyword::True, Keyword::False], *token),
         ))
     }
 }
@@ -207,7 +209,8 @@ fn parse_plain_setting<'src, X: Expander>(
 {
     parser.expect(TokenKind::ColonEquals)?;
     let value = parse_expression(parser)?;
-    make_plain(parser.alloc, parser.current(), name.0, keyword, value)
+    let (token, _) = name;
+    make_plain(parser.alloc, parser.current(), *token, keyword, value)
 }
 
 /// Refuses a keyword that isn't the name of a setting, once `:=` is taken.
@@ -220,5 +223,6 @@ fn refuse_setting<'src, X: Expander>(
     ensures fails { OnOk result ⊥ }
 {
     parser.expect(TokenKind::ColonEquals)?;
-    Err(rule_error(parser.alloc, unknown_setting_fault(name.0)))
+    let (token, _) = name;
+    Err(rule_error(parser.alloc, unknown_setting_fault(*token)))
 }
