@@ -46,7 +46,8 @@ pub(crate) fn parse_assignment<'src, X: Expander>(
     let value = parse_expression(parser)?;
     let attributes = check_allowed(parser.alloc, ItemKind::Assignment, attributes, name)?;
     let number = next_binding_number(numerator)?;
-    let private = is_private_item(name.0, &attributes);
+    let (token, _) = name;
+    let private = is_private_item(*token, &attributes);
     push_parsed_item(
         items,
         Item::Assignment(Binding {
@@ -54,7 +55,7 @@ pub(crate) fn parse_assignment<'src, X: Expander>(
             eager,
             export,
             file_depth: parser.file_depth,
-            name: Name::from_identifier(name.0),
+            name: Name::from_identifier(*token),
             number,
             prelude: false,
             private,

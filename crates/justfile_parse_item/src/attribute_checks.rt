@@ -37,7 +37,8 @@ pub(crate) fn check_allowed<'src>(
     ensures set { IfOk result (IsSetOf (entries_of attributes.entry.items)) }
 {
     let set = AttributeSet::from_parsed(attributes)?;
-    match set.ensure_valid_attributes(item, name.0) {
+    let (token, _) = name;
+    match set.ensure_valid_attributes(item, *token) {
         Ok(()) => Ok(set),
         Err(error) => Err(rule_error(alloc, Fault::Compile(error))),
     }

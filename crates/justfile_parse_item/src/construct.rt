@@ -96,12 +96,12 @@ fn parse_item_attributes<'src, X: Expander>(
         parser.old parser.new reader.item_attributes }
     ensures fields { IfOk result (λ pairs. HaveDerivedPairFields pairs.items) }
 {
-    let Some(opener) = parser.peek_if(TokenKind::BracketL) else {
+    let Some((opener, _)) = parser.peek_if(TokenKind::BracketL) else {
         return Ok(Vec::new(parser.alloc));
     };
     let attributes = parse_attributes(parser)?;
     if stands_alone(parser) {
-        return Err(rule_error(parser.alloc, extraneous_fault(attributes.len(), opener.0)));
+        return Err(rule_error(parser.alloc, extraneous_fault(attributes.len(), *opener)));
     }
     Ok(attributes)
 }
@@ -145,8 +145,8 @@ fn accept_construct_keyword<X: Expander>(
         (keyword_taken (state_of X.answer parser.old)) }
     ensures moves { Moves result parser.old parser.new }
 {
-    let word = parser.probe_if(TokenKind::Identifier)?;
-    let (construct, keyword, lookahead) = find_beginning(word.0.lexeme())?;
+    let (word, _) = parser.probe_if(TokenKind::Identifier)?;
+    let (construct, keyword, lookahead) = find_beginning(word.lexeme())?;
     accept_keyword_before(parser, keyword, lookahead)?;
     Some(construct)
 }

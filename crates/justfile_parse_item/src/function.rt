@@ -46,12 +46,13 @@ pub(crate) fn parse_function<'src, X: Expander>(
     let parameters = parse_parameter_names(parser, numerator)?;
     parser.expect(TokenKind::ColonEquals)?;
     let body = parse_expression(parser)?;
+    let (token, _) = name;
     push_parsed_item(
         items,
         Item::Function(FunctionDefinition {
             attributes,
             body: Box::into_inner(body),
-            name: Name::from_identifier(name.0),
+            name: Name::from_identifier(*token),
             parameters,
         }),
     )

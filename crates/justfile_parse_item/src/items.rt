@@ -107,8 +107,8 @@ fn parse_item<'src, X: Expander>(
     ensures moved { CountersMoved numerator.old numerator.new
         (identifiers (map significant_of (state_of X.answer parser.old).left)) }
 {
-    if let Some(comment) = parser.accept(TokenKind::Comment) {
-        return push_parsed_item(items, make_comment(comment.0));
+    if let Some((comment, _)) = parser.accept(TokenKind::Comment) {
+        return push_parsed_item(items, make_comment(*comment));
     }
     parse_construct(parser, items, numerator)
 }
@@ -158,8 +158,8 @@ fn parse_after_item<'src, X: Expander>(
     ensures fields { OnOk result (KeepsDerivedFields items.old.items items.new.items) }
 {
     match parser.accept(TokenKind::Comment) {
-        Some(comment) => {
-            push_item(items, make_comment(comment.0))?;
+        Some((comment, _)) => {
+            push_item(items, make_comment(*comment))?;
             parse_line_end(parser, items)
         }
         None => parse_line_end(parser, items),

@@ -34,11 +34,12 @@ pub(crate) fn parse_alias<'src, X: Expander>(
     parser.expect(TokenKind::ColonEquals)?;
     let target = parse_namepath(parser)?;
     let attributes = check_allowed(parser.alloc, ItemKind::Alias, attributes, name)?;
+    let (token, _) = name;
     push_parsed_item(
         items,
         Item::Alias(Alias {
             attributes,
-            name: Name::from_identifier(name.0),
+            name: Name::from_identifier(*token),
             target,
         }),
     )
@@ -61,11 +62,12 @@ pub(crate) fn parse_set<'src, X: Expander>(
     let keyword = setting_keyword(parser.alloc, name)?;
     let attributes = check_allowed(parser.alloc, ItemKind::Setting, attributes, name)?;
     let value = parse_setting_value(parser, name, keyword)?;
+    let (token, _) = name;
     push_parsed_item(
         items,
         Item::Setting(Set {
             attributes,
-            name: Name::from_identifier(name.0),
+            name: Name::from_identifier(*token),
             value,
         }),
     )
@@ -86,11 +88,12 @@ pub(crate) fn parse_unexport<'src, X: Expander>(
 {
     let name = parser.expect(TokenKind::Identifier)?;
     let attributes = check_allowed(parser.alloc, ItemKind::Unexport, attributes, name)?;
+    let (token, _) = name;
     push_parsed_item(
         items,
         Item::Unexport {
             attributes,
-            name: Name::from_identifier(name.0),
+            name: Name::from_identifier(*token),
         },
     )
 }

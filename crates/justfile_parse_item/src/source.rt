@@ -94,12 +94,13 @@ fn parse_named_module<'src, X: Expander>(
     let name = parser.expect(TokenKind::Identifier)?;
     let relative = parse_optional_path(parser)?;
     let attributes = check_allowed(parser.alloc, ItemKind::Module, attributes, name)?;
+    let (token, _) = name;
     push_parsed_item(
         items,
         Item::Module {
             attributes,
             doc: None,
-            name: Name::from_identifier(name.0),
+            name: Name::from_identifier(*token),
             optional,
             relative,
         },

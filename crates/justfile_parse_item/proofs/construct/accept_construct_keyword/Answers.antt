@@ -8,7 +8,7 @@ returns-in_err-accept_keyword_before-clause-takes g c =
     let A = g.X.Expander.answer in
     let p = c.args.parser.now in
     let row = c.in_ok-construct in
-    let none = not_followed (state_of A p) c.in_ok-word.word.now (state_from A p (p.next + 1)) (search rules) row.construct row.keyword row.lookahead (search rules) (search rules) in
+    let none = not_followed (state_of A p) c.in_ok-word.field-0.now (state_from A p (p.next + 1)) (search rules) row.construct row.keyword row.lookahead (search rules) (search rules) in
     search (rules, none)
 
 pub returns-clause-takes : goal.returns-clause-takes
@@ -16,5 +16,5 @@ returns-clause-takes g c =
     let A = g.X.Expander.answer in
     let p = c.args.parser.now in
     let row = c.in_ok-construct in
-    followed (state_of A p) c.in_ok-word.word.now (state_from A p (p.next + 1)) (search rules) row.construct row.keyword row.lookahead (search rules)
+    followed (state_of A p) c.in_ok-word.field-0.now (state_from A p (p.next + 1)) (search rules) row.construct row.keyword row.lookahead (search rules)
     c.in_ok-accept_keyword_before.field-0.now (state_of A c.accept_keyword_before.new.parser) (search rules)

@@ -14,7 +14,7 @@ use Rattle.justfile_parse_item.proofs.DerivedItemFields.{after_ok, pushed_fields
 use Rattle.justfile_parse_item.proofs.items.parse_after_item.Goals as goal
 
 pub make_comment-requires : goal.make_comment-requires
-make_comment-requires g c = begins_hash c.in-Some.comment.now c.in-Some.ensures.entry
+make_comment-requires g c = begins_hash c.in-Some.field-0.now c.in-Some.ensures.entry
 
 pub returns-in_ok-push_item-in-Some-clause-reads : goal.returns-in_ok-push_item-in-Some-clause-reads
 unfolding leaves
@@ -25,7 +25,7 @@ returns-in_ok-push_item-in-Some-clause-reads g c =
     let more : map item_tree c.push_item.new.items.items ≡ done ++ item_tree c.make_comment.result ∷ [] = c.in_ok-push_item-in-Some.ensures.trees in
     reads_alike _ _ _ _ _
     (ap (λ (l : List (OrderedItem Leaf Token ℕ)). prepend l (line_end rest)) (more ∙ ap (λ (i : OrderedItem Leaf Token ℕ). done ++ i ∷ []) c.make_comment.ensures.tree)
-    ∙ sym (after_comment done (state_of A c.args.parser.now) c.in-Some.comment.now rest c.in-Some.ensures.takes))
+    ∙ sym (after_comment done (state_of A c.args.parser.now) c.in-Some.field-0.now rest c.in-Some.ensures.takes))
     c.parse_line_end.ensures.reads
 
 pub returns-in_ok-push_item-in-Some-clause-fields : goal.returns-in_ok-push_item-in-Some-clause-fields
