@@ -15,7 +15,7 @@ use Rattle.justfile_scan.specs.WhiteRun.{IsRunOf}
 use Rattle.justfile_lex.specs.declared.lexer.Lexer.{Lexer}
 use Rattle.justfile_scan.specs.declared.white_run.WhiteRun.{WhiteRun}
 use Rattle.justfile_lex.proofs.LexerLemmas.{all_lexed, earlier_push, falls, left, lexes_on, taken_next}
-use Rattle.justfile_lex.proofs.TableLemmas.{Entry, IsTableTo, adds, all_significant, nothing}
+use Rattle.justfile_lex.proofs.TableLemmas.{Entry, IsTableTo, all_significant, nothing, one_more}
 use Rattle.justfile_scan.proofs.WhiteRunLemmas.{run_on}
 
 -- The lexer is at the end of some tokens of the text.
@@ -74,9 +74,7 @@ begins path src l table lexing path_is src_is none is = record {
 module _ (path src : List ℕ) (old new : Lexer) (t : Token) (p : Takes old new t) (before after : Bool) (so_far table : List Entry) (h : ReadsTable path src old before so_far)
     (after_is : after ≡ not (is_whitespace t.kind)) (table_is : table ≡ so_far ++ cond (is_whitespace t.kind) [] ((t, before) ∷ [])) where
   table_to : IsTableTo (h.tokens ++ t ∷ []) after table
-  table_to =
-      subst (λ b. IsTableTo (h.tokens ++ t ∷ []) b table) (sym after_is)
-      (subst (IsTableTo (h.tokens ++ t ∷ []) (not (is_whitespace t.kind))) (sym table_is) (adds h.tokens before so_far t h.is_table))
+  table_to = one_more h.tokens before so_far t h.is_table after table after_is table_is
 
   pub reads_on : t.kind ≢ Eof → ReadsTable path src new after table
   reads_on ne = record { tokens = h.tokens ++ t ∷ []; runs = runs_on path src h.tokens old new t h.runs p ne; is_table = table_to }

@@ -1,8 +1,8 @@
 -- The table of significant tokens, token by token.
-use Rattle.std.proofs.Common.{◌≡◌, Bool, true, false, not, cond, List, [], ◌∷◌, ◌++◌, map, refl, sym, ap, ◌∙◌, subst}
+use Rattle.std.proofs.Common.{◌≡◌, ◌+◌, ◌<◌, ℕ, Bool, true, false, not, cond, List, [], ◌∷◌, ◌++◌, length, get_or, map, take, All, Contains, refl, sym, ap, ◌∙◌, subst, arith}
 use Rattle.std.specs.List.{filter}
-use Rattle.std.proofs.lemmas.List.{append_assoc, append-nil, map-append}
-use Rattle.std.proofs.lemmas.List.Elements.{filter-append}
+use Rattle.std.proofs.lemmas.List.{append_assoc, append-nil, get_or-map, length-map, map-append, take_more}
+use Rattle.std.proofs.lemmas.List.Elements.{All-filter, Contains-get_or, filter-append}
 use Rattle.justfile_token.specs.declared.token.Token.{Token}
 use Rattle.justfile_model.specs.Lexing.Tok.{Tok, tok_of}
 use Rattle.justfile_model.specs.Lexing.SignificantTokens.{SignificantToken, is_whitespace, significant_from, significant_tokens}
@@ -54,12 +54,27 @@ module _ (tokens : List Token) (glued : Bool) (table : List Entry) (t : Token) (
         ∙ sym (all_kept ∙ ap (λ (b : Bool). kept_in tokens ++ cond (not b) (t ∷ []) []) other);
   }
 
-  pub adds : IsTableTo (tokens ++ t ∷ []) (not (is_whitespace t.kind)) (table ++ cond (is_whitespace t.kind) [] ((t, glued) ∷ []))
+  adds : IsTableTo (tokens ++ t ∷ []) (not (is_whitespace t.kind)) (table ++ cond (is_whitespace t.kind) [] ((t, glued) ∷ []))
   adds = by (is_whitespace t.kind) refl
     where
       by : (b : Bool) → is_whitespace t.kind ≡ b → IsTableTo (tokens ++ t ∷ []) (not b) (table ++ cond b [] ((t, glued) ∷ []))
       by true white = subst (IsTableTo (tokens ++ t ∷ []) false) (sym (append-nil table)) (skips white)
       by false other = takes other
+
+  pub one_more : (after : Bool) (longer : List Entry) → after ≡ not (is_whitespace t.kind) → longer ≡ table ++ cond (is_whitespace t.kind) [] ((t, glued) ∷ [])
+      → IsTableTo (tokens ++ t ∷ []) after longer
+  one_more after longer after_is longer_is =
+      subst (λ b. IsTableTo (tokens ++ t ∷ []) b longer) (sym after_is)
+      (subst (IsTableTo (tokens ++ t ∷ []) (not (is_whitespace t.kind))) (sym longer_is) adds)
+
+-- the table of the tokens before an index, and of the next one
+pub goes_on : (tokens : List Token) (index : ℕ) (before after : Bool) (so_far table : List Entry) (t : Token) → index < length tokens → t ≡ get_or tokens index t
+    → IsTableTo (take index tokens) before so_far → after ≡ not (is_whitespace t.kind) → table ≡ so_far ++ cond (is_whitespace t.kind) [] ((t, before) ∷ [])
+    → IsTableTo (take (index + 1) tokens) after table
+goes_on tokens index before after so_far table t below is h after_is table_is =
+    let next : take index tokens ++ (t ∷ []) ≡ take (index + 1) tokens
+    = sym (take_more tokens index t below ∙ ap (λ (x : Token). take index tokens ++ (x ∷ [])) (sym is)) in
+    subst (λ (l : List Token). IsTableTo l after table) next (one_more (take index tokens) before so_far t h after table after_is table_is)
 
 pub nothing : IsTableTo [] false []
 nothing = record { marked = λ more. refl; kept = refl }
@@ -69,3 +84,14 @@ all_significant tokens glued table h = record {
   marked = sym (ap significant_tokens (sym (append-nil (map tok_of tokens))) ∙ h.marked [] ∙ append-nil (map marked_as table));
   kept = h.kept;
 }
+
+all_of_entries : (P : Token → Type 0) (table : List Entry) → All P (map (λ entry. entry.0) table) → All (λ entry. P entry.0) table
+all_of_entries P table all k d h =
+    subst P (get_or-map (λ (entry : Entry). entry.0) table k d d.0 h)
+    (all k d.0 (omega (arith, h, length-map table (λ (entry : Entry). entry.0))))
+
+-- each entry's token is among the tokens
+pub entries_among : (tokens : List Token) (table : List Entry) → AreSignificant tokens table → All (λ entry. Contains tokens entry.0) table
+entries_among tokens table is =
+    let all : All (Contains tokens) (kept_in tokens) = All-filter (λ t. not (is_whitespace t.kind)) (Contains tokens) tokens (λ k d h. Contains-get_or tokens k d h) in
+    all_of_entries (Contains tokens) table (subst (All (Contains tokens)) (sym is.kept) all)

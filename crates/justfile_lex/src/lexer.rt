@@ -352,7 +352,7 @@ fn is_on_line(kind: TokenKind, first: u8) -> bool
 }
 
 /// Whether tokens of the kind are whitespace.
-fn is_whitespace(kind: TokenKind) -> bool
+pub(crate) fn is_whitespace(kind: TokenKind) -> bool
     ensures { result ≡ is_whitespace kind }
 {
     matches!(kind, TokenKind::Whitespace)

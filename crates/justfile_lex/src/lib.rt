@@ -4,5 +4,7 @@
 mod explain;
 mod lexer;
 mod place;
+mod table;
 
 pub use crate::lexer::Lexer;
+pub use crate::table::significant;

@@ -4,4 +4,4 @@
 mod parser;
 
 pub use crate::parser::Parser;
-pub use justfile_parse_expression::{RECURSION_LIMIT, significant};
+pub use justfile_parse_expression::RECURSION_LIMIT;

@@ -15,4 +15,3 @@ pub mod Rows
 pub mod Rules
 pub mod Seen
 pub mod Shapes
-pub mod SignificantLemmas

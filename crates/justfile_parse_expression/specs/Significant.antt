@@ -1,9 +1,8 @@
 -- The table of significant tokens.
-use Rattle.std.specs.Prelude.{Bool, List, not}
-use Rattle.std.specs.List.{filter}
+use Rattle.std.specs.Prelude.{Bool}
 use Rattle.justfile_token.specs.declared.token.Token.{Token}
 use Rattle.justfile_model.specs.Lexing.Tok.{tok_of}
-use Rattle.justfile_model.specs.Lexing.SignificantTokens.{SignificantToken, is_whitespace}
+use Rattle.justfile_model.specs.Lexing.SignificantTokens.{SignificantToken}
 
 -- an entry of the table: a token, and whether it directly follows the token before
 abbrev pub TableEntry : Type 0
@@ -12,6 +11,3 @@ TableEntry = Token × Bool
 -- an entry as the definitions see it
 abbrev pub significant_of : TableEntry → SignificantToken
 significant_of entry = record { tok = tok_of entry.0; glued = entry.1 }
-
-abbrev pub without_whitespace : List Token → List Token
-without_whitespace = filter (λ t. not (is_whitespace t.kind))

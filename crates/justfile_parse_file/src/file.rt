@@ -25,11 +25,11 @@ use crate::unstable::with_unstable;
 use justfile_ast::Ast;
 use justfile_expression::ListFeature;
 use justfile_item::Item;
-use justfile_lex::Lexer;
+use justfile_lex::{Lexer, significant};
 use justfile_numbers::{Numerator, Version};
 use justfile_parse_base::ParseError;
 use justfile_parse_docs::parse_items;
-use justfile_parse_expression::significant::{SignificantToken, significant};
+use justfile_parse_expression::significant::SignificantToken;
 use justfile_parse_expression::{ExpectedTokens, ExpressionError, ParserState, SyntaxError};
 use justfile_token::{
     CompileError, CompileErrorKind, CompileResult, Expander, Fault, Modulepath, Namepath, Source,

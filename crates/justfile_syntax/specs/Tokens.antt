@@ -8,6 +8,7 @@ pub use Rattle.justfile_token.specs.StringLiteral.{IsSameLiteral, literal_text}
 pub use Rattle.justfile_model.specs.Lexing.Tok.{Tok, tok, tok_of}
 unfoldable pub use Rattle.justfile_model.specs.Lexing.Places.{column_at}
 pub use Rattle.justfile_model.specs.Lexing.SignificantTokens.{SignificantToken, significant_tokens}
+pub use Rattle.justfile_lex.specs.SignificantTable.{AreSignificant}
 pub use Rattle.justfile_token.specs.declared.modulepath.Modulepath.{Modulepath}
 pub use Rattle.justfile_token.specs.declared.name.Name.{Name}
 pub use Rattle.justfile_token.specs.declared.namepath.Namepath.{Namepath}

@@ -281,8 +281,8 @@ pub mod parser {
 
     pub use justfile_canonical::reading::{Query, Reader, query_root, read_root, release};
     pub use justfile_canonical::root::{parse_root, parse_root_with};
+    pub use justfile_lex::significant;
     pub use justfile_literal::cook_string;
-    pub use justfile_parse::significant::significant;
     pub use justfile_parse::{Parser, RECURSION_LIMIT};
 }
 

@@ -2,8 +2,7 @@
 
 use crate::token_count::token_count;
 use crate::word::Word;
-use justfile_lex::Lexer;
-use justfile_parse_expression::significant::significant;
+use justfile_lex::{Lexer, significant};
 use justfile_spans::{Span, chunks};
 use justfile_token::{CompileError, Fault, StringKind, Token};
 use justfile_vocabulary::TokenKind;

@@ -6,7 +6,7 @@ use Rattle.justfile_model.proofs.Lexing.LexedLaws.{one_list}
 use Rattle.justfile_parse_expression.specs.Conditions.{conditions_of}
 use Rattle.justfile_parse_expression.specs.FormatStrings.{IsTable}
 use Rattle.justfile_parse_expression.specs.Significant.{TableEntry, significant_of}
-use Rattle.justfile_parse_expression.proofs.SignificantLemmas.{entries_among}
+use Rattle.justfile_lex.proofs.TableLemmas.{entries_among}
 use Rattle.justfile_parse_item.specs.MethodResults.{CountersMoved}
 use Rattle.justfile_parse_file.proofs.FormatStrings.{ended_lex}
 use Rattle.justfile_parse_file.proofs.Parsed.{lexical, lexed_once, module_path_of, no_tree, nonempty, parsed_if, sound_lex, text_parsed, unparsed_of, working_directory_of}
@@ -30,7 +30,7 @@ returns-clause-no_tree g c =
     IfErr-weaker c.parse_significant.result _ _
     (λ fault h. no_tree conditions c.args.path.now c.args.src.now c.utf8.src t.tokens t.lexed t.sources old new fault
     (unparsed_of conditions t.tokens c.as_slice.result.now old new (ap (map significant_of) c.as_slice.ensures.value ∙ t.significant.marked)
-    (subst Q (sym c.as_slice.ensures.value) (entries_among t.tokens c.in_ok-table.table.items t.significant.kept)) fault h))
+    (subst Q (sym c.as_slice.ensures.value) (entries_among t.tokens c.in_ok-table.table.items t.significant)) fault h))
     c.parse_significant.ensures.unread
 
 pub returns-clause-parsed : goal.returns-clause-parsed
@@ -43,7 +43,7 @@ returns-clause-parsed g c =
     IfOk-weaker c.parse_significant.result _ _
     (text_parsed conditions c.args.path.now c.args.src.now c.utf8.src t.tokens t.lexed t.sources old new c.args.source.now.file_depth c.args.source.now.import_offsets.now)
     (parsed_if conditions t.tokens c.as_slice.result.now old new (ap (map significant_of) c.as_slice.ensures.value ∙ t.significant.marked)
-    (subst Q (sym c.as_slice.ensures.value) (entries_among t.tokens c.in_ok-table.table.items t.significant.kept)) c.args.source.now c.parse_significant.result c.parse_significant.ensures.file)
+    (subst Q (sym c.as_slice.ensures.value) (entries_among t.tokens c.in_ok-table.table.items t.significant)) c.args.source.now c.parse_significant.result c.parse_significant.ensures.file)
 
 pub returns-clause-moved : goal.returns-clause-moved
 returns-clause-moved g c tokens lexed =
