@@ -9,7 +9,7 @@ use Rattle.justfile_model.specs.Readers.NewAttribute.{new_attribute}
 use Rattle.justfile_expression.specs.LeafTree.{Command, leaf_tree_of}
 use Rattle.justfile_expression.specs.declared.expression.Expression.{Expression}
 use Rattle.justfile_attribute.specs.Boxes.{unboxed_entry, unboxed_pair}
-use Rattle.justfile_attribute.specs.ByValue.{Keyword, Placed, keyword_leaves, placed_leaf, placed_leaves}
+use Rattle.justfile_attribute.specs.ByValue.{GivenKey, Placed, given_leaves, placed_leaf, placed_leaves}
 use Rattle.justfile_attribute_rules.specs.Keys.{Given, KeyMap, key_argument, key_arguments, views_keys}
 use Rattle.justfile_attribute_rules.specs.Made.{positional_leaves}
 
@@ -17,20 +17,20 @@ pub placed_same : (boxed : List (Token × Box Expression)) → positional_leaves
 placed_same [] = refl
 placed_same (p ∷ boxed) = ap (λ l. placed_leaf (unboxed_pair p) ∷ l) (placed_same boxed)
 
-pub keywords_same : (keys : KeyMap) → key_arguments keys ≡ keyword_leaves (map unboxed_entry keys.entries)
-keywords_same keys = all keys.entries
+pub given_same : (keys : KeyMap) → key_arguments keys ≡ given_leaves (map unboxed_entry keys.entries)
+given_same keys = all keys.entries
   where
     value_same : (value : Option (Box Expression)) → option_map (λ b. leaf_tree_of b.value) value ≡ option_map leaf_tree_of (option_map (λ b. b.value) value)
     value_same None = refl
     value_same (Some b) = refl
 
-    all : (es : List (Bor (List ℕ) × Given)) → map key_argument es ≡ keyword_leaves (map unboxed_entry es)
+    all : (es : List (Bor (List ℕ) × Given)) → map key_argument es ≡ given_leaves (map unboxed_entry es)
     all [] = refl
     all (e ∷ es) = λ i. record { key = Command e.1.0.token e.0.now; value = value_same e.1.1 i } ∷ all es i
 
 -- the attribute is the same
-pub made_same : (at : Token) (kind : AttributeKind) (boxed : List (Token × Box Expression)) (placed : List Placed) (keys : KeyMap) (keywords : List Keyword)
+pub made_same : (at : Token) (kind : AttributeKind) (boxed : List (Token × Box Expression)) (placed : List Placed) (keys : KeyMap) (keywords : List GivenKey)
     → map unboxed_pair boxed ≡ placed → map unboxed_entry keys.entries ≡ keywords
-    → new_attribute views_keys at kind (placed_leaves placed) (keyword_leaves keywords) ≡ new_attribute views_keys at kind (positional_leaves boxed) (key_arguments keys)
+    → new_attribute views_keys at kind (placed_leaves placed) (given_leaves keywords) ≡ new_attribute views_keys at kind (positional_leaves boxed) (key_arguments keys)
 made_same at kind boxed placed keys keywords p k =
-    λ i. new_attribute views_keys at kind ((ap placed_leaves (sym p) ∙ sym (placed_same boxed)) i) ((ap keyword_leaves (sym k) ∙ sym (keywords_same keys)) i)
+    λ i. new_attribute views_keys at kind ((ap placed_leaves (sym p) ∙ sym (placed_same boxed)) i) ((ap given_leaves (sym k) ∙ sym (given_same keys)) i)

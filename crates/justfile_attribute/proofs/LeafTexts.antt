@@ -8,7 +8,7 @@ use Rattle.justfile_model.specs.Meanings.Meaning.{KeyArgument, PositionalArgumen
 use Rattle.justfile_model.specs.Trees.Tree.{Expr, Quoted}
 use Rattle.justfile_expression.specs.LeafTree.{Leaf, Literal, LiteralText, leaf_tree_of, literal_of}
 use Rattle.justfile_expression.specs.declared.expression.Expression.{Expression, StringLiteral}
-use Rattle.justfile_attribute.specs.ByValue.{Keyword, Placed, keyword_leaf, keyword_leaves, placed_leaf, placed_leaves}
+use Rattle.justfile_attribute.specs.ByValue.{GivenKey, Placed, given_leaf, given_leaves, placed_leaf, placed_leaves}
 use Rattle.justfile_attribute_rules.specs.Keys.{views_keys}
 use Rattle.justfile_attribute_rules.proofs.Quoted.{not_quoted}
 
@@ -29,8 +29,8 @@ given_text : (o : Option Expression) → ValueHasText views_keys (option_map lea
 given_text None e is = cc
 given_text (Some value) e is = let same : leaf_tree_of value ≡ e = cc in subst (HasText views_keys) same (expression_text value)
 
-pub have_texts : (placed : List Placed) (keywords : List Keyword) → HasTexts views_keys (placed_leaves placed) (keyword_leaves keywords)
+pub have_texts : (placed : List Placed) (keywords : List GivenKey) → HasTexts views_keys (placed_leaves placed) (given_leaves keywords)
 have_texts placed keywords = record {
   values = All-map (λ (p : PositionalArgument Leaf Token). HasText views_keys p.value) placed_leaf placed (λ k d lt. expression_text (get_or placed k d).1);
-  given = All-map (λ (k : KeyArgument Leaf Token). ValueHasText views_keys k.value) keyword_leaf keywords (λ k d lt. given_text (get_or keywords k d).1.1);
+  given = All-map (λ (k : KeyArgument Leaf Token). ValueHasText views_keys k.value) given_leaf keywords (λ k d lt. given_text (get_or keywords k d).1.1);
 }

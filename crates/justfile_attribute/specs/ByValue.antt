@@ -19,12 +19,12 @@ abbrev pub placed_leaves : List Placed → List (PositionalArgument Leaf Token)
 placed_leaves = map placed_leaf
 
 -- an entry of a map of keys by their texts
-abbrev pub Keyword : Type 0
-Keyword = Bor (List ℕ) × (Name × Option Expression)
+abbrev pub GivenKey : Type 0
+GivenKey = Bor (List ℕ) × (Name × Option Expression)
 
 -- the key that a map has under this text; errors name its token
-abbrev pub keyword_leaf : Keyword → KeyArgument Leaf Token
-keyword_leaf e = record { key = Command e.1.0.token e.0.now; value = option_map leaf_tree_of e.1.1 }
+abbrev pub given_leaf : GivenKey → KeyArgument Leaf Token
+given_leaf e = record { key = Command e.1.0.token e.0.now; value = option_map leaf_tree_of e.1.1 }
 
-abbrev pub keyword_leaves : List Keyword → List (KeyArgument Leaf Token)
-keyword_leaves = map keyword_leaf
+abbrev pub given_leaves : List GivenKey → List (KeyArgument Leaf Token)
+given_leaves = map given_leaf

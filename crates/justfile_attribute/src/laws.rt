@@ -12,7 +12,7 @@ ghost use Rattle.justfile_expression.specs.LeafTree.{Leaf};
 ghost use Rattle.justfile_expression.specs.Orders.{IsOrder};
 ghost use Rattle.justfile_expression.specs.declared.expression.Expression.{Expression};
 ghost use Rattle.justfile_attribute.specs.Boxes.{unboxed_entry, unboxed_pair};
-ghost use Rattle.justfile_attribute.specs.ByValue.{Keyword, Placed, keyword_leaves, placed_leaves};
+ghost use Rattle.justfile_attribute.specs.ByValue.{GivenKey, Placed, given_leaves, placed_leaves};
 ghost use Rattle.justfile_attribute.specs.Equal.{attribute_eq};
 ghost use Rattle.justfile_attribute.specs.InterpreterOrder.{interpreter_cmp, interpreter_eq};
 ghost use Rattle.justfile_attribute.specs.contracts.attribute.AttributePartialEq.TheImpl as equality;
@@ -29,28 +29,28 @@ use crate::interpreter::Interpreter;
 /// to the definitions those that the boxes hold.
 pub fn new_attributes()
     ensures made { (at : Token) (kind : AttributeKind)
-        (placed : List Placed) (keys : List Keyword) (a : Attribute Leaf Token)
-        → new_attribute views_keys at kind (placed_leaves placed) (keyword_leaves keys) ≡ Ok a
-        → (attribute_of views_keys kind (placed_leaves placed) (keyword_leaves keys) ≡ Some a)
+        (placed : List Placed) (keys : List GivenKey) (a : Attribute Leaf Token)
+        → new_attribute views_keys at kind (placed_leaves placed) (given_leaves keys) ≡ Ok a
+        → (attribute_of views_keys kind (placed_leaves placed) (given_leaves keys) ≡ Some a)
         × (arguments_broken views_keys at kind (placed_leaves placed)
-        (keyword_leaves keys) ≡ []) }
+        (given_leaves keys) ≡ []) }
     ensures refused { (at : Token) (kind : AttributeKind)
-        (placed : List Placed) (keys : List Keyword) (r : Broken Token)
+        (placed : List Placed) (keys : List GivenKey) (r : Broken Token)
         → new_attribute views_keys at kind (placed_leaves placed)
-        (keyword_leaves keys) ≡ Err r
+        (given_leaves keys) ≡ Err r
         → Contains (arguments_broken views_keys at kind (placed_leaves placed)
-        (keyword_leaves keys)) r }
+        (given_leaves keys)) r }
     ensures unbroken { (at : Token) (kind : AttributeKind)
-        (placed : List Placed) (keys : List Keyword)
+        (placed : List Placed) (keys : List GivenKey)
         → arguments_broken views_keys at kind (placed_leaves placed)
-        (keyword_leaves keys) ≡ []
+        (given_leaves keys) ≡ []
         → (a : Attribute Leaf Token)
         × (new_attribute views_keys at kind (placed_leaves placed)
-        (keyword_leaves keys) ≡ Ok a) }
+        (given_leaves keys) ≡ Ok a) }
     ensures boxed { (placed : List (Token × Box Expression))
         → positional_leaves placed ≡ placed_leaves (map unboxed_pair placed) }
     ensures boxed_keys { (keys : KeyMap)
-        → key_arguments keys ≡ keyword_leaves (map unboxed_entry keys.entries) }
+        → key_arguments keys ≡ given_leaves (map unboxed_entry keys.entries) }
 {}
 
 /// Two attributes are equal exactly if they are of the same case and all their fields are equal,

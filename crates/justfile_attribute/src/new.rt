@@ -9,7 +9,7 @@ ghost use Rattle.justfile_model.specs.Readers.NewAttribute as new;
 ghost use Rattle.justfile_model.specs.Trees.Tree as tree;
 ghost use Rattle.justfile_expression.specs.LeafTree.{leaf_tree_of};
 ghost use Rattle.justfile_attribute.specs.Attribute.{leaf_attribute_of};
-ghost use Rattle.justfile_attribute.specs.ByValue.{keyword_leaves, placed_leaves};
+ghost use Rattle.justfile_attribute.specs.ByValue.{given_leaves, placed_leaves};
 ghost use Rattle.justfile_attribute.specs.Cached.{cache_of, cache_read};
 ghost use Rattle.justfile_attribute.specs.New.{IsCounted, HasDerivedAttributeFields, continue_made, has_no_own_rules, takes_no_arguments, values_of, with_known};
 ghost use Rattle.justfile_attribute_rules.specs.ArgumentRules.{AreNamed, rules_of};
@@ -48,7 +48,7 @@ impl<'src> Attribute<'src> {
     ) -> CompileResult<'src, Self>
         ensures made { Makes leaf_attribute_of result (new.new_attribute views_keys
             name.entry.token kind (placed_leaves arguments.entry.items)
-            (keyword_leaves keyword_arguments.entry.entries)) }
+            (given_leaves keyword_arguments.entry.entries)) }
         // The fields of an `arg` that follow from others. With a `long_key` (the key of a `long`
         // without a value) `long` is a copy of `name`; the same for `short`. `min` is there exactly
         // if `min_key` is; the same for `max`. `help` is `None`: its expression, `help_property`,

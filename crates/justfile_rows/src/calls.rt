@@ -5,29 +5,14 @@ use justfile_syntax::ast::Ast;
 use justfile_syntax::expander::Unchanged;
 use justfile_syntax::format::FormatFault;
 use justfile_syntax::lexer::Lexer;
-use justfile_syntax::name::Name;
 use justfile_syntax::namepath::Namepath;
 use justfile_syntax::numerator::Numerator;
 use justfile_syntax::parser::{Parser, RECURSION_LIMIT};
-use justfile_syntax::token::Token;
 use justfile_syntax::version::Version;
 use row_items::items::push_items;
-use row_notation::{Answer, field_at, names_in, number_at, path_from, push_fault};
+use row_notation::{Answer, field_at, names_of, number_at, path_of, push_fault};
 use row_parts::made::{push_keyed, push_new};
 use std::alloc::{AllocError, AllocFailed, Global};
-
-/// Returns the tokens of a text, or none if it is rejected.
-fn tokens_of<'row>(alloc: Global, text: &'row str) -> Vec<Token<'row>> {
-    match Lexer::lex(alloc, "justfile", text) {
-        Ok(tokens) => tokens,
-        Err(_) => Vec::new(alloc),
-    }
-}
-
-/// Returns the names of a text, in order.
-fn names_of<'row>(alloc: Global, text: &'row str) -> Result<Vec<Name<'row>>, AllocError> {
-    names_in(alloc, &tokens_of(alloc, text))
-}
 
 /// Writes the attribute that is made of a number of arguments and the names of a text.
 pub(crate) fn makes(answer: &mut Answer, fields: &[String]) {
@@ -54,15 +39,6 @@ pub(crate) fn fault_lines(answer: &mut Answer, which: &str) {
         _ => FormatFault::Numbers,
     };
     answer.push(fault.lines());
-}
-
-/// Returns the path of the names of a text, which has one.
-fn path_of<'row>(alloc: Global, text: &'row str) -> Result<Namepath<'row>, AllocError> {
-    let names = names_of(alloc, text)?;
-    match names.split_first() {
-        Some((first, others)) => path_from(alloc, *first, others),
-        None => Err(AllocError),
-    }
 }
 
 /// Parses the tokens of a text as the file of the module with a path. Writes the file's module, its

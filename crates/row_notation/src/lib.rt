@@ -20,7 +20,7 @@ pub use crate::fields::{
     field_at, indentation_at, indentation_of, is_indentation, is_number, number_at,
 };
 pub use crate::literal::push_string_kind;
-pub use crate::names::{names_in, path_from};
+pub use crate::names::{names_of, path_from, path_of, tokens_of};
 pub use crate::refusal::{
     kind_of, place_after, push_expected, push_fault, push_message, push_refusal,
 };

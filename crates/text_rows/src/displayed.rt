@@ -1,6 +1,5 @@
 //! What values display that no text, or not every text, leads to.
 
-use crate::paths::{names_of, tokens_of};
 use justfile_expression::ListOperator;
 use justfile_lex::Lexer;
 use justfile_model::ConditionalOperator;
@@ -10,7 +9,7 @@ use justfile_token::{
     Delimiter, ExpandFault, Fault, Keyed, Name, StringDelimiter, StringKind, StringLiteral, Token,
 };
 use justfile_vocabulary::{Count, FormatStringPart, ItemKind, ListFeature, TokenKind};
-use row_notation::{Answer, field_at, number_at, push_copy};
+use row_notation::{Answer, field_at, names_of, number_at, push_copy, tokens_of};
 use std::alloc::{AllocError, Global};
 
 /// Writes a number of things with their noun, with an irregular one, and the noun alone.

@@ -1,9 +1,8 @@
 //! Messages of errors that no text leads to.
 
-use crate::paths::{path_of, tokens_of};
 use justfile_token::{CompileErrorKind, Namepath, Token};
 use justfile_vocabulary::{AttributeKind, ItemKind, Keyword, ListFeature, TokenKind};
-use row_notation::{Answer, field_at, number_at};
+use row_notation::{Answer, field_at, number_at, path_of, tokens_of};
 use std::alloc::{AllocError, Global};
 
 /// A name on the third line.

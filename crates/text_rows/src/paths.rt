@@ -1,34 +1,8 @@
-//! Names of texts, and paths of names.
+//! Paths of names, as rows show them.
 
-use justfile_lex::Lexer;
-use justfile_token::{Modulepath, Name, Namepath, Token};
-use row_notation::{Answer, names_in, path_from, push_copy};
+use justfile_token::{Modulepath, Name, Namepath};
+use row_notation::{Answer, names_of, path_from, path_of, push_copy};
 use std::alloc::{AllocError, Global};
-
-/// Returns the tokens of a text, or none if it is rejected.
-pub(crate) fn tokens_of<'row>(alloc: Global, text: &'row str) -> Vec<Token<'row>> {
-    match Lexer::lex(alloc, "justfile", text) {
-        Ok(tokens) => tokens,
-        Err(_) => Vec::new(alloc),
-    }
-}
-
-/// Returns the names of a text, in order.
-pub(crate) fn names_of<'row>(
-    alloc: Global,
-    text: &'row str,
-) -> Result<Vec<Name<'row>>, AllocError> {
-    names_in(alloc, &tokens_of(alloc, text))
-}
-
-/// Makes the path of the names of a text, which has one.
-pub(crate) fn path_of<'row>(alloc: Global, text: &'row str) -> Result<Namepath<'row>, AllocError> {
-    let names = names_of(alloc, text)?;
-    match names.split_first() {
-        Some((first, others)) => path_from(alloc, *first, others),
-        None => Err(AllocError),
-    }
-}
 
 /// Writes the path of a text's names, and how many it has. Writes `apart` if what it has isn't
 /// these names, `unjoined` if it isn't the path of all but the last one joined with that, and
