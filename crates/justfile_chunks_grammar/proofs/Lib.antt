@@ -15,6 +15,5 @@ pub mod MovedKeys
 pub mod OneCut
 pub mod OtherDedents
 pub mod Over
-pub mod OverItems
 pub mod Passes
 pub mod Sides

@@ -25,17 +25,17 @@ use Rattle.justfile_model.specs.Trees.Tree.{Comment, Construct, Content, Entry, 
 use Rattle.justfile_model.proofs.Derivations.Carry as carry
 use Rattle.justfile_model.proofs.Derivations.Carry.{Alike, Maps, over_items}
 use Rattle.justfile_model.proofs.Derivations.CarryExpressions.{Pairs, Same, cons, nil}
-use Rattle.justfile_model.proofs.Derivations.Leaves.{features_itself, items_itself, items_over, unchanged}
+use Rattle.justfile_model.proofs.Derivations.Leaves.{features_itself, items_itself, items_over, unchanged, written_over}
 use Rattle.justfile_model.proofs.Lists.Binds.{never_some, some_back}
 use Rattle.justfile_model.proofs.Lists.OrderMaps.{in_order_map}
+use Rattle.justfile_model.proofs.Meanings.Ordered.{both_mapped, content_over}
 use Rattle.justfile_model.proofs.Meanings.SameViewRecipes.{construct_broken_over, entries_features_over}
 use Rattle.justfile_model.proofs.Meanings.SameViewRules.{both_over, some_over}
 use Rattle.justfile_model.proofs.Meanings.ShapesMean.{none_of_none}
-use Rattle.justfile_model.proofs.Printed.DocsKept.{any_kind_over}
+use Rattle.justfile_model.proofs.Printed.DocsKept.{any_kind_over, documented_over}
 use Rattle.justfile_model.proofs.Relations.Graph.{SameView, all_over}
 use Rattle.justfile_chunks_grammar.specs.Chunks.{moved, moved_item}
 use Rattle.justfile_chunks_grammar.proofs.MovedKeys.{same_order}
-use Rattle.justfile_chunks_grammar.proofs.OverItems.{both_mapped, content_over, documented_over, written_over}
 
 module _ (offset line : ℕ) where
   abbrev move : Tok → Tok

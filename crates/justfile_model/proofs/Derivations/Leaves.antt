@@ -160,7 +160,7 @@ module _ {A B D E : Type 0} (f : A → D) (g : B → E) where
   argument_over (tree.Bare key) = refl
   argument_over (tree.Keyed key value) = expr_over value
 
-  written_over : (ws : List (WrittenAttribute A B)) → written_literals (map (over_written_attribute f g) ws) ≡ map (over_literal f) (written_literals ws)
+  pub written_over : (ws : List (WrittenAttribute A B)) → written_literals (map (over_written_attribute f g) ws) ≡ map (over_literal f) (written_literals ws)
   written_over =
       flat_mapped (λ (w : WrittenAttribute A B). flat_map argument_literals w.arguments) (λ (w : WrittenAttribute D E). flat_map argument_literals w.arguments) (over_written_attribute f g) (over_literal f)
       (λ w. flat_mapped argument_literals argument_literals (over_argument f g) (over_literal f) argument_over w.arguments)

@@ -149,13 +149,13 @@ module _ {A B S A' B' S' : Type 0} (f : A → A') (g : B → B') (k : S → S') 
   }
 
 module _ {A B C S A' B' C' S' : Type 0} (f : A → A') (g : B → B') (h : C → C') (k : S → S') where
-  content_over : (c : Content A B C S) → starless (over_content f g h k c) ≡ over_content f g h same_star (starless c)
+  pub content_over : (c : Content A B C S) → starless (over_content f g h k c) ≡ over_content f g h same_star (starless c)
   content_over (Recipe parts) = λ i. Recipe (record { doc = parts.doc; header = header_over f g k parts.header i; comment = parts.comment; body = map (over_line f g h) parts.body })
   content_over _ = refl
 
 -- ---- a tree and its shape
 
-both_mapped : {X Y : Type 0} (f : X → Y) (o : Option X) (others : Option (List X))
+pub both_mapped : {X Y : Type 0} (f : X → Y) (o : Option X) (others : Option (List X))
     → if_both (option_map f o) (option_map (map f) others) ≡ option_map (map f) (if_both o others)
 both_mapped f None others = refl
 both_mapped f (Some x) None = refl

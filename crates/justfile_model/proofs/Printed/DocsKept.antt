@@ -171,7 +171,7 @@ module _ {A B C S D A' B' C' S' D' : Type 0} (f : A → A') (g : B → B') (h : 
   taken_over before comment (Comment text ∷ items) = refl
   taken_over before comment (Construct attributes content ∷ items) = refl
 
-  documented_over : (before : Before) (items : List (Item A B C S D))
+  pub documented_over : (before : Before) (items : List (Item A B C S D))
       → documented other before (map over items) ≡ map over (documented has_doc before items)
   documented_over before [] = refl
   documented_over before (Newline ∷ items) = ap (λ l. Newline ∷ l) (documented_over LineEnd items)
