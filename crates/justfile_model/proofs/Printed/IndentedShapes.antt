@@ -33,7 +33,8 @@ use Rattle.justfile_model.proofs.Printed.DocsKept.{any_kind_over}
 use Rattle.justfile_model.proofs.Printed.Normal.{normal_seen}
 use Rattle.justfile_model.proofs.Printed.PrintedEntries.{sees}
 use Rattle.justfile_model.proofs.Printed.PrintedItems.{AllPrintAgain, ShapeItem, shape_again}
-use Rattle.justfile_model.proofs.Printed.PrintedLiterals.{HasText, HaveTexts, parts, texts_are_there}
+use Rattle.justfile_model.proofs.Lists.AllParts.{parts}
+use Rattle.justfile_model.proofs.Printed.PrintedLiterals.{HasText, HaveTexts, texts_are_there}
 
 -- ---- over other leaves
 

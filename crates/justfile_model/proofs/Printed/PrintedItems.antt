@@ -19,7 +19,8 @@ use Rattle.justfile_model.proofs.Meanings.Ordered.{construct_meant, meanings_of,
 use Rattle.justfile_model.proofs.Printed.PlainFiles.{each_normal}
 use Rattle.justfile_model.proofs.Printed.PrintedDocs.{SettledDocs, printed_docs}
 use Rattle.justfile_model.proofs.Printed.PrintedEntries.{construct_again, entries_again, sees}
-use Rattle.justfile_model.proofs.Printed.PrintedLiterals.{HaveTexts, HasText, both, literals_from_written, parts}
+use Rattle.justfile_model.proofs.Lists.AllParts.{both, parts}
+use Rattle.justfile_model.proofs.Printed.PrintedLiterals.{HaveTexts, HasText, literals_from_written}
 
 -- an item of a shape
 abbrev pub ShapeItem : Type 0
