@@ -1,12 +1,12 @@
 -- The next tokens by which the parser recognizes a construct that begins with a keyword.
-use Rattle.std.proofs.Common.{◌≡◌, ℕ, Bool, true, false, ◌||◌, if◌then◌else◌, List, [], ◌∷◌, Option, Some, None, codes, refl, sym, ap, subst, ◌∙◌, ◌⊎◌, inl, inr}
+use Rattle.std.proofs.Common.{◌≡◌, ℕ, Bool, true, false, ◌||◌, if◌then◌else◌, List, [], ◌∷◌, Option, Some, None, codes, refl, sym, ap, subst, ◌∙◌}
 use Rattle.std.proofs.lemmas.Slice.Eq.{bytes_eq-Decides}
 use Rattle.std.specs.List.{AllByRecursion}
 use Rattle.std.specs.Str.{bytes_eq}
 use Rattle.justfile_vocabulary.specs.declared.token_kind.TokenKind.{TokenKind}
 use Rattle.justfile_vocabulary.specs.declared.token_kind.TokenKind.TheVariants as kinds
 use Rattle.justfile_model.specs.Grammars.Conditions.{Conditions}
-use Rattle.justfile_model.specs.Grammars.Expressions.{Tokens, IsKind, IsWord, NotNext, NotWord}
+use Rattle.justfile_model.specs.Grammars.Expressions.{Tokens, IsKind, IsWord}
 use Rattle.justfile_model.specs.Grammars.Features.{Noted}
 use Rattle.justfile_model.specs.Grammars.Headers as g
 use Rattle.justfile_model.specs.Grammars.Headers.{NamedParameter, ParameterOf, Parameters}
@@ -18,11 +18,10 @@ use Rattle.justfile_model.specs.Readers.Reader.{alias, any_module, assignment, c
 use Rattle.justfile_model.specs.Readers.ReaderState.{Counters, accept_keyword, choose}
 use Rattle.justfile_model.specs.Lexing.SignificantTokens.{SignificantToken}
 use Rattle.justfile_model.specs.Lexing.Tok.{Tok}
-use Rattle.justfile_model.specs.Trees.Tree.{Expr, Item, Parameter, Quoted, WrittenAttribute}
+use Rattle.justfile_model.specs.Trees.Tree.{Item, Parameter, WrittenAttribute}
 use Rattle.justfile_model.specs.Readers.TreeReader.{Read, State, Taken, token_attributes, token_leaves}
-use Rattle.justfile_model.proofs.Completeness.HeaderCovers.{not_there}
 use Rattle.justfile_model.proofs.Lists.AllParts.{all_have, each_of}
-use Rattle.justfile_model.proofs.Readers.Steps.{AreNext, after_word, input, is_false, next_left, next_taken, word_is, word_left, word_taken}
+use Rattle.justfile_model.proofs.Readers.Steps.{AreNext, after_word, input, next_left, next_taken, word_left, word_taken}
 
 true_not_false : (b : Bool) → b ≡ true → b ≡ false → ⊥
 true_not_false b h k = cc
