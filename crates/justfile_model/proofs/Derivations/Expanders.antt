@@ -78,11 +78,7 @@ module _ (expander : Expansions) (texts : List (List ℕ)) where
       → cooked_text expander l ≡ Ok text → cooked_text (restricted_to texts expander) l ≡ Ok text
   text_restricted (Expanded lexeme) text m h = expanded_restricted (string_text lexeme) text m h
   text_restricted (Plain lexeme) text m h = h
-  text_restricted (Command lexeme) text m h = h
-  text_restricted (Single lexeme) text m h = h
-  text_restricted (Start lexeme) text m h = h
-  text_restricted (Continue start lexeme) text m h = h
-  text_restricted (End start lexeme) text m h = h
+  text_restricted _ text m h = h
 
   texts_restricted : (literals : List (Literal (List ℕ))) (cooked : List (List ℕ))
       → ((text : List ℕ) → among (map asked_of literals) text ≡ true → among texts text ≡ true)

@@ -230,10 +230,6 @@ module _ (expander : Expansions) where
 
   rows_of_have : (a : Attribute (List ℕ) (Unit {0})) → HaveTexts (attribute_literals a) → NumbersAre expander a → AllByRecursion OfRow (rows_of a)
   rows_of_have (tree.Plain kind) h n = tt
-  rows_of_have (tree.Single kind value) h n = tt
-  rows_of_have (tree.Texts kind texts) h n = tt
-  rows_of_have (tree.Env key value) h n = tt
-  rows_of_have (tree.Signals signals) h n = tt
   rows_of_have (tree.Cache extra inputs outputs) h n =
       let r = parts HasText (optional_literals expr_literals extra ++ optional_literals expr_literals inputs) (optional_literals expr_literals outputs) h in
       let s = parts HasText (optional_literals expr_literals extra) (optional_literals expr_literals inputs) r.0 in
@@ -258,6 +254,7 @@ module _ (expander : Expansions) where
           ),
         ),
       )
+  rows_of_have _ h n = tt
 
   -- the literals that an attribute is printed with
   printed_have : (a : Attribute (List ℕ) (Unit {0})) → HaveTexts (attribute_literals a) → NumbersAre expander a
