@@ -17,13 +17,13 @@ use Rattle.justfile_model.specs.Trees.Tree.{Content, OrderedItem, WrittenAttribu
 use Rattle.justfile_model.proofs.Derivations.Leaves.{attributes_itself, content_itself}
 use Rattle.justfile_model.proofs.Lists.AllParts.{all_have, parts}
 use Rattle.justfile_model.proofs.Lists.EachLaws.{AlikeOption, none_alike}
-use Rattle.justfile_model.proofs.Lists.Unchanged.{same_leaf}
+use Rattle.justfile_model.proofs.Lists.Unchanged.{literal_itself, same_leaf}
 use Rattle.justfile_model.proofs.Relations.AlikeAttributes as alike
 use Rattle.justfile_model.proofs.Relations.AlikeAttributes.{AlikeEntry, AlikeLiteral, AlikeWritten, SeesAlike, SeesContent}
 use Rattle.justfile_model.proofs.Relations.AlikeConstructRules.{AlikeForm, construct_broken_alike}
 use Rattle.justfile_model.proofs.Relations.AlikeMeanings.{entries_alike}
 use Rattle.justfile_model.proofs.Relations.AlikeRules.{AlikeBroken}
-use Rattle.justfile_model.proofs.Relations.Projected.{Relates, RelatesOnly, content_alike, entries_same, written_alike}
+use Rattle.justfile_model.proofs.Relations.Projected.{Relates, RelatesOnly, content_alike, entries_same, literal_same, written_alike}
 use Rattle.justfile_model.proofs.Relations.Related as a
 use Rattle.justfile_model.proofs.Relations.Related.{Each, Relations, each_both}
 
@@ -37,6 +37,10 @@ with_texts view cooked content = record {
   position_content = view.position_content;
   literal_content = content;
 }
+
+abbrev pub IsUnexpanded : {A : Type 0} → Literal A → Type 0
+IsUnexpanded (literals.Expanded t) = ⊥
+IsUnexpanded _ = Unit {0}
 
 module _ {A B : Type 0} (view : LeafView A B) (cooked : Literal A → Option (List ℕ)) (content : Literal A → LiteralContent) where
   -- the other view
@@ -54,12 +58,7 @@ module _ {A B : Type 0} (view : LeafView A B) (cooked : Literal A → Option (Li
 
   -- literals that are not expanded have the same text, and those that have the same text have the same content
   pub record SeeSame : Type 0 where
-    pub plain : (t : A) → Agreed (literals.Plain t)
-    pub command : (t : A) → Agreed (literals.Command t)
-    pub single : (t : A) → Agreed (literals.Single t)
-    pub start : (t : A) → Agreed (literals.Start t)
-    pub continue : (s t : A) → Agreed (literals.Continue s t)
-    pub end : (s t : A) → Agreed (literals.End s t)
+    pub unexpanded : (l : Literal A) → IsUnexpanded l → Agreed l
     pub contents : (l : Literal A) → Agreed l → view.literal_content l ≡ content l
 
   -- related leaves are the same
@@ -97,23 +96,17 @@ module _ {A B : Type 0} (view : LeafView A B) (cooked : Literal A → Option (Li
   -- ---- what is seen of them
 
   module _ (seen : SeeSame) where
-    -- a literal that is alike to another is that one, and agrees
-    record IsSame (l l' : Literal A) : Type 0 where
-      same_is : l ≡ l'
-      agreed : Agreed l
-
-    literal_same : (l l' : Literal A) → AlikeLiteral same l l' → IsSame l l'
+    -- a literal that is alike to another agrees, and is that one
+    agreed : {l l' : Literal A} → AlikeLiteral same l l' → Agreed l
     unfolding same
-    literal_same l l' (alike.plain_literal {l = t} h) = record { same_is = ap literals.Plain h.0; agreed = seen.plain t }
-    literal_same l l' (alike.expanded_literal h) = record { same_is = ap literals.Expanded h.0; agreed = h.1 }
-    literal_same l l' (alike.command_literal {l = t} h) = record { same_is = ap literals.Command h.0; agreed = seen.command t }
-    literal_same l l' (alike.single_literal {l = t} h) = record { same_is = ap literals.Single h.0; agreed = seen.single t }
-    literal_same l l' (alike.start_literal {l = t} h) = record { same_is = ap literals.Start h.0; agreed = seen.start t }
-    literal_same l l' (alike.continue_literal {s = s} {l = t} h k) = record { same_is = λ i. literals.Continue (h.0 i) (k.0 i); agreed = seen.continue s t }
-    literal_same l l' (alike.end_literal {s = s} {l = t} h k) = record { same_is = λ i. literals.End (h.0 i) (k.0 i); agreed = seen.end s t }
+    agreed (alike.expanded_literal h) = h.1
+    agreed {l} h = seen.unexpanded l tt
+
+    literal_is : {l l' : Literal A} → AlikeLiteral same l l' → l ≡ l'
+    literal_is {l} h = sym (literal_itself l) ∙ literal_same same same_leaf same_leaf relates_only h
 
     contents_same : (l l' : Literal A) → AlikeLiteral same l l' → view.literal_content l ≡ content l'
-    contents_same l l' h = seen.contents l (literal_same l l' h).agreed ∙ ap content (literal_same l l' h).same_is
+    contents_same l l' h = seen.contents l (agreed h) ∙ ap content (literal_is h)
 
     sees : SeesAlike same view other
     unfolding same
@@ -124,7 +117,7 @@ module _ {A B : Type 0} (view : LeafView A B) (cooked : Literal A → Option (Li
       literal_bytes = λ l t t' h. ap view.bytes h.0;
       literal_place = λ l t t' h. ap view.place h.0;
       assignment_place = λ number n n' h. ap view.place h;
-      cooked = λ l l' h. (literal_same l l' h).agreed ∙ ap cooked (literal_same l l' h).same_is;
+      cooked = λ l l' h. agreed h ∙ ap cooked (literal_is h);
       value = λ l l' h. ap literal_value (contents_same l l' h);
     }
 
@@ -174,15 +167,7 @@ module _ {A B : Type 0} (view : LeafView A B) (cooked : Literal A → Option (Li
       ∙ entries_over view cooked content seen ws h
     where
       itself : SeeSame view view.cooked view.literal_content
-      itself = record {
-        plain = λ t. refl;
-        command = λ t. refl;
-        single = λ t. refl;
-        start = λ t. refl;
-        continue = λ s t. refl;
-        end = λ s t. refl;
-        contents = λ l h. refl;
-      }
+      itself = record { unexpanded = λ l h. refl; contents = λ l h. refl }
 
   meanings_kept : {C : Type 0} (items : List (WrittenItem A B C B)) → AllByRecursion (Agreed view cooked content) (all_literals items)
       → undocumented view items ≡ undocumented (other view cooked content) items

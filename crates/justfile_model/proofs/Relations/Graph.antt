@@ -3,7 +3,6 @@ use Rattle.std.proofs.Common.{◌≡◌, ◌∙◌, List, [], map, Option, refl,
 use Rattle.std.specs.List.{AllByRecursion}
 use Rattle.std.specs.Option.{option_map}
 use Rattle.justfile_model.specs.Grammars.Files.{content_literals, expr_literals, written_literals}
-use Rattle.justfile_model.specs.LiteralTexts.Literals as literals
 use Rattle.justfile_model.specs.LiteralTexts.Literals.{Literal, over_literal}
 use Rattle.justfile_model.specs.Meanings.Meaning.{all_of, entry_of}
 use Rattle.justfile_model.specs.Meanings.Rules.{Broken, over_broken}
@@ -19,7 +18,7 @@ use Rattle.justfile_model.proofs.Relations.AlikeMeanings.{all_alike, entry_alike
 use Rattle.justfile_model.proofs.Relations.AlikeConstructRules.{AlikeForm}
 use Rattle.justfile_model.proofs.Relations.AlikeRules.{AlikeBroken}
 use Rattle.justfile_model.proofs.Relations.OverRules.{all_broken}
-use Rattle.justfile_model.proofs.Relations.Projected.{Relates, RelatesOnly, content_alike, entries_same, expr_alike, list_alike, option_alike, written_alike}
+use Rattle.justfile_model.proofs.Relations.Projected.{Relates, RelatesOnly, content_alike, entries_same, expr_alike, list_alike, literal_same, option_alike, written_alike}
 use Rattle.justfile_model.proofs.Relations.Related.{Alike, Each, Relations}
 
 module _ {A B C D : Type 0} (f : A → C) (g : B → D) where
@@ -105,14 +104,7 @@ module _ {A B C D : Type 0} (f : A → C) (g : B → D) where
   -- ---- what is seen
 
   literal_graph : {l : Literal A} {l' : Literal C} → AlikeLiteral graph l l' → over_literal f l ≡ l'
-  unfolding graph
-  literal_graph (alike.plain_literal h) = ap literals.Plain h
-  literal_graph (alike.expanded_literal h) = ap literals.Expanded h
-  literal_graph (alike.command_literal h) = ap literals.Command h
-  literal_graph (alike.single_literal h) = ap literals.Single h
-  literal_graph (alike.start_literal h) = ap literals.Start h
-  literal_graph (alike.continue_literal h k) = λ i. literals.Continue (h i) (k i)
-  literal_graph (alike.end_literal h k) = λ i. literals.End (h i) (k i)
+  literal_graph h = literal_same graph f g relates_only h
 
   -- ---- what is broken
 

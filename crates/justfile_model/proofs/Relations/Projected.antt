@@ -12,7 +12,7 @@ use Rattle.justfile_model.specs.Trees.Tree.{Argument, Attribute, Bound, Content,
 use Rattle.justfile_model.proofs.Lists.AllParts.{parts}
 use Rattle.justfile_model.proofs.Lists.EachLaws.{AlikeOption, absent, each_given, present, same_some}
 use Rattle.justfile_model.proofs.Relations.AlikeAttributes as alike
-use Rattle.justfile_model.proofs.Relations.AlikeAttributes.{AlikeArgument, AlikeAttribute, AlikeBound, AlikeEntry, AlikeOptionName, AlikeProperty, AlikeQuoted, AlikeWritten, SeesAlike}
+use Rattle.justfile_model.proofs.Relations.AlikeAttributes.{AlikeArgument, AlikeAttribute, AlikeBound, AlikeEntry, AlikeLiteral, AlikeOptionName, AlikeProperty, AlikeQuoted, AlikeWritten, SeesAlike}
 use Rattle.justfile_model.proofs.Relations.AlikeConstructRules as form
 use Rattle.justfile_model.proofs.Relations.AlikeConstructRules.{AlikeForm, SameStars}
 use Rattle.justfile_model.proofs.Relations.AlikeRecipes.{SameParameter}
@@ -231,6 +231,15 @@ module _ {R T A B S D R' T' A' B' S' D' : Type 0} (rel : Relations R T A B S D R
       short = name_same h.short i;
       value = option_same value_same h.value i;
     })
+
+    pub literal_same : {l : Literal A} {l' : Literal A'} → AlikeLiteral rel l l' → over_literal f l ≡ l'
+    literal_same (alike.plain_literal h) = ap literals.Plain (only.literal _ _ _ h)
+    literal_same (alike.expanded_literal h) = ap literals.Expanded (only.literal _ _ _ h)
+    literal_same (alike.command_literal h) = ap literals.Command (only.literal _ _ _ h)
+    literal_same (alike.single_literal h) = ap literals.Single (only.literal _ _ _ h)
+    literal_same (alike.start_literal h) = ap literals.Start (only.literal _ _ _ h)
+    literal_same (alike.continue_literal h k) = λ i. literals.Continue (only.literal _ _ _ h i) (only.literal _ _ _ k i)
+    literal_same (alike.end_literal h k) = λ i. literals.End (only.literal _ _ _ h i) (only.literal _ _ _ k i)
 
     entry_same : (e : Entry A B) (e' : Entry A' B') → AlikeEntry rel e e' → over_entry f g e ≡ e'
     entry_same e e' h = λ i. record { name = only.position _ _ h.name i; attribute = attribute_same h.attribute i; comment = h.comment i }
