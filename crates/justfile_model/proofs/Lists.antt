@@ -1,4 +1,5 @@
 -- Lists, optional values and numbers.
+pub mod AllParts
 pub mod Binds
 pub mod CountLaws
 pub mod DistinctLaws

@@ -14,4 +14,5 @@ pub mod NaturalHeaders
 pub mod NaturalParts
 pub mod NewAttributesAlike
 pub mod OverRules
+pub mod Projected
 pub mod Related

@@ -5,7 +5,6 @@ use Rattle.std.proofs.lemmas.Grind.{flat_map-append}
 use Rattle.justfile_vocabulary.specs.declared.token_kind.TokenKind.TheVariants as kinds
 use Rattle.justfile_model.specs.Grammars.AttributeLines as lines
 use Rattle.justfile_model.specs.Meanings.AttributeRules.{attribute_broken, duplicate_broken, duplicates_broken, of_some, order_broken, repeats_broken}
-use Rattle.justfile_model.specs.Grammars.Expressions as g
 use Rattle.justfile_model.specs.Grammars.Expressions.{Tokens, NotNext}
 use Rattle.justfile_model.specs.Grammars.Features.{Noted}
 use Rattle.justfile_model.specs.Meanings.Meaning.{KeyArgument, all_of, at_key, by_key, entry_of}
@@ -16,54 +15,18 @@ use Rattle.justfile_model.specs.Lexing.SignificantTokens.{SignificantToken}
 use Rattle.justfile_model.specs.Lexing.Tok.{Tok}
 use Rattle.justfile_model.specs.Trees.Tree as tree
 use Rattle.justfile_model.specs.Trees.Tree.{Argument, Entry, Expr, WrittenAttribute, at_last, commented, commented_attribute, commented_line}
+use Rattle.justfile_model.proofs.Derivations.Beginnings.{expression_starts}
 use Rattle.justfile_model.proofs.Completeness.AttributeSteps.{key_last}
 use Rattle.justfile_model.proofs.Printed.Commented.{means_commented}
 use Rattle.justfile_model.proofs.Completeness.ReachingRules.{Among, among_first, among_others}
 use Rattle.justfile_model.proofs.Readers.TokenAttributes as reader
 
--- ---- no expression begins with a closing parenthesis, and no argument
+-- ---- no argument begins with a closing parenthesis
 
 module _ {A B : Type 0} (leaf : Tok → A) (position : Tok → B) (MayEnter : ℕ → Option SignificantToken → Type 0) where
-  value_starts : {d : ℕ} {e : Expr A B} {fs : List (Noted B)} {ts rest : Tokens} → g.Value leaf position MayEnter d e fs ts rest → NotNext kinds.ParenR ts
-  value_starts (g.not kind v) = λ e. cc
-  value_starts (g.literal kind) = λ e. cc
-  value_starts (g.expanded m) = λ e. let k = m.marks.is_name in cc
-  value_starts (g.format_literal m) = λ e. let k = m.marks.is_name in cc
-  value_starts (g.format_string m v ps) = λ e. let k = m.marks.is_name in cc
-  value_starts (g.backtick kind) = λ e. cc
-  value_starts (g.assert is kind c kind2) = λ e. let k = is.is_name in cc
-  value_starts (g.assert_message is kind c kind2 m kind3) = λ e. let k = is.is_name in cc
-  value_starts (g.variable kind na un nx) = λ e. cc
-  value_starts (g.call kind na kind2 s) = λ e. cc
-  value_starts (g.group kind v kind2) = λ e. cc
-  value_starts (g.list kind s) = λ e. cc
-
-  conjunct_starts : {d : ℕ} {e : Expr A B} {fs : List (Noted B)} {ts rest : Tokens} → g.Conjunct leaf position MayEnter d e fs ts rest → NotNext kinds.ParenR ts
-  conjunct_starts (g.conditional is c) = λ e. let k = is.is_name in cc
-  conjunct_starts (g.root kind c) = λ e. cc
-  conjunct_starts (g.join nw v kind c) = value_starts v
-  conjunct_starts (g.list_concatenation nw v kind c) = value_starts v
-  conjunct_starts (g.concatenation nw v kind c) = value_starts v
-  conjunct_starts (g.value nw v nx) = value_starts v
-
-  compared_starts : {c : Bool} {d : ℕ} {e : Expr A B} {fs : List (Noted B)} {ts rest : Tokens} → g.Compared leaf position MayEnter c d e fs ts rest
-      → NotNext kinds.ParenR ts
-  compared_starts (g.compare by l kind r) = conjunct_starts l
-  compared_starts (g.conjunct l nx) = conjunct_starts l
-
-  disjunct_starts : {c : Bool} {d : ℕ} {e : Expr A B} {fs : List (Noted B)} {ts rest : Tokens} → g.Disjunct leaf position MayEnter c d e fs ts rest
-      → NotNext kinds.ParenR ts
-  disjunct_starts (g.and l kind r) = compared_starts l
-  disjunct_starts (g.comparison l nx) = compared_starts l
-
-  expression_starts : {c : Bool} {d : ℕ} {e : Expr A B} {fs : List (Noted B)} {ts rest : Tokens} → g.Expression leaf position MayEnter c d e fs ts rest
-      → NotNext kinds.ParenR ts
-  expression_starts (g.or o l kind r) = disjunct_starts l
-  expression_starts (g.disjunct o l nx) = disjunct_starts l
-
   pub argument_starts : {keys : Bool} {a : Argument A B} {fs : List (Noted B)} {ts rest : Tokens} → lines.ArgumentOf leaf position MayEnter keys a fs ts rest
       → NotNext kinds.ParenR ts
-  argument_starts (lines.positional not e) = expression_starts e
+  argument_starts (lines.positional not e) = (expression_starts leaf position MayEnter e).no_closer
   argument_starts (lines.bare {key = key} {rest = rest} is not) = named rest is
     where
       named : (rest : Tokens) → lines.IsKey (key ∷ rest) → key.tok.kind ≡ kinds.ParenR → ⊥

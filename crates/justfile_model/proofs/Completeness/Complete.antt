@@ -1,6 +1,6 @@
 -- If tokens derive, where the depth limit doesn't apply to expressions that begin at some tokens, they are parsed, or the error is a
 -- literal without a text or the depth at one of these tokens.
-use Rattle.std.proofs.Common.{◌≡◌, ℕ, ◌+◌, Bool, true, false, ◌||◌, List, [], ◌∷◌, ◌++◌, Option, None, Some, Ok, Err, refl, sym, subst, ap, ◌∙◌, append_assoc, append-nil, arith}
+use Rattle.std.proofs.Common.{◌≡◌, ℕ, ◌+◌, Bool, true, false, ◌||◌, List, [], ◌∷◌, ◌++◌, Option, None, Some, Ok, Err, refl, sym, subst, ap, ◌∙◌, append_assoc, append-nil, arith, codes}
 use Rattle.justfile_vocabulary.specs.Keyword.{keyword_named, keyword_text}
 use Rattle.justfile_vocabulary.specs.declared.item_kind.ItemKind.TheVariants as item_kinds
 use Rattle.justfile_vocabulary.specs.declared.keyword.Keyword.{Keyword}
@@ -48,7 +48,7 @@ use Rattle.justfile_model.proofs.Completeness.ExpressionDeep.{expression_deep}
 use Rattle.justfile_model.proofs.Completeness.HeaderComplete.{CoversHeader, IsHeader, header_reached, obeying_reached, path_read}
 use Rattle.justfile_model.proofs.Completeness.HeaderCovers.{not_there, parameters_start}
 use Rattle.justfile_model.proofs.Completeness.PartComplete.{ends_pathless, file_path_reached, module_follows, names_read, no_path_read, path_begins, path_reached, path_token_is, path_unmarked, setting_follows, value_reached}
-use Rattle.justfile_model.proofs.Readers.WordsComplete.{alias_read, another_follows, assigned_taken, eager_read, export_read, import_read, line_taken, module_read, no_word_read, none_read, or_true, parameters_follow, setting_read, unexport_read, wordless_read}
+use Rattle.justfile_model.proofs.Readers.WordsComplete.{another_follows, assigned_taken, keyword_read, line_taken, no_word_read, none_read, or_true, parameters_follow, wordless_read}
 use Rattle.justfile_model.proofs.Completeness.Reaching.{Reaches, is_read, by, renoted, then, pass}
 use Rattle.justfile_model.proofs.Completeness.ReachingRules as r
 use Rattle.justfile_model.proofs.Completeness.ReachingRules.{Among, IsAt, ReachesOne, ReachesSome, all_among, among_first, among_others}
@@ -453,13 +453,13 @@ module _ (conditions : Conditions) (Hit : Option SignificantToken → Type 0) wh
         next_taken (kinds.Identifier ∷ kinds.ColonEquals ∷ []) (input conditions 0 (name ∷ operator ∷ ts) ns) (kind, (kind2, tt)),
       ) (assignment_reached false false xs ns name operator kind kind2 h n))
   content_reached xs ns (g.eager {word = word} {name = name} {operator = operator} {tokens = ts} is kind kind2 h) none n =
-      r.by conditions Hit (eager_read conditions ns xs n word (name ∷ operator ∷ ts) is (assigned_taken conditions ns name operator ts kind kind2))
+      r.by conditions Hit (keyword_read conditions ns xs n (codes "eager") word (name ∷ operator ∷ ts) is (assigned_taken conditions ns name operator ts kind kind2))
       (assignment_reached true false xs ns name operator kind kind2 h n)
   content_reached xs ns (g.export {word = word} {name = name} {operator = operator} {tokens = ts} is kind kind2 h) none n =
-      r.by conditions Hit (export_read conditions ns xs n word (name ∷ operator ∷ ts) is (assigned_taken conditions ns name operator ts kind kind2))
+      r.by conditions Hit (keyword_read conditions ns xs n (codes "export") word (name ∷ operator ∷ ts) is (assigned_taken conditions ns name operator ts kind kind2))
       (assignment_reached false true xs ns name operator kind kind2 h n)
   content_reached xs ns (g.alias {word = word} {name = name} {operator = operator} {tokens = ts} is kind kind2 p) none n =
-      r.by conditions Hit (alias_read conditions ns xs n word (name ∷ operator ∷ ts) is (assigned_taken conditions ns name operator ts kind kind2))
+      r.by conditions Hit (keyword_read conditions ns xs n (codes "alias") word (name ∷ operator ∷ ts) is (assigned_taken conditions ns name operator ts kind kind2))
       (alias_reached xs ns name operator kind kind2 p n)
   content_reached xs ns (g.function {name = name} {opener = opener} {operator = operator} {tokens = ts} kind kind2 all kind3 h) none n =
       r.by conditions Hit (wordless_read conditions ns xs n name (opener ∷ ts)
@@ -491,33 +491,33 @@ module _ (conditions : Conditions) (Hit : Option SignificantToken → Type 0) wh
       (rw (next_taken (kinds.Identifier ∷ kinds.ParenL ∷ []) (input conditions 0 (name ∷ opener ∷ ts) ns) (kind, (kind2, tt)))
       (function_reached xs ns name opener operator kind kind2 all kind3 h n))
   content_reached xs ns (g.import {word = word} {tokens = ts} is p) none n =
-      r.by conditions Hit (import_read conditions ns xs n word ts is
+      r.by conditions Hit (keyword_read conditions ns xs n (codes "import") word ts is
       (ap (λ b. next_are token_leaves (kinds.QuestionMark ∷ []) (input conditions 0 ts ns) || b) (path_begins conditions ns ts p) ∙ or_true conditions ns _))
       (rw (accept_left kinds.QuestionMark ts conditions 0 ns (path_unmarked p)) (imported_reached false xs ns p n))
   content_reached xs ns (g.optional_import {word = word} {question_mark = mark} {tokens = ts} is kind p) none n =
-      r.by conditions Hit (import_read conditions ns xs n word (mark ∷ ts) is (rw (next_taken (kinds.QuestionMark ∷ []) (input conditions 0 (mark ∷ ts) ns) (kind, tt)) refl))
+      r.by conditions Hit (keyword_read conditions ns xs n (codes "import") word (mark ∷ ts) is (rw (next_taken (kinds.QuestionMark ∷ []) (input conditions 0 (mark ∷ ts) ns) (kind, tt)) refl))
       (rw (accept_taken kinds.QuestionMark mark ts conditions 0 ns kind) (imported_reached true xs ns p n))
   content_reached xs ns (g.module_alone {word = word} {name = name} {rest = rest} is kind ends) none n =
-      r.by conditions Hit (module_read conditions ns xs n word (name ∷ rest) is
+      r.by conditions Hit (keyword_read conditions ns xs n (codes "mod") word (name ∷ rest) is
       (rw (
         next_left (kinds.QuestionMark ∷ []) (input conditions 0 (name ∷ rest) ns) (λ k. let first = k.0 in cc),
         line_taken conditions ns name rest kind ends,
       ) refl))
       (rw (accept_left kinds.QuestionMark (name ∷ rest) conditions 0 ns (λ e. cc)) (module_reached false xs ns name kind (ends_pathless ends) n))
   content_reached xs ns (g.module_at {word = word} {name = name} {tokens = ts} is kind p) none n =
-      r.by conditions Hit (module_read conditions ns xs n word (name ∷ ts) is (module_follows conditions ns name ts kind p))
+      r.by conditions Hit (keyword_read conditions ns xs n (codes "mod") word (name ∷ ts) is (module_follows conditions ns name ts kind p))
       (rw (accept_left kinds.QuestionMark (name ∷ ts) conditions 0 ns (λ e. cc)) (module_at_reached false xs ns name kind p n))
   content_reached xs ns (g.optional_module_alone {word = word} {question_mark = mark} {name = name} {rest = rest} is kind kind2 no_path) none n =
-      r.by conditions Hit (module_read conditions ns xs n word (mark ∷ name ∷ rest) is (rw (next_taken (kinds.QuestionMark ∷ []) (input conditions 0 (mark ∷ name ∷ rest) ns) (kind, tt)) refl))
+      r.by conditions Hit (keyword_read conditions ns xs n (codes "mod") word (mark ∷ name ∷ rest) is (rw (next_taken (kinds.QuestionMark ∷ []) (input conditions 0 (mark ∷ name ∷ rest) ns) (kind, tt)) refl))
       (rw (accept_taken kinds.QuestionMark mark (name ∷ rest) conditions 0 ns kind) (module_reached true xs ns name kind2 no_path n))
   content_reached xs ns (g.optional_module_at {word = word} {question_mark = mark} {name = name} {tokens = ts} is kind kind2 p) none n =
-      r.by conditions Hit (module_read conditions ns xs n word (mark ∷ name ∷ ts) is (rw (next_taken (kinds.QuestionMark ∷ []) (input conditions 0 (mark ∷ name ∷ ts) ns) (kind, tt)) refl))
+      r.by conditions Hit (keyword_read conditions ns xs n (codes "mod") word (mark ∷ name ∷ ts) is (rw (next_taken (kinds.QuestionMark ∷ []) (input conditions 0 (mark ∷ name ∷ ts) ns) (kind, tt)) refl))
       (rw (accept_taken kinds.QuestionMark mark (name ∷ ts) conditions 0 ns kind) (module_at_reached true xs ns name kind2 p n))
   content_reached xs ns (g.setting {word = word} {name = name} {tokens = ts} is is2 form value) none n =
-      r.by conditions Hit (setting_read conditions ns xs n word (name ∷ ts) is (setting_follows conditions ns name ts is2.is_name value))
+      r.by conditions Hit (keyword_read conditions ns xs n (codes "set") word (name ∷ ts) is (setting_follows conditions ns name ts is2.is_name value))
       (setting_reached xs ns name is2 form value n)
   content_reached xs ns (g.unexport {word = word} {name = name} {rest = rest} is kind ends) none n =
-      r.by conditions Hit (unexport_read conditions ns xs n word (name ∷ rest) is (line_taken conditions ns name rest kind ends))
+      r.by conditions Hit (keyword_read conditions ns xs n (codes "unexport") word (name ∷ rest) is (line_taken conditions ns name rest kind ends))
       (unexport_reached xs ns name kind n)
   content_reached xs ns {rest = rest} (g.header {h = h} {fs = fs} q) none n =
       let noted : List (Noted Tok) = ns ++ (noted_by xs (recipe_content h None []) ++ fs) in

@@ -21,6 +21,7 @@ use Rattle.justfile_model.specs.Readers.ReaderState.{shallower}
 use Rattle.justfile_model.specs.Readers.ExpressionReader as r
 use Rattle.justfile_model.specs.Readers.ExpressionReader.{assert_rule, backtick, binary_rule, braced_rule, condition_rule, conditional_rule, conjunct_rule, element_rule, ended_by, format_rest_rule, format_rule, format_string_rule, group_rule, list_rule, name_rule, otherwise_rule, part, parts_rule, read, sequence_rule, whole_format_string, literal_string, value_rule}
 use Rattle.justfile_model.specs.Readers.TreeReader.{State, token_leaves}
+use Rattle.justfile_model.proofs.Derivations.Beginnings.{value_starts}
 use Rattle.justfile_model.proofs.Readers.ExpressionReading.{conditional_is, level_is, parts_is, sequence_is}
 use Rattle.justfile_model.proofs.Sound.ExpressionSound.{ReadExpr, compared_is}
 use Rattle.justfile_model.proofs.Completeness.Reaching.{Reaches, is_read, by, renoted, regrouped, then, pass, cooked, entered}
@@ -86,21 +87,6 @@ closes false ts E d ns e h = refl
 closes true ts E d ns e h = rw (word_left (codes "else") ts E d ns (h refl)) refl
 
 module _ (MayEnter : ℕ → Option SignificantToken → Type 0) where
-  -- a value does not begin with an operator
-  no_slash : {d : ℕ} {e : Expr Tok Tok} {fs : List (Noted Tok)} {ts rest : Tokens} → Value itself itself MayEnter d e fs ts rest → NotNext kinds.Slash ts
-  no_slash (g.not kind v) = λ e. cc
-  no_slash (g.literal kind) = λ e. cc
-  no_slash (g.expanded m) = λ e. let n = m.marks.is_name in cc
-  no_slash (g.format_literal m) = λ e. let n = m.marks.is_name in cc
-  no_slash (g.format_string m e ps) = λ e. let n = m.marks.is_name in cc
-  no_slash (g.backtick kind) = λ e. cc
-  no_slash (g.assert w kind c kind2) = λ e. let n = w.is_name in cc
-  no_slash (g.assert_message w kind c kind2 m kind3) = λ e. let n = w.is_name in cc
-  no_slash (g.variable kind na un nx) = λ e. cc
-  no_slash (g.call kind na kind2 s) = λ e. cc
-  no_slash (g.group kind e kind2) = λ e. cc
-  no_slash (g.list kind s) = λ e. cc
-
   -- braces aren't a word
   braced_no_word : {d : ℕ} {e : Expr Tok Tok} {fs : List (Noted Tok)} {ts rest : Tokens} → Braced itself itself MayEnter d e fs ts rest → NotWord (codes "if") ts
   braced_no_word (g.braces kind e kind2) = λ i. let n = i.is_name in cc
@@ -220,22 +206,22 @@ module _ (conditions : Conditions) (Hit : Option SignificantToken → Type 0) wh
         (rw (word_left (codes "if") ts conditions d ns (no_word (codes "if") op kind (λ e. cc)), accept_taken kinds.Slash op tokens conditions d ns kind) (pass conditions Hit _ (conjunct_deep ns false within q) refl))
     conjunct_deep ns c {d} within {ts = ts} (g.join {ls = ls} {rs = rs} {operator = op} {following = following} nx l kind q) =
         renoted conditions Hit (append_assoc ns ls rs) (by conditions Hit (level_is token_leaves levels.Conjunct c (input conditions d ts ns))
-        (rw (word_left (codes "if") ts conditions d ns nx, accept_left kinds.Slash ts conditions d ns (no_slash (PastLimitAt conditions.limit Hit) l))
+        (rw (word_left (codes "if") ts conditions d ns nx, accept_left kinds.Slash ts conditions d ns (value_starts itself itself (PastLimitAt conditions.limit Hit) l).1)
         (then conditions Hit _ (value_deep ns c within l) (rw (operator_taken levels.Conjunct operators.Join op following conditions d (ns ++ ls) refl kind, append-nil (ns ++ ls))
         (pass conditions Hit _ (conjunct_deep (ns ++ ls) false within q) refl)))))
     conjunct_deep ns c {d} within {ts = ts} (g.list_concatenation {ls = ls} {rs = rs} {operator = op} {following = following} nx l kind q) =
         renoted conditions Hit (three ns ls (noted features.ListConcatenationOperator op.tok) rs) (by conditions Hit (level_is token_leaves levels.Conjunct c (input conditions d ts ns))
-        (rw (word_left (codes "if") ts conditions d ns nx, accept_left kinds.Slash ts conditions d ns (no_slash (PastLimitAt conditions.limit Hit) l))
+        (rw (word_left (codes "if") ts conditions d ns nx, accept_left kinds.Slash ts conditions d ns (value_starts itself itself (PastLimitAt conditions.limit Hit) l).1)
         (then conditions Hit _ (value_deep ns c within l) (rw (operator_taken levels.Conjunct operators.ListConcatenation op following conditions d (ns ++ ls) refl kind)
         (pass conditions Hit _ (conjunct_deep ((ns ++ ls) ++ noted features.ListConcatenationOperator op.tok) false within q) refl)))))
     conjunct_deep ns c {d} within {ts = ts} (g.concatenation {ls = ls} {rs = rs} {operator = op} {following = following} nx l kind q) =
         renoted conditions Hit (append_assoc ns ls rs) (by conditions Hit (level_is token_leaves levels.Conjunct c (input conditions d ts ns))
-        (rw (word_left (codes "if") ts conditions d ns nx, accept_left kinds.Slash ts conditions d ns (no_slash (PastLimitAt conditions.limit Hit) l))
+        (rw (word_left (codes "if") ts conditions d ns nx, accept_left kinds.Slash ts conditions d ns (value_starts itself itself (PastLimitAt conditions.limit Hit) l).1)
         (then conditions Hit _ (value_deep ns c within l) (rw (operator_taken levels.Conjunct operators.Concatenation op following conditions d (ns ++ ls) refl kind, append-nil (ns ++ ls))
         (pass conditions Hit _ (conjunct_deep (ns ++ ls) false within q) refl)))))
     conjunct_deep ns c {d} within {fs = fs} {ts = ts} {rest = rest} (g.value nx l nj) =
         by conditions Hit (level_is token_leaves levels.Conjunct c (input conditions d ts ns))
-        (rw (word_left (codes "if") ts conditions d ns nx, accept_left kinds.Slash ts conditions d ns (no_slash (PastLimitAt conditions.limit Hit) l))
+        (rw (word_left (codes "if") ts conditions d ns nx, accept_left kinds.Slash ts conditions d ns (value_starts itself itself (PastLimitAt conditions.limit Hit) l).1)
         (pass conditions Hit _ (value_deep ns c within l) (rw (operator_left levels.Conjunct rest conditions d (ns ++ fs) (no_joined rest nj)) refl)))
 
     pub condition_deep : (ns : List (Noted Tok)) {d : ℕ} (within : d ≤ conditions.limit) {e : Expr Tok Tok} {fs : List (Noted Tok)} {ts rest : Tokens} → Condition itself itself (PastLimitAt conditions.limit Hit) d e fs ts rest

@@ -28,7 +28,8 @@ use Rattle.justfile_model.specs.Trees.Tree.{ArgumentRules, Dependency, Dependenc
 use Rattle.justfile_model.specs.Readers.TreeReader.{Read, State, token_attributes, token_leaves}
 use Rattle.justfile_model.proofs.Readers.Counters.{after_parameters}
 use Rattle.justfile_model.proofs.Completeness.ExpressionDeep.{expression_deep, value_deep}
-use Rattle.justfile_model.proofs.Completeness.HeaderCovers.{ReadArgument, StartsDependency, StartsParameter, by_dollar, by_name, by_opener, by_star, dependency_starts, expression_starts, kept, named_starts, not_there, parameter_first, parameter_starts, parameters_after, second_among, stars_more, stars_of_kept, stars_read}
+use Rattle.justfile_model.proofs.Derivations.Beginnings.{expression_starts}
+use Rattle.justfile_model.proofs.Completeness.HeaderCovers.{ReadArgument, StartsDependency, StartsParameter, by_dollar, by_name, by_opener, by_star, dependency_starts, kept, named_starts, not_there, parameter_first, parameter_starts, parameters_after, second_among, stars_more, stars_of_kept, stars_read}
 use Rattle.justfile_model.proofs.Readers.HeaderReading.{dependencies_is, dependency_arguments_is, path_rest_is, singulars_is, value_is}
 use Rattle.justfile_model.proofs.Completeness.Reaching as plain
 use Rattle.justfile_model.proofs.Completeness.Reaching.{Reaches}

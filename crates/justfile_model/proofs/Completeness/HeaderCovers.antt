@@ -6,7 +6,6 @@ use Rattle.std.proofs.lemmas.List.Elements.{filter_map-append}
 use Rattle.justfile_vocabulary.specs.declared.token_kind.TokenKind.{TokenKind}
 use Rattle.justfile_vocabulary.specs.declared.token_kind.TokenKind.TheVariants as kinds
 use Rattle.justfile_model.specs.declared.parameter_kind.ParameterKind.{ParameterKind}
-use Rattle.justfile_model.specs.Grammars.Expressions as e
 use Rattle.justfile_model.specs.Grammars.Expressions.{IsKind, NotNext, Tokens}
 use Rattle.justfile_model.specs.Grammars.Features.{Noted}
 use Rattle.justfile_model.specs.Grammars.Headers as g
@@ -15,7 +14,7 @@ use Rattle.justfile_model.specs.Meanings.Rules.{Broken}
 use Rattle.justfile_model.specs.Trees.LeafView.{LeafView}
 use Rattle.justfile_model.specs.Lexing.SignificantTokens.{SignificantToken}
 use Rattle.justfile_model.specs.Lexing.Tok.{Tok}
-use Rattle.justfile_model.specs.Trees.Tree.{ArgumentRules, Dependency, DependencyArgument, Expr, Parameter}
+use Rattle.justfile_model.specs.Trees.Tree.{ArgumentRules, Dependency, DependencyArgument, Parameter}
 use Rattle.justfile_model.proofs.Completeness.ReachingRules.{Among, among_first, among_others}
 use Rattle.justfile_model.proofs.Readers.Steps.{AreNext}
 use Rattle.justfile_model.proofs.Lists.Unchanged.{argument_kept}
@@ -24,48 +23,6 @@ use Rattle.justfile_model.proofs.Lists.Unchanged.{argument_kept}
 pub not_there : (kind : TokenKind) (ts : Tokens) → NotNext kind ts → AreNext (kind ∷ []) ts → ⊥
 not_there kind [] nx h = h
 not_there kind (t ∷ ts) nx h = nx h.0
-
--- ---- no expression begins with a closing parenthesis or with a star
-
-pub record StartsValue (ts : Tokens) : Type 0 where
-  pub no_closer : NotNext kinds.ParenR ts
-  pub no_star : NotNext kinds.Asterisk ts
-
-module _ {A B : Type 0} (leaf : Tok → A) (position : Tok → B) (MayEnter : ℕ → Option SignificantToken → Type 0) where
-  value_starts : {d : ℕ} {v : Expr A B} {fs : List (Noted B)} {ts rest : Tokens} → e.Value leaf position MayEnter d v fs ts rest → StartsValue ts
-  value_starts (e.not kind v) = record { no_closer = λ k. cc; no_star = λ k. cc }
-  value_starts (e.literal kind) = record { no_closer = λ k. cc; no_star = λ k. cc }
-  value_starts (e.expanded m) = let is = m.marks.is_name in record { no_closer = λ k. cc; no_star = λ k. cc }
-  value_starts (e.format_literal m) = let is = m.marks.is_name in record { no_closer = λ k. cc; no_star = λ k. cc }
-  value_starts (e.format_string m v ps) = let is = m.marks.is_name in record { no_closer = λ k. cc; no_star = λ k. cc }
-  value_starts (e.backtick kind) = record { no_closer = λ k. cc; no_star = λ k. cc }
-  value_starts (e.assert w kind c kind2) = let is = w.is_name in record { no_closer = λ k. cc; no_star = λ k. cc }
-  value_starts (e.assert_message w kind c kind2 m kind3) = let is = w.is_name in record { no_closer = λ k. cc; no_star = λ k. cc }
-  value_starts (e.variable kind na un nx) = record { no_closer = λ k. cc; no_star = λ k. cc }
-  value_starts (e.call kind na kind2 s) = record { no_closer = λ k. cc; no_star = λ k. cc }
-  value_starts (e.group kind v kind2) = record { no_closer = λ k. cc; no_star = λ k. cc }
-  value_starts (e.list kind s) = record { no_closer = λ k. cc; no_star = λ k. cc }
-
-  conjunct_starts : {d : ℕ} {v : Expr A B} {fs : List (Noted B)} {ts rest : Tokens} → e.Conjunct leaf position MayEnter d v fs ts rest → StartsValue ts
-  conjunct_starts (e.conditional w c) = let is = w.is_name in record { no_closer = λ k. cc; no_star = λ k. cc }
-  conjunct_starts (e.root kind c) = record { no_closer = λ k. cc; no_star = λ k. cc }
-  conjunct_starts (e.join nw v kind c) = value_starts v
-  conjunct_starts (e.list_concatenation nw v kind c) = value_starts v
-  conjunct_starts (e.concatenation nw v kind c) = value_starts v
-  conjunct_starts (e.value nw v nx) = value_starts v
-
-  compared_starts : {c : Bool} {d : ℕ} {v : Expr A B} {fs : List (Noted B)} {ts rest : Tokens} → e.Compared leaf position MayEnter c d v fs ts rest → StartsValue ts
-  compared_starts (e.compare by l kind r) = conjunct_starts l
-  compared_starts (e.conjunct l nx) = conjunct_starts l
-
-  disjunct_starts : {c : Bool} {d : ℕ} {v : Expr A B} {fs : List (Noted B)} {ts rest : Tokens} → e.Disjunct leaf position MayEnter c d v fs ts rest → StartsValue ts
-  disjunct_starts (e.and l kind r) = compared_starts l
-  disjunct_starts (e.comparison l nx) = compared_starts l
-
-  pub expression_starts : {c : Bool} {d : ℕ} {v : Expr A B} {fs : List (Noted B)} {ts rest : Tokens} → e.Expression leaf position MayEnter c d v fs ts rest
-      → StartsValue ts
-  expression_starts (e.or o l kind r) = disjunct_starts l
-  expression_starts (e.disjunct o l nx) = disjunct_starts l
 
 -- ---- stars
 

@@ -1,8 +1,9 @@
 -- What the tokens of a construct don't begin with.
-use Rattle.std.proofs.Common.{ℕ, List, ◌∷◌, Option}
+use Rattle.std.proofs.Common.{ℕ, Bool, List, ◌∷◌, Option}
 use Rattle.justfile_vocabulary.specs.declared.token_kind.TokenKind.TheVariants as kinds
 use Rattle.justfile_model.specs.Grammars.AttributeLines as lines_of
 use Rattle.justfile_model.specs.Grammars.AttributeLines.{AttributeLines}
+use Rattle.justfile_model.specs.Grammars.Expressions as expressions
 use Rattle.justfile_model.specs.Grammars.Expressions.{IsKind, NotNext, Tokens}
 use Rattle.justfile_model.specs.Grammars.Features.{Noted}
 use Rattle.justfile_model.specs.Grammars.Files.{to_tokens}
@@ -12,7 +13,7 @@ use Rattle.justfile_model.specs.Grammars.Headers as headers
 use Rattle.justfile_model.specs.Grammars.Headers.{HeaderOf}
 use Rattle.justfile_model.specs.Lexing.SignificantTokens.{SignificantToken}
 use Rattle.justfile_model.specs.Lexing.Tok.{Tok}
-use Rattle.justfile_model.specs.Trees.Tree.{Content, Header, WrittenAttribute, itself}
+use Rattle.justfile_model.specs.Trees.Tree.{Content, Expr, Header, WrittenAttribute, itself}
 
 -- the next token isn't an end, a comment or a byte order mark, as before a construct
 pub record Begins (ts : Tokens) : Type 0 where
@@ -60,3 +61,45 @@ module _ {MayEnter : ℕ → Option SignificantToken → Type 0} where
       → Begins header → Begins ts
   attributes_begin (lines_of.none not) b = b
   attributes_begin (lines_of.line kind w e others) b = begins_bracket kind
+
+-- ---- no expression begins with a closing parenthesis or with a star, and no value with a slash
+
+pub record StartsValue (ts : Tokens) : Type 0 where
+  pub no_closer : NotNext kinds.ParenR ts
+  pub no_star : NotNext kinds.Asterisk ts
+
+module _ {A B : Type 0} (leaf : Tok → A) (position : Tok → B) (MayEnter : ℕ → Option SignificantToken → Type 0) where
+  pub value_starts : {d : ℕ} {v : Expr A B} {fs : List (Noted B)} {ts rest : Tokens} → expressions.Value leaf position MayEnter d v fs ts rest → StartsValue ts × NotNext kinds.Slash ts
+  value_starts (expressions.not kind v) = (record { no_closer = λ k. cc; no_star = λ k. cc }, λ k. cc)
+  value_starts (expressions.literal kind) = (record { no_closer = λ k. cc; no_star = λ k. cc }, λ k. cc)
+  value_starts (expressions.expanded m) = let is = m.marks.is_name in (record { no_closer = λ k. cc; no_star = λ k. cc }, λ k. cc)
+  value_starts (expressions.format_literal m) = let is = m.marks.is_name in (record { no_closer = λ k. cc; no_star = λ k. cc }, λ k. cc)
+  value_starts (expressions.format_string m v ps) = let is = m.marks.is_name in (record { no_closer = λ k. cc; no_star = λ k. cc }, λ k. cc)
+  value_starts (expressions.backtick kind) = (record { no_closer = λ k. cc; no_star = λ k. cc }, λ k. cc)
+  value_starts (expressions.assert w kind c kind2) = let is = w.is_name in (record { no_closer = λ k. cc; no_star = λ k. cc }, λ k. cc)
+  value_starts (expressions.assert_message w kind c kind2 m kind3) = let is = w.is_name in (record { no_closer = λ k. cc; no_star = λ k. cc }, λ k. cc)
+  value_starts (expressions.variable kind na un nx) = (record { no_closer = λ k. cc; no_star = λ k. cc }, λ k. cc)
+  value_starts (expressions.call kind na kind2 s) = (record { no_closer = λ k. cc; no_star = λ k. cc }, λ k. cc)
+  value_starts (expressions.group kind v kind2) = (record { no_closer = λ k. cc; no_star = λ k. cc }, λ k. cc)
+  value_starts (expressions.list kind s) = (record { no_closer = λ k. cc; no_star = λ k. cc }, λ k. cc)
+
+  conjunct_starts : {d : ℕ} {v : Expr A B} {fs : List (Noted B)} {ts rest : Tokens} → expressions.Conjunct leaf position MayEnter d v fs ts rest → StartsValue ts
+  conjunct_starts (expressions.conditional w c) = let is = w.is_name in record { no_closer = λ k. cc; no_star = λ k. cc }
+  conjunct_starts (expressions.root kind c) = record { no_closer = λ k. cc; no_star = λ k. cc }
+  conjunct_starts (expressions.join nw v kind c) = (value_starts v).0
+  conjunct_starts (expressions.list_concatenation nw v kind c) = (value_starts v).0
+  conjunct_starts (expressions.concatenation nw v kind c) = (value_starts v).0
+  conjunct_starts (expressions.value nw v nx) = (value_starts v).0
+
+  compared_starts : {c : Bool} {d : ℕ} {v : Expr A B} {fs : List (Noted B)} {ts rest : Tokens} → expressions.Compared leaf position MayEnter c d v fs ts rest → StartsValue ts
+  compared_starts (expressions.compare by l kind r) = conjunct_starts l
+  compared_starts (expressions.conjunct l nx) = conjunct_starts l
+
+  disjunct_starts : {c : Bool} {d : ℕ} {v : Expr A B} {fs : List (Noted B)} {ts rest : Tokens} → expressions.Disjunct leaf position MayEnter c d v fs ts rest → StartsValue ts
+  disjunct_starts (expressions.and l kind r) = compared_starts l
+  disjunct_starts (expressions.comparison l nx) = compared_starts l
+
+  pub expression_starts : {c : Bool} {d : ℕ} {v : Expr A B} {fs : List (Noted B)} {ts rest : Tokens} → expressions.Expression leaf position MayEnter c d v fs ts rest
+      → StartsValue ts
+  expression_starts (expressions.or o l kind r) = disjunct_starts l
+  expression_starts (expressions.disjunct o l nx) = disjunct_starts l

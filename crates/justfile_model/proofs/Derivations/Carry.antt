@@ -1,12 +1,12 @@
 -- A derivation of a file, moved to tokens that differ only in their positions, to other projections, and to another limit.
-use Rattle.std.proofs.Common.{◌≡◌, ℕ, false, true, List, [], ◌∷◌, ◌++◌, map, Option, None, Some, refl, sym, subst, ap, ◌∙◌}
+use Rattle.std.proofs.Common.{◌≡◌, ℕ, false, true, List, [], ◌∷◌, map, Option, None, Some, refl, sym, subst, ap, ◌∙◌}
 use Rattle.std.specs.Str.{trim_end}
 use Rattle.justfile_vocabulary.specs.declared.token_kind.TokenKind.{TokenKind}
 use Rattle.justfile_model.specs.Grammars.AttributeLines.{AttributeLines}
 use Rattle.justfile_model.specs.Lexing.SignificantTokens.{SignificantToken}
 use Rattle.justfile_model.specs.Trees.Tree as tree
 use Rattle.justfile_model.specs.Trees.Tree.{Expr, Fragment, BodyLine, Line, Content, Construct, WrittenAttribute, WrittenItem, line_before, Header, Quoted, SettingValue, bare_module, bare_recipe, assignment_of, trimmed, over_expr, over_fragment, over_header, over_line, over_quoted, over_setting_value, over_written_attribute, over_content, over_item}
-use Rattle.justfile_model.specs.Grammars.Features.{ConstructFeatures, Noted, over_features, over_noted}
+use Rattle.justfile_model.specs.Grammars.Features.{ConstructFeatures, Noted, over_features}
 use Rattle.justfile_model.specs.Grammars.Expressions.{Tokens, front, IsKind, Expression}
 use Rattle.justfile_model.specs.Grammars.Grammar as g
 use Rattle.justfile_model.specs.Grammars.Grammar.{TokenProjection, LineRest, BeforeBody, NotEmpty, BodyLines, OnLine, Block, Items, ItemRest, LineEnd, File}
@@ -15,7 +15,7 @@ use Rattle.justfile_model.specs.Grammars.ItemParts.{FilePath, Names, ValueOf}
 use Rattle.justfile_model.specs.Grammars.Settings.{SettingForm}
 use Rattle.justfile_model.proofs.Derivations.CarryAttributes.{attribute_lines}
 use Rattle.justfile_model.proofs.Derivations.CarryExpressions as expressions
-use Rattle.justfile_model.proofs.Derivations.CarryExpressions.{Same, Pairs, nil, cons, filled, first, same_kind_of, both_alike, Carried, until}
+use Rattle.justfile_model.proofs.Derivations.CarryExpressions.{Same, Pairs, nil, cons, filled, first, same_kind_of, Carried, until, of_tokens, of_one, of_two}
 use Rattle.justfile_model.proofs.Derivations.CarryHeaders as headers
 use Rattle.justfile_model.proofs.Derivations.CarryParts as parts
 
@@ -86,11 +86,6 @@ module _ {A B C S A' B' C' S' D E F G : Type 0} (projection : TokenProjection A 
   comment_of : (t u : SignificantToken) → Rel t u → trim_end u.tok.lexeme ≡ trim_end t.tok.lexeme
   comment_of t u s = let w = weak t u s in ap trim_end (sym w.lexeme)
 
-  -- the features of two rows
-  both : (fs gs : List (Noted B)) (fs' gs' : List (Noted B')) → map (over_noted m'.position) fs' ≡ map (over_noted m.position) fs → map (over_noted m'.position) gs' ≡ map (over_noted m.position) gs
-      → map (over_noted m'.position) (fs' ++ gs') ≡ map (over_noted m.position) (fs ++ gs)
-  both = both_alike (over_noted m.position) (over_noted m'.position)
-
   abbrev FragmentsOf : (List (Fragment A' B') → List (Noted B') → Tokens → Type 0) → List (Fragment A B) → List (Noted B) → Tokens → Type 0
   FragmentsOf R fragments fs rest = Carried Rel (map (over_fragment m.leaf m.position)) (map (over_fragment m'.leaf m'.position)) m.position m'.position R fragments fs rest
 
@@ -144,32 +139,19 @@ module _ {A B C S A' B' C' S' D E F G : Type 0} (projection : TokenProjection A 
       parts.setting_value projection.leaf projection.position MayEnter Rel weak kept'.leaf kept'.position MayEnter' m.leaf m.position m'.leaf m'.position kept_alike.leaves kept_alike.positions opens value us s
 
   pub line_rest : {fragments : List (Fragment A B)} {fs : List (Noted B)} {ts rest : Tokens} → LineRest projection.leaf projection.position MayEnter fragments fs ts rest → (us : Tokens) → Pairs Rel ts us → FragmentsOf (λ x n r. LineRest kept'.leaf kept'.position MayEnter' x n us r) fragments fs rest
-  line_rest (g.line_ends kind) us (cons s ss) = record { tree = []; features = []; after = _; derives = g.line_ends (kind_of s kind); alike = refl; noted_alike = refl; same = ss }
-  line_rest (g.body_ends kind) us (cons s ss) = record { tree = []; features = []; after = _; derives = g.body_ends (kind_of s kind); alike = refl; noted_alike = refl; same = cons s ss }
+  line_rest (g.line_ends kind) us (cons s ss) = of_tokens [] (g.line_ends (kind_of s kind)) refl ss
+  line_rest (g.body_ends kind) us (cons s ss) = of_tokens [] (g.body_ends (kind_of s kind)) refl (cons s ss)
   line_rest (g.text {token = t} kind more) us (cons {u = u} s ss) =
       let x = line_rest more _ ss in
-      record {
-        tree = tree.Text (kept'.leaf u.tok) ∷ x.tree;
-        features = x.features;
-        after = x.after;
-        derives = g.text (kind_of s kind) x.derives;
-        alike = λ i. tree.Text (kept_alike.leaves t u s i) ∷ x.alike i;
-        noted_alike = x.noted_alike;
-        same = x.same;
-      }
-  line_rest (g.interpolation {es = es} {fs = fs} kind e kind2 more) us (cons {us = us2} s ss) =
+      of_one x (tree.Text (kept'.leaf u.tok) ∷ x.tree) (g.text (kind_of s kind) x.derives) (λ i. tree.Text (kept_alike.leaves t u s i) ∷ x.alike i)
+  line_rest (g.interpolation kind e kind2 more) us (cons {us = us2} s ss) =
       let x = expression e us2 ss in
       let end = first x.same in
       let y = line_rest more end.more end.others in
-      record {
-        tree = tree.Interpolation x.tree ∷ y.tree;
-        features = x.features ++ y.features;
-        after = y.after;
-        derives = g.interpolation (kind_of s kind) (subst (λ r. Expression kept'.leaf kept'.position MayEnter' false 0 x.tree x.features us2 r) end.is x.derives) (kind_of end.related kind2) y.derives;
-        alike = λ i. tree.Interpolation (x.alike i) ∷ y.alike i;
-        noted_alike = both es fs x.features y.features x.noted_alike y.noted_alike;
-        same = y.same;
-      }
+      of_two x y (tree.Interpolation x.tree ∷ y.tree)
+      (g.interpolation (kind_of s kind) (subst (λ r. Expression kept'.leaf kept'.position MayEnter' false 0 x.tree x.features us2 r) end.is x.derives)
+      (kind_of end.related kind2) y.derives)
+      (λ i. tree.Interpolation (x.alike i) ∷ y.alike i)
 
   before_body : {comment : Option (List ℕ)} {ts rest : Tokens} → BeforeBody comment ts rest → (us : Tokens) → Pairs Rel ts us → Passed Rel (BeforeBody comment us) rest
   before_body (g.at_once kind kind2) us (cons s (cons s2 ss)) = record { after = _; derives = g.at_once (kind_of s kind) (kind_of s2 kind2); same = ss }
@@ -181,31 +163,17 @@ module _ {A B C S A' B' C' S' D E F G : Type 0} (projection : TokenProjection A 
       }
 
   pub body_lines : {lines : List (BodyLine A B C)} {fs : List (Noted B)} {ts rest : Tokens} → BodyLines projection MayEnter lines fs ts rest → (us : Tokens) → Pairs Rel ts us → LinesOf (λ x n r. BodyLines kept' MayEnter' x n us r) lines fs rest
-  body_lines (g.no_line kind) us (cons s ss) = record { tree = []; features = []; after = _; derives = g.no_line (kind_of s kind); alike = refl; noted_alike = refl; same = ss }
+  body_lines (g.no_line kind) us (cons s ss) = of_tokens [] (g.no_line (kind_of s kind)) refl ss
   body_lines (g.empty_line {token = t} kind more) us (cons {u = u} s ss) =
       let x = body_lines more _ ss in
-      record {
-        tree = Line (kept'.number u.tok) [] ∷ x.tree;
-        features = x.features;
-        after = x.after;
-        derives = g.empty_line (kind_of s kind) x.derives;
-        alike = λ i. Line (kept_alike.numbers t u s i) [] ∷ x.alike i;
-        noted_alike = x.noted_alike;
-        same = x.same;
-      }
-  body_lines (g.some_line {f = x} {fragments = xs} {fs = fs} {gs = gs} {first = t} l more) us (cons {u = u} {us = us2} s ss) =
+      of_one x (Line (kept'.number u.tok) [] ∷ x.tree) (g.empty_line (kind_of s kind) x.derives) (λ i. Line (kept_alike.numbers t u s i) [] ∷ x.alike i)
+  body_lines (g.some_line {f = x} {fragments = xs} {first = t} l more) us (cons {u = u} {us = us2} s ss) =
       let y = line_rest l (u ∷ us2) (cons s ss) in
       let full = filled (over_fragment m.leaf m.position) (over_fragment m'.leaf m'.position) y.tree x xs y.alike in
       let z = body_lines more y.after y.same in
-      record {
-        tree = Line (kept'.number u.tok) (full.one ∷ full.more) ∷ z.tree;
-        features = y.features ++ z.features;
-        after = z.after;
-        derives = g.some_line (subst (λ a. LineRest kept'.leaf kept'.position MayEnter' a y.features (u ∷ us2) y.after) full.is y.derives) z.derives;
-        alike = λ i. Line (kept_alike.numbers t u s i) ((ap (map (over_fragment m'.leaf m'.position)) (sym full.is) ∙ y.alike) i) ∷ z.alike i;
-        noted_alike = both fs gs y.features z.features y.noted_alike z.noted_alike;
-        same = z.same;
-      }
+      of_two y z (Line (kept'.number u.tok) (full.one ∷ full.more) ∷ z.tree)
+      (g.some_line (subst (λ a. LineRest kept'.leaf kept'.position MayEnter' a y.features (u ∷ us2) y.after) full.is y.derives) z.derives)
+      (λ i. Line (kept_alike.numbers t u s i) ((ap (map (over_fragment m'.leaf m'.position)) (sym full.is) ∙ y.alike) i) ∷ z.alike i)
 
   -- lines that are alike are alike without the empty ones at the end
   trimmed_alike : (lines : List (BodyLine A B C)) (others : List (BodyLine A' B' C')) → map (over_line m'.leaf m'.position m'.number) others ≡ map (over_line m.leaf m.position m.number) lines
@@ -220,168 +188,73 @@ module _ {A B C S A' B' C' S' D E F G : Type 0} (projection : TokenProjection A 
   pub on_line : {c : Content A B C S} {fs : List (Noted B)} {ts rest : Tokens} → OnLine projection MayEnter c fs ts rest → (us : Tokens) → Pairs Rel ts us → ContentOf (λ x n r. OnLine kept' MayEnter' x n us r) c fs rest
   on_line (g.alias {name = t} is kind kind2 p) us (cons s (cons {u = u} s2 (cons {us = us2} s3 ss))) =
       let x = path p us2 ss in
-      record {
-        tree = tree.Alias (record { name = kept'.leaf u.tok; target = x.tree });
-        features = [];
-        after = x.after;
-        derives = g.alias (parts.word_of Rel weak s is) (kind_of s2 kind) (kind_of s3 kind2) x.derives;
-        alike = λ i. tree.Alias (record { name = kept_alike.leaves t u s2 i; target = x.alike i });
-        noted_alike = refl;
-        same = x.same;
-      }
+      of_tokens (tree.Alias (record { name = kept'.leaf u.tok; target = x.tree }))
+      (g.alias (parts.word_of Rel weak s is) (kind_of s2 kind) (kind_of s3 kind2) x.derives)
+      (λ i. tree.Alias (record { name = kept_alike.leaves t u s2 i; target = x.alike i })) x.same
   on_line (g.eager {name = t} is kind kind2 e) us (cons s (cons {u = u} s2 (cons s3 ss))) =
       let x = expression e _ ss in
-      record {
-        tree = tree.Assignment (assignment_of true false (kept'.leaf u.tok) x.tree);
-        features = x.features;
-        after = x.after;
-        derives = g.eager (parts.word_of Rel weak s is) (kind_of s2 kind) (kind_of s3 kind2) x.derives;
-        alike = λ i. tree.Assignment (assignment_of true false (kept_alike.leaves t u s2 i) (x.alike i));
-        noted_alike = x.noted_alike;
-        same = x.same;
-      }
+      of_one x (tree.Assignment (assignment_of true false (kept'.leaf u.tok) x.tree))
+      (g.eager (parts.word_of Rel weak s is) (kind_of s2 kind) (kind_of s3 kind2) x.derives)
+      (λ i. tree.Assignment (assignment_of true false (kept_alike.leaves t u s2 i) (x.alike i)))
   on_line (g.export {name = t} is kind kind2 e) us (cons s (cons {u = u} s2 (cons s3 ss))) =
       let x = expression e _ ss in
-      record {
-        tree = tree.Assignment (assignment_of false true (kept'.leaf u.tok) x.tree);
-        features = x.features;
-        after = x.after;
-        derives = g.export (parts.word_of Rel weak s is) (kind_of s2 kind) (kind_of s3 kind2) x.derives;
-        alike = λ i. tree.Assignment (assignment_of false true (kept_alike.leaves t u s2 i) (x.alike i));
-        noted_alike = x.noted_alike;
-        same = x.same;
-      }
+      of_one x (tree.Assignment (assignment_of false true (kept'.leaf u.tok) x.tree))
+      (g.export (parts.word_of Rel weak s is) (kind_of s2 kind) (kind_of s3 kind2) x.derives)
+      (λ i. tree.Assignment (assignment_of false true (kept_alike.leaves t u s2 i) (x.alike i)))
   on_line (g.function {name = t} kind kind2 ns kind3 e) us (cons {u = u} s (cons {us = us2} s2 ss)) =
       let x = until (names ns us2 ss) in
       let y = expression e x.after x.same in
-      record {
-        tree = tree.Function (record { name = kept'.leaf u.tok; parameters = x.tree; body = y.tree });
-        features = y.features;
-        after = y.after;
-        derives = g.function (kind_of s kind) (kind_of s2 kind2) x.derives (kind_of x.related kind3) y.derives;
-        alike = λ i. tree.Function (record { name = kept_alike.leaves t u s i; parameters = x.alike i; body = y.alike i });
-        noted_alike = y.noted_alike;
-        same = y.same;
-      }
+      of_one y (tree.Function (record { name = kept'.leaf u.tok; parameters = x.tree; body = y.tree }))
+      (g.function (kind_of s kind) (kind_of s2 kind2) x.derives (kind_of x.related kind3) y.derives)
+      (λ i. tree.Function (record { name = kept_alike.leaves t u s i; parameters = x.alike i; body = y.alike i }))
   on_line (g.import is p) us (cons {us = us2} s ss) =
       let x = file_path p us2 ss in
-      record {
-        tree = tree.Import (record { optional = false; path = x.tree });
-        features = [];
-        after = x.after;
-        derives = g.import (parts.word_of Rel weak s is) x.derives;
-        alike = λ i. tree.Import (record { optional = false; path = x.alike i });
-        noted_alike = refl;
-        same = x.same;
-      }
+      of_tokens (tree.Import (record { optional = false; path = x.tree })) (g.import (parts.word_of Rel weak s is) x.derives)
+      (λ i. tree.Import (record { optional = false; path = x.alike i })) x.same
   on_line (g.optional_import is kind p) us (cons s (cons {us = us2} s2 ss)) =
       let x = file_path p us2 ss in
-      record {
-        tree = tree.Import (record { optional = true; path = x.tree });
-        features = [];
-        after = x.after;
-        derives = g.optional_import (parts.word_of Rel weak s is) (kind_of s2 kind) x.derives;
-        alike = λ i. tree.Import (record { optional = true; path = x.alike i });
-        noted_alike = refl;
-        same = x.same;
-      }
-  on_line (g.module_alone {name = t} is kind ends) us (cons s (cons {u = u} s2 ss)) = record {
-    tree = tree.Module (bare_module false (kept'.leaf u.tok) None);
-    features = [];
-    after = _;
-    derives = g.module_alone (parts.word_of Rel weak s is) (kind_of s2 kind) (parts.ends_line Rel weak ss ends);
-    alike = λ i. tree.Module (bare_module false (kept_alike.leaves t u s2 i) None);
-    noted_alike = refl;
-    same = ss;
-  }
+      of_tokens (tree.Import (record { optional = true; path = x.tree })) (g.optional_import (parts.word_of Rel weak s is) (kind_of s2 kind) x.derives)
+      (λ i. tree.Import (record { optional = true; path = x.alike i })) x.same
+  on_line (g.module_alone {name = t} is kind ends) us (cons s (cons {u = u} s2 ss)) =
+      of_tokens (tree.Module (bare_module false (kept'.leaf u.tok) None))
+      (g.module_alone (parts.word_of Rel weak s is) (kind_of s2 kind) (parts.ends_line Rel weak ss ends))
+      (λ i. tree.Module (bare_module false (kept_alike.leaves t u s2 i) None)) ss
   on_line (g.module_at {name = t} is kind p) us (cons s (cons {u = u} {us = us2} s2 ss)) =
       let x = file_path p us2 ss in
-      record {
-        tree = tree.Module (bare_module false (kept'.leaf u.tok) (Some x.tree));
-        features = [];
-        after = x.after;
-        derives = g.module_at (parts.word_of Rel weak s is) (kind_of s2 kind) x.derives;
-        alike = λ i. tree.Module (bare_module false (kept_alike.leaves t u s2 i) (Some (x.alike i)));
-        noted_alike = refl;
-        same = x.same;
-      }
-  on_line (g.optional_module_alone {name = t} is kind kind2 no_path) us (cons s (cons s2 (cons {u = u} s3 ss))) = record {
-    tree = tree.Module (bare_module true (kept'.leaf u.tok) None);
-    features = [];
-    after = _;
-    derives = g.optional_module_alone (parts.word_of Rel weak s is) (kind_of s2 kind) (kind_of s3 kind2) (parts.no_path Rel weak ss no_path);
-    alike = λ i. tree.Module (bare_module true (kept_alike.leaves t u s3 i) None);
-    noted_alike = refl;
-    same = ss;
-  }
+      of_tokens (tree.Module (bare_module false (kept'.leaf u.tok) (Some x.tree))) (g.module_at (parts.word_of Rel weak s is) (kind_of s2 kind) x.derives)
+      (λ i. tree.Module (bare_module false (kept_alike.leaves t u s2 i) (Some (x.alike i)))) x.same
+  on_line (g.optional_module_alone {name = t} is kind kind2 no_path) us (cons s (cons s2 (cons {u = u} s3 ss))) =
+      of_tokens (tree.Module (bare_module true (kept'.leaf u.tok) None))
+      (g.optional_module_alone (parts.word_of Rel weak s is) (kind_of s2 kind) (kind_of s3 kind2) (parts.no_path Rel weak ss no_path))
+      (λ i. tree.Module (bare_module true (kept_alike.leaves t u s3 i) None)) ss
   on_line (g.optional_module_at {name = t} is kind kind2 p) us (cons s (cons s2 (cons {u = u} {us = us2} s3 ss))) =
       let x = file_path p us2 ss in
-      record {
-        tree = tree.Module (bare_module true (kept'.leaf u.tok) (Some x.tree));
-        features = [];
-        after = x.after;
-        derives = g.optional_module_at (parts.word_of Rel weak s is) (kind_of s2 kind) (kind_of s3 kind2) x.derives;
-        alike = λ i. tree.Module (bare_module true (kept_alike.leaves t u s3 i) (Some (x.alike i)));
-        noted_alike = refl;
-        same = x.same;
-      }
+      of_tokens (tree.Module (bare_module true (kept'.leaf u.tok) (Some x.tree)))
+      (g.optional_module_at (parts.word_of Rel weak s is) (kind_of s2 kind) (kind_of s3 kind2) x.derives)
+      (λ i. tree.Module (bare_module true (kept_alike.leaves t u s3 i) (Some (x.alike i)))) x.same
   on_line (g.setting {keyword = keyword} {name = t} is is2 form value) us (cons s (cons {u = u} {us = us2} s2 ss)) =
       let x = setting_value value us2 ss in
-      record {
-        tree = tree.Setting (record { keyword = keyword; name = kept'.leaf u.tok; value = x.tree });
-        features = x.features;
-        after = x.after;
-        derives = g.setting (parts.word_of Rel weak s is) (parts.word_of Rel weak s2 is2) form x.derives;
-        alike = λ i. tree.Setting (record { keyword = keyword; name = kept_alike.leaves t u s2 i; value = x.alike i });
-        noted_alike = x.noted_alike;
-        same = x.same;
-      }
-  on_line (g.unexport {name = t} is kind ends) us (cons s (cons {u = u} s2 ss)) = record {
-    tree = tree.Unexport (kept'.leaf u.tok);
-    features = [];
-    after = _;
-    derives = g.unexport (parts.word_of Rel weak s is) (kind_of s2 kind) (parts.ends_line Rel weak ss ends);
-    alike = λ i. tree.Unexport (kept_alike.leaves t u s2 i);
-    noted_alike = refl;
-    same = ss;
-  }
+      of_one x (tree.Setting (record { keyword = keyword; name = kept'.leaf u.tok; value = x.tree }))
+      (g.setting (parts.word_of Rel weak s is) (parts.word_of Rel weak s2 is2) form x.derives)
+      (λ i. tree.Setting (record { keyword = keyword; name = kept_alike.leaves t u s2 i; value = x.alike i }))
+  on_line (g.unexport {name = t} is kind ends) us (cons s (cons {u = u} s2 ss)) =
+      of_tokens (tree.Unexport (kept'.leaf u.tok)) (g.unexport (parts.word_of Rel weak s is) (kind_of s2 kind) (parts.ends_line Rel weak ss ends))
+      (λ i. tree.Unexport (kept_alike.leaves t u s2 i)) ss
   on_line (g.assignment {name = t} kind kind2 e) us (cons {u = u} s (cons s2 ss)) =
       let x = expression e _ ss in
-      record {
-        tree = tree.Assignment (assignment_of false false (kept'.leaf u.tok) x.tree);
-        features = x.features;
-        after = x.after;
-        derives = g.assignment (kind_of s kind) (kind_of s2 kind2) x.derives;
-        alike = λ i. tree.Assignment (assignment_of false false (kept_alike.leaves t u s i) (x.alike i));
-        noted_alike = x.noted_alike;
-        same = x.same;
-      }
+      of_one x (tree.Assignment (assignment_of false false (kept'.leaf u.tok) x.tree)) (g.assignment (kind_of s kind) (kind_of s2 kind2) x.derives)
+      (λ i. tree.Assignment (assignment_of false false (kept_alike.leaves t u s i) (x.alike i)))
   on_line (g.header e) us s =
       let x = header e us s in
-      record {
-        tree = tree.Recipe (bare_recipe x.tree None []);
-        features = x.features;
-        after = x.after;
-        derives = g.header x.derives;
-        alike = λ i. tree.Recipe (bare_recipe (x.alike i) None []);
-        noted_alike = x.noted_alike;
-        same = x.same;
-      }
+      of_one x (tree.Recipe (bare_recipe x.tree None [])) (g.header x.derives) (λ i. tree.Recipe (bare_recipe (x.alike i) None []))
 
   pub block : {c : Content A B C S} {fs : List (Noted B)} {ts rest : Tokens} → Block projection MayEnter c fs ts rest → (us : Tokens) → Pairs Rel ts us → ContentOf (λ x n r. Block kept' MayEnter' x n us r) c fs rest
-  block (g.recipe {lines = lines} {fs = fs} {gs = gs} {comment = comment} e b ls some) us s =
+  block (g.recipe {lines = lines} {comment = comment} e b ls some) us s =
       let w = header e us s in
       let x = before_body b w.after w.same in
       let y = body_lines ls x.after x.same in
-      record {
-        tree = tree.Recipe (bare_recipe w.tree comment (trimmed y.tree));
-        features = w.features ++ y.features;
-        after = y.after;
-        derives = g.recipe w.derives x.derives y.derives (some_left lines y.tree y.alike some);
-        alike = λ i. tree.Recipe (bare_recipe (w.alike i) comment (trimmed_alike lines y.tree y.alike i));
-        noted_alike = both fs gs w.features y.features w.noted_alike y.noted_alike;
-        same = y.same;
-      }
+      of_two w y (tree.Recipe (bare_recipe w.tree comment (trimmed y.tree))) (g.recipe w.derives x.derives y.derives (some_left lines y.tree y.alike some))
+      (λ i. tree.Recipe (bare_recipe (w.alike i) comment (trimmed_alike lines y.tree y.alike i)))
 
   mutual
     pub items : {all : List (WrittenItem A B C S)} {fs : List (ConstructFeatures B)} {ts : Tokens} → Items projection MayEnter all fs ts → (us : Tokens) → Pairs Rel ts us → ItemsOf (λ x n. Items kept' MayEnter' x n us) all fs

@@ -7,14 +7,14 @@ use Rattle.justfile_model.specs.Meanings.AttributeKinds.{name_takes_keys}
 use Rattle.justfile_model.specs.Grammars.AttributeLines as g
 use Rattle.justfile_model.specs.Grammars.AttributeLines.{IsKey, ArgumentOf, Arguments, AttributeOf, AttributesEnd, AttributeLines, Bracketed}
 use Rattle.justfile_model.specs.Grammars.Expressions.{Tokens, front, Expression, IsKind, NotNext}
-use Rattle.justfile_model.specs.Grammars.Features.{Noted, over_noted}
+use Rattle.justfile_model.specs.Grammars.Features.{Noted}
 use Rattle.justfile_model.specs.Lexing.SignificantTokens.{SignificantToken}
 use Rattle.justfile_model.specs.Lexing.Tok.{Tok}
 use Rattle.justfile_model.specs.Trees.Tree as tree
 use Rattle.justfile_model.specs.Trees.Tree.{Argument, Expr, WrittenAttribute, bare_attribute, commented_attribute, commented_line, over_argument, over_expr, over_written_attribute}
 use Rattle.justfile_model.proofs.Printed.Commented.{commented_map}
 use Rattle.justfile_model.proofs.Derivations.CarryExpressions as expressions
-use Rattle.justfile_model.proofs.Derivations.CarryExpressions.{Same, Pairs, nil, cons, Carried, both_alike, same_kind_of, same_marked_of, turned, until}
+use Rattle.justfile_model.proofs.Derivations.CarryExpressions.{Same, Pairs, nil, cons, Carried, both_alike, same_kind_of, same_marked_of, turned, until, of_tokens, of_one, of_two, past}
 
 module _ {A B A' B' C D : Type 0} (leaf : Tok → A) (position : Tok → B) (MayEnter : ℕ → Option SignificantToken → Type 0)
     (Rel : SignificantToken → SignificantToken → Type 0) (weak : (t u : SignificantToken) → Rel t u → Same t u)
@@ -56,11 +56,6 @@ module _ {A B A' B' C D : Type 0} (leaf : Tok → A) (position : Tok → B) (May
       → Type 0
   AttributesCarried R ws fs rest = Carried Rel (map (over_written_attribute f h)) (map (over_written_attribute f' h')) h h' R ws fs rest
 
-  -- the features of two rows
-  both : (fs gs : List (Noted B)) (fs' gs' : List (Noted B')) → map (over_noted h') fs' ≡ map (over_noted h) fs
-      → map (over_noted h') gs' ≡ map (over_noted h) gs → map (over_noted h') (fs' ++ gs') ≡ map (over_noted h) (fs ++ gs)
-  both = both_alike (over_noted h) (over_noted h')
-
   expression : {e : Expr A B} {fs : List (Noted B)} {ts rest : Tokens} → Expression leaf position MayEnter false 0 e fs ts rest → (us : Tokens) → Pairs Rel ts us
       → Carried Rel (over_expr f h) (over_expr f' h') h h' (λ x n r. Expression leaf' position' MayEnter' false 0 x n us r) e fs rest
   expression e us s = expressions.expression leaf position MayEnter Rel weak leaf' position' MayEnter' f h f' h' leaves positions opens e us s
@@ -71,126 +66,52 @@ module _ {A B A' B' C D : Type 0} (leaf : Tok → A) (position : Tok → B) (May
       → Pairs Rel ts us → ArgumentCarried (λ x n r. ArgumentOf leaf' position' MayEnter' keys x n us r) a fs rest
   argument (g.positional {first = t} not e) us (cons {u = u} {us = us2} s ss) =
       let x = expression e (u ∷ us2) (cons s ss) in
-      record {
-        tree = tree.Positional (position' u.tok) x.tree;
-        features = x.features;
-        after = x.after;
-        derives = g.positional (λ is k. not is (key_before (cons s ss) k)) x.derives;
-        alike = λ i. tree.Positional (positions t u s i) (x.alike i);
-        noted_alike = x.noted_alike;
-        same = x.same;
-      }
-  argument (g.bare {key = t} is not) us (cons {u = u} s ss) = record {
-    tree = tree.Bare (leaf' u.tok);
-    features = [];
-    after = _;
-    derives = g.bare (key_of (cons s ss) is) (next_of kinds.Equals ss not);
-    alike = λ i. tree.Bare (leaves t u s i);
-    noted_alike = refl;
-    same = ss;
-  }
+      of_one x (tree.Positional (position' u.tok) x.tree) (g.positional (λ is k. not is (key_before (cons s ss) k)) x.derives)
+      (λ i. tree.Positional (positions t u s i) (x.alike i))
+  argument (g.bare {key = t} is not) us (cons {u = u} s ss) =
+      of_tokens (tree.Bare (leaf' u.tok)) (g.bare (key_of (cons s ss) is) (next_of kinds.Equals ss not)) (λ i. tree.Bare (leaves t u s i)) ss
   argument (g.keyed {key = t} kind kind2 e) us (cons {u = u} s (cons {us = us2} s2 ss)) =
       let x = expression e us2 ss in
-      record {
-        tree = tree.Keyed (leaf' u.tok) x.tree;
-        features = x.features;
-        after = x.after;
-        derives = g.keyed (kind_of s kind) (kind_of s2 kind2) x.derives;
-        alike = λ i. tree.Keyed (leaves t u s i) (x.alike i);
-        noted_alike = x.noted_alike;
-        same = x.same;
-      }
+      of_one x (tree.Keyed (leaf' u.tok) x.tree) (g.keyed (kind_of s kind) (kind_of s2 kind2) x.derives) (λ i. tree.Keyed (leaves t u s i) (x.alike i))
 
   arguments : {keys : Bool} {all : List (Argument A B)} {fs : List (Noted B)} {ts rest : Tokens} → Arguments leaf position MayEnter keys all fs ts rest
       → (us : Tokens) → Pairs Rel ts us → ArgumentsCarried (λ x n r. Arguments leaf' position' MayEnter' keys x n us r) all fs rest
   arguments (g.none kind) us (cons s ss) =
-      record { tree = []; features = []; after = _; derives = g.none (kind_of s kind); alike = refl; noted_alike = refl; same = ss }
+      of_tokens [] (g.none (kind_of s kind)) refl ss
   arguments (g.last a kind) us s =
       let x = until (argument a us s) in
-      record {
-        tree = x.tree ∷ [];
-        features = x.features;
-        after = x.after;
-        derives = g.last x.derives (kind_of x.related kind);
-        alike = λ i. x.alike i ∷ [];
-        noted_alike = x.noted_alike;
-        same = x.same;
-      }
-  arguments (g.more {fs = fs} {gs = gs} a kind others) us s =
+      of_one (past x) (x.tree ∷ []) (g.last x.derives (kind_of x.related kind)) (λ i. x.alike i ∷ [])
+  arguments (g.more a kind others) us s =
       let x = until (argument a us s) in
       let y = arguments others x.after x.same in
-      record {
-        tree = x.tree ∷ y.tree;
-        features = x.features ++ y.features;
-        after = y.after;
-        derives = g.more x.derives (kind_of x.related kind) y.derives;
-        alike = λ i. x.alike i ∷ y.alike i;
-        noted_alike = both fs gs x.features y.features x.noted_alike y.noted_alike;
-        same = y.same;
-      }
+      of_two (past x) y (x.tree ∷ y.tree) (g.more x.derives (kind_of x.related kind) y.derives) (λ i. x.alike i ∷ y.alike i)
 
   -- ---- attributes
 
   attribute : {w : WrittenAttribute A B} {fs : List (Noted B)} {ts rest : Tokens} → AttributeOf leaf position MayEnter w fs ts rest → (us : Tokens)
       → Pairs Rel ts us → AttributeCarried (λ x n r. AttributeOf leaf' position' MayEnter' x n us r) w fs rest
-  attribute (g.plain {name = t} kind nc np) us (cons {u = u} s ss) = record {
-    tree = bare_attribute (leaf' u.tok) [];
-    features = [];
-    after = _;
-    derives = g.plain (kind_of s kind) (next_of kinds.Colon ss nc) (next_of kinds.ParenL ss np);
-    alike = λ i. bare_attribute (leaves t u s i) [];
-    noted_alike = refl;
-    same = ss;
-  }
+  attribute (g.plain {name = t} kind nc np) us (cons {u = u} s ss) =
+      of_tokens (bare_attribute (leaf' u.tok) []) (g.plain (kind_of s kind) (next_of kinds.Colon ss nc) (next_of kinds.ParenL ss np))
+      (λ i. bare_attribute (leaves t u s i) []) ss
   attribute (g.short {name = t} {first = first} kind kind2 e) us (cons {u = u} s (cons s2 (cons {u = v} {us = us2} s3 ss))) =
       let x = expression e (v ∷ us2) (cons s3 ss) in
-      record {
-        tree = bare_attribute (leaf' u.tok) (tree.Positional (position' v.tok) x.tree ∷ []);
-        features = x.features;
-        after = x.after;
-        derives = g.short (kind_of s kind) (kind_of s2 kind2) x.derives;
-        alike = λ i. bare_attribute (leaves t u s i) (tree.Positional (positions first v s3 i) (x.alike i) ∷ []);
-        noted_alike = x.noted_alike;
-        same = x.same;
-      }
+      of_one x (bare_attribute (leaf' u.tok) (tree.Positional (position' v.tok) x.tree ∷ [])) (g.short (kind_of s kind) (kind_of s2 kind2) x.derives)
+      (λ i. bare_attribute (leaves t u s i) (tree.Positional (positions first v s3 i) (x.alike i) ∷ []))
   attribute (g.long {name = t} kind kind2 all) us (cons {u = u} s (cons {us = us2} s2 ss)) =
       let x = arguments all us2 ss in
-      record {
-        tree = bare_attribute (leaf' u.tok) x.tree;
-        features = x.features;
-        after = x.after;
-        derives = g.long (kind_of s kind) (kind_of s2 kind2)
-            (subst (λ lexeme. Arguments leaf' position' MayEnter' (name_takes_keys lexeme) x.tree x.features us2 x.after) (weak t u s).lexeme x.derives);
-        alike = λ i. bare_attribute (leaves t u s i) (x.alike i);
-        noted_alike = x.noted_alike;
-        same = x.same;
-      }
+      of_one x (bare_attribute (leaf' u.tok) x.tree)
+      (g.long (kind_of s kind) (kind_of s2 kind2) (subst (λ lexeme. Arguments leaf' position' MayEnter' (name_takes_keys lexeme) x.tree x.features us2 x.after) (weak t u s).lexeme x.derives))
+      (λ i. bare_attribute (leaves t u s i) (x.alike i))
 
   bracketed : {ws : List (WrittenAttribute A B)} {fs : List (Noted B)} {ts rest : Tokens} → Bracketed leaf position MayEnter ws fs ts rest → (us : Tokens)
       → Pairs Rel ts us → AttributesCarried (λ x n r. Bracketed leaf' position' MayEnter' x n us r) ws fs rest
   bracketed (g.last w kind) us s =
       let x = until (attribute w us s) in
-      record {
-        tree = x.tree ∷ [];
-        features = x.features;
-        after = x.after;
-        derives = g.last x.derives (kind_of x.related kind);
-        alike = λ i. x.alike i ∷ [];
-        noted_alike = x.noted_alike;
-        same = x.same;
-      }
-  bracketed (g.more {fs = fs} {gs = gs} w kind others) us s =
+      of_one (past x) (x.tree ∷ []) (g.last x.derives (kind_of x.related kind)) (λ i. x.alike i ∷ [])
+  bracketed (g.more w kind others) us s =
       let x = until (attribute w us s) in
       let y = bracketed others x.after x.same in
-      record {
-        tree = x.tree ∷ y.tree;
-        features = x.features ++ y.features;
-        after = y.after;
-        derives = g.more x.derives (kind_of x.related kind) y.derives;
-        alike = λ i. x.alike i ∷ y.alike i;
-        noted_alike = both fs gs x.features y.features x.noted_alike y.noted_alike;
-        same = y.same;
-      }
+      of_two (past x) y (x.tree ∷ y.tree) (g.more x.derives (kind_of x.related kind) y.derives) (λ i. x.alike i ∷ y.alike i)
 
   -- ---- lines
 
@@ -214,21 +135,14 @@ module _ {A B A' B' C D : Type 0} (leaf : Tok → A) (position : Tok → B) (May
   pub attribute_lines : {ws : List (WrittenAttribute A B)} {fs : List (Noted B)} {ts rest : Tokens} → AttributeLines leaf position MayEnter ws fs ts rest
       → (us : Tokens) → Pairs Rel ts us → AttributesCarried (λ x n r. AttributeLines leaf' position' MayEnter' x n us r) ws fs rest
   attribute_lines (g.none not) us s =
-      record { tree = []; features = []; after = us; derives = g.none (next_of kinds.BracketL s not); alike = refl; noted_alike = refl; same = s }
-  attribute_lines (g.line {ws = ws} {others = vs} {fs = fs} {gs = gs} {comment = comment} kind b e others) us (cons {us = us2} s ss) =
+      of_tokens [] (g.none (next_of kinds.BracketL s not)) refl s
+  attribute_lines (g.line {ws = ws} {others = vs} {comment = comment} kind b e others) us (cons {us = us2} s ss) =
       let x = bracketed b us2 ss in
       let y = attributes_end e x.after x.same in
       let z = attribute_lines others y.after y.same in
-      record {
-        tree = commented_line comment x.tree ++ z.tree;
-        features = x.features ++ z.features;
-        after = z.after;
-        derives = g.line (kind_of s kind) x.derives y.derives z.derives;
-        alike = both_alike (over_written_attribute f h) (over_written_attribute f' h') (commented_line comment ws) vs (commented_line comment x.tree) z.tree
-            (commented_map (over_written_attribute f' h') commented_attribute commented_attribute (λ c w. refl) comment x.tree
-            ∙ ap (commented_line comment) x.alike
-            ∙ sym (commented_map (over_written_attribute f h) commented_attribute commented_attribute (λ c w. refl) comment ws))
-            z.alike;
-        noted_alike = both fs gs x.features z.features x.noted_alike z.noted_alike;
-        same = z.same;
-      }
+      of_two x z (commented_line comment x.tree ++ z.tree) (g.line (kind_of s kind) x.derives y.derives z.derives)
+      (both_alike (over_written_attribute f h) (over_written_attribute f' h') (commented_line comment ws) vs (commented_line comment x.tree) z.tree
+      (commented_map (over_written_attribute f' h') commented_attribute commented_attribute (λ c w. refl) comment x.tree
+      ∙ ap (commented_line comment) x.alike
+      ∙ sym (commented_map (over_written_attribute f h) commented_attribute commented_attribute (λ c w. refl) comment ws))
+      z.alike)

@@ -101,12 +101,39 @@ pub record Carried {X X' Y B B' D : Type 0} (Rel : SignificantToken → Signific
   pub noted_alike : map (over_noted h') features ≡ map (over_noted h) fs
   pub same : Pairs Rel rest after
 
+-- what is made of tokens alone, which have no features
+pub of_tokens : {X X' Y B B' D : Type 0} {Rel : SignificantToken → SignificantToken → Type 0} {m : X → Y} {m' : X' → Y} {h : B → D} {h' : B' → D}
+    {R : X' → List (Noted B') → Tokens → Type 0} {e : X} {rest after : Tokens} (tree : X') → R tree [] after → m' tree ≡ m e → Pairs Rel rest after
+    → Carried Rel m m' h h' R e [] rest
+of_tokens tree derives alike same =
+    record { tree = tree; features = []; after = _; derives = derives; alike = alike; noted_alike = refl; same = same }
+
+module _ {X X' Y Z Z' W B B' D : Type 0} {Rel : SignificantToken → SignificantToken → Type 0} {m : X → Y} {m' : X' → Y} {n : Z → W} {n' : Z' → W}
+    {h : B → D} {h' : B' → D} {R : X' → List (Noted B') → Tokens → Type 0} {Q : Z' → List (Noted B') → Tokens → Type 0} {e : X} {z : Z} {fs : List (Noted B)}
+    {between : Tokens} (x : Carried Rel m m' h h' R e fs between) where
+  -- what is made of one part, with its features
+  pub of_one : (tree : Z') → Q tree x.features x.after → n' tree ≡ n z → Carried Rel n n' h h' Q z fs between
+  of_one tree derives alike =
+      record { tree = tree; features = x.features; after = x.after; derives = derives; alike = alike; noted_alike = x.noted_alike; same = x.same }
+
+  -- what is made of two parts, with the features of both
+  pub of_two : {V V' U : Type 0} {l : V → U} {l' : V' → U} {R' : V' → List (Noted B') → Tokens → Type 0} {e' : V} {gs : List (Noted B)} {rest : Tokens}
+      (y : Carried Rel l l' h h' R' e' gs rest) (tree : Z') → Q tree (x.features ++ y.features) y.after → n' tree ≡ n z → Carried Rel n n' h h' Q z (fs ++ gs) rest
+  of_two {gs = gs} y tree derives alike = record {
+    tree = tree;
+    features = x.features ++ y.features;
+    after = y.after;
+    derives = derives;
+    alike = alike;
+    noted_alike = both_alike (over_noted h) (over_noted h') fs gs x.features y.features x.noted_alike y.noted_alike;
+    same = y.same;
+  }
+
 -- the same tree, of another derivation
 pub rederived : {X X' Y B B' D : Type 0} {Rel : SignificantToken → SignificantToken → Type 0} {m : X → Y} {m' : X' → Y} {h : B → D} {h' : B' → D}
     {R R' : X' → List (Noted B') → Tokens → Type 0} {e : X} {fs : List (Noted B)} {rest : Tokens} (x : Carried Rel m m' h h' R e fs rest)
     → R' x.tree x.features x.after → Carried Rel m m' h h' R' e fs rest
-rederived x derives =
-    record { tree = x.tree; features = x.features; after = x.after; derives = derives; alike = x.alike; noted_alike = x.noted_alike; same = x.same }
+rederived x derives = of_one x x.tree derives x.alike
 
 -- what is derived before a token is derived before a like token
 pub record Until {X X' Y B B' D : Type 0} (Rel : SignificantToken → SignificantToken → Type 0) (m : X → Y) (m' : X' → Y) (h : B → D) (h' : B' → D)
@@ -137,6 +164,13 @@ until {R = R} x =
       related = p.related;
       same = p.others;
     }
+
+-- the same, up to the like token
+abbrev pub past : {X X' Y B B' D : Type 0} {Rel : SignificantToken → SignificantToken → Type 0} {m : X → Y} {m' : X' → Y} {h : B → D} {h' : B' → D}
+    {R : X' → List (Noted B') → Tokens → Type 0} {e : X} {fs : List (Noted B)} {t : SignificantToken} {rest : Tokens}
+    (x : Until Rel m m' h h' R e fs t rest) → Carried Rel m m' h h' (λ y n r. R y n (x.partner ∷ r)) e fs rest
+past x =
+    record { tree = x.tree; features = x.features; after = x.after; derives = x.derives; alike = x.alike; noted_alike = x.noted_alike; same = x.same }
 
 module _ {A B A' B' C D : Type 0} (leaf : Tok → A) (position : Tok → B) (MayEnter : ℕ → Option SignificantToken → Type 0)
     (Rel : SignificantToken → SignificantToken → Type 0) (weak : (t u : SignificantToken) → Rel t u → Same t u)
@@ -241,7 +275,7 @@ module _ {A B A' B' C D : Type 0} (leaf : Tok → A) (position : Tok → B) (May
         }
     expression {d = d} {ts = ts} (g.disjunct o left n) us s =
         let l = disjunct left us s in
-        record { tree = l.tree; features = l.features; after = l.after; derives = g.disjunct (opens d ts us s o) l.derives (next_of _ l.same n); alike = l.alike; noted_alike = l.noted_alike; same = l.same }
+        rederived l (g.disjunct (opens d ts us s o) l.derives (next_of _ l.same n))
 
     pub disjunct : {c : Bool} {d : ℕ} {e : Expr A B} {fs : List (Noted B)} {ts rest : Tokens} → Disjunct leaf position MayEnter c d e fs ts rest → (us : Tokens) → Pairs Rel ts us → ExprOf (λ x n r. Disjunct leaf' position' MayEnter' c d x n us r) e fs rest
     disjunct (g.and {ls = ls} {rs = rs} {operator = t} left kind right) us s =
@@ -258,7 +292,7 @@ module _ {A B A' B' C D : Type 0} (leaf : Tok → A) (position : Tok → B) (May
         }
     disjunct (g.comparison left n) us s =
         let l = comparison left us s in
-        record { tree = l.tree; features = l.features; after = l.after; derives = g.comparison l.derives (next_of _ l.same n); alike = l.alike; noted_alike = l.noted_alike; same = l.same }
+        rederived l (g.comparison l.derives (next_of _ l.same n))
 
     pub comparison : {c : Bool} {d : ℕ} {e : Expr A B} {fs : List (Noted B)} {ts rest : Tokens} → Compared leaf position MayEnter c d e fs ts rest → (us : Tokens) → Pairs Rel ts us → ExprOf (λ x n r. Compared leaf' position' MayEnter' c d x n us r) e fs rest
     comparison {c = c} (g.compare {ls = ls} {rs = rs} {operator = t} by left kind right) us s =
@@ -275,27 +309,20 @@ module _ {A B A' B' C D : Type 0} (leaf : Tok → A) (position : Tok → B) (May
         }
     comparison (g.conjunct left n) us s =
         let l = conjunct left us s in
-        record { tree = l.tree; features = l.features; after = l.after; derives = g.conjunct l.derives (not_compared_of l.same n); alike = l.alike; noted_alike = l.noted_alike; same = l.same }
+        rederived l (g.conjunct l.derives (not_compared_of l.same n))
 
     pub conjunct : {d : ℕ} {e : Expr A B} {fs : List (Noted B)} {ts rest : Tokens} → Conjunct leaf position MayEnter d e fs ts rest → (us : Tokens) → Pairs Rel ts us → ExprOf (λ x n r. Conjunct leaf' position' MayEnter' d x n us r) e fs rest
-    conjunct (g.conditional {word = t} w more) us (cons {u = u} s ss) =
+    conjunct (g.conditional w more) us (cons {u = u} s ss) =
         let c = conditional more u s _ ss in
-        record { tree = c.tree; features = c.features; after = c.after; derives = g.conditional (word_of s w) c.derives; alike = c.alike; noted_alike = c.noted_alike; same = c.same }
+        rederived c (g.conditional (word_of s w) c.derives)
     conjunct (g.root {operator = t} kind right) us (cons {u = u} s ss) =
         let r = conjunct right _ ss in
-        record { tree = tree.Root (position' u.tok) r.tree; features = r.features; after = r.after; derives = g.root (kind_of s kind) r.derives; alike = λ i. tree.Root (positions t u s i) (r.alike i); noted_alike = r.noted_alike; same = r.same }
-    conjunct (g.join {ls = ls} {rs = rs} {operator = t} n left kind right) us s =
+        of_one r (tree.Root (position' u.tok) r.tree) (g.root (kind_of s kind) r.derives) (λ i. tree.Root (positions t u s i) (r.alike i))
+    conjunct (g.join {operator = t} n left kind right) us s =
         let l = until (value left us s) in
         let r = conjunct right l.after l.same in
-        record {
-          tree = tree.Join l.tree (position' l.partner.tok) r.tree;
-          features = l.features ++ r.features;
-          after = r.after;
-          derives = g.join (no_word_of _ s n) l.derives (kind_of l.related kind) r.derives;
-          alike = λ i. tree.Join (l.alike i) (positions t l.partner l.related i) (r.alike i);
-          noted_alike = both ls rs l.features r.features l.noted_alike r.noted_alike;
-          same = r.same;
-        }
+        of_two (past l) r (tree.Join l.tree (position' l.partner.tok) r.tree) (g.join (no_word_of _ s n) l.derives (kind_of l.related kind) r.derives)
+        (λ i. tree.Join (l.alike i) (positions t l.partner l.related i) (r.alike i))
     conjunct (g.list_concatenation {ls = ls} {rs = rs} {operator = t} n left kind right) us s =
         let l = until (value left us s) in
         let r = conjunct right l.after l.same in
@@ -308,21 +335,15 @@ module _ {A B A' B' C D : Type 0} (leaf : Tok → A) (position : Tok → B) (May
           noted_alike = noted_between features.ListConcatenationOperator t l.partner l.related ls rs l.features r.features l.noted_alike r.noted_alike;
           same = r.same;
         }
-    conjunct (g.concatenation {ls = ls} {rs = rs} {operator = t} n left kind right) us s =
+    conjunct (g.concatenation {operator = t} n left kind right) us s =
         let l = until (value left us s) in
         let r = conjunct right l.after l.same in
-        record {
-          tree = tree.Concatenation l.tree (position' l.partner.tok) r.tree;
-          features = l.features ++ r.features;
-          after = r.after;
-          derives = g.concatenation (no_word_of _ s n) l.derives (kind_of l.related kind) r.derives;
-          alike = λ i. tree.Concatenation (l.alike i) (positions t l.partner l.related i) (r.alike i);
-          noted_alike = both ls rs l.features r.features l.noted_alike r.noted_alike;
-          same = r.same;
-        }
+        of_two (past l) r (tree.Concatenation l.tree (position' l.partner.tok) r.tree)
+        (g.concatenation (no_word_of _ s n) l.derives (kind_of l.related kind) r.derives)
+        (λ i. tree.Concatenation (l.alike i) (positions t l.partner l.related i) (r.alike i))
     conjunct (g.value n v n2) us s =
         let x = value v us s in
-        record { tree = x.tree; features = x.features; after = x.after; derives = g.value (no_word_of _ s n) x.derives (not_joined_of x.same n2); alike = x.alike; noted_alike = x.noted_alike; same = x.same }
+        rederived x (g.value (no_word_of _ s n) x.derives (not_joined_of x.same n2))
 
     pub condition : {d : ℕ} {e : Expr A B} {fs : List (Noted B)} {ts rest : Tokens} → Condition leaf position MayEnter d e fs ts rest → (us : Tokens) → Pairs Rel ts us → ExprOf (λ x n r. Condition leaf' position' MayEnter' d x n us r) e fs rest
     condition (g.condition {e = e} {fs = fs} {first = t} inside) us (cons {u = u} {us = us2} s ss) =
@@ -340,7 +361,7 @@ module _ {A B A' B' C D : Type 0} (leaf : Tok → A) (position : Tok → B) (May
     pub braced : {d : ℕ} {e : Expr A B} {fs : List (Noted B)} {ts rest : Tokens} → Braced leaf position MayEnter d e fs ts rest → (us : Tokens) → Pairs Rel ts us → ExprOf (λ x n r. Braced leaf' position' MayEnter' d x n us r) e fs rest
     braced (g.braces kind inside kind2) us (cons s ss) =
         let x = until (expression inside _ ss) in
-        record { tree = x.tree; features = x.features; after = x.after; derives = g.braces (kind_of s kind) x.derives (kind_of x.related kind2); alike = x.alike; noted_alike = x.noted_alike; same = x.same }
+        rederived (past x) (g.braces (kind_of s kind) x.derives (kind_of x.related kind2))
 
     pub conditional : {d : ℕ} {t : SignificantToken} {e : Expr A B} {fs : List (Noted B)} {ts rest : Tokens} → Conditional leaf position MayEnter d t e fs ts rest → (u : SignificantToken) → Rel t u
         → (us : Tokens) → Pairs Rel ts us → ExprOf (λ x n r. Conditional leaf' position' MayEnter' d u x n us r) e fs rest
@@ -397,58 +418,31 @@ module _ {A B A' B' C D : Type 0} (leaf : Tok → A) (position : Tok → B) (May
           same = x.same;
         }
     value (g.literal {token = t} kind) us (cons {u = u} s ss) =
-        record { tree = tree.StringLiteral false (leaf' u.tok); features = []; after = _; derives = g.literal (kind_of s kind); alike = λ i. tree.StringLiteral false (leaves t u s i); noted_alike = refl; same = ss }
+        of_tokens (tree.StringLiteral false (leaf' u.tok)) (g.literal (kind_of s kind)) (λ i. tree.StringLiteral false (leaves t u s i)) ss
     value (g.expanded {token = t} mark) us (cons m (cons {u = u} s ss)) =
-        record { tree = tree.StringLiteral true (leaf' u.tok); features = []; after = _; derives = g.expanded (marked_of m s mark); alike = λ i. tree.StringLiteral true (leaves t u s i); noted_alike = refl; same = ss }
+        of_tokens (tree.StringLiteral true (leaf' u.tok)) (g.expanded (marked_of m s mark)) (λ i. tree.StringLiteral true (leaves t u s i)) ss
     value (g.format_literal {token = t} mark) us (cons m (cons {u = u} s ss)) =
-        record { tree = tree.FormatLiteral (leaf' u.tok); features = []; after = _; derives = g.format_literal (marked_of m s mark); alike = λ i. tree.FormatLiteral (leaves t u s i); noted_alike = refl; same = ss }
-    value (g.format_string {fs = fs} {gs = gs} {start = t} mark inside parts) us (cons m (cons {u = u} s ss)) =
+        of_tokens (tree.FormatLiteral (leaf' u.tok)) (g.format_literal (marked_of m s mark)) (λ i. tree.FormatLiteral (leaves t u s i)) ss
+    value (g.format_string {start = t} mark inside parts) us (cons m (cons {u = u} s ss)) =
         let x = expression inside _ ss in
         let p = format_parts parts x.after x.same in
-        record {
-          tree = tree.FormatString (leaf' u.tok) x.tree p.tree;
-          features = x.features ++ p.features;
-          after = p.after;
-          derives = g.format_string (marked_of m s mark) x.derives p.derives;
-          alike = λ i. tree.FormatString (leaves t u s i) (x.alike i) (p.alike i);
-          noted_alike = both fs gs x.features p.features x.noted_alike p.noted_alike;
-          same = p.same;
-        }
+        of_two x p (tree.FormatString (leaf' u.tok) x.tree p.tree) (g.format_string (marked_of m s mark) x.derives p.derives)
+        (λ i. tree.FormatString (leaves t u s i) (x.alike i) (p.alike i))
     value (g.backtick {token = t} kind) us (cons {u = u} s ss) =
-        record { tree = tree.Backtick (leaf' u.tok); features = []; after = _; derives = g.backtick (kind_of s kind); alike = λ i. tree.Backtick (leaves t u s i); noted_alike = refl; same = ss }
+        of_tokens (tree.Backtick (leaf' u.tok)) (g.backtick (kind_of s kind)) (λ i. tree.Backtick (leaves t u s i)) ss
     value (g.assert {word = t} w kind inside kind2) us (cons {u = u} s (cons s2 ss)) =
         let c = until (condition inside _ ss) in
-        record {
-          tree = tree.Assert (position' u.tok) c.tree;
-          features = c.features;
-          after = c.after;
-          derives = g.assert (word_of s w) (kind_of s2 kind) c.derives (kind_of c.related kind2);
-          alike = λ i. tree.Assert (positions t u s i) (c.alike i);
-          noted_alike = c.noted_alike;
-          same = c.same;
-        }
-    value (g.assert_message {fs = fs} {gs = gs} {word = t} w kind inside kind2 message kind3) us (cons {u = u} s (cons s2 ss)) =
+        of_one (past c) (tree.Assert (position' u.tok) c.tree) (g.assert (word_of s w) (kind_of s2 kind) c.derives (kind_of c.related kind2))
+        (λ i. tree.Assert (positions t u s i) (c.alike i))
+    value (g.assert_message {word = t} w kind inside kind2 message kind3) us (cons {u = u} s (cons s2 ss)) =
         let c = until (condition inside _ ss) in
         let m = until (expression message c.after c.same) in
-        record {
-          tree = tree.AssertMessage (position' u.tok) c.tree m.tree;
-          features = c.features ++ m.features;
-          after = m.after;
-          derives = g.assert_message (word_of s w) (kind_of s2 kind) c.derives (kind_of c.related kind2) m.derives (kind_of m.related kind3);
-          alike = λ i. tree.AssertMessage (positions t u s i) (c.alike i) (m.alike i);
-          noted_alike = both fs gs c.features m.features c.noted_alike m.noted_alike;
-          same = m.same;
-        }
+        of_two (past c) (past m) (tree.AssertMessage (position' u.tok) c.tree m.tree)
+        (g.assert_message (word_of s w) (kind_of s2 kind) c.derives (kind_of c.related kind2) m.derives (kind_of m.related kind3))
+        (λ i. tree.AssertMessage (positions t u s i) (c.alike i) (m.alike i))
     value (g.variable {name = t} kind n unmarked n2) us (cons {u = u} s ss) =
-        record {
-          tree = tree.Variable (leaf' u.tok);
-          features = [];
-          after = _;
-          derives = g.variable (kind_of s kind) (no_word s n) (unmarked_of s ss unmarked) (next_of _ ss n2);
-          alike = λ i. tree.Variable (leaves t u s i);
-          noted_alike = refl;
-          same = ss;
-        }
+        of_tokens (tree.Variable (leaf' u.tok)) (g.variable (kind_of s kind) (no_word s n) (unmarked_of s ss unmarked) (next_of _ ss n2))
+        (λ i. tree.Variable (leaves t u s i)) ss
     value (g.call {fs = fs} {name = t} kind n kind2 arguments) us (cons {u = u} s (cons s2 ss)) =
         let x = sequence arguments _ ss in
         record {
@@ -462,7 +456,7 @@ module _ {A B A' B' C D : Type 0} (leaf : Tok → A) (position : Tok → B) (May
         }
     value (g.group kind inside kind2) us (cons s ss) =
         let x = until (expression inside _ ss) in
-        record { tree = tree.Group x.tree; features = x.features; after = x.after; derives = g.group (kind_of s kind) x.derives (kind_of x.related kind2); alike = λ i. tree.Group (x.alike i); noted_alike = x.noted_alike; same = x.same }
+        of_one (past x) (tree.Group x.tree) (g.group (kind_of s kind) x.derives (kind_of x.related kind2)) (λ i. tree.Group (x.alike i))
     value (g.list {fs = fs} {opener = t} kind elements) us (cons {u = u} s ss) =
         let x = sequence elements _ ss in
         record {
@@ -476,35 +470,20 @@ module _ {A B A' B' C D : Type 0} (leaf : Tok → A) (position : Tok → B) (May
         }
 
     pub sequence : {closing : TokenKind} {d : ℕ} {e : Exprs A B} {fs : List (Noted B)} {ts rest : Tokens} → Sequence leaf position MayEnter closing d e fs ts rest → (us : Tokens) → Pairs Rel ts us → ExprsOf (λ x n r. Sequence leaf' position' MayEnter' closing d x n us r) e fs rest
-    sequence (g.none kind) us (cons s ss) = record { tree = tree.none; features = []; after = _; derives = g.none (kind_of s kind); alike = refl; noted_alike = refl; same = ss }
+    sequence (g.none kind) us (cons s ss) = of_tokens tree.none (g.none (kind_of s kind)) refl ss
     sequence (g.last n inside kind) us s =
         let x = until (expression inside us s) in
-        record { tree = tree.more x.tree tree.none; features = x.features; after = x.after; derives = g.last (next_of _ s n) x.derives (kind_of x.related kind); alike = λ i. tree.more (x.alike i) tree.none; noted_alike = x.noted_alike; same = x.same }
-    sequence (g.more {fs = fs} {gs = gs} n inside kind others) us s =
+        of_one (past x) (tree.more x.tree tree.none) (g.last (next_of _ s n) x.derives (kind_of x.related kind)) (λ i. tree.more (x.alike i) tree.none)
+    sequence (g.more n inside kind others) us s =
         let x = until (expression inside us s) in
         let y = sequence others x.after x.same in
-        record {
-          tree = tree.more x.tree y.tree;
-          features = x.features ++ y.features;
-          after = y.after;
-          derives = g.more (next_of _ s n) x.derives (kind_of x.related kind) y.derives;
-          alike = λ i. tree.more (x.alike i) (y.alike i);
-          noted_alike = both fs gs x.features y.features x.noted_alike y.noted_alike;
-          same = y.same;
-        }
+        of_two (past x) y (tree.more x.tree y.tree) (g.more (next_of _ s n) x.derives (kind_of x.related kind) y.derives) (λ i. tree.more (x.alike i) (y.alike i))
 
     pub format_parts : {d : ℕ} {e : Parts A B} {fs : List (Noted B)} {ts rest : Tokens} → FormatParts leaf position MayEnter d e fs ts rest → (us : Tokens) → Pairs Rel ts us → PartsOf (λ x n r. FormatParts leaf' position' MayEnter' d x n us r) e fs rest
     format_parts (g.end {token = t} kind) us (cons {u = u} s ss) =
-        record { tree = tree.Last (leaf' u.tok); features = []; after = _; derives = g.end (kind_of s kind); alike = λ i. tree.Last (leaves t u s i); noted_alike = refl; same = ss }
-    format_parts (g.next {fs = fs} {gs = gs} {token = t} kind inside parts) us (cons {u = u} s ss) =
+        of_tokens (tree.Last (leaf' u.tok)) (g.end (kind_of s kind)) (λ i. tree.Last (leaves t u s i)) ss
+    format_parts (g.next {token = t} kind inside parts) us (cons {u = u} s ss) =
         let x = expression inside _ ss in
         let p = format_parts parts x.after x.same in
-        record {
-          tree = tree.Continue (leaf' u.tok) x.tree p.tree;
-          features = x.features ++ p.features;
-          after = p.after;
-          derives = g.next (kind_of s kind) x.derives p.derives;
-          alike = λ i. tree.Continue (leaves t u s i) (x.alike i) (p.alike i);
-          noted_alike = both fs gs x.features p.features x.noted_alike p.noted_alike;
-          same = p.same;
-        }
+        of_two x p (tree.Continue (leaf' u.tok) x.tree p.tree) (g.next (kind_of s kind) x.derives p.derives)
+        (λ i. tree.Continue (leaves t u s i) (x.alike i) (p.alike i))

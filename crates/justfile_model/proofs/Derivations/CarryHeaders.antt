@@ -11,7 +11,7 @@ use Rattle.justfile_model.specs.Lexing.SignificantTokens.{SignificantToken}
 use Rattle.justfile_model.specs.Lexing.Tok.{Tok}
 use Rattle.justfile_model.specs.Trees.Tree.{Dependency, DependencyArgument, Expr, Header, Parameter, over_dependency, over_dependency_argument, over_expr, over_header, over_parameter}
 use Rattle.justfile_model.proofs.Derivations.CarryExpressions as expressions
-use Rattle.justfile_model.proofs.Derivations.CarryExpressions.{Same, Pairs, nil, cons, Carried, both_alike, filled, rederived, same_kind_of, turned, until}
+use Rattle.justfile_model.proofs.Derivations.CarryExpressions.{Same, Pairs, nil, cons, Carried, both_alike, filled, rederived, same_kind_of, turned, until, of_tokens, of_one, of_two, past}
 
 module _ {A B S A' B' S' C D T : Type 0} (leaf : Tok → A) (position : Tok → B) (star : Tok → S) (MayEnter : ℕ → Option SignificantToken → Type 0)
     (Rel : SignificantToken → SignificantToken → Type 0) (weak : (t u : SignificantToken) → Rel t u → Same t u)
@@ -49,31 +49,15 @@ module _ {A B S A' B' S' C D T : Type 0} (leaf : Tok → A) (position : Tok → 
   path_rest : {names : List A} {ts rest : Tokens} → PathRest leaf names ts rest → (us : Tokens) → Pairs Rel ts us
       → NamesCarried (λ x r. PathRest leaf' x us r) names rest
   path_rest (g.last not) us s =
-      record { tree = []; features = []; after = us; derives = g.last (next_of kinds.ColonColon s not); alike = refl; noted_alike = refl; same = s }
+      of_tokens [] (g.last (next_of kinds.ColonColon s not)) refl s
   path_rest (g.next {name = t} kind kind2 more) us (cons s (cons {u = u} {us = us2} s2 ss)) =
       let x = path_rest more us2 ss in
-      record {
-        tree = leaf' u.tok ∷ x.tree;
-        features = [];
-        after = x.after;
-        derives = g.next (kind_of s kind) (kind_of s2 kind2) x.derives;
-        alike = λ i. leaves t u s2 i ∷ x.alike i;
-        noted_alike = refl;
-        same = x.same;
-      }
+      of_tokens (leaf' u.tok ∷ x.tree) (g.next (kind_of s kind) (kind_of s2 kind2) x.derives) (λ i. leaves t u s2 i ∷ x.alike i) x.same
 
   pub path : {names : List A} {ts rest : Tokens} → PathOf leaf names ts rest → (us : Tokens) → Pairs Rel ts us → NamesCarried (λ x r. PathOf leaf' x us r) names rest
   path (g.path {name = t} kind more) us (cons {u = u} {us = us2} s ss) =
       let x = path_rest more us2 ss in
-      record {
-        tree = leaf' u.tok ∷ x.tree;
-        features = [];
-        after = x.after;
-        derives = g.path (kind_of s kind) x.derives;
-        alike = λ i. leaves t u s i ∷ x.alike i;
-        noted_alike = refl;
-        same = x.same;
-      }
+      of_tokens (leaf' u.tok ∷ x.tree) (g.path (kind_of s kind) x.derives) (λ i. leaves t u s i ∷ x.alike i) x.same
 
   -- ---- parameters
 
@@ -86,26 +70,13 @@ module _ {A B S A' B' S' C D T : Type 0} (leaf : Tok → A) (position : Tok → 
   named_parameter : {kind : ParameterKind} {export : Bool} {p : Parameter A B} {fs : List (Noted B)} {ts rest : Tokens}
       → NamedParameter leaf position MayEnter kind export p fs ts rest → (us : Tokens) → Pairs Rel ts us
       → ParameterCarried (λ x n r. NamedParameter leaf' position' MayEnter' kind export x n us r) p fs rest
-  named_parameter {kind} {export} (g.required {name = t} is not) us (cons {u = u} s ss) = record {
-    tree = record { kind = kind; export = export; name = leaf' u.tok; default = None };
-    features = [];
-    after = _;
-    derives = g.required (kind_of s is) (next_of kinds.Equals ss not);
-    alike = λ i. record { kind = kind; export = export; name = leaves t u s i; default = None };
-    noted_alike = refl;
-    same = ss;
-  }
+  named_parameter {kind} {export} (g.required {name = t} is not) us (cons {u = u} s ss) =
+      of_tokens (record { kind = kind; export = export; name = leaf' u.tok; default = None }) (g.required (kind_of s is) (next_of kinds.Equals ss not))
+      (λ i. record { kind = kind; export = export; name = leaves t u s i; default = None }) ss
   named_parameter {kind} {export} (g.optional {name = t} is is2 e) us (cons {u = u} s (cons {us = us2} s2 ss)) =
       let x = value e us2 ss in
-      record {
-        tree = record { kind = kind; export = export; name = leaf' u.tok; default = Some x.tree };
-        features = x.features;
-        after = x.after;
-        derives = g.optional (kind_of s is) (kind_of s2 is2) x.derives;
-        alike = λ i. record { kind = kind; export = export; name = leaves t u s i; default = Some (x.alike i) };
-        noted_alike = x.noted_alike;
-        same = x.same;
-      }
+      of_one x (record { kind = kind; export = export; name = leaf' u.tok; default = Some x.tree }) (g.optional (kind_of s is) (kind_of s2 is2) x.derives)
+      (λ i. record { kind = kind; export = export; name = leaves t u s i; default = Some (x.alike i) })
 
   parameter : {kind : ParameterKind} {p : Parameter A B} {fs : List (Noted B)} {ts rest : Tokens} → ParameterOf leaf position MayEnter kind p fs ts rest
       → (us : Tokens) → Pairs Rel ts us → ParameterCarried (λ x n r. ParameterOf leaf' position' MayEnter' kind x n us r) p fs rest
@@ -122,32 +93,16 @@ module _ {A B S A' B' S' C D T : Type 0} (leaf : Tok → A) (position : Tok → 
       → ParametersCarried (λ x n r. Parameters leaf' position' MayEnter' x n us r) (p ∷ []) fs rest
   last_parameter us us2 p colon ss derives =
       let x = until (parameter p us2 ss) in
-      record {
-        tree = x.tree ∷ [];
-        features = x.features;
-        after = x.after;
-        derives = derives x.tree x.features x.after x.partner x.derives (kind_of x.related colon);
-        alike = λ i. x.alike i ∷ [];
-        noted_alike = x.noted_alike;
-        same = x.same;
-      }
+      of_one (past x) (x.tree ∷ []) (derives x.tree x.features x.after x.partner x.derives (kind_of x.related colon)) (λ i. x.alike i ∷ [])
 
   parameters : {ps : List (Parameter A B)} {fs : List (Noted B)} {ts rest : Tokens} → Parameters leaf position MayEnter ps fs ts rest
       → (us : Tokens) → Pairs Rel ts us → ParametersCarried (λ x n r. Parameters leaf' position' MayEnter' x n us r) ps fs rest
   parameters (g.none is) us (cons s ss) =
-      record { tree = []; features = []; after = _; derives = g.none (kind_of s is); alike = refl; noted_alike = refl; same = ss }
-  parameters (g.more {fs = fs} {gs = gs} p others) us s =
+      of_tokens [] (g.none (kind_of s is)) refl ss
+  parameters (g.more p others) us s =
       let x = parameter p us s in
       let y = parameters others x.after x.same in
-      record {
-        tree = x.tree ∷ y.tree;
-        features = x.features ++ y.features;
-        after = y.after;
-        derives = g.more x.derives y.derives;
-        alike = λ i. x.alike i ∷ y.alike i;
-        noted_alike = both fs gs x.features y.features x.noted_alike y.noted_alike;
-        same = y.same;
-      }
+      of_two x y (x.tree ∷ y.tree) (g.more x.derives y.derives) (λ i. x.alike i ∷ y.alike i)
   parameters (g.plus is p colon) us (cons {us = us2} s ss) = last_parameter us us2 p colon ss (λ x gs after u d e. g.plus (kind_of s is) d e)
   parameters (g.star is p colon) us (cons {us = us2} s ss) = last_parameter us us2 p colon ss (λ x gs after u d e. g.star (kind_of s is) d e)
 
@@ -167,93 +122,41 @@ module _ {A B S A' B' S' C D T : Type 0} (leaf : Tok → A) (position : Tok → 
       → DependencyArguments leaf position star MayEnter all fs ts rest → (us : Tokens) → Pairs Rel ts us
       → ArgumentsCarried (λ x n r. DependencyArguments leaf' position' star' MayEnter' x n us r) all fs rest
   dependency_arguments (g.none is) us (cons s ss) =
-      record { tree = []; features = []; after = _; derives = g.none (kind_of s is); alike = refl; noted_alike = refl; same = ss }
-  dependency_arguments (g.plain {fs = fs} {gs = gs} e others) us s =
+      of_tokens [] (g.none (kind_of s is)) refl ss
+  dependency_arguments (g.plain e others) us s =
       let x = expression e us s in
       let y = dependency_arguments others x.after x.same in
-      record {
-        tree = record { star = None; value = x.tree } ∷ y.tree;
-        features = x.features ++ y.features;
-        after = y.after;
-        derives = g.plain x.derives y.derives;
-        alike = λ i. record { star = None; value = x.alike i } ∷ y.alike i;
-        noted_alike = both fs gs x.features y.features x.noted_alike y.noted_alike;
-        same = y.same;
-      }
-  dependency_arguments (g.starred {fs = fs} {gs = gs} {mark = t} is e others) us (cons {u = u} {us = us2} s ss) =
+      of_two x y (record { star = None; value = x.tree } ∷ y.tree) (g.plain x.derives y.derives) (λ i. record { star = None; value = x.alike i } ∷ y.alike i)
+  dependency_arguments (g.starred {mark = t} is e others) us (cons {u = u} {us = us2} s ss) =
       let x = value e us2 ss in
       let y = dependency_arguments others x.after x.same in
-      record {
-        tree = record { star = Some (star' u.tok); value = x.tree } ∷ y.tree;
-        features = x.features ++ y.features;
-        after = y.after;
-        derives = g.starred (kind_of s is) x.derives y.derives;
-        alike = λ i. record { star = Some (stars t u s i); value = x.alike i } ∷ y.alike i;
-        noted_alike = both fs gs x.features y.features x.noted_alike y.noted_alike;
-        same = y.same;
-      }
+      of_two x y (record { star = Some (star' u.tok); value = x.tree } ∷ y.tree) (g.starred (kind_of s is) x.derives y.derives)
+      (λ i. record { star = Some (stars t u s i); value = x.alike i } ∷ y.alike i)
 
   dependency : {d : Dependency A B S} {fs : List (Noted B)} {ts rest : Tokens} → DependencyOf leaf position star MayEnter d fs ts rest
       → (us : Tokens) → Pairs Rel ts us → DependencyCarried (λ x n r. DependencyOf leaf' position' star' MayEnter' x n us r) d fs rest
   dependency (g.bare p) us s =
       let x = path p us s in
-      record {
-        tree = record { star = None; path = x.tree; arguments = [] };
-        features = [];
-        after = x.after;
-        derives = g.bare x.derives;
-        alike = λ i. record { star = None; path = x.alike i; arguments = [] };
-        noted_alike = refl;
-        same = x.same;
-      }
+      of_tokens (record { star = None; path = x.tree; arguments = [] }) (g.bare x.derives) (λ i. record { star = None; path = x.alike i; arguments = [] }) x.same
   dependency (g.plain is p all) us (cons {us = us2} s ss) =
       let x = path p us2 ss in
       let y = dependency_arguments all x.after x.same in
-      record {
-        tree = record { star = None; path = x.tree; arguments = y.tree };
-        features = y.features;
-        after = y.after;
-        derives = g.plain (kind_of s is) x.derives y.derives;
-        alike = λ i. record { star = None; path = x.alike i; arguments = y.alike i };
-        noted_alike = y.noted_alike;
-        same = y.same;
-      }
+      of_one y (record { star = None; path = x.tree; arguments = y.tree }) (g.plain (kind_of s is) x.derives y.derives)
+      (λ i. record { star = None; path = x.alike i; arguments = y.alike i })
   dependency (g.starred {mark = t} is is2 p all) us (cons {u = u} s (cons {us = us2} s2 ss)) =
       let x = path p us2 ss in
       let y = dependency_arguments all x.after x.same in
-      record {
-        tree = record { star = Some (star' u.tok); path = x.tree; arguments = y.tree };
-        features = y.features;
-        after = y.after;
-        derives = g.starred (kind_of s is) (kind_of s2 is2) x.derives y.derives;
-        alike = λ i. record { star = Some (stars t u s i); path = x.alike i; arguments = y.alike i };
-        noted_alike = y.noted_alike;
-        same = y.same;
-      }
+      of_one y (record { star = Some (star' u.tok); path = x.tree; arguments = y.tree }) (g.starred (kind_of s is) (kind_of s2 is2) x.derives y.derives)
+      (λ i. record { star = Some (stars t u s i); path = x.alike i; arguments = y.alike i })
 
   dependencies : {ds : List (Dependency A B S)} {fs : List (Noted B)} {ts rest : Tokens} → Dependencies leaf position star MayEnter ds fs ts rest
       → (us : Tokens) → Pairs Rel ts us → DependenciesCarried (λ x n r. Dependencies leaf' position' star' MayEnter' x n us r) ds fs rest
-  dependencies (g.none not not2 not3) us s = record {
-    tree = [];
-    features = [];
-    after = us;
-    derives = g.none (next_of kinds.Identifier s not) (next_of kinds.Asterisk s not2) (next_of kinds.ParenL s not3);
-    alike = refl;
-    noted_alike = refl;
-    same = s;
-  }
-  dependencies (g.more {fs = fs} {gs = gs} d others) us s =
+  dependencies (g.none not not2 not3) us s =
+      of_tokens [] (g.none (next_of kinds.Identifier s not) (next_of kinds.Asterisk s not2) (next_of kinds.ParenL s not3)) refl s
+  dependencies (g.more d others) us s =
       let x = dependency d us s in
       let y = dependencies others x.after x.same in
-      record {
-        tree = x.tree ∷ y.tree;
-        features = x.features ++ y.features;
-        after = y.after;
-        derives = g.more x.derives y.derives;
-        alike = λ i. x.alike i ∷ y.alike i;
-        noted_alike = both fs gs x.features y.features x.noted_alike y.noted_alike;
-        same = y.same;
-      }
+      of_two x y (x.tree ∷ y.tree) (g.more x.derives y.derives) (λ i. x.alike i ∷ y.alike i)
 
   -- those before `&&`, and those after it
   record AllCarried (us : Tokens) (ds ss : List (Dependency A B S)) (fs : List (Noted B)) (rest : Tokens) : Type 0 where

@@ -1,5 +1,5 @@
 -- A derivation of a part of an item, moved to tokens that differ only in their positions, to other projections, and to another limit.
-use Rattle.std.proofs.Common.{◌≡◌, ℕ, Bool, true, false, List, [], ◌∷◌, map, Option, refl, sym, subst, ◌∙◌}
+use Rattle.std.proofs.Common.{◌≡◌, ℕ, true, false, List, [], ◌∷◌, map, Option, refl, sym, subst, ◌∙◌}
 use Rattle.justfile_vocabulary.specs.declared.token_kind.TokenKind.{TokenKind}
 use Rattle.justfile_vocabulary.specs.declared.token_kind.TokenKind.TheVariants as kinds
 use Rattle.justfile_model.specs.Grammars.Expressions.{Tokens, front, Expression, IsKind, IsWord, NotNext, Sequence}
@@ -12,7 +12,7 @@ use Rattle.justfile_model.specs.Lexing.Tok.{Tok}
 use Rattle.justfile_model.specs.Trees.Tree as tree
 use Rattle.justfile_model.specs.Trees.Tree.{Expr, Exprs, Quoted, SettingValue, over_expr, over_exprs, over_quoted, over_setting_value}
 use Rattle.justfile_model.proofs.Derivations.CarryExpressions as expressions
-use Rattle.justfile_model.proofs.Derivations.CarryExpressions.{Same, Pairs, nil, cons, Carried, rederived, same_kind_of, same_word_of, turned}
+use Rattle.justfile_model.proofs.Derivations.CarryExpressions.{Same, Pairs, nil, cons, Carried, same_kind_of, same_word_of, turned, of_tokens, of_one}
 
 -- elements that are replaced as ones of which there is a first
 record FirstElement {A B : Type 0} (es : Exprs A B) : Type 0 where
@@ -69,51 +69,23 @@ module _ {A B A' B' C D : Type 0} (leaf : Tok → A) (position : Tok → B) (May
   PathCarried R path rest = Carried Rel (over_quoted f h) (over_quoted f' h') h h' (λ x n r. R x r) path [] rest
 
   pub file_path : {path : Quoted A} {ts rest : Tokens} → FilePath leaf path ts rest → (us : Tokens) → Pairs Rel ts us → PathCarried (λ x r. FilePath leaf' x us r) path rest
-  file_path (g.plain {token = t} kind) us (cons {u = u} s ss) = record {
-    tree = record { expanded = false; token = leaf' u.tok };
-    features = [];
-    after = _;
-    derives = g.plain (kind_of Rel weak s kind);
-    alike = λ i. record { expanded = false; token = leaves t u s i };
-    noted_alike = refl;
-    same = ss;
-  }
-  file_path (g.expanded {token = t} is kind) us (cons s (cons {u = u} s2 ss)) = record {
-    tree = record { expanded = true; token = leaf' u.tok };
-    features = [];
-    after = _;
-    derives = g.expanded (word_of Rel weak s is) (kind_of Rel weak s2 kind);
-    alike = λ i. record { expanded = true; token = leaves t u s2 i };
-    noted_alike = refl;
-    same = ss;
-  }
+  file_path (g.plain {token = t} kind) us (cons {u = u} s ss) =
+      of_tokens (record { expanded = false; token = leaf' u.tok }) (g.plain (kind_of Rel weak s kind)) (λ i. record { expanded = false; token = leaves t u s i }) ss
+  file_path (g.expanded {token = t} is kind) us (cons s (cons {u = u} s2 ss)) =
+      of_tokens (record { expanded = true; token = leaf' u.tok }) (g.expanded (word_of Rel weak s is) (kind_of Rel weak s2 kind))
+      (λ i. record { expanded = true; token = leaves t u s2 i }) ss
 
   abbrev NamesCarried : (List A' → Tokens → Type 0) → List A → Tokens → Type 0
   NamesCarried R names rest = Carried Rel (map f) (map f') h h' (λ x n r. R x r) names [] rest
 
   pub names : {ns : List A} {ts rest : Tokens} → Names leaf ns ts rest → (us : Tokens) → Pairs Rel ts us → NamesCarried (λ x r. Names leaf' x us r) ns rest
   names (g.none kind) us (cons s ss) =
-      record { tree = []; features = []; after = _; derives = g.none (kind_of Rel weak s kind); alike = refl; noted_alike = refl; same = ss }
-  names (g.last {name = t} kind kind2) us (cons {u = u} s (cons s2 ss)) = record {
-    tree = leaf' u.tok ∷ [];
-    features = [];
-    after = _;
-    derives = g.last (kind_of Rel weak s kind) (kind_of Rel weak s2 kind2);
-    alike = λ i. leaves t u s i ∷ [];
-    noted_alike = refl;
-    same = ss;
-  }
+      of_tokens [] (g.none (kind_of Rel weak s kind)) refl ss
+  names (g.last {name = t} kind kind2) us (cons {u = u} s (cons s2 ss)) =
+      of_tokens (leaf' u.tok ∷ []) (g.last (kind_of Rel weak s kind) (kind_of Rel weak s2 kind2)) (λ i. leaves t u s i ∷ []) ss
   names (g.more {name = t} kind kind2 others) us (cons {u = u} s (cons {us = us2} s2 ss)) =
       let x = names others us2 ss in
-      record {
-        tree = leaf' u.tok ∷ x.tree;
-        features = [];
-        after = x.after;
-        derives = g.more (kind_of Rel weak s kind) (kind_of Rel weak s2 kind2) x.derives;
-        alike = λ i. leaves t u s i ∷ x.alike i;
-        noted_alike = refl;
-        same = x.same;
-      }
+      of_tokens (leaf' u.tok ∷ x.tree) (g.more (kind_of Rel weak s kind) (kind_of Rel weak s2 kind2) x.derives) (λ i. leaves t u s i ∷ x.alike i) x.same
 
   abbrev ValueCarried : (SettingValue A' B' → List (Noted B') → Tokens → Type 0) → SettingValue A B → List (Noted B) → Tokens → Type 0
   ValueCarried R value fs rest = Carried Rel (over_setting_value f h) (over_setting_value f' h') h h' R value fs rest
@@ -125,57 +97,19 @@ module _ {A B A' B' C D : Type 0} (leaf : Tok → A) (position : Tok → B) (May
   pub setting_value : {form : SettingForm} {value : SettingValue A B} {fs : List (Noted B)} {ts rest : Tokens} → ValueOf leaf position MayEnter form value fs ts rest
       → (us : Tokens) → Pairs Rel ts us → ValueCarried (λ x n r. ValueOf leaf' position' MayEnter' form x n us r) value fs rest
   setting_value (g.bare ends) us s =
-      record { tree = tree.Truth true; features = []; after = us; derives = g.bare (ends_line Rel weak s ends); alike = refl; noted_alike = refl; same = s }
-  setting_value (g.yes kind is) us (cons s (cons s2 ss)) = record {
-    tree = tree.Truth true;
-    features = [];
-    after = _;
-    derives = g.yes (kind_of Rel weak s kind) (word_of Rel weak s2 is);
-    alike = refl;
-    noted_alike = refl;
-    same = ss;
-  }
-  setting_value (g.no kind is) us (cons s (cons s2 ss)) = record {
-    tree = tree.Truth false;
-    features = [];
-    after = _;
-    derives = g.no (kind_of Rel weak s kind) (word_of Rel weak s2 is);
-    alike = refl;
-    noted_alike = refl;
-    same = ss;
-  }
+      of_tokens (tree.Truth true) (g.bare (ends_line Rel weak s ends)) refl s
+  setting_value (g.yes kind is) us (cons s (cons s2 ss)) = of_tokens (tree.Truth true) (g.yes (kind_of Rel weak s kind) (word_of Rel weak s2 is)) refl ss
+  setting_value (g.no kind is) us (cons s (cons s2 ss)) = of_tokens (tree.Truth false) (g.no (kind_of Rel weak s kind) (word_of Rel weak s2 is)) refl ss
   setting_value (g.expression kind e) us (cons {us = us2} s ss) =
       let x = expression e us2 ss in
-      record {
-        tree = tree.Value x.tree;
-        features = x.features;
-        after = x.after;
-        derives = g.expression (kind_of Rel weak s kind) x.derives;
-        alike = λ i. tree.Value (x.alike i);
-        noted_alike = x.noted_alike;
-        same = x.same;
-      }
+      of_one x (tree.Value x.tree) (g.expression (kind_of Rel weak s kind) x.derives) (λ i. tree.Value (x.alike i))
   setting_value (g.plain kind e) us (cons {us = us2} s ss) =
       let x = expression e us2 ss in
-      record {
-        tree = tree.Value x.tree;
-        features = x.features;
-        after = x.after;
-        derives = g.plain (kind_of Rel weak s kind) x.derives;
-        alike = λ i. tree.Value (x.alike i);
-        noted_alike = x.noted_alike;
-        same = x.same;
-      }
+      of_one x (tree.Value x.tree) (g.plain (kind_of Rel weak s kind) x.derives) (λ i. tree.Value (x.alike i))
   setting_value (g.interpreter {e = e} {es = es} kind kind2 all) us (cons s (cons {us = us2} s2 ss)) =
       let x = expressions.sequence leaf position MayEnter Rel weak leaf' position' MayEnter' f h f' h' leaves positions opens all us2 ss in
       let y = first_element f h f' h' x.tree e es x.alike in
-      record {
-        tree = tree.Interpreter y.one y.others;
-        features = x.features;
-        after = x.after;
-        derives = g.interpreter (kind_of Rel weak s kind) (kind_of Rel weak s2 kind2)
-            (subst (λ l. Sequence leaf' position' MayEnter' kinds.BracketR 0 l x.features us2 x.after) y.is x.derives);
-        alike = λ i. interpreted ((sym (λ j. over_exprs f' h' (y.is j)) ∙ x.alike) i);
-        noted_alike = x.noted_alike;
-        same = x.same;
-      }
+      of_one x (tree.Interpreter y.one y.others)
+      (g.interpreter (kind_of Rel weak s kind) (kind_of Rel weak s2 kind2)
+      (subst (λ l. Sequence leaf' position' MayEnter' kinds.BracketR 0 l x.features us2 x.after) y.is x.derives))
+      (λ i. interpreted ((sym (λ j. over_exprs f' h' (y.is j)) ∙ x.alike) i))

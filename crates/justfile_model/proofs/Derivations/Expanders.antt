@@ -19,7 +19,8 @@ use Rattle.justfile_model.specs.Lexing.Tok.{Tok}
 use Rattle.justfile_model.specs.Trees.Tree.{Tree, Shape, lexeme}
 use Rattle.justfile_model.proofs.Meanings.FeaturesMeant.{features_same}
 use Rattle.justfile_model.proofs.Lists.Mapped.{map_same}
-use Rattle.justfile_model.proofs.Meanings.SameTexts.{SeeSame, items_kept}
+use Rattle.justfile_model.proofs.Lists.Unchanged.{literal_itself}
+use Rattle.justfile_model.proofs.Meanings.SameTexts.{IsUnexpanded, SeeSame, items_kept}
 
 -- ---- texts with an expander that has more results
 
@@ -78,11 +79,7 @@ module _ (expander : Expansions) (texts : List (List ℕ)) where
       → cooked_text expander l ≡ Ok text → cooked_text (restricted_to texts expander) l ≡ Ok text
   text_restricted (Expanded lexeme) text m h = expanded_restricted (string_text lexeme) text m h
   text_restricted (Plain lexeme) text m h = h
-  text_restricted (Command lexeme) text m h = h
-  text_restricted (Single lexeme) text m h = h
-  text_restricted (Start lexeme) text m h = h
-  text_restricted (Continue start lexeme) text m h = h
-  text_restricted (End start lexeme) text m h = h
+  text_restricted _ text m h = h
 
   texts_restricted : (literals : List (Literal (List ℕ))) (cooked : List (List ℕ))
       → ((text : List ℕ) → among (map asked_of literals) text ≡ true → among texts text ≡ true)
@@ -116,6 +113,10 @@ module _ (some all : Expansions) {A : Type 0} (bytes : A → List ℕ) (leaf_con
   contents_same (End s t) h =
       λ i. record { cooked = or_empty (h i); expand = false; kind = kind_of (bytes s); part = Some parts.End; token = leaf_content kinds.FormatStringEnd t }
 
+  unexpanded_same : (l : Literal A) → IsUnexpanded l → texts_by some l ≡ texts_by all l
+  unexpanded_same (Expanded t) h = absurd h
+  unexpanded_same l h = refl
+
   agreed : (ls : List (Literal A)) (texts : List (List ℕ)) → AreCookedTexts some (map (over_literal bytes) ls) texts
       → AreCookedTexts all (map (over_literal bytes) ls) texts → AllByRecursion (λ l. texts_by some l ≡ texts_by all l) ls
   agreed [] texts c d = tt
@@ -133,30 +134,14 @@ module _ (conditions : Conditions) (all : Expansions) (tokens : List Significant
   token_contents = contents_same some all lexeme (λ kind t. tok_content t)
 
   tokens_seen : SeeSame (views_tokens some) (views_tokens all).cooked (views_tokens all).literal_content
-  tokens_seen = record {
-    plain = λ t. refl;
-    command = λ t. refl;
-    single = λ t. refl;
-    start = λ t. refl;
-    continue = λ s t. refl;
-    end = λ s t. refl;
-    contents = token_contents;
-  }
+  tokens_seen = record { unexpanded = unexpanded_same some all lexeme (λ kind t. tok_content t); contents = token_contents }
 
   lexeme_contents : (l : Literal (List ℕ)) → text_under some (λ l. l) l ≡ text_under all (λ l. l) l
       → (views_lexemes some).literal_content l ≡ (views_lexemes all).literal_content l
   lexeme_contents = contents_same some all (λ l. l) (λ kind l. record { kind = kind; lexeme = l })
 
   lexemes_seen : SeeSame (views_lexemes some) (views_lexemes all).cooked (views_lexemes all).literal_content
-  lexemes_seen = record {
-    plain = λ t. refl;
-    command = λ t. refl;
-    single = λ t. refl;
-    start = λ t. refl;
-    continue = λ s t. refl;
-    end = λ s t. refl;
-    contents = lexeme_contents;
-  }
+  lexemes_seen = record { unexpanded = unexpanded_same some all (λ l. l) (λ kind l. record { kind = kind; lexeme = l }); contents = lexeme_contents }
 
   tree_with : (tree : Tree) (features : List (Noted Tok)) (h : FileDerives conditions tokens tree features)
       → AreCookedTexts all (map (over_literal lexeme) (all_literals h.written)) h.obeys.cooked
@@ -175,13 +160,9 @@ module _ (conditions : Conditions) (all : Expansions) (tokens : List Significant
         ordered_is = kept.means;
       }
 
-  same_lexemes : (l : Literal (List ℕ)) → over_literal (λ x. x) l ≡ l
-  same_lexemes (Plain t) = refl
-  same_lexemes _ = refl
-
   over_lexemes : (expander : Expansions) (ls : List (Literal (List ℕ))) (texts : List (List ℕ)) → AreCookedTexts expander ls texts
       → AreCookedTexts expander (map (over_literal (λ x. x)) ls) texts
-  over_lexemes expander ls texts c = subst (λ m. AreCookedTexts expander m texts) (sym (map_same (over_literal (λ x. x)) same_lexemes ls)) c
+  over_lexemes expander ls texts c = subst (λ m. AreCookedTexts expander m texts) (sym (map_same (over_literal (λ x. x)) literal_itself ls)) c
 
   shape_with : (shape : Shape) (features : List (Noted (Unit {0}))) (h : ShapeDerives conditions tokens shape features)
       → AreCookedTexts all (all_literals h.written) h.cooked → ShapeDerives (with_expander all conditions) tokens shape features

@@ -5,7 +5,7 @@ use Rattle.std.specs.List.{AllByRecursion}
 use Rattle.justfile_vocabulary.specs.declared.token_kind.TokenKind.{TokenKind}
 use Rattle.justfile_vocabulary.specs.declared.token_kind.TokenKind.TheVariants as kinds
 use Rattle.justfile_model.specs.declared.conditional_operator.ConditionalOperator.{ConditionalOperator}
-use Rattle.justfile_model.specs.declared.conditional_operator.ConditionalOperator.TheVariants.{Equality, Inequality, RegexMatch, RegexMismatch}
+use Rattle.justfile_model.specs.declared.conditional_operator.ConditionalOperator.TheVariants.{Equality}
 use Rattle.justfile_model.specs.Trees.ConditionalOperator.{operator_sign}
 use Rattle.justfile_model.specs.Lexing.Tok.{Tok}
 use Rattle.justfile_model.specs.Lexing.SignificantTokens.{AllSpelled, HasSpelling, SignificantToken, Spelling}
@@ -72,9 +72,7 @@ KindedWritten ws = AllByRecursion KindedAttribute ws
 
 compared_sign : (by : ConditionalOperator) (lexeme : List ℕ) → Spelling (operator_kind by) lexeme → lexeme ≡ operator_sign by
 compared_sign Equality lexeme h = h
-compared_sign Inequality lexeme h = h
-compared_sign RegexMatch lexeme h = h
-compared_sign RegexMismatch lexeme h = h
+compared_sign _ lexeme h = h
 
 is_spelled : (kind : TokenKind) (word : List ℕ) (t : SignificantToken) → (Spelling kind t.tok.lexeme → t.tok.lexeme ≡ word) → IsKind kind t → HasSpelling t
     → IsSpelled kind word t.tok

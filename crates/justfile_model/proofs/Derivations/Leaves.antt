@@ -52,6 +52,9 @@ module _ {A B : Type 0} where
   written_itself w =
       λ i. record { name = w.name; arguments = map_same (over_argument same_leaf same_leaf) argument_itself w.arguments i; comment = w.comment }
 
+  pub attributes_itself : (ws : List (WrittenAttribute A B)) → map (over_written_attribute same_leaf same_leaf) ws ≡ ws
+  attributes_itself = map_same (over_written_attribute same_leaf same_leaf) written_itself
+
   parameter_itself : (p : Parameter A B) → over_parameter same_leaf same_leaf p ≡ p
   parameter_itself p = λ i. record { kind = p.kind; export = p.export; name = p.name; default = option_same (over_expr same_leaf same_leaf) expr_itself p.default i }
 
@@ -83,7 +86,7 @@ setting_itself (tree.Truth value) = refl
 setting_itself (tree.Value value) = ap tree.Value (expr_itself value)
 setting_itself (tree.Interpreter command arguments) = λ i. tree.Interpreter (expr_itself command i) (exprs_itself arguments i)
 
-content_itself : {A B C S : Type 0} (c : Content A B C S) → over_content same_leaf same_leaf same_leaf same_leaf c ≡ c
+pub content_itself : {A B C S : Type 0} (c : Content A B C S) → over_content same_leaf same_leaf same_leaf same_leaf c ≡ c
 content_itself (tree.Alias parts) = λ i. tree.Alias (record { name = parts.name; target = map_same same_leaf (λ name. refl) parts.target i })
 content_itself (tree.Assignment parts) = ap tree.Assignment (assignment_itself parts)
 content_itself (tree.Function parts) =
@@ -98,7 +101,7 @@ content_itself (tree.Recipe parts) = λ i. tree.Recipe (record { doc = parts.doc
 item_itself : {A B C S : Type 0} (i : WrittenItem A B C S) → over_item same_leaf same_leaf same_leaf same_leaf (map (over_written_attribute same_leaf same_leaf)) i ≡ i
 item_itself tree.Newline = refl
 item_itself (tree.Comment text) = refl
-item_itself (tree.Construct attributes content) = λ i. tree.Construct (map_same (over_written_attribute same_leaf same_leaf) written_itself attributes i) (content_itself content i)
+item_itself (tree.Construct attributes content) = λ i. tree.Construct (attributes_itself attributes i) (content_itself content i)
 
 -- nothing becomes something else
 abbrev pub unchanged : {A B C S : Type 0} → Maps A B C S A B C S

@@ -86,54 +86,13 @@ literal_content_exact k l e =
 -- a leaf isn't a leaf of another kind
 pub content_exact : CmpEqualImpliesEq content_cmp
 content_exact (token s) (token t) e = ap (λ z. token z) (token_content_exact s t e)
-content_exact (token s) (literal l) e = less_not_equal e
-content_exact (token s) (operator p) e = less_not_equal e
-content_exact (token s) (text ys) e = less_not_equal e
-content_exact (token s) (count n) e = less_not_equal e
-content_exact (token s) (signal t) e = less_not_equal e
-content_exact (token s) unseen e = less_not_equal e
-content_exact (literal k) (token t) e = greater_not_equal e
 content_exact (literal k) (literal l) e = ap (λ z. literal z) (literal_content_exact k l e)
-content_exact (literal k) (operator p) e = less_not_equal e
-content_exact (literal k) (text ys) e = less_not_equal e
-content_exact (literal k) (count n) e = less_not_equal e
-content_exact (literal k) (signal t) e = less_not_equal e
-content_exact (literal k) unseen e = less_not_equal e
-content_exact (operator o) (token t) e = greater_not_equal e
-content_exact (operator o) (literal l) e = greater_not_equal e
 content_exact (operator o) (operator p) e = ap (λ z. operator z) (operator_exact o p e)
-content_exact (operator o) (text ys) e = less_not_equal e
-content_exact (operator o) (count n) e = less_not_equal e
-content_exact (operator o) (signal t) e = less_not_equal e
-content_exact (operator o) unseen e = less_not_equal e
-content_exact (text xs) (token t) e = greater_not_equal e
-content_exact (text xs) (literal l) e = greater_not_equal e
-content_exact (text xs) (operator p) e = greater_not_equal e
 content_exact (text xs) (text ys) e = ap (λ z. text z) (exact_bytes xs ys e)
-content_exact (text xs) (count n) e = less_not_equal e
-content_exact (text xs) (signal t) e = less_not_equal e
-content_exact (text xs) unseen e = less_not_equal e
-content_exact (count m) (token t) e = greater_not_equal e
-content_exact (count m) (literal l) e = greater_not_equal e
-content_exact (count m) (operator p) e = greater_not_equal e
-content_exact (count m) (text ys) e = greater_not_equal e
 content_exact (count m) (count n) e = ap (λ z. count z) (exact_unsigned m n e)
-content_exact (count m) (signal t) e = less_not_equal e
-content_exact (count m) unseen e = less_not_equal e
-content_exact (signal s) (token t) e = greater_not_equal e
-content_exact (signal s) (literal l) e = greater_not_equal e
-content_exact (signal s) (operator p) e = greater_not_equal e
-content_exact (signal s) (text ys) e = greater_not_equal e
-content_exact (signal s) (count n) e = greater_not_equal e
 content_exact (signal s) (signal t) e = ap (λ z. signal z) (signal_exact s t e)
-content_exact (signal s) unseen e = less_not_equal e
-content_exact unseen (token t) e = greater_not_equal e
-content_exact unseen (literal l) e = greater_not_equal e
-content_exact unseen (operator p) e = greater_not_equal e
-content_exact unseen (text ys) e = greater_not_equal e
-content_exact unseen (count n) e = greater_not_equal e
-content_exact unseen (signal t) e = greater_not_equal e
 content_exact unseen unseen e = refl
+content_exact _ _ e = cc
 
 -- ---- the keys
 

@@ -1,5 +1,5 @@
 -- The laws of `recursive`.
-use Rattle.std.proofs.Common.{◌≡◌, ℕ, zero, suc, ◌<◌, Bool, true, false, cond, nat_lt, refl, subst, ap, arith}
+use Rattle.std.proofs.Common.{◌≡◌, ℕ, zero, suc, ◌<◌, Bool, true, false, cond, nat_lt, refl, subst, ap, arith, ◌∙◌}
 use Rattle.std.proofs.lemmas.Bool.Decides.{nat_tests}
 use Rattle.justfile_model.specs.Lists.Recursive.{below, turns, recursive}
 
@@ -47,6 +47,12 @@ module _ {X : Type 0} {R : X → Type 0} (size : X → ℕ) (stop : (x : X) → 
       let same : (y : X) → below size stop rule x (turns size stop rule (size x)) y ≡ below size stop rule x (recursive size stop rule) y =
       λ y. below_alike x (turns size stop rule (size x)) (recursive size stop rule) (λ z lt. turns_alike (size x) (suc (size z)) z lt (omega arith)) y (nat_lt (size y) (size x)) refl in
       λ i. rule (λ y. same y i) x
+
+  -- one step, if the rule calls at smaller sizes alone
+  pub recursive_step : ((x : X) (f g : (y : X) → R y) → ((y : X) → size y < size x → f y ≡ g y) → rule f x ≡ rule g x) → (x : X)
+      → recursive size stop rule x ≡ rule (recursive size stop rule) x
+  recursive_step alike x =
+      recursive_is x ∙ alike x (below size stop rule x (recursive size stop rule)) (recursive size stop rule) (below_smaller x (recursive size stop rule))
 
 -- Two recursions side by side: if related arguments have the same size, and the rules keep results related, all results are related.
 module _ {X Y : Type 0} {R : X → Type 0} {S : Y → Type 0} (size : X → ℕ) (stop : (x : X) → R x) (rule : ((y : X) → R y) → (x : X) → R x)

@@ -1,11 +1,17 @@
 -- Mapping with the identity changes nothing.
 use Rattle.std.proofs.Common.{◌≡◌, List, map, refl, ap}
 use Rattle.std.specs.Option.{option_map}
+use Rattle.justfile_model.specs.LiteralTexts.Literals as literals
+use Rattle.justfile_model.specs.LiteralTexts.Literals.{Literal, over_literal}
 use Rattle.justfile_model.specs.Trees.Tree as tree
 use Rattle.justfile_model.specs.Trees.Tree.{DependencyArgument, Expr, Exprs, Parts, over_dependency_argument, over_expr, over_exprs, over_parts}
 
 abbrev pub same_leaf : {A : Type 0} → A → A
 same_leaf x = x
+
+pub literal_itself : {A : Type 0} (l : Literal A) → over_literal same_leaf l ≡ l
+literal_itself (literals.Plain token) = refl
+literal_itself _ = refl
 
 mutual
   pub expr_itself : {A B : Type 0} (e : Expr A B) → over_expr same_leaf same_leaf e ≡ e

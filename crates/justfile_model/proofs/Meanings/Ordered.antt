@@ -19,7 +19,7 @@ use Rattle.justfile_model.proofs.Printed.DocsKept.{bindings_count, documented_co
 use Rattle.justfile_model.proofs.Derivations.Kinded.{KindedWritten}
 use Rattle.justfile_model.proofs.Derivations.KindedFiles.{KindedItem, KindedItems}
 use Rattle.justfile_model.proofs.Lists.Mapped.{map_both, option_both}
-use Rattle.justfile_model.proofs.Printed.PrintedLiterals.{parts}
+use Rattle.justfile_model.proofs.Lists.AllParts.{parts}
 use Rattle.justfile_model.proofs.Meanings.SeenShapes.{construct_broken_seen, entries_seen}
 use Rattle.justfile_model.proofs.Meanings.SameViewRecipes.{entries_features_over}
 use Rattle.justfile_model.proofs.Meanings.SameViewRules.{both_over, some_over}

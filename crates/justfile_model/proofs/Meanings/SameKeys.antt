@@ -24,15 +24,12 @@ use Rattle.justfile_model.specs.Meanings.Rules.{Broken, DuplicateAttributeKey, b
 use Rattle.justfile_model.specs.Trees.LeafView.{LeafView}
 use Rattle.justfile_model.specs.Trees.Tree as tree
 use Rattle.justfile_model.specs.Trees.Tree.{Quoted}
+use Rattle.justfile_model.proofs.Lists.AllParts.{each_of}
 use Rattle.justfile_model.proofs.Lists.OrderLaws.{Ascends, ascends_from_sorted}
 use Rattle.justfile_model.proofs.Meanings.NewArgumentLaws.{found_has}
 use Rattle.justfile_model.proofs.Meanings.NewAttributeSteps.{contains_first, nothing_in}
 
 -- ---- what a list has
-
-all_then : {X : Type 0} (P Q : X → Type 0) → ((x : X) → P x → Q x) → (xs : List X) → AllByRecursion P xs → AllByRecursion Q xs
-all_then P Q f [] h = tt
-all_then P Q f (x ∷ xs) h = (f x h.0, all_then P Q f xs h.1)
 
 contains_later : {X : Type 0} (x : X) (xs : List X) (y : X) → Contains xs y → Contains (x ∷ xs) y
 contains_later x xs y h = Contains-append_right (x ∷ []) xs y h
@@ -67,7 +64,7 @@ module _ {X : Type 0} (test : X → Bool) where
       go : (b : Bool) → test x ≡ b → AllByRecursion (P (filter test xs)) xs → AllByRecursion (P (cond b (x ∷ filter test xs) (filter test xs))) (x ∷ xs)
       go true e k = (
         λ t. contains_first x (filter test xs),
-        all_then (P (filter test xs)) (P (x ∷ filter test xs)) (λ y h t. contains_later x (filter test xs) y (h t)) xs k,
+        each_of (P (filter test xs)) (P (x ∷ filter test xs)) (λ y h t. contains_later x (filter test xs) y (h t)) xs k,
       )
       go false e k = (λ t. absurd (true≢false (sym t ∙ e)), k)
 
@@ -130,7 +127,7 @@ module _ {X : Type 0} (text : X → List ℕ) where
       }
       go false e = record {
         there = contains_first x xs;
-        under = (not_above_itself x, all_then (NotAbove m) (NotAbove x) (λ y k. upto nat_list_cmp_total (text x) (text m) (text y) e k) xs h.under);
+        under = (not_above_itself x, each_of (NotAbove m) (NotAbove x) (λ y k. upto nat_list_cmp_total (text x) (text m) (text y) e k) xs h.under);
       }
 
   least_of : (x : X) (xs : List X) → IsLeast (lesser text x (least text xs)) (x ∷ xs)
@@ -181,7 +178,7 @@ module _ {X : Type 0} (text : X → List ℕ) where
       go : (xs : List X) → Ascends (λ (x y : X). text_cmp (text x) (text y)) xs → least text xs ≡ first_of xs
       go [] h = refl
       go (x ∷ ys) h =
-          let under = all_then (λ y. is_lt (text_cmp (text y) (text x)) ≡ false) (NotAbove x)
+          let under = each_of (λ y. is_lt (text_cmp (text y) (text x)) ≡ false) (NotAbove x)
           (λ y k. turned (text_cmp (text x) (text y)) (text_cmp (text y) (text x)) (nat_list_cmp_total.antisymm (text x) (text y)) k) ys h.0 in
           ap Some (stays x ys (least text ys) refl under)
 

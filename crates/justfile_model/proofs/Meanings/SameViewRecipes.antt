@@ -39,12 +39,7 @@ module _ {X Y Z W : Type 0} (h : X → Y) (k : Z → W) (p : X → Option Z) (q 
 module _ {A B C D : Type 0} (f : A → C) (g : B → D) where
   rules_in_over : (a : Attribute A B) → rules_in (over_attribute f g a) ≡ option_map (over_rules f g) (rules_in a)
   rules_in_over (tree.Plain kind) = refl
-  rules_in_over (tree.Single kind value) = refl
-  rules_in_over (tree.Texts kind texts) = refl
-  rules_in_over (tree.Env key value) = refl
-  rules_in_over (tree.Signals given) = refl
-  rules_in_over (tree.Cache extra inputs outputs) = refl
-  rules_in_over (tree.Arg rules) = refl
+  rules_in_over _ = refl
 
   arg_rules_over : (es : List (Entry A B)) → arg_rules (map (over_entry f g) es) ≡ map (over_rules f g) (arg_rules es)
   arg_rules_over es =

@@ -22,9 +22,4 @@ some_over {X = X} h k p q o o' e same = ap (of_some q) e ∙ within o
 
 pub kind_over : {A B C D : Type 0} (f : A → C) (g : B → D) (a : Attribute A B) → kind_of_attribute (over_attribute f g a) ≡ kind_of_attribute a
 kind_over f g (tree.Plain kind) = refl
-kind_over f g (tree.Single kind value) = refl
-kind_over f g (tree.Texts kind texts) = refl
-kind_over f g (tree.Env key value) = refl
-kind_over f g (tree.Signals given) = refl
-kind_over f g (tree.Cache extra inputs outputs) = refl
-kind_over f g (tree.Arg rules) = refl
+kind_over f g _ = refl

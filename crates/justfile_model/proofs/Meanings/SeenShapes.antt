@@ -14,13 +14,13 @@ use Rattle.justfile_model.specs.Trees.ConditionalOperator.{operator_sign}
 use Rattle.justfile_model.specs.Grammars.Conditions.{VersionNumbers}
 use Rattle.justfile_model.specs.Meanings.ConstructRules.{construct_broken}
 use Rattle.justfile_model.specs.Trees.ContentKeys.{name_key, position_key, literal_key, expr_key, exprs_keys, parts_keys, quoted_key, option_name_key, word_key, own_name_key, property_key, bound_number_key, bound_word_key, rules_keys, texts_keys, single_keys, attribute_keys, attribute_key, entry_cmp}
-use Rattle.justfile_model.specs.Trees.ContentLeaf.{ContentLeaf, token, literal, literal_value, operator, text, unseen, content_cmp}
+use Rattle.justfile_model.specs.Trees.ContentLeaf.{ContentLeaf, LiteralContent, token, literal, literal_value, operator, text, unseen, content_cmp}
 use Rattle.justfile_model.specs.Grammars.Expressions.{operator_kind}
 use Rattle.justfile_model.specs.Trees.ExpressionCases.{case_node}
 use Rattle.justfile_model.specs.Trees.Key.{Key, leaf, node, end, next, row, keys_of, absent_key, present_key, option_key, key_cmp}
 use Rattle.justfile_model.specs.declared.expression_case.ExpressionCase.TheVariants as cases
 use Rattle.justfile_model.specs.LiteralTexts.Literals as literals
-use Rattle.justfile_model.specs.LiteralTexts.Literals.{Literal, Expansions, over_literal, string_of}
+use Rattle.justfile_model.specs.LiteralTexts.Literals.{Literal, Expansions, over_literal, string_of, token_of}
 use Rattle.justfile_model.specs.Meanings.Meaning.{◌>>=◌, all_of, quoted, entry_of, entries_of}
 use Rattle.justfile_model.specs.Lists.Order.{in_order}
 use Rattle.justfile_model.specs.Meanings.Rules.{over_broken}
@@ -63,30 +63,20 @@ module _ (expander : Expansions) where
   name_seen : (t : Tok) → t.kind ≡ kinds.Identifier → name_key tokens t ≡ name_key lexemes t.lexeme
   name_seen t h = λ i. leaf (token (record { kind = h i; lexeme = t.lexeme }))
 
+  -- a literal with this content, but for the kind of its token
+  abbrev of_kind : LiteralContent → TokenKind → Key ContentLeaf
+  of_kind c kind =
+      leaf (literal (record { cooked = c.cooked; expand = c.expand; kind = c.kind; part = c.part; token = record { kind = kind; lexeme = c.token.lexeme } }))
+
+  literal_seen : (l : Literal Tok) → (token_of l).kind ≡ (lexemes.literal_content (over_literal lexeme l)).token.kind
+      → literal_key tokens l ≡ literal_key lexemes (over_literal lexeme l)
+  literal_seen (literals.Plain t) h = ap (of_kind (tokens.literal_content (literals.Plain t))) h
+  literal_seen l h = ap (of_kind (tokens.literal_content l)) h
+
   string_seen : (expanded : Bool) (t : Tok) → t.kind ≡ kinds.StringToken
       → literal_key tokens (string_of expanded t) ≡ literal_key lexemes (string_of expanded t.lexeme)
-  string_seen true t h =
-      λ i. leaf
-      (literal
-      (record {
-        cooked = or_empty (tokens.cooked (literals.Expanded t));
-        expand = true;
-        kind = kind_of t.lexeme;
-        part = None;
-        token =
-            record { kind = h i; lexeme = t.lexeme };
-      }))
-  string_seen false t h =
-      λ i. leaf
-      (literal
-      (record {
-        cooked = or_empty (tokens.cooked (literals.Plain t));
-        expand = false;
-        kind = kind_of t.lexeme;
-        part = None;
-        token =
-            record { kind = h i; lexeme = t.lexeme };
-      }))
+  string_seen true t h = literal_seen (literals.Expanded t) h
+  string_seen false t h = literal_seen (literals.Plain t) h
 
   mutual
     pub expr_seen : (e : Expr Tok Tok) → KindedExpr e → expr_key tokens e ≡ expr_key lexemes (over_expr lexeme nothing e)
@@ -108,32 +98,10 @@ module _ (expander : Expansions) where
         λ i. case_node cases.Conditional (next (expr_seen c h.0 i) (next (expr_seen b h.1 i) (next (present_key (expr_seen o h.2 i)) end)))
     expr_seen (tree.Not e) h = λ i. case_node cases.Not (next (expr_seen e h i) end)
     expr_seen (tree.StringLiteral expanded t) h = λ i. case_node cases.StringLiteral (next (string_seen expanded t h i) end)
-    expr_seen (tree.FormatLiteral t) h =
-        λ i. case_node cases.FormatString
-        (next
-        (leaf
-        (literal
-        (record {
-          cooked = or_empty (tokens.cooked (literals.Single t));
-          expand = false;
-          kind = kind_of t.lexeme;
-          part = Some string_parts.Single;
-          token =
-              record { kind = h i; lexeme = t.lexeme };
-        })))
-        (next (row end) end))
+    expr_seen (tree.FormatLiteral t) h = λ i. case_node cases.FormatString (next (literal_seen (literals.Single t) h i) (next (row end) end))
     expr_seen (tree.FormatString start e parts) h =
         λ i. case_node cases.FormatString
-        (next
-        (leaf
-        (literal
-        (record {
-          cooked = or_empty (tokens.cooked (literals.Start start));
-          expand = false;
-          kind = kind_of start.lexeme;
-          part = Some string_parts.Start;
-          token = record { kind = h.0 i; lexeme = start.lexeme };
-        })))
+        (next (literal_seen (literals.Start start) h.0 i)
         (next (row (parts_seen start parts h.2 (expr_key tokens e) (expr_key lexemes (over_expr lexeme nothing e)) (expr_seen e h.1) i)) end))
     expr_seen (tree.Backtick t) h =
         λ i. case_node cases.Backtick (next (leaf (text (or_empty (tokens.cooked (literals.Command t))))) (next (leaf (token (record { kind = h i; lexeme = t.lexeme }))) end))
@@ -153,31 +121,9 @@ module _ (expander : Expansions) where
 
     parts_seen : (start : Tok) (ps : Parts Tok Tok) → KindedParts ps → (k l : Key ContentLeaf) → k ≡ l
         → parts_keys tokens start k ps ≡ parts_keys lexemes start.lexeme l (over_parts lexeme nothing ps)
-    parts_seen start (tree.Last t) h k l same =
-        λ i. next (row (next (same i)
-        (next
-        (leaf
-        (literal
-        (record {
-          cooked = or_empty (tokens.cooked (literals.End start t));
-          expand = false;
-          kind = kind_of start.lexeme;
-          part = Some string_parts.End;
-          token = record { kind = h i; lexeme = t.lexeme };
-        }))) end))) end
+    parts_seen start (tree.Last t) h k l same = λ i. next (row (next (same i) (next (literal_seen (literals.End start t) h i) end))) end
     parts_seen start (tree.Continue t e ps) h k l same =
-        λ i. next (row (next (same i)
-        (next
-        (leaf
-        (literal
-        (record {
-          cooked = or_empty (tokens.cooked (literals.Continue start t));
-          expand = false;
-          kind = kind_of start.lexeme;
-          part = Some
-              string_parts.Continue;
-          token = record { kind = h.0 i; lexeme = t.lexeme };
-        }))) end)))
+        λ i. next (row (next (same i) (next (literal_seen (literals.Continue start t) h.0 i) end)))
         (parts_seen start ps h.2 (expr_key tokens e) (expr_key lexemes (over_expr lexeme nothing e)) (expr_seen e h.1) i)
 
   -- ---- keys of attributes

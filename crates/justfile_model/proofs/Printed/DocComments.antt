@@ -1,23 +1,12 @@
 -- The comment as which a doc is printed ends before the line feed printed after it, like the comment from which the doc was taken.
 use Rattle.std.proofs.Common.{◌≡◌, ℕ, Bool, true, false, cond, eqb, List, [], ◌∷◌, ◌++◌, get_or, drop, Option, Some, None, refl, sym, ap, ◌∙◌, subst, arith}
-use Rattle.std.specs.List.{AllByRecursion}
 use Rattle.std.specs.Str.{IsUtf8, trim}
 use Rattle.justfile_model.specs.Grammars.Docs.{Before, LineEnd, Nothing, Other, doc_in, some_text}
 use Rattle.justfile_model.specs.Printed.Printing.{doc_comment, ends_in_return}
+use Rattle.justfile_model.proofs.Lists.AllParts.{parts}
 use Rattle.justfile_model.proofs.Lists.Binds.{never_some}
 use Rattle.justfile_model.proofs.Lexing.CommentEnds.{EndsBeforeFeed, NoFeeds, ends_before_feed, no_feeds, no_return}
 use Rattle.justfile_model.proofs.Printed.TrimLaws.{IsDoc, doc_comment_text, doc_of_comment, doc_within}
-
--- ---- parts of a list of which all elements satisfy a predicate
-
-module _ {X : Type 0} (P : X → Type 0) where
-  all_left : (xs ys : List X) → AllByRecursion P (xs ++ ys) → AllByRecursion P xs
-  all_left [] ys h = tt
-  all_left (x ∷ xs) ys h = (h.0, all_left xs ys h.1)
-
-  all_right : (xs ys : List X) → AllByRecursion P (xs ++ ys) → AllByRecursion P ys
-  all_right [] ys h = h
-  all_right (x ∷ xs) ys h = all_right xs ys h.1
 
 -- ---- docs
 
@@ -38,7 +27,7 @@ doc_feeds : (comment doc : List ℕ) → IsUtf8 (drop 1 comment) → EndsBeforeF
 doc_feeds comment doc u h e =
     let a = doc_within (drop 1 comment) doc u e in
     let P : ℕ → Type 0 = λ b. eqb b 10 ≡ false in
-    all_left P doc a.trail (all_right P a.lead (doc ++ a.trail) (subst NoFeeds a.is (feeds_dropped comment (no_feeds comment (10 ∷ []) (omega (arith, h []))))))
+    (parts P doc a.trail (parts P a.lead (doc ++ a.trail) (subst NoFeeds a.is (feeds_dropped comment (no_feeds comment (10 ∷ []) (omega (arith, h [])))))).1).0
 
 doc_return : (doc : List ℕ) → IsDoc doc → ends_in_return (35 ∷ 32 ∷ doc) ≡ false
 doc_return [] d = never_some [] d.some

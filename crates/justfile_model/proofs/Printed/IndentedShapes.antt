@@ -33,7 +33,8 @@ use Rattle.justfile_model.proofs.Printed.DocsKept.{any_kind_over}
 use Rattle.justfile_model.proofs.Printed.Normal.{normal_seen}
 use Rattle.justfile_model.proofs.Printed.PrintedEntries.{sees}
 use Rattle.justfile_model.proofs.Printed.PrintedItems.{AllPrintAgain, ShapeItem, shape_again}
-use Rattle.justfile_model.proofs.Printed.PrintedLiterals.{HasText, HaveTexts, parts, texts_are_there}
+use Rattle.justfile_model.proofs.Lists.AllParts.{parts}
+use Rattle.justfile_model.proofs.Printed.PrintedLiterals.{HasText, HaveTexts, texts_are_there}
 
 -- ---- over other leaves
 
@@ -116,13 +117,9 @@ module _ (current : VersionNumbers) (expander : Expansions) where
   content_valid : (content : Content (List ℕ) (Unit {0}) (Unit {0}) (Unit {0})) → form_broken current (sees expander) content ≡ []
       → HaveTexts expander (content_literals content) → IfSome (indentation_in content) IsIndentationLiteral
   content_valid (tree.Alias parts) unbroken texts = tt
-  content_valid (tree.Assignment parts) unbroken texts = tt
-  content_valid (tree.Function parts) unbroken texts = tt
-  content_valid (tree.Import parts) unbroken texts = tt
-  content_valid (tree.Module parts) unbroken texts = tt
-  content_valid (tree.Recipe parts) unbroken texts = tt
   content_valid (tree.Setting parts) unbroken texts = setting_valid parts.keyword parts.name parts.value unbroken texts
   content_valid (tree.Unexport name) unbroken texts = tt
+  content_valid _ unbroken texts = tt
 
   first_valid : (b : Bool) (o found : Option (List ℕ)) → IfSome o IsIndentationLiteral → IfSome found IsIndentationLiteral
       → IfSome (or_else (cond b o None) found) IsIndentationLiteral

@@ -10,9 +10,7 @@ after_twice [] h = refl
 after_twice (Newline ∷ []) h = refl
 after_twice (Newline ∷ Newline ∷ r) h = h
 after_twice (Newline ∷ Comment text ∷ r) h = ap after_newline h
-after_twice (Newline ∷ Construct attributes content ∷ r) h = ap after_newline h
-after_twice (Comment text ∷ r) h = ap after_newline h
-after_twice (Construct attributes content ∷ r) h = ap after_newline h
+after_twice _ h = ap after_newline h
 
 rest_twice : (s : Shape) → normal_rest (normal_rest s) ≡ normal_rest s
 rest_twice [] = refl

@@ -27,9 +27,7 @@ module _ (P : OrderedItem (List ℕ) (Unit {0}) (Unit {0}) → Type 0) (newline 
   newline_first (Newline ∷ []) h = h
   newline_first (Newline ∷ Newline ∷ s) h = h
   newline_first (Newline ∷ Comment text ∷ s) h = (newline, h)
-  newline_first (Newline ∷ Construct entries content ∷ s) h = (newline, h)
-  newline_first (Comment text ∷ s) h = (newline, h)
-  newline_first (Construct entries content ∷ s) h = (newline, h)
+  newline_first _ h = (newline, h)
 
   each_rest : (s : Shape) → AllByRecursion P s → AllByRecursion P (normal_rest s)
   each_rest [] h = (newline, tt)

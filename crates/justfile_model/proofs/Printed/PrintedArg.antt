@@ -14,7 +14,7 @@ use Rattle.justfile_model.specs.Trees.Tree as tree
 use Rattle.justfile_model.specs.Trees.Tree.{Expr, Quoted, OptionName, Property, Bound, ArgumentRules}
 use Rattle.justfile_model.proofs.Lists.Binds.{some_back, never_some, bind_back, bind_is, nothing_in}
 use Rattle.justfile_model.proofs.Meanings.MeaningParts.{ArgMeaning}
-use Rattle.justfile_model.proofs.Printed.PrintedKeys.{Value, KeyOf, key_with, keys_in, or_else, at_key_in, option_value, property_value, bare_value, bound_value, expr_value, rules_rows, literal_of}
+use Rattle.justfile_model.proofs.Printed.PrintedKeys.{Value, KeyOf, key_with, keys_in, or_else, look, at_key_in, option_value, property_value, bare_value, bound_value, expr_value, rules_rows, literal_of}
 use Rattle.justfile_model.proofs.Printed.PrintedTexts.{count_is, counted, quoted_digits}
 
 -- an expression that is a literal
@@ -148,50 +148,43 @@ module _ (expander : Expansions) where
     abbrev printed : List KeyOf
     printed = keys_in (rules_rows rules)
 
+    -- the value of a key among those that are printed
+    found : (word : List ℕ) (v : Option (Option Value)) → look word (rules_rows rules) ≡ or_else (option_map (key_with word) v) None
+        → at_key view word printed ≡ option_map (key_with word) v
+    found word v e = at_key_in expander word (rules_rows rules) ∙ e ∙ or_nothing (option_map (key_with word) v)
+
     -- a key has the same value as before
-    again : (word : List ℕ) (v : Option (Option Value)) → at_key view word printed ≡ option_map (key_with word) v
+    again : (word : List ℕ) (v : Option (Option Value)) → look word (rules_rows rules) ≡ or_else (option_map (key_with word) v) None
         → option_map value_in (at_key view word keys) ≡ v → at_key view word printed ≡ at_key view word keys
-    again word v e h = e ∙ ap (option_map (key_with word)) (sym h) ∙ sym (named word keys)
+    again word v e h = found word v e ∙ ap (option_map (key_with word)) (sym h) ∙ sym (named word keys)
 
     module _ (s : ArgMeaning view q keys rules) where
       long_again : at_key view (codes "long") printed ≡ at_key view (codes "long") keys
-      long_again =
-          again (codes "long") (option_value rules.long) (at_key_in expander (codes "long") (rules_rows rules) ∙ or_nothing _) (option_back _ rules.long s.long)
+      long_again = again (codes "long") (option_value rules.long) refl (option_back _ rules.long s.long)
 
       short_again : at_key view (codes "short") printed ≡ at_key view (codes "short") keys
-      short_again =
-          again (codes "short") (option_value rules.short) (at_key_in expander (codes "short") (rules_rows rules) ∙ or_nothing _)
-          (option_back _ rules.short s.short)
+      short_again = again (codes "short") (option_value rules.short) refl (option_back _ rules.short s.short)
 
       pattern_again : at_key view (codes "pattern") printed ≡ at_key view (codes "pattern") keys
-      pattern_again =
-          again (codes "pattern") (property_value rules.pattern) (at_key_in expander (codes "pattern") (rules_rows rules) ∙ or_nothing _)
-          (property_back _ rules.pattern s.pattern)
+      pattern_again = again (codes "pattern") (property_value rules.pattern) refl (property_back _ rules.pattern s.pattern)
 
       value_again : at_key view (codes "value") printed ≡ at_key view (codes "value") keys
-      value_again =
-          again (codes "value") (expr_value rules.value) (at_key_in expander (codes "value") (rules_rows rules) ∙ or_nothing _)
-          (value_back _ rules.value s.value)
+      value_again = again (codes "value") (expr_value rules.value) refl (value_back _ rules.value s.value)
 
       flag_again : at_key view (codes "flag") printed ≡ at_key view (codes "flag") keys
-      flag_again =
-          again (codes "flag") (bare_value rules.flag) (at_key_in expander (codes "flag") (rules_rows rules) ∙ or_nothing _) (bare_back _ rules.flag s.flag)
+      flag_again = again (codes "flag") (bare_value rules.flag) refl (bare_back _ rules.flag s.flag)
 
       multiple_again : at_key view (codes "multiple") printed ≡ at_key view (codes "multiple") keys
-      multiple_again =
-          again (codes "multiple") (bare_value rules.multiple) (at_key_in expander (codes "multiple") (rules_rows rules) ∙ or_nothing _)
-          (bare_back _ rules.multiple s.multiple)
+      multiple_again = again (codes "multiple") (bare_value rules.multiple) refl (bare_back _ rules.multiple s.multiple)
 
       help_again : at_key view (codes "help") printed ≡ at_key view (codes "help") keys
-      help_again =
-          again (codes "help") (property_value rules.help) (at_key_in expander (codes "help") (rules_rows rules) ∙ or_nothing _)
-          (property_back _ rules.help s.help)
+      help_again = again (codes "help") (property_value rules.help) refl (property_back _ rules.help s.help)
 
       max_found : at_key view (codes "max") printed ≡ option_map (key_with (codes "max")) (bound_value rules.max)
-      max_found = at_key_in expander (codes "max") (rules_rows rules) ∙ or_nothing _
+      max_found = found (codes "max") (bound_value rules.max) refl
 
       min_found : at_key view (codes "min") printed ≡ option_map (key_with (codes "min")) (bound_value rules.min)
-      min_found = at_key_in expander (codes "min") (rules_rows rules) ∙ or_nothing _
+      min_found = found (codes "min") (bound_value rules.min) refl
 
       pub max_bounds : AreBounds (at_key view (codes "max") keys) rules.max
       max_bounds = bound_back _ rules.max s.max

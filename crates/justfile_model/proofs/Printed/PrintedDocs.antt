@@ -6,7 +6,7 @@ use Rattle.justfile_model.specs.Grammars.Docs.{Before, LineEnd, Other, comment_t
 use Rattle.justfile_model.specs.Grammars.Files.{sets_doc}
 use Rattle.justfile_model.specs.Printed.Printing.{doc_comment, shown_doc}
 use Rattle.justfile_model.specs.Printed.PrintedAttributes.{after_doc, docs_written}
-use Rattle.justfile_model.specs.Trees.Tree.{Alias, Assignment, Comment, Construct, Content, Entry, Function, Import, Module, Newline, OrderedItem, Recipe, RecipeParts, Setting, Unexport}
+use Rattle.justfile_model.specs.Trees.Tree.{Alias, Assignment, Comment, Construct, Content, Entry, Module, Newline, OrderedItem, Recipe, RecipeParts}
 use Rattle.justfile_model.proofs.Lists.Binds.{never_some, some_back}
 use Rattle.justfile_model.proofs.Printed.DocsText.{none_shown}
 use Rattle.justfile_model.proofs.Printed.PlainFiles.{InComment, IsPlain}
@@ -60,11 +60,6 @@ module _ {A B C : Type 0} where
   with_doc_again : (entries : List (Entry A B)) (content : Content A B C (Unit {0})) (doc : List ℕ) → shown_doc entries content ≡ doc_of content → doc_of content ≡ Some doc
       → item_with_doc sets_doc doc (Construct entries (redocumented None content)) ≡ Some (Construct entries content)
   with_doc_again entries (Assignment parts) doc s e = never_some doc e
-  with_doc_again entries (Alias parts) doc s e = never_some doc e
-  with_doc_again entries (Function parts) doc s e = never_some doc e
-  with_doc_again entries (Import parts) doc s e = never_some doc e
-  with_doc_again entries (Setting parts) doc s e = never_some doc e
-  with_doc_again entries (Unexport name) doc s e = never_some doc e
   with_doc_again entries (Module parts) doc s e =
       let n = unless_some (sets_doc entries) parts.doc doc (s ∙ e) in
       let again : Content A B C (Unit {0}) = Module (record { doc = Some doc; optional = parts.optional; name = parts.name; path = parts.path }) in
@@ -73,6 +68,7 @@ module _ {A B C : Type 0} where
       let n = unless_some (sets_doc entries) parts.doc doc (s ∙ e) in
       let again : Content A B C (Unit {0}) = Recipe (record { doc = Some doc; header = parts.header; comment = parts.comment; body = parts.body }) in
       ap (λ b. cond (true && not b && true) (Some (Construct entries again)) None) n.0 ∙ ap (λ c. Some (Construct entries c)) (redocumented_same (Recipe parts) (Some doc) e)
+  with_doc_again entries _ doc s e = never_some doc e
 
   comment_stays : (before : Before) (comment : List ℕ) (items : List (OrderedItem A B C)) → NoDoc before comment items → taken sets_doc before (Comment comment) items ≡ Comment comment ∷ items
   comment_stays before comment [] h = refl
@@ -116,11 +112,6 @@ module _ {A B C : Type 0} where
   new_doc_again : (before : Before) (comment doc : List ℕ) (entries : List (Entry A B)) (content : Content A B C (Unit {0})) → Utf8Comment comment
       → doc_in before comment ≡ Some doc → can_take_doc sets_doc entries content ≡ true → DocAgain before entries (redocumented (Some doc) content)
   new_doc_again before comment doc entries (Alias parts) u e w = absurd (true≢false (sym w))
-  new_doc_again before comment doc entries (Assignment parts) u e w = absurd (true≢false (sym w))
-  new_doc_again before comment doc entries (Function parts) u e w = absurd (true≢false (sym w))
-  new_doc_again before comment doc entries (Import parts) u e w = absurd (true≢false (sym w))
-  new_doc_again before comment doc entries (Setting parts) u e w = absurd (true≢false (sym w))
-  new_doc_again before comment doc entries (Unexport name) u e w = absurd (true≢false (sym w))
   new_doc_again before comment doc entries (Module parts) u e w =
       let n = (no_doc_yet (sets_doc entries) parts.doc w).0 in
       record {
@@ -133,6 +124,7 @@ module _ {A B C : Type 0} where
         shown = ap (λ b. cond b None (Some doc)) n;
         again = λ d h. subst (λ x. doc_in before (doc_comment x) ≡ Some x) (some_back doc d h) (taken_again before comment doc u e);
       }
+  new_doc_again before comment doc entries _ u e w = absurd (true≢false (sym w))
 
   comment_settled : (before : Before) (comment : List ℕ) (items : List (OrderedItem A B C)) → Utf8Comment comment → SettledDocs Other items
       → SettledDocs before (taken sets_doc before (Comment comment) items)

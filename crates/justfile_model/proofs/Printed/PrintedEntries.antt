@@ -26,6 +26,7 @@ use Rattle.justfile_model.specs.Printed.PrintedAttributes.{rewritten_entries}
 use Rattle.justfile_model.specs.Meanings.Rules.{Broken}
 use Rattle.justfile_model.specs.Trees.LeafView.{LeafView, views_lexemes}
 use Rattle.justfile_model.specs.Trees.Tree.{Quoted, WrittenAttribute, Attribute, Entry, Content}
+use Rattle.justfile_model.proofs.Lists.AllParts.{all_have, both, parts}
 use Rattle.justfile_model.proofs.Lists.DistinctLaws.{distinct_in_order}
 use Rattle.justfile_model.proofs.Lists.OrderKinds.{any_is_found}
 use Rattle.justfile_model.proofs.Lists.OrderLaws.{all_in_order, twice_is_once}
@@ -91,18 +92,6 @@ module _ {A B : Type 0} (view : LeafView A B) where
   abbrev NoneOf : List (Entry A B) → Entry A B → Type 0
   NoneOf es d = list_any (excluded d) es ≡ false
 
-  all_none : (before : List (Entry A B)) → AllByRecursion (NoneOf []) before
-  all_none [] = tt
-  all_none (d ∷ before) = (refl, all_none before)
-
-  all_push : (P : Entry A B → Type 0) (xs : List (Entry A B)) (x : Entry A B) → AllByRecursion P xs → P x → AllByRecursion P (xs ++ x ∷ [])
-  all_push P [] x h p = (p, tt)
-  all_push P (y ∷ ys) x h p = (h.0, all_push P ys x h.1 p)
-
-  all_pop : (P : Entry A B → Type 0) (xs : List (Entry A B)) (x : Entry A B) → AllByRecursion P (xs ++ x ∷ []) → AllByRecursion P xs × P x
-  all_pop P [] x h = (tt, h.0)
-  all_pop P (y ∷ ys) x h = let r = all_pop P ys x h.1 in ((h.0, r.0), r.1)
-
   none_more : (before : List (Entry A B)) (e : Entry A B) (es : List (Entry A B)) → list_any (λ d. excluded d e) before ≡ false
       → AllByRecursion (NoneOf es) before → AllByRecursion (NoneOf (e ∷ es)) before
   none_more [] e es h k = tt
@@ -119,17 +108,17 @@ module _ {A B : Type 0} (view : LeafView A B) where
       ((λ i. n.0 i || r.0 i), (n.1, r.1))
 
   distinct_later : (before es : List (Entry A B)) → Later before es → AllByRecursion (NoneOf es) before × Distinct excluded es
-  distinct_later before [] h = (all_none before, tt)
+  distinct_later before [] h = (all_have (NoneOf []) (λ d. refl) before, tt)
   distinct_later before (e ∷ es) h =
       let r = distinct_later (before ++ e ∷ []) es h.1 in
-      let p = all_pop (NoneOf es) before e r.0 in
-      (none_more before e es h.0 p.0, (p.1, r.1))
+      let p = parts (NoneOf es) before (e ∷ []) r.0 in
+      (none_more before e es h.0 p.0, (p.1.0, r.1))
 
   later_distinct : (before es : List (Entry A B)) → AllByRecursion (NoneOf es) before → Distinct excluded es → Later before es
   later_distinct before [] h d = tt
   later_distinct before (e ∷ es) h d =
       let n = none_fewer before e es h in
-      (n.0, later_distinct (before ++ e ∷ []) es (all_push (NoneOf es) before e n.1 d.0) d.1)
+      (n.0, later_distinct (before ++ e ∷ []) es (both (NoneOf es) before (e ∷ []) n.1 (d.0, tt)) d.1)
 
   found_none : (before : List (Entry A B)) (e : Entry A B) → list_any (λ d. excluded d e) before ≡ false → duplicate_broken view before e ≡ []
   found_none before e h = go (find (λ (d : Entry A B). excluded d e) before) (sym (any_is_found (λ d. excluded d e) before) ∙ h)

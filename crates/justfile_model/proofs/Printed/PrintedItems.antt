@@ -19,7 +19,8 @@ use Rattle.justfile_model.proofs.Meanings.Ordered.{construct_meant, meanings_of,
 use Rattle.justfile_model.proofs.Printed.PlainFiles.{each_normal}
 use Rattle.justfile_model.proofs.Printed.PrintedDocs.{SettledDocs, printed_docs}
 use Rattle.justfile_model.proofs.Printed.PrintedEntries.{construct_again, entries_again, sees}
-use Rattle.justfile_model.proofs.Printed.PrintedLiterals.{HaveTexts, HasText, both, literals_from_written, parts}
+use Rattle.justfile_model.proofs.Lists.AllParts.{both, parts}
+use Rattle.justfile_model.proofs.Printed.PrintedLiterals.{HaveTexts, HasText, literals_from_written}
 
 -- an item of a shape
 abbrev pub ShapeItem : Type 0
@@ -114,35 +115,23 @@ module _ (current : VersionNumbers) (expander : Expansions) where
 
   -- ---- with docs and without
 
+  means_again : (entries : ShapeEntries) (content again : ShapeContent) → PrintsAgain (Construct entries content)
+      → with_entries again (entries_of (sees expander) (rewritten_entries entries)) ≡ Some (Construct entries again)
+  means_again entries content again h =
+      let m = construct_meant (sees expander) (rewritten_entries entries) content (Construct entries content) h.means in
+      ap (with_entries again) (m.means ∙ ap Some (sym (ap entries_in m.item_is))) ∙ ap (λ c. Some (Construct entries c)) (content_starless again)
+
   -- a doc changes nothing of it
   redocumented_again : (entries : ShapeEntries) (content : ShapeContent) (doc : Option (List ℕ)) → PrintsAgain (Construct entries content)
       → PrintsAgain (Construct entries (redocumented doc content))
-  redocumented_again entries (Assignment parts) doc h = h
-  redocumented_again entries (Alias parts) doc h = h
-  redocumented_again entries (Function parts) doc h = h
-  redocumented_again entries (Import parts) doc h = h
-  redocumented_again entries (Setting parts) doc h = h
-  redocumented_again entries (Unexport name) doc h = h
   redocumented_again entries (Module parts) doc h =
-      let content : ShapeContent = Module parts in
       let again : ShapeContent = Module (record { doc = doc; optional = parts.optional; name = parts.name; path = parts.path }) in
-      let m = construct_meant (sees expander) (rewritten_entries entries) content (Construct entries content) h.means in
-      let means = m.means ∙ ap Some (sym (ap entries_in m.item_is)) in
-      record {
-        means = ap (with_entries again) means ∙ ap (λ c. Some (Construct entries c)) (content_starless again);
-        unbroken = h.unbroken;
-        texts = h.texts;
-      }
+      record { means = means_again entries (Module parts) again h; unbroken = h.unbroken; texts = h.texts }
   redocumented_again entries (Recipe parts) doc h =
-      let content : ShapeContent = Recipe parts in
       let again : ShapeContent = Recipe (record { doc = doc; header = parts.header; comment = parts.comment; body = parts.body }) in
-      let m = construct_meant (sees expander) (rewritten_entries entries) content (Construct entries content) h.means in
-      let means = m.means ∙ ap Some (sym (ap entries_in m.item_is)) in
-      record {
-        means = ap (with_entries again) means ∙ ap (λ c. Some (Construct entries c)) (content_starless again);
-        unbroken = h.unbroken;
-        texts = h.texts;
-      }
+      record { means = means_again entries (Recipe parts) again h; unbroken = h.unbroken; texts = h.texts }
+  redocumented_again entries (Assignment parts) doc h = h
+  redocumented_again entries content doc h = h
 
   taken_prints : (before : Before) (comment : List ℕ) (s : Shape) → AllPrintAgain s → AllPrintAgain (taken sets_doc before (Comment comment) s)
   taken_prints before comment [] h = (comment_again comment, h)

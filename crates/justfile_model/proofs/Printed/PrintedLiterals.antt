@@ -15,6 +15,7 @@ use Rattle.justfile_model.specs.Printed.PrintedAttributes.{rewritten_entries}
 use Rattle.justfile_model.specs.Trees.LeafView.{LeafView}
 use Rattle.justfile_model.specs.Trees.Tree as tree
 use Rattle.justfile_model.specs.Trees.Tree.{Expr, Quoted, Argument, WrittenAttribute, OptionName, Property, Bound, ArgumentRules, Attribute, Entry}
+use Rattle.justfile_model.proofs.Lists.AllParts.{both, each_of, flat, parts, unflat}
 use Rattle.justfile_model.proofs.Lists.Binds.{of_some_is, never_some, bind_back}
 use Rattle.justfile_model.proofs.Meanings.MeaningParts.{InArgument, InOption, InProperty, InValue, InMeaning, entries_in}
 use Rattle.justfile_model.proofs.Lists.OrderLaws.{all_in_order}
@@ -23,32 +24,6 @@ use Rattle.justfile_model.proofs.Printed.PrintedEntries.{sees, Entries, Written,
 use Rattle.justfile_model.proofs.Printed.PrintedKeys.{Value, Row, keys_in, keyed, arguments_of, key_argument, literal_of, signal_literal, values_of, rows_of, option_value, property_value, bare_value, bound_value, expr_value, arguments_are}
 use Rattle.justfile_model.proofs.Printed.PrintedMeanings.{NumbersAre, MeansItself}
 use Rattle.justfile_model.proofs.Printed.PrintedTexts.{quoted_signal}
-
--- ---- lists
-
-module _ {X : Type 0} (P : X → Type 0) where
-  abbrev Each : List X → Type 0
-  Each xs = AllByRecursion P xs
-
-  pub both : (xs ys : List X) → Each xs → Each ys → Each (xs ++ ys)
-  both [] ys h k = k
-  both (x ∷ xs) ys h k = (h.0, both xs ys h.1 k)
-
-  pub parts : (xs ys : List X) → Each (xs ++ ys) → Each xs × Each ys
-  parts [] ys h = (tt, h)
-  parts (x ∷ xs) ys h = let r = parts xs ys h.1 in ((h.0, r.0), r.1)
-
-  flat : {Y : Type 0} (f : Y → List X) (ys : List Y) → AllByRecursion (λ y. Each (f y)) ys → Each (flat_map f ys)
-  flat f [] h = tt
-  flat f (y ∷ ys) h = both (f y) (flat_map f ys) h.0 (flat f ys h.1)
-
-  unflat : {Y : Type 0} (f : Y → List X) (ys : List Y) → Each (flat_map f ys) → AllByRecursion (λ y. Each (f y)) ys
-  unflat f [] h = tt
-  unflat f (y ∷ ys) h = let r = parts (f y) (flat_map f ys) h in (r.0, unflat f ys r.1)
-
-each_of : {X : Type 0} (P Q : X → Type 0) → ((x : X) → P x → Q x) → (xs : List X) → AllByRecursion P xs → AllByRecursion Q xs
-each_of P Q f [] h = tt
-each_of P Q f (x ∷ xs) h = (f x h.0, each_of P Q f xs h.1)
 
 -- ---- what holds of the literals that are written, holds of those that are meant
 
@@ -255,10 +230,6 @@ module _ (expander : Expansions) where
 
   rows_of_have : (a : Attribute (List ℕ) (Unit {0})) → HaveTexts (attribute_literals a) → NumbersAre expander a → AllByRecursion OfRow (rows_of a)
   rows_of_have (tree.Plain kind) h n = tt
-  rows_of_have (tree.Single kind value) h n = tt
-  rows_of_have (tree.Texts kind texts) h n = tt
-  rows_of_have (tree.Env key value) h n = tt
-  rows_of_have (tree.Signals signals) h n = tt
   rows_of_have (tree.Cache extra inputs outputs) h n =
       let r = parts HasText (optional_literals expr_literals extra ++ optional_literals expr_literals inputs) (optional_literals expr_literals outputs) h in
       let s = parts HasText (optional_literals expr_literals extra) (optional_literals expr_literals inputs) r.0 in
@@ -283,6 +254,7 @@ module _ (expander : Expansions) where
           ),
         ),
       )
+  rows_of_have _ h n = tt
 
   -- the literals that an attribute is printed with
   printed_have : (a : Attribute (List ℕ) (Unit {0})) → HaveTexts (attribute_literals a) → NumbersAre expander a

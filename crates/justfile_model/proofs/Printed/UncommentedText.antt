@@ -2,7 +2,7 @@
 use Rattle.std.proofs.Common.{◌≡◌, ◌∙◌, ℕ, List, [], ◌∷◌, ◌++◌, None, append-nil, append_assoc, codes, refl, ap}
 use Rattle.justfile_model.specs.Printed.NormalShape.{after_newline, normal, normal_rest}
 use Rattle.justfile_model.specs.Printed.Printing.{attribute_text, body_text, after_line_text, content_text, doc_line, entries_text, entry_text, fixed_text, header_text, if_some, item_end, item_text, shown_doc, text}
-use Rattle.justfile_model.specs.Trees.Tree.{Alias, Assignment, Comment, Construct, Content, Entry, Function, Import, Module, Newline, OrderedItem, Recipe, Setting, Shape, Unexport}
+use Rattle.justfile_model.specs.Trees.Tree.{Alias, Comment, Construct, Content, Entry, Newline, OrderedItem, Recipe, Setting, Shape, Unexport}
 use Rattle.justfile_model.specs.Printed.Uncommented.{HasNoBodyComment, HasNoComments, HasNoEntryComments, HasNoItemComments, uncommented_content, uncommented_entries, uncommented_entry, uncommented_item, uncommented_text}
 
 entry_same : (e : Entry (List ℕ) (Unit {0})) → e.comment ≡ None → entry_text e ≡ uncommented_entry e
@@ -19,15 +19,12 @@ entries_same (e ∷ entries) none = λ i. entry_same e none.0 i ++ entries_same 
 content_same : (c : Content (List ℕ) (Unit {0}) (Unit {0}) (Unit {0})) (indentation : List ℕ) → HasNoBodyComment c
     → content_text c indentation ≡ uncommented_content c indentation
 content_same (Alias parts) indentation none = refl
-content_same (Assignment parts) indentation none = refl
-content_same (Function parts) indentation none = refl
-content_same (Import parts) indentation none = refl
-content_same (Module parts) indentation none = refl
 content_same (Recipe parts) indentation none =
     ap (λ o. header_text parts.header ++ after_line_text o ++ body_text indentation parts.body) none
     ∙ ap (λ t. t ++ body_text indentation parts.body) (append-nil (header_text parts.header))
 content_same (Setting parts) indentation none = refl
 content_same (Unexport name) indentation none = refl
+content_same _ indentation none = refl
 
 item_same : (i : OrderedItem (List ℕ) (Unit {0}) (Unit {0})) (indentation : List ℕ) → HasNoItemComments i → item_text i indentation ≡ uncommented_item i indentation
 item_same Newline indentation none = refl
@@ -46,9 +43,7 @@ newline_none [] none = (tt, none)
 newline_none (Newline ∷ []) none = none
 newline_none (Newline ∷ Newline ∷ items) none = none
 newline_none (Newline ∷ Comment text ∷ items) none = (tt, none)
-newline_none (Newline ∷ Construct entries content ∷ items) none = (tt, none)
-newline_none (Comment text ∷ items) none = (tt, none)
-newline_none (Construct entries content ∷ items) none = (tt, none)
+newline_none _ none = (tt, none)
 
 rest_none : (s : Shape) → HasNoComments s → HasNoComments (normal_rest s)
 rest_none [] none = (tt, tt)

@@ -1,5 +1,5 @@
 -- The parser of attribute lines, one rule at a time: it leaves fewer tokens, and the same fixed part and depth.
-use Rattle.std.proofs.Common.{◌≡◌, ◌<◌, ℕ, Bool, true, false, ◌&&◌, List, [], ◌∷◌, ◌++◌, length, map, Option, Some, None, Ok, Err, refl, ◌∙◌}
+use Rattle.std.proofs.Common.{◌≡◌, ℕ, Bool, true, false, ◌&&◌, List, [], ◌∷◌, ◌++◌, length, map, Option, Some, None, Ok, Err, refl}
 use Rattle.justfile_vocabulary.specs.AttributeKind.{kind_named, takes_keys}
 use Rattle.justfile_vocabulary.specs.declared.attribute_kind.AttributeKind.{AttributeKind}
 use Rattle.justfile_vocabulary.specs.declared.token_kind.TokenKind.TheVariants as kinds
@@ -11,14 +11,13 @@ use Rattle.justfile_model.specs.Grammars.Expressions.{front}
 use Rattle.justfile_model.specs.Meanings.Meaning.{by_key, by_position}
 use Rattle.justfile_model.specs.Readers.NewAttribute.{Made, new_entry}
 use Rattle.justfile_model.specs.Readers.ReaderState.{Leaves, Read, State, accept, expect}
-use Rattle.justfile_model.specs.Lists.Recursive.{below}
 use Rattle.justfile_model.specs.Meanings.Rules.{UnknownAttribute}
 use Rattle.justfile_model.specs.Trees.LeafView.{LeafView}
 use Rattle.justfile_model.specs.Trees.Tree as tree
 use Rattle.justfile_model.specs.Trees.Tree.{Argument, Entry, Expr, WrittenAttribute}
 use Rattle.justfile_model.proofs.Readers.ExpressionReading.{advances}
 use Rattle.justfile_model.proofs.Readers.ReadingSteps.{Goes, Keeps, accepts, after_test, after_then, bind_alike, choose_alike, either, either_goes, expects, first, keeps, past, past_then, then, there, weaken}
-use Rattle.justfile_model.proofs.Lists.Turns.{below_smaller, recursive_is, recursive_keeps}
+use Rattle.justfile_model.proofs.Lists.Turns.{recursive_keeps, recursive_step}
 
 module _ {R T A B S W : Type 0} (leaves : Leaves R T A B S) (view : R → LeafView A B) (keep : WrittenAttribute A B → Entry A B → W) (entry_in : W → Entry A B)
   where
@@ -108,36 +107,17 @@ module _ {R T A B S W : Type 0} (leaves : Leaves R T A B S) (view : R → LeafVi
         (r.arguments_rule leaves view keep entry_in name keys)
         (λ x found. Goes x.1 found) (λ x. tt) (arguments_rule_goes name keys)
 
-    inside_arguments : (name : T) (keys : Bool) → ArgumentPlace → ArgumentPlace → ReadArguments
-    inside_arguments name keys x =
-        below (λ (x : ArgumentPlace). length x.1.left) (r.no_arguments leaves view keep entry_in) (r.arguments_rule leaves view keep entry_in name keys) x
-        (r.arguments_from leaves view keep entry_in name keys)
-
-    arguments_unfolded : (name : T) (keys : Bool) (x : ArgumentPlace)
-        → r.arguments_from leaves view keep entry_in name keys x ≡ r.arguments_rule leaves view keep entry_in name keys (inside_arguments name keys x) x
-    unfolding r.arguments_from inside_arguments
-    arguments_unfolded name keys x =
-        recursive_is (λ (x : ArgumentPlace). length x.1.left) (r.no_arguments leaves view keep entry_in)
-        (r.arguments_rule leaves view keep entry_in name keys)
-        x
-
-    inside_arguments_is : (name : T) (keys : Bool) (x y : ArgumentPlace) → length y.1.left < length x.1.left
-        → inside_arguments name keys x y ≡ r.arguments_from leaves view keep entry_in name keys y
-    unfolding inside_arguments
-    inside_arguments_is name keys x y h =
-        below_smaller (λ (x : ArgumentPlace). length x.1.left) (r.no_arguments leaves view keep entry_in)
-        (r.arguments_rule leaves view keep entry_in name keys)
-        x (r.arguments_from leaves view keep entry_in name keys) y h
-
     pub arguments_from_is : (name : T) (keys : Bool) (x : ArgumentPlace)
         → r.arguments_from leaves view keep entry_in name keys x ≡ r.arguments_rule leaves view keep entry_in name keys
         (r.arguments_from leaves view keep entry_in name keys) x
+    unfolding r.arguments_from
     arguments_from_is name keys x =
-        arguments_unfolded name keys x ∙ choose_alike (accept leaves kinds.ParenR x.1) _ _ _ _
+        recursive_step (λ (x : ArgumentPlace). length x.1.left) (r.no_arguments leaves view keep entry_in) (r.arguments_rule leaves view keep entry_in name keys) (λ x f g same.
+        choose_alike (accept leaves kinds.ParenR x.1) _ _ _ _
         (λ _. bind_alike (r.argument leaves view keep entry_in name keys x.0 x.1) _ _ (λ a is. choose_alike (accept leaves kinds.Comma a.1) _ _ _ _ (λ _. refl)
-        (λ comma taken. inside_arguments_is name keys x (x.0 ++ a.0 ∷ [], comma.1)
+        (λ comma taken. same (x.0 ++ a.0 ∷ [], comma.1)
         (past_then x.1 a.1 comma.1 (past x.1 _ a (argument_goes name keys x.0 x.1) is) (weaken a.1 comma.1 (accepts leaves kinds.Comma a.1 comma taken))).0)))
-        (λ _ _. refl)
+        (λ _ _. refl)) x
 
     pub arguments_keep : (name : T) (keys : Bool) (s : State R T B) → Keeps s (r.arguments leaves view keep entry_in name keys s)
     unfolding r.arguments
@@ -210,29 +190,15 @@ module _ {R T A B S W : Type 0} (leaves : Leaves R T A B S) (view : R → LeafVi
         recursive_keeps (λ (x : AttributePlace). length x.1.left) (r.no_attributes leaves view keep entry_in) (r.bracketed_rule leaves view keep entry_in)
         (λ x found. Goes x.1 found) (λ x. tt) bracketed_rule_goes
 
-    inside_bracket : AttributePlace → AttributePlace → ReadAttributes
-    inside_bracket x =
-        below (λ (x : AttributePlace). length x.1.left) (r.no_attributes leaves view keep entry_in) (r.bracketed_rule leaves view keep entry_in) x
-        (r.bracketed leaves view keep entry_in)
-
-    bracketed_unfolded : (x : AttributePlace) → r.bracketed leaves view keep entry_in x ≡ r.bracketed_rule leaves view keep entry_in (inside_bracket x) x
-    unfolding r.bracketed inside_bracket
-    bracketed_unfolded x =
-        recursive_is (λ (x : AttributePlace). length x.1.left) (r.no_attributes leaves view keep entry_in) (r.bracketed_rule leaves view keep entry_in) x
-
-    inside_bracket_is : (x y : AttributePlace) → length y.1.left < length x.1.left → inside_bracket x y ≡ r.bracketed leaves view keep entry_in y
-    unfolding inside_bracket
-    inside_bracket_is x y h =
-        below_smaller (λ (x : AttributePlace). length x.1.left) (r.no_attributes leaves view keep entry_in) (r.bracketed_rule leaves view keep entry_in) x
-        (r.bracketed leaves view keep entry_in) y h
-
     pub bracketed_is : (x : AttributePlace) → r.bracketed leaves view keep entry_in x ≡ r.bracketed_rule leaves view keep
         entry_in (r.bracketed leaves view keep entry_in) x
+    unfolding r.bracketed
     bracketed_is x =
-        bracketed_unfolded x ∙ bind_alike (r.attribute leaves view keep entry_in x.0 x.1) _ _
+        recursive_step (λ (x : AttributePlace). length x.1.left) (r.no_attributes leaves view keep entry_in) (r.bracketed_rule leaves view keep entry_in) (λ x f g same.
+        bind_alike (r.attribute leaves view keep entry_in x.0 x.1) _ _
         (λ w is. choose_alike (accept leaves kinds.Comma w.1) _ _ _ _ (λ _. refl)
-        (λ comma taken. inside_bracket_is x (x.0 ++ w.0 ∷ [], comma.1)
-        (past_then x.1 w.1 comma.1 (past x.1 _ w (attribute_goes x.0 x.1) is) (weaken w.1 comma.1 (accepts leaves kinds.Comma w.1 comma taken))).0))
+        (λ comma taken. same (x.0 ++ w.0 ∷ [], comma.1)
+        (past_then x.1 w.1 comma.1 (past x.1 _ w (attribute_goes x.0 x.1) is) (weaken w.1 comma.1 (accepts leaves kinds.Comma w.1 comma taken))).0))) x
 
     -- ---- lines of attributes
 
@@ -267,32 +233,15 @@ module _ {R T A B S W : Type 0} (leaves : Leaves R T A B S) (view : R → LeafVi
       unfolding r.attribute_lines
       attribute_lines_keep s = attribute_lines_from_keep ([], s)
 
-      inside_lines : AttributePlace → AttributePlace → ReadAttributes
-      inside_lines x =
-          below (λ (x : AttributePlace). length x.1.left) (r.no_attributes leaves view keep entry_in) (r.attribute_lines_rule leaves view keep entry_in put) x
-          (r.attribute_lines_from leaves view keep entry_in put)
-
-      lines_unfolded : (x : AttributePlace) → r.attribute_lines_from leaves view keep entry_in put x ≡ r.attribute_lines_rule leaves view keep
-          entry_in put (inside_lines x) x
-      unfolding r.attribute_lines_from inside_lines
-      lines_unfolded x =
-          recursive_is (λ (x : AttributePlace). length x.1.left) (r.no_attributes leaves view keep entry_in) (r.attribute_lines_rule leaves view keep entry_in put)
-          x
-
-      inside_lines_is : (x y : AttributePlace) → length y.1.left < length x.1.left → inside_lines x y ≡ r.attribute_lines_from leaves view keep entry_in put y
-      unfolding inside_lines
-      inside_lines_is x y h =
-          below_smaller (λ (x : AttributePlace). length x.1.left) (r.no_attributes leaves view keep entry_in) (r.attribute_lines_rule leaves view keep entry_in put)
-          x
-          (r.attribute_lines_from leaves view keep entry_in put) y h
-
       pub attribute_lines_from_is : (x : AttributePlace)
           → r.attribute_lines_from leaves view keep entry_in put x ≡ r.attribute_lines_rule leaves view keep
           entry_in put (r.attribute_lines_from leaves view keep entry_in put) x
+      unfolding r.attribute_lines_from
       attribute_lines_from_is x =
-          lines_unfolded x ∙ choose_alike (accept leaves kinds.BracketL x.1) _ _ _ _ (λ _. refl)
+          recursive_step (λ (x : AttributePlace). length x.1.left) (r.no_attributes leaves view keep entry_in) (r.attribute_lines_rule leaves view keep entry_in put) (λ x f g same.
+          choose_alike (accept leaves kinds.BracketL x.1) _ _ _ _ (λ _. refl)
           (λ opener taken. bind_alike (r.bracketed leaves view keep entry_in (x.0, opener.1)) _ _ (λ ws is.
-          bind_alike (r.attributes_end leaves view keep entry_in ws.1) _ _ (λ end is2. inside_lines_is x (r.commented_by leaves view keep entry_in put end.0 ws.0, end.1)
+          bind_alike (r.attributes_end leaves view keep entry_in ws.1) _ _ (λ end is2. same (r.commented_by leaves view keep entry_in put end.0 ws.0, end.1)
           (past_then x.1 opener.1 end.1 (accepts leaves kinds.BracketL x.1 opener taken)
           (after_then opener.1 ws.1 end.1 (weaken opener.1 ws.1 (past opener.1 _ ws (bracketed_goes (x.0, opener.1)) is))
-          (weaken ws.1 end.1 (past ws.1 _ end (attributes_end_goes ws.1) is2)))).0)))
+          (weaken ws.1 end.1 (past ws.1 _ end (attributes_end_goes ws.1) is2)))).0)))) x

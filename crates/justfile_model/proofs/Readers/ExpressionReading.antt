@@ -23,23 +23,15 @@ module _ {R T B : Type 0} where
   closes : (k : Level) (s t : State R T B) → Past (opened k s) t → Past s (closed k t)
   closes levels.Expression s t h = (h.0, omega (arith, h.1), h.2)
   closes levels.Disjunct s t h = h
-  closes levels.Compared s t h = h
-  closes levels.Conjunct s t h = h
-  closes levels.Value s t h = h
+  closes _ s t h = h
 
   opened_length : (k : Level) (s : State R T B) → length (opened k s).left ≡ length s.left
   opened_length levels.Expression s = refl
-  opened_length levels.Disjunct s = refl
-  opened_length levels.Compared s = refl
-  opened_length levels.Conjunct s = refl
-  opened_length levels.Value s = refl
+  opened_length _ s = refl
 
 few : (k : Level) → rank (right k) ≤ 4
 few levels.Expression = omega arith
-few levels.Disjunct = omega arith
-few levels.Compared = omega arith
-few levels.Conjunct = omega arith
-few levels.Value = omega arith
+few _ = omega arith
 
 module _ {R T A B S : Type 0} (leaves : Leaves R T A B S) where
   -- ---- what is left
@@ -203,9 +195,7 @@ module _ {R T A B S : Type 0} (leaves : Leaves R T A B S) where
 
   stop_goes : (x : Place R T B) → Advances x (stop_expression leaves x)
   stop_goes (r.At k c s) = tt
-  stop_goes (r.Conditional w s) = tt
-  stop_goes (r.Sequence c s) = tt
-  stop_goes (r.FormatParts l s) = tt
+  stop_goes _ = tt
 
   -- what is read is past where reading began, in the same run and at the same depth
   pub advances : (x : Place R T B) → Advances x (read leaves x)

@@ -1,5 +1,5 @@
 -- The parser of headers, one rule at a time, and the steps of its loops.
-use Rattle.std.proofs.Common.{◌≡◌, ℕ, ◌<◌, Bool, true, false, List, [], ◌∷◌, ◌++◌, length, map, Option, Some, None, Ok, Err, refl, sym, ap, ◌∙◌}
+use Rattle.std.proofs.Common.{◌≡◌, ℕ, Bool, true, false, List, [], ◌∷◌, ◌++◌, length, map, Option, Some, None, Ok, Err, refl, sym, ap}
 use Rattle.std.specs.Option.{option_map}
 use Rattle.justfile_vocabulary.specs.declared.token_kind.TokenKind.{TokenKind}
 use Rattle.justfile_vocabulary.specs.declared.token_kind.TokenKind.TheVariants as kinds
@@ -11,14 +11,13 @@ use Rattle.justfile_model.specs.Readers.HeaderReader as r
 use Rattle.justfile_model.specs.Readers.HeaderReader.{ReadHeader, next_binding_number, obeying}
 use Rattle.justfile_model.specs.Readers.ReaderState.{Counters, Leaves, Read, ReadError, State, Taken, accept, accepted, expect, next_are, prepend, taken_or}
 use Rattle.justfile_model.specs.Meanings.RecipeRules.{misplaced_broken, parameter_broken, second_broken, stars, undefined_broken}
-use Rattle.justfile_model.specs.Lists.Recursive.{below}
 use Rattle.justfile_model.specs.Meanings.Rules.{Broken}
 use Rattle.justfile_model.specs.Trees.LeafView.{LeafView}
 use Rattle.justfile_model.specs.Trees.Tree.{ArgumentRules, Dependency, DependencyArgument}
 use Rattle.justfile_model.proofs.Readers.ExpressionReading.{advances, level_is}
 use Rattle.justfile_model.proofs.Lists.Prepended.{after_keeps, after_nothing, after_refused, after_regroups}
 use Rattle.justfile_model.proofs.Readers.ReadingSteps.{ItemRest, Goes, Keeps, Past, accepts, after_test, bind_alike, choose_alike, either, either_goes, expects, first, goes_after, keeps, past, past_then, test_alike, then, then_goes, there, weaken}
-use Rattle.justfile_model.proofs.Lists.Turns.{below_smaller, recursive_is, recursive_keeps}
+use Rattle.justfile_model.proofs.Lists.Turns.{recursive_keeps, recursive_step}
 
 module _ {R T B : Type 0} where
   -- rules take no token
@@ -66,25 +65,15 @@ module _ {R T A B S : Type 0} (leaves : Leaves R T A B S) where
       recursive_keeps (λ (s : State R T B). length s.left) (r.no_names leaves) (r.path_rest_rule leaves) (λ s found. Keeps s found) (λ s. tt)
       path_rest_rule_keeps
 
-  inside_path : State R T B → State R T B → Read R T B (List A)
-  inside_path s = below (λ (s : State R T B). length s.left) (r.no_names leaves) (r.path_rest_rule leaves) s (r.path_rest leaves)
-
-  path_unfolded : (s : State R T B) → r.path_rest leaves s ≡ r.path_rest_rule leaves (inside_path s) s
-  unfolding r.path_rest inside_path
-  path_unfolded s = recursive_is (λ (s : State R T B). length s.left) (r.no_names leaves) (r.path_rest_rule leaves) s
-
-  inside_path_is : (s t : State R T B) → length t.left < length s.left → inside_path s t ≡ r.path_rest leaves t
-  unfolding inside_path
-  inside_path_is s t h = below_smaller (λ (s : State R T B). length s.left) (r.no_names leaves) (r.path_rest_rule leaves) s (r.path_rest leaves) t h
-
   pub path_rest_is : (s : State R T B) → r.path_rest leaves s ≡ r.path_rest_rule leaves (r.path_rest leaves) s
-  unfolding r.path_rest_rule
+  unfolding r.path_rest r.path_rest_rule
   path_rest_is s =
-      path_unfolded s ∙ choose_alike (accept leaves kinds.ColonColon s) _ _ _ _ (λ _. refl)
+      recursive_step (λ (s : State R T B). length s.left) (r.no_names leaves) (r.path_rest_rule leaves) (λ s f g same.
+      choose_alike (accept leaves kinds.ColonColon s) _ _ _ _ (λ _. refl)
       (λ colons taken. bind_alike (expect leaves kinds.Identifier colons.1) _ _ (λ name is.
-      ap (prepend (leaves.name name.0 ∷ [])) (inside_path_is s name.1
+      ap (prepend (leaves.name name.0 ∷ [])) (same name.1
       (past_then s colons.1 name.1 (accepts leaves kinds.ColonColon s colons taken)
-      (weaken colons.1 name.1 (past colons.1 _ name (expects leaves kinds.Identifier colons.1) is))).0)))
+      (weaken colons.1 name.1 (past colons.1 _ name (expects leaves kinds.Identifier colons.1) is))).0)))) s
 
   pub path_goes : (s : State R T B) → Goes s (r.path leaves s)
   unfolding r.path
@@ -131,28 +120,14 @@ module _ {R T A B S : Type 0} (leaves : Leaves R T A B S) where
       recursive_keeps (λ (x : DependencyPlace). length x.1.left) (r.no_dependency_arguments leaves) (r.dependency_arguments_rule leaves)
       (λ x found. Goes x.1 found) (λ x. tt) dependency_arguments_rule_go
 
-  inside_arguments : DependencyPlace → DependencyPlace → Read R T B Arguments
-  inside_arguments x =
-      below (λ (x : DependencyPlace). length x.1.left) (r.no_dependency_arguments leaves) (r.dependency_arguments_rule leaves) x (r.dependency_arguments leaves)
-
-  arguments_unfolded : (x : DependencyPlace) → r.dependency_arguments leaves x ≡ r.dependency_arguments_rule leaves (inside_arguments x) x
-  unfolding r.dependency_arguments inside_arguments
-  arguments_unfolded x =
-      recursive_is (λ (x : DependencyPlace). length x.1.left) (r.no_dependency_arguments leaves) (r.dependency_arguments_rule leaves) x
-
-  inside_arguments_is : (x y : DependencyPlace) → length y.1.left < length x.1.left → inside_arguments x y ≡ r.dependency_arguments leaves y
-  unfolding inside_arguments
-  inside_arguments_is x y h =
-      below_smaller (λ (x : DependencyPlace). length x.1.left) (r.no_dependency_arguments leaves) (r.dependency_arguments_rule leaves) x
-      (r.dependency_arguments leaves) y h
-
   pub dependency_arguments_is : (x : DependencyPlace) → r.dependency_arguments leaves x ≡ r.dependency_arguments_rule leaves (r.dependency_arguments leaves) x
-  unfolding r.dependency_arguments_rule
+  unfolding r.dependency_arguments r.dependency_arguments_rule
   dependency_arguments_is x =
-      arguments_unfolded x ∙ choose_alike (accept leaves kinds.ParenR x.1) _ _ _ _
+      recursive_step (λ (x : DependencyPlace). length x.1.left) (r.no_dependency_arguments leaves) (r.dependency_arguments_rule leaves) (λ x f g same.
+      choose_alike (accept leaves kinds.ParenR x.1) _ _ _ _
       (λ _. bind_alike (r.dependency_argument leaves x.0 x.1) _ _
-      (λ a is. inside_arguments_is x (x.0 ++ a.0 ∷ [], a.1) (past x.1 _ a (dependency_argument_goes x.0 x.1) is).0))
-      (λ _ _. refl)
+      (λ a is. same (x.0 ++ a.0 ∷ [], a.1) (past x.1 _ a (dependency_argument_goes x.0 x.1) is).0))
+      (λ _ _. refl)) x
 
   -- ---- dependencies
 
@@ -193,25 +168,14 @@ module _ {R T A B S : Type 0} (leaves : Leaves R T A B S) where
       recursive_keeps (λ (s : State R T B). length s.left) (r.no_dependencies leaves) (r.dependencies_rule leaves) (λ s found. Keeps s found) (λ s. tt)
       dependencies_rule_keeps
 
-  inside_dependencies : State R T B → State R T B → Read R T B Dependencies
-  inside_dependencies s = below (λ (s : State R T B). length s.left) (r.no_dependencies leaves) (r.dependencies_rule leaves) s (r.dependencies leaves)
-
-  dependencies_unfolded : (s : State R T B) → r.dependencies leaves s ≡ r.dependencies_rule leaves (inside_dependencies s) s
-  unfolding r.dependencies inside_dependencies
-  dependencies_unfolded s = recursive_is (λ (s : State R T B). length s.left) (r.no_dependencies leaves) (r.dependencies_rule leaves) s
-
-  inside_dependencies_is : (s t : State R T B) → length t.left < length s.left → inside_dependencies s t ≡ r.dependencies leaves t
-  unfolding inside_dependencies
-  inside_dependencies_is s t h =
-      below_smaller (λ (s : State R T B). length s.left) (r.no_dependencies leaves) (r.dependencies_rule leaves) s (r.dependencies leaves) t h
-
   pub dependencies_is : (s : State R T B) → r.dependencies leaves s ≡ r.dependencies_rule leaves (r.dependencies leaves) s
-  unfolding r.dependencies_rule
+  unfolding r.dependencies r.dependencies_rule
   dependencies_is s =
-      dependencies_unfolded s ∙ test_alike (r.begins_dependency leaves s) _ _ _ _
+      recursive_step (λ (s : State R T B). length s.left) (r.no_dependencies leaves) (r.dependencies_rule leaves) (λ s f g same.
+      test_alike (r.begins_dependency leaves s) _ _ _ _
       (λ _. bind_alike (r.dependency leaves s) _ _
-      (λ d is. ap (prepend (d.0 ∷ [])) (inside_dependencies_is s d.1 (past s _ d (dependency_goes s) is).0)))
-      (λ _. refl)
+      (λ d is. ap (prepend (d.0 ∷ [])) (same d.1 (past s _ d (dependency_goes s) is).0)))
+      (λ _. refl)) s
 
   some_dependency_keeps : (ds : Dependencies) (s : State R T B) → Keeps s (r.some_dependency leaves (ds, s))
   some_dependency_keeps [] s = tt
@@ -272,29 +236,14 @@ module _ {R T A B S : Type 0} (leaves : Leaves R T A B S) where
         recursive_keeps (λ (x : ParameterPlace). length x.1.left) (r.no_parameters leaves view rules) (r.singulars_rule leaves view rules)
         (λ x found. Keeps x.1 found) (λ x. tt) singulars_rule_keeps
 
-    inside_parameters : ParameterPlace → ParameterPlace → Read R T B Parameters
-    inside_parameters x =
-        below (λ (x : ParameterPlace). length x.1.left) (r.no_parameters leaves view rules) (r.singulars_rule leaves view rules) x
-        (r.singulars leaves view rules)
-
-    parameters_unfolded : (x : ParameterPlace) → r.singulars leaves view rules x ≡ r.singulars_rule leaves view rules (inside_parameters x) x
-    unfolding r.singulars inside_parameters
-    parameters_unfolded x =
-        recursive_is (λ (x : ParameterPlace). length x.1.left) (r.no_parameters leaves view rules) (r.singulars_rule leaves view rules) x
-
-    inside_parameters_is : (x y : ParameterPlace) → length y.1.left < length x.1.left → inside_parameters x y ≡ r.singulars leaves view rules y
-    unfolding inside_parameters
-    inside_parameters_is x y h =
-        below_smaller (λ (x : ParameterPlace). length x.1.left) (r.no_parameters leaves view rules) (r.singulars_rule leaves view rules) x
-        (r.singulars leaves view rules) y h
-
     pub singulars_is : (x : ParameterPlace) → r.singulars leaves view rules x ≡ r.singulars_rule leaves view rules (r.singulars leaves view rules) x
-    unfolding r.singulars_rule
+    unfolding r.singulars r.singulars_rule
     singulars_is x =
-        parameters_unfolded x ∙ test_alike (r.begins_parameter leaves x.1) _ _ _ _
+        recursive_step (λ (x : ParameterPlace). length x.1.left) (r.no_parameters leaves view rules) (r.singulars_rule leaves view rules) (λ x f g same.
+        test_alike (r.begins_parameter leaves x.1) _ _ _ _
         (λ _. bind_alike (r.parameter leaves view rules Singular x) _ _
-        (λ p is. inside_parameters_is x p (past x.1 _ p (parameter_goes Singular x) is).0))
-        (λ _. refl)
+        (λ p is. same p (past x.1 _ p (parameter_goes Singular x) is).0))
+        (λ _. refl)) x
 
     pub variadic_goes : (kind : ParameterKind) (x : ParameterPlace) → Goes x.1 (r.variadic leaves view rules kind x)
     unfolding r.variadic

@@ -1,5 +1,5 @@
 -- The parser of items and bodies, one rule at a time, and the steps of its loops.
-use Rattle.std.proofs.Common.{◌≡◌, ℕ, ◌<◌, true, false, Bool, ◌&&◌, cond, List, [], ◌∷◌, ◌++◌, length, drop, Option, Some, None, Ok, Err, codes, refl, sym, ap, ◌∙◌, arith}
+use Rattle.std.proofs.Common.{◌≡◌, ℕ, true, false, Bool, ◌&&◌, cond, List, [], ◌∷◌, ◌++◌, length, drop, Option, Some, None, Ok, Err, codes, refl, sym, ap, arith}
 use Rattle.std.proofs.lemmas.List.{append-nil, append_assoc, length-drop}
 use Rattle.justfile_vocabulary.specs.declared.item_kind.ItemKind.{ItemKind}
 use Rattle.justfile_vocabulary.specs.declared.item_kind.ItemKind.TheVariants as item_kinds
@@ -10,9 +10,8 @@ use Rattle.justfile_model.specs.Readers.HeaderReader.{next_binding_number, expre
 use Rattle.justfile_model.specs.Readers.PartReader.{accept_keyword_before, after_numbered, file_path, peek_assignment, is_imported, is_module, is_set, setting_keyword, line_is, names, optional_path, setting_value}
 use Rattle.justfile_model.specs.Grammars.Settings.{setting_form}
 use Rattle.justfile_model.specs.Grammars.Expressions.{front}
-use Rattle.justfile_model.specs.Readers.Reader.{CommentedBody, Start, alias, check_allowed, any_module, any_recipe, argument_rules, assignment, at_end, attributes, before_item, body, body_after, body_line, construct, content, next_recipe_number, item_end, fragment, function, has_body, import, imported, after_item, items, items_from, items_rule, line, line_end, line_rest, line_rest_rule, lines, lines_rule, named_module, check_exclusions, no_items, no_line_rest, no_lines, any_item, optional_body, recipe, setting, some_lines, stands_alone, unexport, without_keyword}
+use Rattle.justfile_model.specs.Readers.Reader.{CommentedBody, alias, check_allowed, any_module, any_recipe, argument_rules, assignment, at_end, attributes, before_item, body, body_after, body_line, construct, content, next_recipe_number, item_end, fragment, function, has_body, import, imported, after_item, items, items_from, items_rule, line, line_end, line_rest, line_rest_rule, lines, lines_rule, named_module, check_exclusions, no_items, no_line_rest, no_lines, any_item, optional_body, recipe, setting, some_lines, stands_alone, unexport, without_keyword}
 use Rattle.justfile_model.specs.Readers.ReaderState.{◌>>=◌, Counters, Leaves, Read, ReadError, State, Taken, accept, accept_by, accepted, prepend, at, begin_with, choose, expect, next_are, same_kind}
-use Rattle.justfile_model.specs.Lists.Recursive.{below}
 use Rattle.justfile_model.specs.Trees.Tree.{Fragment, BodyLine, Item, trimmed}
 use Rattle.justfile_model.proofs.Readers.AttributeReading.{attribute_lines_keep}
 use Rattle.justfile_model.proofs.Readers.HeaderReading.{accepted_keeps, header_goes, obeying_keeps, path_goes}
@@ -21,7 +20,7 @@ use Rattle.justfile_model.proofs.Readers.PartReading.{accepts_before, file_path_
 use Rattle.justfile_model.proofs.Lists.Prepended.{after_goes, after_keeps}
 pub use Rattle.justfile_model.proofs.Lists.Prepended.{after_begin, after_nothing, after_refused, after_regroups}
 use Rattle.justfile_model.proofs.Readers.ReadingSteps.{ItemRest, Goes, Keeps, accepts, after_test, bind_alike, choose_alike, either, either_goes, expects, first, from_there, goes_after, keeps, past, test_alike, then, then_goes, there}
-use Rattle.justfile_model.proofs.Lists.Turns.{below_smaller, recursive_is, recursive_keeps}
+use Rattle.justfile_model.proofs.Lists.Turns.{recursive_keeps, recursive_step}
 
 -- ---- what was read before, and what is read after it
 
@@ -75,24 +74,14 @@ module _ {R T A B S : Type 0} (leaves : Leaves R T A B S) where
 
   -- ---- the rule of lines of a body
 
-  inside_line : State R T B → State R T B → Read R T B (List (Fragment A B))
-  inside_line s = below (λ s. length s.left) (no_line_rest leaves) (line_rest_rule leaves) s (line_rest leaves)
-
-  line_unfolded : (s : State R T B) → line_rest leaves s ≡ line_rest_rule leaves (inside_line s) s
-  unfolding line_rest inside_line
-  line_unfolded s = recursive_is (λ s. length s.left) (no_line_rest leaves) (line_rest_rule leaves) s
-
-  inside_line_is : (s t : State R T B) → length t.left < length s.left → inside_line s t ≡ line_rest leaves t
-  unfolding inside_line
-  inside_line_is s t h = below_smaller (λ s. length s.left) (no_line_rest leaves) (line_rest_rule leaves) s (line_rest leaves) t h
-
   pub line_rest_is : (s : State R T B) → line_rest leaves s ≡ line_rest_rule leaves (line_rest leaves) s
-  unfolding line_rest_rule
+  unfolding line_rest line_rest_rule
   line_rest_is s =
-      line_unfolded s ∙ choose_alike (accept leaves kinds.Eol s) _ _ _ _
+      recursive_step (λ s. length s.left) (no_line_rest leaves) (line_rest_rule leaves) (λ s f g same.
+      choose_alike (accept leaves kinds.Eol s) _ _ _ _
       (λ _. test_alike (next_are leaves (kinds.Dedent ∷ []) s) _ _ _ _ (λ _. refl)
-      (λ _. bind_alike (fragment leaves s) _ _ (λ f is. ap (prepend (f.0 ∷ [])) (inside_line_is s f.1 (past s _ f (fragment_goes s) is).0))))
-      (λ _ _. refl)
+      (λ _. bind_alike (fragment leaves s) _ _ (λ f is. ap (prepend (f.0 ∷ [])) (same f.1 (past s _ f (fragment_goes s) is).0))))
+      (λ _ _. refl)) s
 
   -- a token that comes next is taken
   next_taken : (kind : TokenKind) (s : State R T B) → accept leaves kind s ≡ None → next_are leaves (kind ∷ []) s ≡ true → ⊥
@@ -135,23 +124,13 @@ module _ {R T A B S : Type 0} (leaves : Leaves R T A B S) where
   unfolding lines
   lines_go = recursive_keeps (λ s. length s.left) (no_lines leaves) (lines_rule leaves) (λ s found. Goes s found) (λ s. tt) lines_rule_go
 
-  inside_body : State R T B → State R T B → Read R T B (List (BodyLine A B ℕ))
-  inside_body s = below (λ s. length s.left) (no_lines leaves) (lines_rule leaves) s (lines leaves)
-
-  body_unfolded : (s : State R T B) → lines leaves s ≡ lines_rule leaves (inside_body s) s
-  unfolding lines inside_body
-  body_unfolded s = recursive_is (λ s. length s.left) (no_lines leaves) (lines_rule leaves) s
-
-  inside_body_is : (s t : State R T B) → length t.left < length s.left → inside_body s t ≡ lines leaves t
-  unfolding inside_body
-  inside_body_is s t h = below_smaller (λ s. length s.left) (no_lines leaves) (lines_rule leaves) s (lines leaves) t h
-
   pub lines_is : (s : State R T B) → lines leaves s ≡ lines_rule leaves (lines leaves) s
-  unfolding lines_rule
+  unfolding lines lines_rule
   lines_is s =
-      body_unfolded s ∙ choose_alike (accept leaves kinds.Dedent s) _ _ _ _
-      (λ not. bind_alike (body_line leaves s) _ _ (λ l is. ap (prepend (l.0 ∷ [])) (inside_body_is s l.1 (past s _ l (body_line_goes s not) is).0)))
-      (λ _ _. refl)
+      recursive_step (λ s. length s.left) (no_lines leaves) (lines_rule leaves) (λ s f g same.
+      choose_alike (accept leaves kinds.Dedent s) _ _ _ _
+      (λ not. bind_alike (body_line leaves s) _ _ (λ l is. ap (prepend (l.0 ∷ [])) (same l.1 (past s _ l (body_line_goes s not) is).0)))
+      (λ _ _. refl)) s
 
   some_keeps : (ls : List (BodyLine A B ℕ)) (s : State R T B) → Keeps s (some_lines leaves ls s)
   some_keeps [] s = tt
@@ -399,23 +378,13 @@ module _ {R T A B S D W : Type 0} (leaves : Leaves R T A B S) (kept : AttributeL
 
   -- ---- the rule of items
 
-  inside : Start leaves kept → Start leaves kept → Read R T B (List (Item A B ℕ S D) × Counters)
-  inside x = below (λ x. length x.1.left) (no_items leaves kept) (items_rule leaves kept) x (items_from leaves kept)
-
-  unfolded : (x : Start leaves kept) → items_from leaves kept x ≡ items_rule leaves kept (inside x) x
-  unfolding items_from inside
-  unfolded x = recursive_is (λ x. length x.1.left) (no_items leaves kept) (items_rule leaves kept) x
-
-  inside_is : (x y : Start leaves kept) → length y.1.left < length x.1.left → inside x y ≡ items_from leaves kept y
-  unfolding inside
-  inside_is x y h = below_smaller (λ x. length x.1.left) (no_items leaves kept) (items_rule leaves kept) x (items_from leaves kept) y h
-
   pub items_is : (n : Counters) (s : State R T B) → items leaves kept n s ≡ items_rule leaves kept (items_from leaves kept) (n, s)
-  unfolding items_rule
+  unfolding items_from items_rule
   items_is n s =
-      unfolded (n, s) ∙ choose_alike (accept leaves kinds.Eof s) _ _ _ _
-      (λ _. bind_alike (line leaves kept n s) _ _ (λ l is. ap (after_numbered l.0.0) (inside_is (n, s) (l.0.1, l.1) (past s _ l (line_goes n s) is).0)))
-      (λ _ _. refl)
+      recursive_step (λ x. length x.1.left) (no_items leaves kept) (items_rule leaves kept) (λ x f g same.
+      choose_alike (accept leaves kinds.Eof x.1) _ _ _ _
+      (λ _. bind_alike (line leaves kept x.0 x.1) _ _ (λ l is. ap (after_numbered l.0.0) (same (l.0.1, l.1) (past x.1 _ l (line_goes x.0 x.1) is).0)))
+      (λ _ _. refl)) (n, s)
 
   -- ---- a loop over items: `done` was read before, and `s` is what is left
 

@@ -1,5 +1,5 @@
 -- The parsers of the parts of items, one rule at a time: they leave fewer tokens, and the same fixed part and depth.
-use Rattle.std.proofs.Common.{◌≡◌, ℕ, ◌<◌, Bool, true, false, cond, List, [], ◌∷◌, length, Option, Some, None, Ok, Err, codes, refl, sym, ap, ◌∙◌}
+use Rattle.std.proofs.Common.{◌≡◌, ℕ, Bool, true, false, cond, List, [], ◌∷◌, length, Option, Some, None, Ok, Err, codes, refl, sym, ap}
 use Rattle.justfile_vocabulary.specs.Keyword.{keyword_named}
 use Rattle.justfile_vocabulary.specs.declared.keyword.Keyword.{Keyword}
 use Rattle.justfile_vocabulary.specs.declared.token_kind.TokenKind.TheVariants as kinds
@@ -8,8 +8,7 @@ use Rattle.justfile_model.specs.Readers.HeaderReader.{next_binding_number, expre
 use Rattle.justfile_model.specs.LiteralTexts.Literals.{string_of}
 use Rattle.justfile_model.specs.Readers.PartReader as r
 use Rattle.justfile_model.specs.Readers.PartReader.{accept_keyword_before, after_numbered}
-use Rattle.justfile_model.specs.Readers.ReaderState.{◌>>=◌, Counters, Leaves, Read, State, Taken, accept, accept_keyword, choose, expect, is_word}
-use Rattle.justfile_model.specs.Lists.Recursive.{below}
+use Rattle.justfile_model.specs.Readers.ReaderState.{◌>>=◌, Counters, Leaves, Read, State, Taken, accept, accept_keyword, expect, is_word}
 use Rattle.justfile_model.specs.Meanings.SettingRules.{value_broken}
 use Rattle.justfile_model.specs.Grammars.Settings.{ExpressionForm, InterpreterForm, PlainForm, SettingForm, TruthForm}
 use Rattle.justfile_model.specs.Trees.LeafView.{LeafView}
@@ -17,8 +16,8 @@ use Rattle.justfile_model.specs.Trees.Tree as tree
 use Rattle.justfile_model.specs.Trees.Tree.{Exprs, Quoted, SettingValue}
 use Rattle.justfile_model.proofs.Readers.ExpressionReading.{advances}
 use Rattle.justfile_model.proofs.Readers.HeaderReading.{binding_keeps, expression_goes, obeying_keeps}
-use Rattle.justfile_model.proofs.Readers.ReadingSteps.{Goes, ItemRest, Keeps, Past, Takes, accepts, accepts_word, after_test, bind_alike, choose_alike, cooks, either, either_goes, expects, first, keeps, past, past_then, then, then_goes, there, weaken}
-use Rattle.justfile_model.proofs.Lists.Turns.{below_smaller, recursive_is, recursive_keeps}
+use Rattle.justfile_model.proofs.Readers.ReadingSteps.{Goes, Keeps, Past, Takes, accepts, accepts_word, after_test, bind_alike, choose_alike, cooks, either, either_goes, expects, first, keeps, past, past_then, then, then_goes, there, weaken}
+use Rattle.justfile_model.proofs.Lists.Turns.{recursive_keeps, recursive_step}
 
 module _ {R T B X : Type 0} where
   pub numbered_keeps : (done : List X) (s : State R T B) (found : Read R T B (List X × Counters)) → Keeps s found → Keeps s (after_numbered done found)
@@ -96,26 +95,16 @@ module _ {R T A B S : Type 0} (leaves : Leaves R T A B S) where
   names_go =
       recursive_keeps (λ (x : NamesPlace). length x.1.left) (r.no_names leaves) (r.names_rule leaves) (λ x found. Goes x.1 found) (λ x. tt) names_rule_goes
 
-  inside_names : NamesPlace → NamesPlace → ReadNames
-  inside_names x = below (λ (x : NamesPlace). length x.1.left) (r.no_names leaves) (r.names_rule leaves) x (r.names leaves)
-
-  names_unfolded : (x : NamesPlace) → r.names leaves x ≡ r.names_rule leaves (inside_names x) x
-  unfolding r.names inside_names
-  names_unfolded x = recursive_is (λ (x : NamesPlace). length x.1.left) (r.no_names leaves) (r.names_rule leaves) x
-
-  inside_names_is : (x y : NamesPlace) → length y.1.left < length x.1.left → inside_names x y ≡ r.names leaves y
-  unfolding inside_names
-  inside_names_is x y h = below_smaller (λ (x : NamesPlace). length x.1.left) (r.no_names leaves) (r.names_rule leaves) x (r.names leaves) y h
-
   pub names_is : (x : NamesPlace) → r.names leaves x ≡ r.names_rule leaves (r.names leaves) x
-  unfolding r.names_rule
+  unfolding r.names r.names_rule
   names_is x =
-      names_unfolded x ∙ choose_alike (accept leaves kinds.ParenR x.1) _ _ _ _
+      recursive_step (λ (x : NamesPlace). length x.1.left) (r.no_names leaves) (r.names_rule leaves) (λ x f g same.
+      choose_alike (accept leaves kinds.ParenR x.1) _ _ _ _
       (λ _. bind_alike (r.numbered_name leaves x.0 x.1) _ _ (λ name is. ap (after_numbered (name.0.0 ∷ []))
       (choose_alike (accept leaves kinds.Comma name.1) _ _ _ _ (λ _. refl)
-      (λ comma taken. inside_names_is x (name.0.1, comma.1)
+      (λ comma taken. same (name.0.1, comma.1)
       (past_then x.1 name.1 comma.1 (past x.1 _ name (numbered_name_goes x.0 x.1) is) (weaken name.1 comma.1 (accepts leaves kinds.Comma name.1 comma taken))).0))))
-      (λ _ _. refl)
+      (λ _ _. refl)) x
 
   -- ---- settings
 

@@ -280,22 +280,14 @@ module _ (s : State) (P : TakenOperator → Type 0) where
     where
       one : (o : Operator) (t : SignificantToken) (rest : Tokens) → is_at levels.Expression o ≡ true → s.left ≡ t ∷ rest → IsKind (operator_token o) t → P (Some (o, t, at s rest))
       one operators.Or t rest fits = here t rest
-      one operators.And t rest fits = cc
-      one (operators.Compare by) t rest fits = cc
-      one operators.Join t rest fits = cc
-      one operators.ListConcatenation t rest fits = cc
-      one operators.Concatenation t rest fits = cc
+      one _ t rest fits = cc
 
   pub after_and : (NotNext kinds.AmpersandAmpersand s.left → P None) → ((t : SignificantToken) (rest : Tokens) → s.left ≡ t ∷ rest → IsKind kinds.AmpersandAmpersand t → P (Some (operators.And, t, at s rest))) → P (accept_operator token_leaves levels.Disjunct s)
   after_and not_here here = after_operator levels.Disjunct s P (λ apart. not_here (apart operators.And refl)) one
     where
       one : (o : Operator) (t : SignificantToken) (rest : Tokens) → is_at levels.Disjunct o ≡ true → s.left ≡ t ∷ rest → IsKind (operator_token o) t → P (Some (o, t, at s rest))
       one operators.And t rest fits = here t rest
-      one operators.Or t rest fits = cc
-      one (operators.Compare by) t rest fits = cc
-      one operators.Join t rest fits = cc
-      one operators.ListConcatenation t rest fits = cc
-      one operators.Concatenation t rest fits = cc
+      one _ t rest fits = cc
 
   pub after_comparison : (NotCompared s.left → P None) → ((by : ConditionalOperator) (t : SignificantToken) (rest : Tokens) → s.left ≡ t ∷ rest → IsKind (operator_kind by) t → P (Some (operators.Compare by, t, at s rest)))
       → P (accept_operator token_leaves levels.Compared s)
@@ -311,11 +303,7 @@ module _ (s : State) (P : TakenOperator → Type 0) where
 
       one : (o : Operator) (t : SignificantToken) (rest : Tokens) → is_at levels.Compared o ≡ true → s.left ≡ t ∷ rest → IsKind (operator_token o) t → P (Some (o, t, at s rest))
       one (operators.Compare by) t rest fits = here by t rest
-      one operators.Or t rest fits = cc
-      one operators.And t rest fits = cc
-      one operators.Join t rest fits = cc
-      one operators.ListConcatenation t rest fits = cc
-      one operators.Concatenation t rest fits = cc
+      one _ t rest fits = cc
 
   pub after_joined : (NotJoined s.left → P None)
       → ((t : SignificantToken) (rest : Tokens) → s.left ≡ t ∷ rest → IsKind kinds.Slash t → P (Some (operators.Join, t, at s rest)))
@@ -331,9 +319,7 @@ module _ (s : State) (P : TakenOperator → Type 0) where
       one operators.Join t rest fits = join t rest
       one operators.ListConcatenation t rest fits = lists t rest
       one operators.Concatenation t rest fits = texts t rest
-      one operators.Or t rest fits = cc
-      one operators.And t rest fits = cc
-      one (operators.Compare by) t rest fits = cc
+      one _ t rest fits = cc
 
 pub operator_taken : (level : Level) (o : Operator) (t : SignificantToken) (ts : Tokens) (C : Conditions) (d : ℕ) (ns : List (Noted Tok)) → is_at level o ≡ true → IsKind (operator_token o) t → accept_operator token_leaves level (input C d (t ∷ ts) ns) ≡ Some (o, t, input C d ts ns)
 unfolding accept_operator
@@ -347,35 +333,21 @@ operator_left level ts C d ns apart =
 
 pub no_or : (ts : Tokens) → NotNext kinds.BarBar ts → NoOperator levels.Expression ts
 no_or ts h operators.Or fits = h
-no_or ts h operators.And fits = cc
-no_or ts h (operators.Compare by) fits = cc
-no_or ts h operators.Join fits = cc
-no_or ts h operators.ListConcatenation fits = cc
-no_or ts h operators.Concatenation fits = cc
+no_or ts h _ fits = cc
 
 pub no_and : (ts : Tokens) → NotNext kinds.AmpersandAmpersand ts → NoOperator levels.Disjunct ts
 no_and ts h operators.And fits = h
-no_and ts h operators.Or fits = cc
-no_and ts h (operators.Compare by) fits = cc
-no_and ts h operators.Join fits = cc
-no_and ts h operators.ListConcatenation fits = cc
-no_and ts h operators.Concatenation fits = cc
+no_and ts h _ fits = cc
 
 pub no_comparison : (ts : Tokens) → NotCompared ts → NoOperator levels.Compared ts
 no_comparison ts h (operators.Compare Equality) fits = h.equality
 no_comparison ts h (operators.Compare Inequality) fits = h.inequality
 no_comparison ts h (operators.Compare RegexMatch) fits = h.regex_match
 no_comparison ts h (operators.Compare RegexMismatch) fits = h.regex_mismatch
-no_comparison ts h operators.Or fits = cc
-no_comparison ts h operators.And fits = cc
-no_comparison ts h operators.Join fits = cc
-no_comparison ts h operators.ListConcatenation fits = cc
-no_comparison ts h operators.Concatenation fits = cc
+no_comparison ts h _ fits = cc
 
 pub no_joined : (ts : Tokens) → NotJoined ts → NoOperator levels.Conjunct ts
 no_joined ts h operators.Join fits = h.join
 no_joined ts h operators.ListConcatenation fits = h.list_concatenation
 no_joined ts h operators.Concatenation fits = h.concatenation
-no_joined ts h operators.Or fits = cc
-no_joined ts h operators.And fits = cc
-no_joined ts h (operators.Compare by) fits = cc
+no_joined ts h _ fits = cc

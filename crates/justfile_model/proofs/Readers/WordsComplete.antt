@@ -1,11 +1,12 @@
 -- The next tokens by which the parser recognizes a construct that begins with a keyword.
-use Rattle.std.proofs.Common.{◌≡◌, ℕ, Bool, true, false, ◌||◌, List, [], ◌∷◌, Option, Some, None, codes, refl, sym, ap, ◌∙◌, ◌⊎◌, inl, inr}
+use Rattle.std.proofs.Common.{◌≡◌, ℕ, Bool, true, false, ◌||◌, if◌then◌else◌, List, [], ◌∷◌, Option, Some, None, codes, refl, sym, ap, subst, ◌∙◌}
 use Rattle.std.proofs.lemmas.Slice.Eq.{bytes_eq-Decides}
+use Rattle.std.specs.List.{AllByRecursion}
 use Rattle.std.specs.Str.{bytes_eq}
 use Rattle.justfile_vocabulary.specs.declared.token_kind.TokenKind.{TokenKind}
 use Rattle.justfile_vocabulary.specs.declared.token_kind.TokenKind.TheVariants as kinds
 use Rattle.justfile_model.specs.Grammars.Conditions.{Conditions}
-use Rattle.justfile_model.specs.Grammars.Expressions.{Tokens, IsKind, IsWord, NotNext, NotWord}
+use Rattle.justfile_model.specs.Grammars.Expressions.{Tokens, IsKind, IsWord}
 use Rattle.justfile_model.specs.Grammars.Features.{Noted}
 use Rattle.justfile_model.specs.Grammars.Headers as g
 use Rattle.justfile_model.specs.Grammars.Headers.{NamedParameter, ParameterOf, Parameters}
@@ -14,13 +15,13 @@ use Rattle.justfile_model.specs.Grammars.ItemParts.{EndsLine, FilePath}
 use Rattle.justfile_model.specs.Readers.PartReader as r
 use Rattle.justfile_model.specs.Meanings.ReadAttribute.{ReadAttribute}
 use Rattle.justfile_model.specs.Readers.Reader.{alias, any_module, assignment, content, import, setting, unexport, without_keyword}
-use Rattle.justfile_model.specs.Readers.ReaderState.{Counters, accept_keyword}
+use Rattle.justfile_model.specs.Readers.ReaderState.{Counters, accept_keyword, choose}
 use Rattle.justfile_model.specs.Lexing.SignificantTokens.{SignificantToken}
 use Rattle.justfile_model.specs.Lexing.Tok.{Tok}
-use Rattle.justfile_model.specs.Trees.Tree.{Expr, Parameter, Quoted}
-use Rattle.justfile_model.specs.Readers.TreeReader.{State, Taken, token_attributes, token_leaves}
-use Rattle.justfile_model.proofs.Completeness.HeaderCovers.{not_there}
-use Rattle.justfile_model.proofs.Readers.Steps.{AreNext, after_word, input, is_false, next_left, next_taken, word_is, word_left, word_taken}
+use Rattle.justfile_model.specs.Trees.Tree.{Item, Parameter, WrittenAttribute}
+use Rattle.justfile_model.specs.Readers.TreeReader.{Read, State, Taken, token_attributes, token_leaves}
+use Rattle.justfile_model.proofs.Lists.AllParts.{all_have, each_of}
+use Rattle.justfile_model.proofs.Readers.Steps.{AreNext, after_word, input, next_left, next_taken, word_left, word_taken}
 
 true_not_false : (b : Bool) → b ≡ true → b ≡ false → ⊥
 true_not_false b h k = cc
@@ -233,20 +234,64 @@ module _ (conditions : Conditions) (ns : List (Noted Tok)) where
 
   -- ---- which construct is read
 
+  -- a keyword, what has to follow it, and what is read after it then
+  record Row (X : Type 0) : Type 0 where
+    word : List ℕ
+    follows : State → Bool
+    read : State → X
+
+  module _ {X : Type 0} (otherwise : X) (t : SignificantToken) (ts : Tokens) where
+    abbrev accepted : Row X → Taken
+    accepted row = r.accept_keyword_before token_leaves row.word row.follows (here (t ∷ ts))
+
+    -- by the first row whose keyword comes next, before what has to follow it
+    abbrev chosen : List (Row X) → X
+    chosen [] = otherwise
+    chosen (row ∷ rows) = choose (accepted row) (chosen rows) (λ x. row.read x.1)
+
+    none_chosen : (rows : List (Row X)) → AllByRecursion (λ row. accepted row ≡ None) rows → chosen rows ≡ otherwise
+    none_chosen [] h = refl
+    none_chosen (row ∷ rows) h = rw h.0 (none_chosen rows h.1)
+
+    module _ (word : List ℕ) where
+      -- what the word's row says of the next tokens, and what is read by it
+      abbrev follows_it : List (Row X) → Bool
+      follows_it [] = false
+      follows_it (row ∷ rows) = if bytes_eq word row.word then row.follows (here ts) else follows_it rows
+
+      abbrev read_by_it : List (Row X) → X
+      read_by_it [] = otherwise
+      read_by_it (row ∷ rows) = if bytes_eq word row.word then row.read (here ts) else read_by_it rows
+
+      word_chosen : IsWord word t → (rows : List (Row X)) → follows_it rows ≡ true → chosen rows ≡ read_by_it rows
+      word_chosen is [] h = refl
+      word_chosen is (row ∷ rows) h = go (bytes_eq word row.word) refl h (word_chosen is rows)
+        where
+          go : (same : Bool) → bytes_eq word row.word ≡ same → (if same then row.follows (here ts) else follows_it rows) ≡ true
+              → (follows_it rows ≡ true → chosen rows ≡ read_by_it rows) → chosen (row ∷ rows) ≡ (if same then row.read (here ts) else read_by_it rows)
+          go true e h k = rw (word_met row.word row.follows t ts (subst (λ w. IsWord w t) ((bytes_eq-Decides word row.word).0 e) is) h) refl
+          go false e h k = rw (other_word word row.word row.follows t ts is e) (k h)
+
   module _ (xs : List ReadAttribute) (n : Counters) where
+    abbrev rows : List (Row (Read (Item Tok Tok ℕ Tok (List (WrittenAttribute Tok Tok)) × Counters)))
+    rows =
+        record { word = codes "alias"; follows = r.peek_assignment token_leaves; read = alias token_leaves token_attributes xs n }
+        ∷ record { word = codes "eager"; follows = r.peek_assignment token_leaves; read = assignment token_leaves token_attributes true false xs n }
+        ∷ record { word = codes "export"; follows = r.peek_assignment token_leaves; read = assignment token_leaves token_attributes false true xs n }
+        ∷ record { word = codes "unexport"; follows = r.line_is token_leaves (kinds.Identifier ∷ []); read = unexport token_leaves token_attributes xs n }
+        ∷ record { word = codes "import"; follows = r.is_imported token_leaves; read = import token_leaves token_attributes xs n }
+        ∷ record { word = codes "mod"; follows = r.is_module token_leaves; read = any_module token_leaves token_attributes xs n }
+        ∷ record { word = codes "set"; follows = r.is_set token_leaves; read = setting token_leaves token_attributes xs n }
+        ∷ []
+
+    abbrev wordless : SignificantToken → Tokens → Read (Item Tok Tok ℕ Tok (List (WrittenAttribute Tok Tok)) × Counters)
+    wordless t ts = without_keyword token_leaves token_attributes xs n (here (t ∷ ts))
+
     pub no_word_read : (t : SignificantToken) (ts : Tokens) → (IsKind kinds.Identifier t → ⊥)
         → content token_leaves token_attributes xs n (here (t ∷ ts)) ≡ without_keyword token_leaves token_attributes xs n (here (t ∷ ts))
     unfolding content
     no_word_read t ts not =
-        rw (
-          no_name (codes "alias") (r.peek_assignment token_leaves) t ts not,
-          no_name (codes "eager") (r.peek_assignment token_leaves) t ts not,
-          no_name (codes "export") (r.peek_assignment token_leaves) t ts not,
-          no_name (codes "unexport") (r.line_is token_leaves (kinds.Identifier ∷ [])) t ts not,
-          no_name (codes "import") (r.is_imported token_leaves) t ts not,
-          no_name (codes "mod") (r.is_module token_leaves) t ts not,
-          no_name (codes "set") (r.is_set token_leaves) t ts not,
-        ) refl
+        none_chosen (wordless t ts) t ts rows (all_have (λ row. accepted (wordless t ts) t ts row ≡ None) (λ row. no_name row.word row.follows t ts not) rows)
 
     pub wordless_read : (t : SignificantToken) (ts : Tokens) → r.peek_assignment token_leaves (here ts) ≡ false
         → r.line_is token_leaves (kinds.Identifier ∷ []) (here ts) ≡ false → r.is_imported token_leaves (here ts) ≡ false
@@ -254,90 +299,16 @@ module _ (conditions : Conditions) (ns : List (Noted Tok)) where
         → content token_leaves token_attributes xs n (here (t ∷ ts)) ≡ without_keyword token_leaves token_attributes xs n (here (t ∷ ts))
     unfolding content
     wordless_read t ts a l i m s =
-        rw (
-          unfollowed (codes "alias") (r.peek_assignment token_leaves) t ts a,
-          unfollowed (codes "eager") (r.peek_assignment token_leaves) t ts a,
-          unfollowed (codes "export") (r.peek_assignment token_leaves) t ts a,
-          unfollowed (codes "unexport") (r.line_is token_leaves (kinds.Identifier ∷ [])) t ts l,
-          unfollowed (codes "import") (r.is_imported token_leaves) t ts i,
-          unfollowed (codes "mod") (r.is_module token_leaves) t ts m,
-          unfollowed (codes "set") (r.is_set token_leaves) t ts s,
-        ) refl
+        none_chosen (wordless t ts) t ts rows
+        (each_of (λ row. row.follows (here ts) ≡ false) (λ row. accepted (wordless t ts) t ts row ≡ None) (λ row. unfollowed row.word row.follows t ts) rows
+        (a, (a, (a, (l, (i, (m, (s, tt))))))))
 
     pub none_read : (t : SignificantToken) (ts : Tokens) → NoneFollows ts
         → content token_leaves token_attributes xs n (here (t ∷ ts)) ≡ without_keyword token_leaves token_attributes xs n (here (t ∷ ts))
     none_read t ts none = wordless_read t ts (assigned_left ts none) (line_left ts none) (imported_left ts none) (module_left ts none) (set_left ts none)
 
-    pub alias_read : (t : SignificantToken) (ts : Tokens) → IsWord (codes "alias") t → r.peek_assignment token_leaves (here ts) ≡ true
-        → content token_leaves token_attributes xs n (here (t ∷ ts)) ≡ alias token_leaves token_attributes xs n (here ts)
+    -- a keyword before what has to follow it
+    pub keyword_read : (word : List ℕ) (t : SignificantToken) (ts : Tokens) → IsWord word t → follows_it (wordless t ts) t ts word rows ≡ true
+        → content token_leaves token_attributes xs n (here (t ∷ ts)) ≡ read_by_it (wordless t ts) t ts word rows
     unfolding content
-    alias_read t ts is h = rw (word_met (codes "alias") (r.peek_assignment token_leaves) t ts is h) refl
-
-    pub eager_read : (t : SignificantToken) (ts : Tokens) → IsWord (codes "eager") t → r.peek_assignment token_leaves (here ts) ≡ true
-        → content token_leaves token_attributes xs n (here (t ∷ ts)) ≡ assignment token_leaves token_attributes true false xs n (here ts)
-    unfolding content
-    eager_read t ts is h =
-        rw (
-          other_word (codes "eager") (codes "alias") (r.peek_assignment token_leaves) t ts is refl,
-          word_met (codes "eager") (r.peek_assignment token_leaves) t ts is h,
-        ) refl
-
-    pub export_read : (t : SignificantToken) (ts : Tokens) → IsWord (codes "export") t → r.peek_assignment token_leaves (here ts) ≡ true
-        → content token_leaves token_attributes xs n (here (t ∷ ts)) ≡ assignment token_leaves token_attributes false true xs n (here ts)
-    unfolding content
-    export_read t ts is h =
-        rw (
-          other_word (codes "export") (codes "alias") (r.peek_assignment token_leaves) t ts is refl,
-          other_word (codes "export") (codes "eager") (r.peek_assignment token_leaves) t ts is refl,
-          word_met (codes "export") (r.peek_assignment token_leaves) t ts is h,
-        ) refl
-
-    pub unexport_read : (t : SignificantToken) (ts : Tokens) → IsWord (codes "unexport") t → r.line_is token_leaves (kinds.Identifier ∷ []) (here ts) ≡ true
-        → content token_leaves token_attributes xs n (here (t ∷ ts)) ≡ unexport token_leaves token_attributes xs n (here ts)
-    unfolding content
-    unexport_read t ts is h =
-        rw (
-          other_word (codes "unexport") (codes "alias") (r.peek_assignment token_leaves) t ts is refl,
-          other_word (codes "unexport") (codes "eager") (r.peek_assignment token_leaves) t ts is refl,
-          other_word (codes "unexport") (codes "export") (r.peek_assignment token_leaves) t ts is refl,
-          word_met (codes "unexport") (r.line_is token_leaves (kinds.Identifier ∷ [])) t ts is h,
-        ) refl
-
-    pub import_read : (t : SignificantToken) (ts : Tokens) → IsWord (codes "import") t → r.is_imported token_leaves (here ts) ≡ true
-        → content token_leaves token_attributes xs n (here (t ∷ ts)) ≡ import token_leaves token_attributes xs n (here ts)
-    unfolding content
-    import_read t ts is h =
-        rw (
-          other_word (codes "import") (codes "alias") (r.peek_assignment token_leaves) t ts is refl,
-          other_word (codes "import") (codes "eager") (r.peek_assignment token_leaves) t ts is refl,
-          other_word (codes "import") (codes "export") (r.peek_assignment token_leaves) t ts is refl,
-          other_word (codes "import") (codes "unexport") (r.line_is token_leaves (kinds.Identifier ∷ [])) t ts is refl,
-          word_met (codes "import") (r.is_imported token_leaves) t ts is h,
-        ) refl
-
-    pub module_read : (t : SignificantToken) (ts : Tokens) → IsWord (codes "mod") t → r.is_module token_leaves (here ts) ≡ true
-        → content token_leaves token_attributes xs n (here (t ∷ ts)) ≡ any_module token_leaves token_attributes xs n (here ts)
-    unfolding content
-    module_read t ts is h =
-        rw (
-          other_word (codes "mod") (codes "alias") (r.peek_assignment token_leaves) t ts is refl,
-          other_word (codes "mod") (codes "eager") (r.peek_assignment token_leaves) t ts is refl,
-          other_word (codes "mod") (codes "export") (r.peek_assignment token_leaves) t ts is refl,
-          other_word (codes "mod") (codes "unexport") (r.line_is token_leaves (kinds.Identifier ∷ [])) t ts is refl,
-          other_word (codes "mod") (codes "import") (r.is_imported token_leaves) t ts is refl,
-          word_met (codes "mod") (r.is_module token_leaves) t ts is h,
-        ) refl
-
-    pub setting_read : (t : SignificantToken) (ts : Tokens) → IsWord (codes "set") t → r.is_set token_leaves (here ts) ≡ true
-        → content token_leaves token_attributes xs n (here (t ∷ ts)) ≡ setting token_leaves token_attributes xs n (here ts)
-    unfolding content
-    setting_read t ts is h =
-        rw (
-          other_word (codes "set") (codes "alias") (r.peek_assignment token_leaves) t ts is refl,
-          other_word (codes "set") (codes "eager") (r.peek_assignment token_leaves) t ts is refl,
-          other_word (codes "set") (codes "export") (r.peek_assignment token_leaves) t ts is refl,
-          other_word (codes "set") (codes "unexport") (r.line_is token_leaves (kinds.Identifier ∷ [])) t ts is refl,
-          other_word (codes "set") (codes "import") (r.is_imported token_leaves) t ts is refl,
-          other_word (codes "set") (codes "mod") (r.is_module token_leaves) t ts is refl,
-          word_met (codes "set") (r.is_set token_leaves) t ts is h,
-        ) refl
+    keyword_read word t ts is h = word_chosen (wordless t ts) t ts word is rows h

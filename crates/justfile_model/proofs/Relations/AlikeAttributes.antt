@@ -120,24 +120,7 @@ module _ {R T A B S D R' T' A' B' S' D' : Type 0} (rel : Relations R T A B S D R
   pub quoted_alike : {e : Expr A B} {e' : Expr A' B'} → Alike rel e e' → AlikeOption (AlikeQuoted rel) (quoted e) (quoted e')
   quoted_alike (a.string lexeme l) = present (record { expanded = refl; lexeme = lexeme; token = l })
   quoted_alike (a.or l r) = absent
-  quoted_alike (a.and l r) = absent
-  quoted_alike (a.comparison l b r) = absent
-  quoted_alike (a.concatenation l b r) = absent
-  quoted_alike (a.list_concatenation l b r) = absent
-  quoted_alike (a.join l b r) = absent
-  quoted_alike (a.root b r) = absent
-  quoted_alike (a.if_only c e) = absent
-  quoted_alike (a.if_else c e o) = absent
-  quoted_alike (a.not e) = absent
-  quoted_alike (a.format_literal lexeme l) = absent
-  quoted_alike (a.format_string lexeme l e ps) = absent
-  quoted_alike (a.backtick lexeme l) = absent
-  quoted_alike (a.assert b c) = absent
-  quoted_alike (a.assert_message b c m) = absent
-  quoted_alike (a.variable n) = absent
-  quoted_alike (a.call n es) = absent
-  quoted_alike (a.group e) = absent
-  quoted_alike (a.list b es) = absent
+  quoted_alike _ = absent
 
   pub positions_alike : {xs : List (Argument A B)} {xs' : List (Argument A' B')} → Each AlikeArgument xs xs'
       → Each AlikePositional (by_position xs) (by_position xs')

@@ -4,7 +4,7 @@ use Rattle.std.specs.List.{flat_map}
 use Rattle.justfile_vocabulary.specs.declared.item_kind.ItemKind.TheVariants as items
 use Rattle.justfile_vocabulary.specs.declared.keyword.Keyword.{Keyword}
 use Rattle.justfile_model.specs.Grammars.Conditions.{VersionNumbers}
-use Rattle.justfile_model.specs.Grammars.Settings.{ExpressionForm, InterpreterForm, PlainForm, SettingForm, TruthForm, setting_form}
+use Rattle.justfile_model.specs.Grammars.Settings.{PlainForm, SettingForm, setting_form}
 use Rattle.justfile_model.specs.Meanings.ConstructRules.{construct_broken, form_broken, meaning_broken}
 use Rattle.justfile_model.specs.Meanings.Meaning.{entries_of}
 use Rattle.justfile_model.specs.Meanings.RecipeRules.{dependency_broken, parameters_broken, stars}
@@ -89,21 +89,16 @@ module _ {R T A B S D R' T' A' B' S' D' : Type 0} (rel : Relations R T A B S D R
     value_alike : (current : VersionNumbers) (form : Option SettingForm) (keyword : Keyword) {b : B} {b' : B'} {v : SettingValue A B} {v' : SettingValue A' B'}
         → rel.position b b' → AlikeValue rel v v' → Breaks (value_broken current view form keyword b v) (value_broken current view' form keyword b' v')
     value_alike current None keyword h v = a.nil
-    value_alike current (Some TruthForm) keyword h v = a.nil
-    value_alike current (Some ExpressionForm) keyword h v = a.nil
-    value_alike current (Some InterpreterForm) keyword h v = a.nil
     value_alike current (Some PlainForm) keyword h v = value_broken_alike rel current view view' sees keyword h v
+    value_alike current _ keyword h v = a.nil
 
     form_alike : (current : VersionNumbers) {C C' : Type 0} {c : Content A B C B} {c' : Content A' B' C' B'} → AlikeForm c c'
         → Breaks (form_broken current view c) (form_broken current view' c')
     form_alike current (alias n) = a.nil
-    form_alike current (assignment n) = a.nil
-    form_alike current (function n) = a.nil
-    form_alike current (import n) = a.nil
-    form_alike current (module_of n) = a.nil
     form_alike current (recipe n ps priors subsequents) = each_both (dependencies_alike priors) (dependencies_alike subsequents)
     form_alike current (setting {keyword = keyword} n v) = value_alike current (setting_form keyword) keyword n v
     form_alike current (unexport n) = a.nil
+    form_alike current _ = a.nil
 
     -- where the attributes mean related ones in order
     pub construct_broken_alike : (current : VersionNumbers) {C C' : Type 0} {ws : List (WrittenAttribute A B)} {ws' : List (WrittenAttribute A' B')}

@@ -269,9 +269,7 @@ module _ {R T A B S D R' T' A' B' S' D' : Type 0} (rel : Relations R T A B S D R
 
     stop_agrees : (x : Place R T B) (y : Place R' T' B') → Places x y → Agrees x y (stop_expression one x) (stop_expression other y)
     stop_agrees x y (at h) = neither (unexpected no_next)
-    stop_agrees x y (conditional t h) = neither (unexpected no_next)
-    stop_agrees x y (sequence h) = neither (unexpected no_next)
-    stop_agrees x y (format_parts h) = neither (unexpected no_next)
+    stop_agrees x y _ = neither (unexpected no_next)
 
     same_size : (x : Place R T B) (y : Place R' T' B') → Places x y → size x ≡ size y
     same_size x y (at {level = k} h) = ap (λ n. 8 * n + rank k) (each_length h.left)

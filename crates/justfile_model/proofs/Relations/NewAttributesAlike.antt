@@ -273,10 +273,8 @@ module _ {R T A B S D R' T' A' B' S' D' : Type 0} (rel : Relations R T A B S D R
   label_alike (alike.single kind e) = absent
   label_alike (alike.texts attributes.Group qs) = first_alike qs
   label_alike (alike.texts kind qs) = absent
-  label_alike (alike.env k v) = absent
-  label_alike (alike.signals given) = absent
-  label_alike (alike.cache x i o) = absent
   label_alike (alike.arg r) = present r.name
+  label_alike _ = absent
 
   labels_alike : {p q : Option (Quoted A)} {p' q' : Option (Quoted A')} → AlikeOption (AlikeQuoted rel) p p' → AlikeOption (AlikeQuoted rel) q q'
       → same_label view p q ≡ same_label view' p' q'
@@ -296,10 +294,8 @@ module _ {R T A B S D R' T' A' B' S' D' : Type 0} (rel : Relations R T A B S D R
   duplicate_alike n (alike.texts attributes.Group a.nil) f = broken.duplicate n f
   duplicate_alike n (alike.texts attributes.Group (a.cons q qs)) f = broken.duplicate_group (same_value q) (quoted_place q) f
   duplicate_alike n (alike.texts kind qs) f = broken.duplicate n f
-  duplicate_alike n (alike.env k v) f = broken.duplicate n f
-  duplicate_alike n (alike.signals given) f = broken.duplicate n f
-  duplicate_alike n (alike.cache x i o) f = broken.duplicate n f
   duplicate_alike n (alike.arg r) f = broken.duplicate_arg (same_text_of r.name) f
+  duplicate_alike n _ f = broken.duplicate n f
 
   pub repeated_alike : {ds : List (Entry A B)} {ds' : List (Entry A' B')} {e : Entry A B} {e' : Entry A' B'} → Each (AlikeEntry rel) ds ds'
       → AlikeEntry rel e e'
@@ -335,12 +331,8 @@ module _ {R T A B S D R' T' A' B' S' D' : Type 0} (rel : Relations R T A B S D R
   rules_in_alike : {x : Attribute A B} {x' : Attribute A' B'} → AlikeAttribute rel x x'
       → AlikeOption (AlikeArgumentRules rel) (rules_in x) (rules_in x')
   rules_in_alike (alike.plain kind) = absent
-  rules_in_alike (alike.single kind e) = absent
-  rules_in_alike (alike.texts kind qs) = absent
-  rules_in_alike (alike.env k v) = absent
-  rules_in_alike (alike.signals given) = absent
-  rules_in_alike (alike.cache x i o) = absent
   rules_in_alike (alike.arg r) = present r
+  rules_in_alike _ = absent
 
   pub arg_rules_alike : {es : List (Entry A B)} {es' : List (Entry A' B')} → Each (AlikeEntry rel) es es'
       → Each (AlikeArgumentRules rel) (arg_rules es) (arg_rules es')

@@ -294,16 +294,12 @@ module _ {R T A B S D R' T' A' B' S' D' : Type 0} (rel : Relations R T A B S D R
   pub opened_alike : (k : Level) {s : State R T B} {s' : State R' T' B'} → States s s' → States (opened k s) (opened k s')
   opened_alike levels.Expression h = record { run = h.run; depth = ap (λ n. n + 1) h.depth; left = h.left; noted = h.noted }
   opened_alike levels.Disjunct h = h
-  opened_alike levels.Compared h = h
-  opened_alike levels.Conjunct h = h
-  opened_alike levels.Value h = h
+  opened_alike _ h = h
 
   pub closed_alike : (k : Level) {s : State R T B} {s' : State R' T' B'} → States s s' → States (closed k s) (closed k s')
   closed_alike levels.Expression h = record { run = h.run; depth = ap (λ n. n - 1) h.depth; left = h.left; noted = h.noted }
   closed_alike levels.Disjunct h = h
-  closed_alike levels.Compared h = h
-  closed_alike levels.Conjunct h = h
-  closed_alike levels.Value h = h
+  closed_alike _ h = h
 
   -- the limit is the same, or the other's is greater where that may be; all else is the same
   pub record AlikeConditions (c c' : Conditions) : Type 0 where
@@ -398,9 +394,7 @@ module _ {R T A B S D R' T' A' B' S' D' : Type 0} (rel : Relations R T A B S D R
         → Related Q Short (cond (is_within c.limit k s) x (Err (refused TooDeep s))) (cond (is_within c'.limit k s') x' (Err (refused TooDeep s')))
     entered c c' levels.Expression e = by_limit c.limit c'.limit e.limit
     entered c c' levels.Disjunct e = inside
-    entered c c' levels.Compared e = inside
-    entered c c' levels.Conjunct e = inside
-    entered c c' levels.Value e = inside
+    entered c c' _ e = inside
 
   -- ---- tokens that are taken
 

@@ -607,9 +607,7 @@ module _ (conditions : Conditions) where
 
   stops_sound : (x : Place Conditions SignificantToken Tok) → IsSound x (stop_expression token_leaves x)
   stops_sound (r.At k c s) = λ d here. tt
-  stops_sound (r.Conditional w s) = λ d here. tt
-  stops_sound (r.Sequence k s) = λ d here. tt
-  stops_sound (r.FormatParts start s) = λ d here. tt
+  stops_sound _ = λ d here. tt
 
   pub sound : (x : Place Conditions SignificantToken Tok) → IsSound x (read token_leaves x)
   unfolding read
