@@ -1,5 +1,5 @@
 -- Two texts that are joined at a chunk have the chunks of the one before it, and those of the other from it on.
-use Rattle.std.proofs.Common.{◌≡◌, ◌≢◌, ◌∙◌, ℕ, ◌+◌, ◌-◌, ◌<◌, List, [], ◌∷◌, ◌++◌, ◌⊎◌, inl, inr, length, map, take, drop, refl, sym, ap, subst, arith, append_assoc, append-nil, length-append}
+use Rattle.std.proofs.Common.{◌≡◌, ◌≢◌, ◌∙◌, ℕ, ◌+◌, ◌-◌, ◌<◌, List, [], ◌∷◌, ◌++◌, length, map, take, drop, refl, sym, ap, subst, arith, append_assoc, append-nil}
 use Rattle.std.specs.List.{AllByRecursion}
 use Rattle.std.specs.Str.{IsUtf8}
 use Rattle.std.proofs.lemmas.List.{map-append}
@@ -16,7 +16,7 @@ use Rattle.justfile_round_trip.proofs.LiteralTexts.LexedModes.{drop_front, take_
 use Rattle.justfile_round_trip.proofs.Values.TokenFacts.{Runs}
 use Rattle.justfile_chunks_grammar.specs.Chunks.{AreParts, Chunk, Parts, after_feed, chunks_of, first_chunk, first_line, first_offset, later_chunk, next_kind, text_of}
 use Rattle.justfile_chunks.specs.JoinedTexts.{BeginsAtOnce, HasChunks, JoinLaw, joined_chunk, joined_text}
-use Rattle.justfile_chunks.proofs.ChunkTokens.{Split, first_bytes, first_part, from_start, onto_mode, whole_is}
+use Rattle.justfile_chunks.proofs.ChunkTokens.{first_part, from_start, onto_mode, some_bytes, whole_is}
 use Rattle.justfile_chunks.proofs.ChunkTrees.{have_colons}
 use Rattle.justfile_chunks.proofs.JoinedNext.{is_dark}
 use Rattle.justfile_chunks.proofs.JoinedParts.{Front, OwnTokens, all_of, chunks_elsewhere, colons_of, elsewhere, first_chunk_of, front_of, next_elsewhere, parts_elsewhere, same_first}
@@ -24,10 +24,10 @@ use Rattle.justfile_chunks.proofs.JoinedTokens.{Joined, joined_tokens}
 use Rattle.justfile_chunks.proofs.MovedChunks.{by_first}
 use Rattle.justfile_chunks.proofs.MovedPlaces.{Moves, Placed, placed, placed_after, placed_front}
 use Rattle.justfile_chunks.proofs.PartSteps.{feed_utf8}
-use Rattle.justfile_chunks.proofs.SameModes.{NoneIsEof, mode_past}
+use Rattle.justfile_chunks.proofs.SameModes.{mode_past}
 use Rattle.justfile_chunks.proofs.SameNext.{SameMode}
 use Rattle.justfile_chunks.proofs.SplitRuns.{runs_of, split_run}
-use Rattle.justfile_chunks.proofs.TidyModes.{EndsInFeed, Fed, fed_run, tail_is}
+use Rattle.justfile_chunks.proofs.TidyModes.{EndsInFeed, feed_of, fed_run, tail_is}
 
 -- ---- an element of a mapped list
 
@@ -106,11 +106,10 @@ first_is (Parts.uncut u others) = (refl, refl)
 
 first_text : (part : List Tok) (parts : List (List Tok)) (e later : List Tok) (d : ℕ) (more : List ℕ) → Parts e later (part ∷ parts)
     → text_of part ≡ d ∷ more → (others : List ℕ) × (text_of later ≡ d ∷ others)
-first_text part parts e later d more p is = by (first_part p)
-  where
-    by : ((later ≡ part) × (parts ≡ [])) ⊎ Split e later part parts → (others : List ℕ) × (text_of later ≡ d ∷ others)
-    by (inl s) = (more, ap text_of s.0 ∙ is)
-    by (inr s) = (more ++ text_of s.rest, ap text_of s.is ∙ flat_map-append lexeme part s.rest ∙ ap (λ x. x ++ text_of s.rest) is)
+first_text part [] e later d more p is = (more, ap text_of (first_part p) ∙ is)
+first_text part (q ∷ parts) e later d more p is =
+    let s = first_part p in
+    (more ++ text_of s.rest, ap text_of s.is ∙ flat_map-append lexeme part s.rest ∙ ap (λ x. x ++ text_of s.rest) is)
 
 moves_of : (text before : List ℕ) (rest : List Tok) → EndsInFeed before → text ≡ before ++ text_of rest → Placed text (length before) rest
     → 0 < length (text_of rest)
@@ -118,14 +117,6 @@ moves_of : (text before : List ℕ) (rest : List Tok) → EndsInFeed before → 
 moves_of text before [] fed is h some = absurd (omega arith)
 moves_of text before (t ∷ rest) fed is h some =
     by_first text before [] t rest fed (is ∙ ap (λ x. before ++ x) (sym (append-nil (text_of (t ∷ rest))))) h some
-
-ends_fed : (x : List ℕ) → Fed x → 0 < length x → EndsInFeed x
-ends_fed x (inl e) l = absurd (omega (arith, l, ap length e))
-ends_fed x (inr h) l = h
-
-front_bytes : (ts rest : List Tok) (text : List ℕ) → IsUtf8 text → Runs start_mode text (ts ++ rest) → NoneIsEof ts → 0 < length ts → 0 < length (text_of ts)
-front_bytes [] rest text u r n l = absurd (omega arith)
-front_bytes (t ∷ ts) rest text u r n l = omega (arith, first_bytes t (ts ++ rest) start_mode text n.0 refl u r, length-append t.lexeme (text_of ts))
 
 module _ (text : List ℕ) (at : Chunk) (d : ℕ) (more : List ℕ) (begins : at.text ≡ 10 ∷ (d ∷ more)) where
   side_by : (front : List (List Tok)) (before after : List Chunk) (part : List Tok) (parts : List (List Tok)) (tokens : List Tok) → IsUtf8 text → Lexed text tokens
@@ -140,7 +131,8 @@ module _ (text : List ℕ) (at : Chunk) (d : ℕ) (more : List ℕ) (begins : at
       let run = (split_run start_mode text ts rest runs).first in
       let ended : SameMode (mode_past start_mode ts) start_mode =
       subst (λ m. SameMode m start_mode) (ap mode side.at_is ∙ onto_mode ts []) side.later_at.same in
-      let fed = ends_fed (text_of ts) (fed_run ts start_mode text u run ended.line_start) (front_bytes ts rest text u runs side.no_eof (side.some some)) in
+      let fed = feed_of (text_of ts) (fed_run ts start_mode text u run ended.line_start)
+      (some_bytes ts rest start_mode text side.no_eof (side.some some) refl u runs) in
       let places : Placed text 0 (ts ++ rest) = subst (Placed text 0) side.is (placed text tokens l) in
       let rest_places : Placed text (length (text_of ts)) rest = subst (λ n. Placed text n rest) (omega arith) (placed_after text ts rest 0 places) in
       let moves = moves_of text (text_of ts) rest fed is rest_places (omega (arith, ap length first.1)) in

@@ -89,6 +89,11 @@ pub record EndsInFeed (text : List ℕ) : Type 0 where
 abbrev pub Fed : List ℕ → Type 0
 Fed text = (text ≡ []) ⊎ EndsInFeed text
 
+-- of a text with bytes
+pub feed_of : (text : List ℕ) → Fed text → 0 < length text → EndsInFeed text
+feed_of text (inl e) some = absurd (omega (arith, some, ap length e))
+feed_of text (inr h) some = h
+
 pub fed_more : (text l : List ℕ) → EndsInFeed l → EndsInFeed (text ++ l)
 fed_more text l h = record { front = text ++ h.front; is = ap (λ z. text ++ z) h.is ∙ sym (append_assoc text h.front (10 ∷ [])) }
 

@@ -7,7 +7,7 @@ use Rattle.justfile_model.specs.Grammars.AttributeLines.{AttributeLines, Attribu
 use Rattle.justfile_model.specs.Grammars.Expressions.{Tokens, IsKind}
 use Rattle.justfile_model.specs.Grammars.Features.{ConstructFeatures, Noted}
 use Rattle.justfile_model.specs.Grammars.Grammar as g
-use Rattle.justfile_model.specs.Grammars.Grammar.{BeforeBody, Block, BodyLines, ItemRest, LineEnd, OnLine, TokenProjection}
+use Rattle.justfile_model.specs.Grammars.Grammar.{BeforeBody, Block, ItemRest, OnLine, TokenProjection}
 use Rattle.justfile_model.specs.Grammars.Headers as headers
 use Rattle.justfile_model.specs.Grammars.Headers.{HeaderOf}
 use Rattle.justfile_model.specs.Lexing.SignificantTokens.{SignificantToken}
@@ -78,7 +78,7 @@ line_with k line = cond (is_ignored k) line (cond (ends_line k) None (Some (firs
 abbrev pub AtStart : Tokens → Type 0
 AtStart earlier = line_kind (bare earlier) ≡ None
 
-line_ended : (k : TokenKind) (line : Option TokenKind) → ends_line k ≡ true → line_with k line ≡ None
+pub line_ended : (k : TokenKind) (line : Option TokenKind) → ends_line k ≡ true → line_with k line ≡ None
 line_ended kinds.Eol line e = refl
 line_ended kinds.Dedent line e = refl
 line_ended _ line e = cc
