@@ -16,7 +16,7 @@ use Rattle.justfile_chunks_grammar.proofs.Colons.{IndentsHaveColons, NeedsColon,
 use Rattle.justfile_chunks_grammar.proofs.CutTokens.{ends_dark}
 use Rattle.justfile_chunks_grammar.proofs.Passes.{line_with}
 use Rattle.justfile_chunks.proofs.AllCuts.{Fresh, cut_by, fresh, levels_like}
-use Rattle.justfile_chunks.proofs.ChunkTokens.{ChunkLexes, Later, Split, colons_front, cut_chunk, first_part, last_chunk, next_part, onto, plain}
+use Rattle.justfile_chunks.proofs.ChunkTokens.{ChunkLexes, Later, NextPart, Split, colons_front, cut_chunk, first_part, last_chunk, next_part, onto, plain}
 use Rattle.justfile_chunks.proofs.PartSteps.{Uncut, feed_utf8}
 use Rattle.justfile_chunks.proofs.SameModes.{NoneIsEof, marks, same_marks}
 use Rattle.justfile_chunks.proofs.TidyModes.{EndsInFeed}
@@ -89,8 +89,15 @@ front_of [] part parts e later h f p = record {
 front_of (q ∷ front) part parts e later h f p =
     let s = split (front ++ (part ∷ parts)) (omega (arith, length-append front (part ∷ parts))) p in
     let n = next_part e later q (front ++ (part ∷ parts)) h s in
-    let m = front_of front part parts (onto e q) s.rest n.later (fresh (onto e q) s.rest s.cut) s.others in
-    record {
+    by s n (front_of front part parts (onto e q) s.rest n.later (fresh (onto e q) s.rest s.cut) s.others)
+  where
+    split : (ps : List (List Tok)) → 0 < length ps → Parts e later (q ∷ ps) → Split e later q ps
+    split [] l p = absurd (omega arith)
+    split (r ∷ ps) l p = first_part p
+
+    by : (s : Split e later q (front ++ (part ∷ parts))) → NextPart e q s.rest → Front (onto e q) s.rest front (part ∷ parts)
+        → Front e later (q ∷ front) (part ∷ parts)
+    by s n m = record {
       at = m.at;
       at_is = m.at_is ∙ sym (onto_append e q (all_of front));
       rest = m.rest;
@@ -106,10 +113,6 @@ front_of (q ∷ front) part parts e later h f p =
           (one_part q e (all_of front ++ us) (front ++ ps) s.some (uncut_before e q s.rest (all_of front ++ us) same s.uncut)
           (cut_before (onto e q) s.rest (all_of front ++ us) same s.cut) (m.others us ps next o));
     }
-  where
-    split : (ps : List (List Tok)) → 0 < length ps → Parts e later (q ∷ ps) → Split e later q ps
-    split [] l p = absurd (omega arith)
-    split (r ∷ ps) l p = first_part p
 
 -- ---- the same tokens elsewhere
 
