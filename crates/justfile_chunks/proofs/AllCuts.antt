@@ -21,7 +21,8 @@ use Rattle.justfile_chunks_grammar.proofs.Colons.{IndentsHaveColons}
 use Rattle.justfile_chunks_grammar.proofs.OneCut.{CutLaw, FeedLaw, TokensDeriveShape, colons_law, cut_law, feed_law, rederived, shape_from, shape_to}
 use Rattle.justfile_chunks_grammar.proofs.Passes.{line_ended, line_with}
 use Rattle.justfile_chunks.proofs.ChunkTokens.{Borders, ChunkLexes, chunks_by, chunks_lex, closed, ended_before, first_part, onto, plain, tokens_by}
-use Rattle.justfile_chunks.proofs.SameModes.{marks, same_marks}
+use Rattle.justfile_chunks.proofs.SameModes.{marks}
+use Rattle.justfile_chunks.proofs.SameNext.{cons_parts}
 
 -- ---- tokens with the same kinds and lexemes
 
@@ -37,7 +38,7 @@ pairs_of [] [] e g = nil
 pairs_of [] (u ∷ us) e g = cc
 pairs_of (t ∷ ts) [] e g = cc
 pairs_of (t ∷ ts) (u ∷ us) e g =
-    let h = same_marks (mark t.kind t.lexeme) (mark u.kind u.lexeme) (marks ts) (marks us) e in
+    let h = cons_parts (mark t.kind t.lexeme) (mark u.kind u.lexeme) (marks ts) (marks us) e in
     let kind : t.kind ≡ u.kind = ap (λ (m : Mark). m.kind) h.0 in
     subst (λ k. Pairs Same (significant_from g (t ∷ ts)) (cond (is_whitespace k) (significant_from false us)
     (record { tok = u; glued = g } ∷ significant_from true us))) kind
@@ -116,9 +117,8 @@ have_same P Q is js e items features =
 -- what follows of each two
 pub zip_over : {I J : Type 0} {R S : I → J → Type 0} → ((i : I) (j : J) → R i j → S i j) → (is : List I) (js : List J) → AllZip R is js → AllZip S is js
 zip_over f [] [] h = tt
-zip_over f [] (j ∷ js) h = absurd h
-zip_over f (i ∷ is) [] h = absurd h
 zip_over f (i ∷ is) (j ∷ js) h = (f i j h.0, zip_over f is js h.1)
+zip_over f _ _ h = absurd h
 
 -- ---- all cuts, of tokens that derive items with features
 
@@ -138,10 +138,8 @@ module _ {X F : Type 0} (newline : X) (Derives : List Tok → List X → List F 
       from (s ∷ []) (fs ∷ []) h e f = subst (λ x. Derives tokens x features) (sym (e ∙ append-nil s))
           (subst (λ x. Derives tokens s x) (sym (f ∙ append-nil fs)) h.0)
       from (s ∷ []) (fs ∷ gs ∷ noted) h e f = absurd h.1
-      from (s ∷ []) [] h e f = absurd h
       from (s ∷ r ∷ alls) (fs ∷ noted) h e f = absurd h.1
-      from (s ∷ r ∷ alls) [] h e f = absurd h
-      from [] noted h e f = absurd h
+      from _ _ h e f = absurd h
 
   module _ (cut_law : CutLaw newline Derives) (feed_law : FeedLaw newline Derives) where
     -- the first chunk, and the others

@@ -22,7 +22,7 @@ use Rattle.justfile_round_trip.proofs.RecipeBodies.Lines.{blank_line}
 use Rattle.justfile_round_trip.proofs.Values.TokenFacts.{Runs}
 use Rattle.justfile_chunks_grammar.specs.Chunks.{AreParts, IsCut, Parts, after_feed, chunk_texts, next_kind, text_of}
 use Rattle.justfile_chunks.proofs.CutModes.{BodyHasLevel, level_after, mode_at_cut}
-use Rattle.justfile_chunks.proofs.PartLexes.{EndsEmpty, EndsOnce, IsPart, but_last, colons_back, last_lexes, last_marks, part_lexes, same_colons}
+use Rattle.justfile_chunks.proofs.PartLexes.{EndsEmpty, EndsOnce, IsPart, but_last, colons_back, ends_later, last_lexes, last_marks, part_lexes, same_colons}
 use Rattle.justfile_chunks.proofs.PartSteps.{Uncut, kind_is, len_is}
 use Rattle.justfile_chunks_grammar.proofs.Colons.{IndentsHaveColons, NeedsColon, colon_after}
 use Rattle.justfile_chunks.proofs.SameModes.{HaveColon, NoneIsEof, marks, mode_past}
@@ -319,11 +319,7 @@ module _ (b : Borders) (part tokens : List Tok) (ms : List Mark) (are : marks to
       let front = same_front u.lexeme r.0 (10 ∷ []) (text_of part) (sym r.1) (len_is u.kind kinds.Eol (length u.lexeme) 1 same) in
       back us
       (subst (λ k. Runs (mode_after k u start_mode) (text_of part) us) kind (subst (λ x. Runs (mode_after u.kind u start_mode) x us) front.1 r.3))
-      (ends_later us o) (subst (λ k. IndentsHaveColons (colon_after k false) us) kind c.1)
-    where
-      ends_later : (us : List Tok) → EndsOnce (u ∷ us) → EndsOnce us
-      ends_later [] o = let bad : kinds.Eol ≡ kinds.Eof = sym (kind_is u.kind kinds.Eol (length u.lexeme) 1 (sym r.2 ∙ feed_first (text_of part))) ∙ o in cc
-      ends_later (w ∷ us) o = o.1
+      (ends_later u us o (λ e. let bad : kinds.Eol ≡ kinds.Eof = sym kind ∙ e in cc)) (subst (λ k. IndentsHaveColons (colon_after k false) us) kind c.1)
 
   chunk_by : (first : Bool) → ChunkLexes (text_by first part) (tokens_by b first part tokens)
   chunk_by first = record {

@@ -116,8 +116,6 @@ trees_derive conditions text tokens parts utf8 lexed are all features =
 
 near_bytes : (ts us : List Tok) → AllZip NearToken ts us → with_bytes ts ≡ with_bytes us
 near_bytes [] [] h = refl
-near_bytes [] (u ∷ us) h = absurd h
-near_bytes (t ∷ ts) [] h = absurd h
 near_bytes (t ∷ ts) (u ∷ us) h = by h.0 (near_bytes ts us h.1)
   where
     by : NearToken t u → with_bytes ts ≡ with_bytes us → with_bytes (t ∷ ts) ≡ with_bytes (u ∷ us)
@@ -125,6 +123,7 @@ near_bytes (t ∷ ts) (u ∷ us) h = by h.0 (near_bytes ts us h.1)
     by (inr d) more =
         ap (λ l. cond (not (is_empty l)) (t ∷ with_bytes ts) (with_bytes ts)) d.0.1 ∙ more
         ∙ sym (ap (λ l. cond (not (is_empty l)) (u ∷ with_bytes us) (with_bytes us)) d.1.1)
+near_bytes _ _ h = absurd h
 
 bytes_moved : (offset line : ℕ) (us : List Tok) → with_bytes (map (moved offset line) us) ≡ map (moved offset line) (with_bytes us)
 bytes_moved offset line [] = refl
@@ -182,14 +181,13 @@ module _ (count : Tree → ℕ) (count_append : (xs ys : Tree) → count (xs ++ 
   follow_on : (first : ℕ) (trees : List Tree) (numbers : List (List ℕ)) → FollowOn count first trees numbers
       → NumbersFrom first (flat_map (λ ns. ns) numbers) × (length (flat_map (λ ns. ns) numbers) ≡ total trees)
   follow_on first [] [] h = (tt, refl)
-  follow_on first [] (ns ∷ numbers) h = absurd h
-  follow_on first (x ∷ trees) [] h = absurd h
   follow_on first (x ∷ trees) (ns ∷ numbers) h =
       let m = follow_on (first + count x) trees numbers h.2 in (
         numbers_append first ns (flat_map (λ ns. ns) numbers) h.0
             (subst (λ n. NumbersFrom (first + n) (flat_map (λ ns. ns) numbers)) (sym h.1) m.0),
         length-append ns (flat_map (λ ns. ns) numbers) ∙ omega (arith, h.1, m.1),
       )
+  follow_on first _ _ h = absurd h
 
   module _ (conditions : Conditions) where
     -- the trees of later chunks begin with line ends

@@ -25,6 +25,7 @@ use Rattle.justfile_model.specs.Lexing.Tok.{Tok}
 use Rattle.justfile_round_trip.proofs.RecipeBodies.BodyTokens.{InBody}
 use Rattle.justfile_chunks_grammar.specs.Chunks.{ends_line}
 use Rattle.justfile_chunks.proofs.SameNext.{SameMode}
+use Rattle.std.proofs.lemmas.Bool.{false_from_ne_true}
 
 -- a line ends outside of the text of a body only if nothing is nested, and neither a dedent nor an indent comes within a line
 abbrev EndFact : Mode → TokenKind → Type 0
@@ -297,11 +298,7 @@ level_after kinds.Dedent t m h = λ e. cc
 level_after _ t m h = h
 
 not_in_body : (m : Mode) → BodyHasLevel m → m.levels ≡ [] → m.in_body ≡ false
-not_in_body m c e = by m.in_body refl
-  where
-    by : (b : Bool) → m.in_body ≡ b → b ≡ false
-    by true h = let bad : false ≡ true = sym (c h) ∙ ap is_empty e in cc
-    by false h = refl
+not_in_body m c e = false_from_ne_true m.in_body (λ h. let bad : false ≡ true = sym (c h) ∙ ap is_empty e in cc)
 
 no_text : (b : Bool) (o : Option Tok) → b ≡ false → region_by b o ≡ InText → ⊥
 no_text true o e h = cc

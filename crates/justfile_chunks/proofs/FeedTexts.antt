@@ -12,6 +12,7 @@ use Rattle.justfile_model.specs.declared.raw_text.RawText.TheVariants.{Body, Com
 use Rattle.justfile_model.specs.Lexing.Bytes.{is_blank, is_name_byte, is_interpolation_end, is_interpolation_escape, is_interpolation_start, is_line_end}
 use Rattle.justfile_model.specs.Lexing.LiteralText.{ends, hides, is_delimiter, pieces_len, raw_len}
 use Rattle.justfile_model.proofs.Lexing.CutLemmas.{body_no_newline, comment_no_newline, escape_no_newline, no_newline_in_pieces}
+use Rattle.std.proofs.Math.Bool.{and-false}
 
 -- ---- the first bytes
 
@@ -37,10 +38,6 @@ end_same (a ∷ b ∷ w) v x = refl
 not_both : (p r s : Bool) → ((p && false) && r) ≡ ((p && false) && s)
 not_both true r s = refl
 not_both false r s = refl
-
-pub off : (b : Bool) → (b && false) ≡ false
-off true = refl
-off false = refl
 
 escape_same : (w v x : List ℕ) → is_interpolation_escape (w ++ (10 ∷ v)) ≡ is_interpolation_escape (w ++ (10 ∷ x))
 escape_same [] v x = refl
@@ -68,8 +65,8 @@ hides_same : (s : RawText) (w v x : List ℕ) → hides s (w ++ (10 ∷ v)) ≡ 
 hides_same Comment w v x = refl
 hides_same Body w v x = ap (λ b. cond b 3 0) (escape_same w v x)
 hides_same (Literal k format) [] v x =
-    ap (λ t. cond t (cond (format && is_interpolation_escape v) 4 1) (cond (format && false) 3 0)) (off (escapes k.delimiter))
-    ∙ sym (ap (λ t. cond t (cond (format && is_interpolation_escape x) 4 1) (cond (format && false) 3 0)) (off (escapes k.delimiter)))
+    ap (λ t. cond t (cond (format && is_interpolation_escape v) 4 1) (cond (format && false) 3 0)) (and-false (escapes k.delimiter))
+    ∙ sym (ap (λ t. cond t (cond (format && is_interpolation_escape x) 4 1) (cond (format && false) 3 0)) (and-false (escapes k.delimiter)))
 hides_same (Literal k format) (b ∷ w) v x =
     λ i. cond (escapes k.delimiter && eqb b 92) (cond (format && escape_same w v x i) 4 1) (cond (format && escape_same (b ∷ w) v x i) 3 0)
 

@@ -18,8 +18,9 @@ use Rattle.justfile_chunks_grammar.proofs.Passes.{line_with}
 use Rattle.justfile_chunks.proofs.AllCuts.{Fresh, cut_by, fresh, levels_like}
 use Rattle.justfile_chunks.proofs.ChunkTokens.{ChunkLexes, Later, NextPart, Split, colons_front, cut_chunk, first_part, last_chunk, next_part, onto, plain}
 use Rattle.justfile_chunks.proofs.PartSteps.{Uncut, feed_utf8}
-use Rattle.justfile_chunks.proofs.SameModes.{NoneIsEof, marks, same_marks}
+use Rattle.justfile_chunks.proofs.SameModes.{NoneIsEof, marks}
 use Rattle.justfile_chunks.proofs.TidyModes.{EndsInFeed}
+use Rattle.justfile_chunks.proofs.SameNext.{cons_parts}
 
 -- ---- other tokens after a cut
 
@@ -113,6 +114,12 @@ front_of (q ∷ front) part parts e later h f p =
           (one_part q e (all_of front ++ us) (front ++ ps) s.some (uncut_before e q s.rest (all_of front ++ us) same s.uncut)
           (cut_before (onto e q) s.rest (all_of front ++ us) same s.cut) (m.others us ps next o));
     }
+
+-- what is said of elements is said of what they are mapped to
+pub all_mapped : {A B : Type 0} {P : A → Type 0} (Q : B → Type 0) (f : A → B) → ((a : A) → P a → Q (f a)) → (xs : List A) → AllByRecursion P xs
+    → AllByRecursion Q (map f xs)
+all_mapped Q f more [] h = tt
+all_mapped Q f more (x ∷ xs) h = (more x h.0, all_mapped Q f more xs h.1)
 
 -- ---- the same tokens elsewhere
 
@@ -219,7 +226,7 @@ next_marks [] [] e = refl
 next_marks [] (u ∷ us) e = cc
 next_marks (t ∷ ts) [] e = cc
 next_marks (t ∷ ts) (u ∷ us) e =
-    let h = same_marks (mark t.kind t.lexeme) (mark u.kind u.lexeme) (marks ts) (marks us) e in
+    let h = cons_parts (mark t.kind t.lexeme) (mark u.kind u.lexeme) (marks ts) (marks us) e in
     λ i. cond (is_whitespace (h.0 i).kind) (next_marks ts us h.1 i) (Some (h.0 i).kind)
 
 tokens_are : (later part : List Tok) (c : FirstChunk later part) (o : OwnTokens (after_feed part)) → marks o.tokens ≡ marks (plain.feed part ∷ c.tokens)
@@ -236,14 +243,14 @@ same_first later part others q c d text o =
     } in
     let both : marks (plain.feed part ∷ c.tokens) ≡ marks (plain.feed q ∷ d.tokens) = sym (tokens_are later part c mine) ∙ tokens_are others q d o in
     c.next
-    ∙ next_marks c.tokens d.tokens (same_marks (mark kinds.Eol (10 ∷ [])) (mark kinds.Eol (10 ∷ [])) (marks c.tokens) (marks d.tokens) both).1 ∙ sym d.next
+    ∙ next_marks c.tokens d.tokens (cons_parts (mark kinds.Eol (10 ∷ [])) (mark kinds.Eol (10 ∷ [])) (marks c.tokens) (marks d.tokens) both).1 ∙ sym d.next
 
 colons_marks : (ts us : List Tok) (colon : Bool) → marks ts ≡ marks us → IndentsHaveColons colon ts → IndentsHaveColons colon us
 colons_marks [] [] colon e h = tt
 colons_marks [] (u ∷ us) colon e h = cc
 colons_marks (t ∷ ts) [] colon e h = cc
 colons_marks (t ∷ ts) (u ∷ us) colon e h =
-    let m = same_marks (mark t.kind t.lexeme) (mark u.kind u.lexeme) (marks ts) (marks us) e in
+    let m = cons_parts (mark t.kind t.lexeme) (mark u.kind u.lexeme) (marks ts) (marks us) e in
     subst (λ k. NeedsColon k colon × IndentsHaveColons (colon_after k colon) us) (λ i. (m.0 i).kind) (h.0, colons_marks ts us (colon_after t.kind colon) m.1 h.1)
 
 -- a colon before them does no harm

@@ -16,12 +16,12 @@ use Rattle.justfile_chunks_grammar.specs.Chunks.{Chunk, moved, text_of}
 use Rattle.justfile_chunks_grammar.proofs.Colons.{IndentsHaveColons}
 use Rattle.justfile_chunks.proofs.ChunkTokens.{Later, marks_toks, no_colon}
 use Rattle.justfile_chunks.proofs.JoinedNext.{IsDark, joined_next}
-use Rattle.justfile_chunks.proofs.JoinedParts.{IsAfter, elsewhere}
+use Rattle.justfile_chunks.proofs.JoinedParts.{IsAfter, all_mapped, elsewhere}
 use Rattle.justfile_chunks.proofs.MovedChunks.{none_more}
 use Rattle.justfile_chunks.proofs.MovedPlaces.{Moves, Placed, feeds_append, inside, last_moved, placed, placed_after}
 use Rattle.justfile_chunks.proofs.PartLexes.{but_last, last_lexes, last_marks}
-use Rattle.justfile_chunks.proofs.SameModes.{NoneIsEof, marks, mode_past, same_marks}
-use Rattle.justfile_chunks.proofs.SameNext.{SameMode}
+use Rattle.justfile_chunks.proofs.SameModes.{NoneIsEof, marks, mode_past}
+use Rattle.justfile_chunks.proofs.SameNext.{SameMode, cons_parts}
 use Rattle.justfile_chunks.proofs.SplitRuns.{rest_utf8}
 use Rattle.justfile_chunks.proofs.TidyModes.{EndsInFeed, Fed, fed_suffix}
 
@@ -110,7 +110,7 @@ text_marks [] [] e = refl
 text_marks [] (u ∷ us) e = cc
 text_marks (t ∷ ts) [] e = cc
 text_marks (t ∷ ts) (u ∷ us) e =
-    let h = same_marks (mark t.kind t.lexeme) (mark u.kind u.lexeme) (marks ts) (marks us) e in
+    let h = cons_parts (mark t.kind t.lexeme) (mark u.kind u.lexeme) (marks ts) (marks us) e in
     λ i. (h.0 i).lexeme ++ text_marks ts us h.1 i
 
 -- tokens that are moved to two places
@@ -131,10 +131,6 @@ module _ (at from : Chunk) where
 
   abbrev IsLater : Tok → Type 0
   IsLater u = (0 < u.offset) × (0 < u.line)
-
-  moved_after : (us : List Tok) → AllByRecursion IsLater us → AllByRecursion (IsAfter at from) (map (moved from.offset from.line) us)
-  moved_after [] h = tt
-  moved_after (u ∷ us) h = ((omega (arith, h.0.0), omega (arith, h.0.1)), moved_after us h.1)
 
   -- after a line feed at the start, tokens are on a later line
   line_later : (r : List ℕ) (k : ℕ) → 0 < length r → 0 < k → 0 < line_of_offset (10 ∷ r) k
@@ -259,5 +255,6 @@ module _ (at from : Chunk) (d : ℕ) (dark : IsDark d) (v x : List ℕ) (front e
   joined_tokens = record {
     lexed = subst (λ ts. Lexed text (front ++ ts)) (others_are ∙ sym (moved_elsewhere at from own) ∙ ap (map (elsewhere at from)) (sym rest_are)) lexed_text;
     after = subst (AllByRecursion (IsAfter at from)) (sym rest_are)
-        (moved_after at from own (placed_later at from (text_of rest) own 1 some (omega arith) own_placed));
+        (all_mapped _ (moved from.offset from.line) (λ u h. (omega (arith, h.0), omega (arith, h.1))) own
+        (placed_later at from (text_of rest) own 1 some (omega arith) own_placed));
   }

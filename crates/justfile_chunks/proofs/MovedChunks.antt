@@ -19,9 +19,10 @@ use Rattle.justfile_chunks_grammar.specs.Chunks.{AreParts, Chunk, Parts, after_f
 use Rattle.justfile_chunks_grammar.proofs.OtherDedents.{IsEmptyDedent, NearToken}
 use Rattle.justfile_chunks.proofs.ChunkTokens.{Borders, Later, NextPart, Split, chunks_by, closed, first_part, from_start, next_part, onto, some_text, whole_is}
 use Rattle.justfile_chunks.proofs.MovedPlaces.{AreMoved, IsMoved, Moves, Placed, after_text, all_moved, at_start, inside, last_moved, placed, placed_after, placed_front}
-use Rattle.justfile_chunks.proofs.SameModes.{NoneIsEof, marks, same_marks}
+use Rattle.justfile_chunks.proofs.SameModes.{NoneIsEof, marks}
 use Rattle.justfile_chunks.proofs.SplitRuns.{rest_utf8}
 use Rattle.justfile_chunks.proofs.TidyModes.{EndsInFeed, fed_more}
+use Rattle.justfile_chunks.proofs.SameNext.{cons_parts}
 
 -- ---- the line feeds before chunks and the ends after them, where they are in the chunks, moved
 
@@ -103,7 +104,7 @@ module _ (c : Chunk) where
   near_end : (us : List Tok) (k : ℕ) → Placed c.text k us → marks us ≡ mark kinds.Eof [] ∷ [] → AllZip NearToken (end_at k ∷ []) (map (in_text c) us)
   near_end [] k p e = cc
   near_end (u ∷ us) k p e =
-      let h = same_marks (mark u.kind u.lexeme) (mark kinds.Eof []) (marks us) [] e in
+      let h = cons_parts (mark u.kind u.lexeme) (mark kinds.Eof []) (marks us) [] e in
       (inl (sym (ap (in_text c) (stands c.text k u (mark kinds.Eof []) p.0 h.0))), none us h.1)
     where
       none : (us : List Tok) → marks us ≡ [] → AllZip NearToken [] (map (in_text c) us)
@@ -116,7 +117,7 @@ module _ (c : Chunk) where
   near_part [] us k m b p e = subst (λ n. AllZip NearToken (end_at n ∷ []) (map (in_text c) us)) (omega arith) (near_end us k p e)
   near_part (t ∷ part) [] k m b p e = absurd m
   near_part (t ∷ part) (u ∷ us) k m b p e =
-      let h = same_marks (mark u.kind u.lexeme) (mark t.kind t.lexeme) (marks us) (marks part ++ (mark kinds.Eof [] ∷ [])) e in (
+      let h = cons_parts (mark u.kind u.lexeme) (mark t.kind t.lexeme) (marks us) (marks part ++ (mark kinds.Eof [] ∷ [])) e in (
         near_one c.offset c.line m.0 b.0,
         subst (λ n. AllZip NearToken (part ++ (end_at n ∷ [])) (map (in_text c) us))
             (omega (arith, ap length m.0.lexeme, length-append t.lexeme (text_of part)))
@@ -174,7 +175,7 @@ module _ (text before rest : List ℕ) (t : Tok) (part : List Tok) (feed : EndsI
       → AllZip NearToken (borders.feed (t ∷ part) ∷ tokens) (map (in_text (later_chunk (t ∷ part))) us)
   near_feed [] tokens l e more = cc
   near_feed (u ∷ us) tokens l e more =
-      let h = same_marks (mark u.kind u.lexeme) feed_mark (marks us) (marks tokens) e in (
+      let h = cons_parts (mark u.kind u.lexeme) feed_mark (marks us) (marks tokens) e in (
         inl (sym (ap (in_text (later_chunk (t ∷ part)))
             (stands (after_feed (t ∷ part)) 0 u feed_mark (placed (after_feed (t ∷ part)) (u ∷ us) l).0 h.0))),
         more u us l (ap (λ (m : Mark). length m.lexeme) h.0) h.1,

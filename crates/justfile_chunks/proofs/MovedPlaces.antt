@@ -13,8 +13,9 @@ use Rattle.justfile_model.proofs.Lexing.UnclosedLaws.{reverse_more}
 use Rattle.justfile_round_trip.proofs.LiteralTexts.LexedModes.{Mark, drop_front, mark, take_front}
 use Rattle.justfile_chunks_grammar.specs.Chunks.{moved, text_of}
 use Rattle.justfile_chunks.proofs.FeedTexts.{run_same}
-use Rattle.justfile_chunks.proofs.SameModes.{marks, same_marks}
+use Rattle.justfile_chunks.proofs.SameModes.{marks}
 use Rattle.justfile_chunks.proofs.SplitRuns.{in_order}
+use Rattle.justfile_chunks.proofs.SameNext.{cons_parts}
 
 -- ---- places
 
@@ -139,7 +140,7 @@ module _ (a b p r s : List ℕ) (offset line : ℕ) (m : Moves a b offset line) 
   all_moved [] us ms k x y e l = tt
   all_moved (t ∷ ts) [] ms k x y e l = cc
   all_moved (t ∷ ts) (u ∷ us) ms k x y e l =
-      let h = same_marks (mark u.kind u.lexeme) (mark t.kind t.lexeme) (marks us) (marks ts ++ ms) e in
+      let h = cons_parts (mark u.kind u.lexeme) (mark t.kind t.lexeme) (marks us) (marks ts ++ ms) e in
       let kind : t.kind ≡ u.kind = ap (λ (m : Mark). m.kind) (sym h.0) in
       let same : t.lexeme ≡ u.lexeme = ap (λ (m : Mark). m.lexeme) (sym h.0) in
       let n = length t.lexeme in
@@ -177,7 +178,7 @@ module _ (a b p : List ℕ) (offset line : ℕ) (m : Moves a b offset line) (som
   last_moved [] (u ∷ us) k x y e l = cc
   last_moved (t ∷ ts) [] k x y e l = cc
   last_moved (t ∷ ts) (u ∷ us) k x y e l =
-      let h = same_marks (mark u.kind u.lexeme) (mark t.kind t.lexeme) (marks us) (marks ts) e in
+      let h = cons_parts (mark u.kind u.lexeme) (mark t.kind t.lexeme) (marks us) (marks ts) e in
       let same : t.lexeme ≡ u.lexeme = ap (λ (m : Mark). m.lexeme) (sym h.0) in
       let n = length t.lexeme in
       let size : length (t.lexeme ++ text_of ts) ≡ n + length (text_of ts) = length-append t.lexeme (text_of ts) in

@@ -90,9 +90,6 @@ both_indent _ m n colon h e = tt
 abbrev pub marks : List Tok → List Mark
 marks ts = map (λ t. mark t.kind t.lexeme) ts
 
-pub same_marks : (m n : Mark) (ms ns : List Mark) → ◌≡◌ {A = List Mark} (m ∷ ms) (n ∷ ns) → (m ≡ n) × (ms ≡ ns)
-same_marks m n ms ns e = (cc, cc)
-
 -- the mode after these tokens
 abbrev pub mode_past : Mode → List Tok → Mode
 mode_past m [] = m

@@ -55,6 +55,10 @@ none_open : (os : List OpenDelimiter) → is_empty os ≡ is_empty (delimiters o
 none_open [] = refl
 none_open (o ∷ os) = refl
 
+-- equal lists have equal parts
+pub cons_parts : {A : Type 0} (x y : A) (xs ys : List A) → ◌≡◌ {A = List A} (x ∷ xs) (y ∷ ys) → (x ≡ y) × (xs ≡ ys)
+cons_parts x y xs ys e = (cc, cc)
+
 -- ---- closing delimiters, by the innermost open one
 
 closed : (o p : OpenDelimiter) (delimiter : Delimiter) (kind : TokenKind) → o.delimiter ≡ p.delimiter
@@ -80,10 +84,7 @@ closes : (os ps : List OpenDelimiter) (b : ℕ) (rest : List ℕ) → delimiters
 closes [] [] b rest e = itself _
 closes [] (p ∷ ps) b rest e = cc
 closes (o ∷ os) [] b rest e = cc
-closes (o ∷ os) (p ∷ ps) b rest e = closes_same o p b rest (cons_first o.delimiter p.delimiter (delimiters os) (delimiters ps) e)
-  where
-    cons_first : (d c : Delimiter) (ds cs : List Delimiter) → ◌≡◌ {A = List Delimiter} (d ∷ ds) (c ∷ cs) → d ≡ c
-    cons_first d c ds cs e = cc
+closes (o ∷ os) (p ∷ ps) b rest e = closes_same o p b rest (cons_parts o.delimiter p.delimiter (delimiters os) (delimiters ps) e).0
 
 -- ---- the end of the text
 
