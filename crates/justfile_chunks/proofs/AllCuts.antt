@@ -12,7 +12,7 @@ use Rattle.justfile_model.specs.Lexing.Tok.{Tok}
 use Rattle.justfile_model.specs.Trees.LeafView.{views_lexemes}
 use Rattle.justfile_model.specs.Trees.Tree as tree
 use Rattle.justfile_model.specs.Trees.Tree.{Shape}
-use Rattle.justfile_model.proofs.Derivations.CarryExpressions.{Pairs, Same, cons, nil}
+use Rattle.justfile_model.proofs.Derivations.CarryExpressions.{Pairs, Same, nil}
 use Rattle.justfile_model.proofs.Derivations.Leaves.{elsewhere}
 use Rattle.justfile_model.proofs.Lexing.UnclosedLaws.{reverse_more}
 use Rattle.justfile_round_trip.proofs.LiteralTexts.LexedModes.{Mark, mark}
@@ -23,26 +23,20 @@ use Rattle.justfile_chunks_grammar.proofs.Passes.{line_ended, line_with}
 use Rattle.justfile_chunks.proofs.ChunkTokens.{Borders, ChunkLexes, chunks_by, chunks_lex, closed, ended_before, first_part, onto, plain, tokens_by}
 use Rattle.justfile_chunks.proofs.SameModes.{marks}
 use Rattle.justfile_chunks.proofs.SameNext.{cons_parts}
+use Rattle.justfile_chunks_grammar.proofs.CutTokens.{pairs_before}
 
 -- ---- tokens with the same kinds and lexemes
 
-pairs_by : (w : Bool) (t u : Tok) (glued : Bool) (ts us : List Tok) → t.kind ≡ u.kind → t.lexeme ≡ u.lexeme
-    → ((g : Bool) → Pairs Same (significant_from g ts) (significant_from g us))
-    → Pairs Same (cond w (significant_from false ts) (record { tok = t; glued = glued } ∷ significant_from true ts))
-    (cond w (significant_from false us) (record { tok = u; glued = glued } ∷ significant_from true us))
-pairs_by true t u glued ts us k l more = more false
-pairs_by false t u glued ts us k l more = cons (record { kind = k; lexeme = l; glued = refl }) (more true)
-
 pairs_of : (ts us : List Tok) → marks ts ≡ marks us → (g : Bool) → Pairs Same (significant_from g ts) (significant_from g us)
 pairs_of [] [] e g = nil
-pairs_of [] (u ∷ us) e g = cc
-pairs_of (t ∷ ts) [] e g = cc
 pairs_of (t ∷ ts) (u ∷ us) e g =
     let h = cons_parts (mark t.kind t.lexeme) (mark u.kind u.lexeme) (marks ts) (marks us) e in
     let kind : t.kind ≡ u.kind = ap (λ (m : Mark). m.kind) h.0 in
     subst (λ k. Pairs Same (significant_from g (t ∷ ts)) (cond (is_whitespace k) (significant_from false us)
     (record { tok = u; glued = g } ∷ significant_from true us))) kind
-    (pairs_by (is_whitespace t.kind) t u g ts us kind (ap (λ (m : Mark). m.lexeme) h.0) (pairs_of ts us h.1))
+    (pairs_before _ _ (is_whitespace t.kind) (record { kind = kind; lexeme = ap (λ (m : Mark). m.lexeme) h.0; glued = refl }) (pairs_of ts us h.1 false)
+    (pairs_of ts us h.1 true))
+pairs_of _ _ e g = cc
 
 -- ---- cuts, by what is before them
 

@@ -25,7 +25,8 @@ use Rattle.justfile_model.specs.Lexing.Tok.{Tok}
 use Rattle.justfile_round_trip.proofs.RecipeBodies.BodyTokens.{InBody}
 use Rattle.justfile_chunks_grammar.specs.Chunks.{ends_line}
 use Rattle.justfile_chunks.proofs.SameNext.{SameMode}
-use Rattle.std.proofs.lemmas.Bool.{false_from_ne_true}
+use Rattle.std.proofs.lemmas.Bool.{false_from_ne_true, not-false}
+use Rattle.std.proofs.Math.Bool.{and-true}
 
 -- a line ends outside of the text of a body only if nothing is nested, and neither a dedent nor an indent comes within a line
 abbrev EndFact : Mode → TokenKind → Type 0
@@ -253,12 +254,7 @@ module _ (m : Mode) (rest : List ℕ) where
   begins_within false text front h = cc
 
   no_body : (a s : Bool) → (a && s) ≡ false → not s ≡ false → a ≡ false
-  no_body a true h g = by a h
-    where
-      by : (a : Bool) → (a && true) ≡ false → a ≡ false
-      by true h = h
-      by false h = refl
-  no_body a false h g = cc
+  no_body a s h g = sym (and-true a) ∙ ap (λ t. a && t) (sym (not-false s g)) ∙ h
 
   laid_out : (on following : List ℕ) → length on ≤ blank_len rest → m.line_start ≡ true → NextEnds m rest (layout m on following rest)
   unfolding layout

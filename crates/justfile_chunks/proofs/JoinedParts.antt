@@ -223,11 +223,10 @@ first_chunk_of part (q ∷ parts) e later h p =
 
 next_marks : (ts us : List Tok) → marks ts ≡ marks us → next_kind ts ≡ next_kind us
 next_marks [] [] e = refl
-next_marks [] (u ∷ us) e = cc
-next_marks (t ∷ ts) [] e = cc
 next_marks (t ∷ ts) (u ∷ us) e =
     let h = cons_parts (mark t.kind t.lexeme) (mark u.kind u.lexeme) (marks ts) (marks us) e in
     λ i. cond (is_whitespace (h.0 i).kind) (next_marks ts us h.1 i) (Some (h.0 i).kind)
+next_marks _ _ e = cc
 
 tokens_are : (later part : List Tok) (c : FirstChunk later part) (o : OwnTokens (after_feed part)) → marks o.tokens ≡ marks (plain.feed part ∷ c.tokens)
 tokens_are later part c o = c.lexes.has o.tokens o.lexed o.colons
@@ -247,11 +246,10 @@ same_first later part others q c d text o =
 
 colons_marks : (ts us : List Tok) (colon : Bool) → marks ts ≡ marks us → IndentsHaveColons colon ts → IndentsHaveColons colon us
 colons_marks [] [] colon e h = tt
-colons_marks [] (u ∷ us) colon e h = cc
-colons_marks (t ∷ ts) [] colon e h = cc
 colons_marks (t ∷ ts) (u ∷ us) colon e h =
     let m = cons_parts (mark t.kind t.lexeme) (mark u.kind u.lexeme) (marks ts) (marks us) e in
     subst (λ k. NeedsColon k colon × IndentsHaveColons (colon_after k colon) us) (λ i. (m.0 i).kind) (h.0, colons_marks ts us (colon_after t.kind colon) m.1 h.1)
+colons_marks _ _ colon e h = cc
 
 -- a colon before them does no harm
 colons_more : (ts : List Tok) (colon : Bool) → IndentsHaveColons false ts → IndentsHaveColons colon ts

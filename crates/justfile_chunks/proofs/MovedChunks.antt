@@ -84,7 +84,7 @@ near_itself ts us e = subst (AllZip NearToken ts) e (by ts)
     by (t ∷ ts) = (inl refl, by ts)
 
 -- the token that stands at an offset, and is this one
-stands : (text : List ℕ) (k : ℕ) (u : Tok) (m : Mark) → StandsAt text k u → mark u.kind u.lexeme ≡ m → u ≡ tok_at text k m
+pub stands : (text : List ℕ) (k : ℕ) (u : Tok) (m : Mark) → StandsAt text k u → mark u.kind u.lexeme ≡ m → u ≡ tok_at text k m
 stands text k u m s e = place ∙ ap (tok_at text k) e
   where
     place : u ≡ tok_at text k (mark u.kind u.lexeme)

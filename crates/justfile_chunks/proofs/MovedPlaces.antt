@@ -175,8 +175,6 @@ module _ (a b p : List ℕ) (offset line : ℕ) (m : Moves a b offset line) (som
       → k + length (text_of ts) ≤ length p
       → ts ≡ map (moved offset line) us
   last_moved [] [] k x y e l = refl
-  last_moved [] (u ∷ us) k x y e l = cc
-  last_moved (t ∷ ts) [] k x y e l = cc
   last_moved (t ∷ ts) (u ∷ us) k x y e l =
       let h = cons_parts (mark u.kind u.lexeme) (mark t.kind t.lexeme) (marks us) (marks ts) e in
       let same : t.lexeme ≡ u.lexeme = ap (λ (m : Mark). m.lexeme) (sym h.0) in
@@ -187,6 +185,7 @@ module _ (a b p : List ℕ) (offset line : ℕ) (m : Moves a b offset line) (som
       (subst (λ j. Placed (a ++ (p ++ [])) j ts) (omega arith) x.1) (subst (λ j. Placed (b ++ (p ++ [])) j us) (omega (arith, ap length same)) y.1) h.1
       (omega (arith, l, size)) in
       λ i. first i ∷ others i
+  last_moved _ _ k x y e l = cc
 
 -- ---- after a line feed
 

@@ -82,26 +82,21 @@ closes_same o p b rest e =
 closes : (os ps : List OpenDelimiter) (b : ℕ) (rest : List ℕ) → delimiters os ≡ delimiters ps
     → SameFound (closing (head_of os) b rest) (closing (head_of ps) b rest)
 closes [] [] b rest e = itself _
-closes [] (p ∷ ps) b rest e = cc
-closes (o ∷ os) [] b rest e = cc
 closes (o ∷ os) (p ∷ ps) b rest e = closes_same o p b rest (cons_parts o.delimiter p.delimiter (delimiters os) (delimiters ps) e).0
+closes _ _ b rest e = cc
 
 -- ---- the end of the text
 
 ended : (o p : Option Tok) (levels others : List (List ℕ)) → is_some o ≡ is_some p → levels ≡ others → SameFound (at_end_by o levels) (at_end_by p others)
 ended None None levels others e l = either (is_empty levels) (is_empty others) (ap is_empty l) (itself _) (itself _)
-ended None (Some t) levels others e l = cc
-ended (Some t) None levels others e l = cc
 ended (Some t) (Some u) levels others e l = record { same = refl }
+ended _ _ levels others e l = cc
 
 same_region : (b c : Bool) (o p : Option Tok) → b ≡ c → is_some o ≡ is_some p → region_by b o ≡ region_by c p
 same_region true true None None e h = refl
 same_region false false None None e h = refl
 same_region b c (Some t) (Some u) e h = refl
-same_region b c None (Some u) e h = cc
-same_region b c (Some t) None e h = cc
-same_region true false None None e h = cc
-same_region false true None None e h = cc
+same_region _ _ _ _ e h = cc
 
 module _ (m n : Mode) (s : SameMode m n) (rest : List ℕ) where
   same_empty : is_empty m.openers ≡ is_empty n.openers

@@ -15,7 +15,7 @@ use Rattle.justfile_chunks_grammar.proofs.AgainAttributes as again_attributes
 use Rattle.justfile_chunks_grammar.proofs.AgainExpressions as again_expressions
 use Rattle.justfile_chunks_grammar.proofs.AgainHeaders as again_headers
 use Rattle.justfile_chunks_grammar.proofs.AgainItems as again_items
-use Rattle.justfile_chunks_grammar.proofs.CutTokens.{significant}
+use Rattle.justfile_chunks_grammar.proofs.CutTokens.{pairs_before, significant}
 use Rattle.justfile_chunks_grammar.proofs.Over.{Again, Ahead, Front, Over, is_inside, is_quiet, not_name, one, other_end, same, step}
 use Rattle.justfile_chunks_grammar.proofs.Passes.{clash, self_ahead}
 
@@ -259,16 +259,10 @@ pub near_tokens : (ts us : List Tok) → AllZip NearToken ts us → (glued : Boo
 near_tokens [] [] h glued = nil
 near_tokens (t ∷ ts) (u ∷ us) h glued = by h.0 (near_tokens ts us h.1)
   where
-    equal : (b : Bool) → ((g : Bool) → Pairs Near (significant_from g ts) (significant_from g us))
-        → Pairs Near (cond b (significant_from false ts) (significant t glued ∷ significant_from true ts))
-        (cond b (significant_from false us) (significant t glued ∷ significant_from true us))
-    equal true more = more false
-    equal false more = cons (inl refl) (more true)
-
     by : NearToken t u → ((g : Bool) → Pairs Near (significant_from g ts) (significant_from g us))
         → Pairs Near (significant_from glued (t ∷ ts)) (significant_from glued (u ∷ us))
     by (inl e) more =
-        subst (λ x. Pairs Near (significant_from glued (t ∷ ts)) (significant_from glued (x ∷ us))) e (equal (is_whitespace t.kind) more)
+        subst (λ x. Pairs Near (significant_from glued (t ∷ ts)) (significant_from glued (x ∷ us))) e (pairs_before _ _ (is_whitespace t.kind) (inl refl) (more false) (more true))
     by (inr d) more =
         subst (λ k. Pairs Near (put glued t ts k) (put glued u us u.kind)) (sym d.0.0)
         (subst (λ k. Pairs Near (put glued t ts kinds.Dedent) (put glued u us k)) (sym d.1.0) (cons (inr (d.0.0, d.1.0)) (more true)))
