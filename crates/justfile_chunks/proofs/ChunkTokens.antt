@@ -29,6 +29,7 @@ use Rattle.justfile_chunks.proofs.SameModes.{HaveColon, NoneIsEof, marks, mode_p
 use Rattle.justfile_chunks.proofs.SameNext.{SameMode}
 use Rattle.justfile_chunks.proofs.SplitRuns.{in_order, runs_of, split_run, split_utf8}
 use Rattle.justfile_chunks.proofs.TidyModes.{EndsInFeed, LevelFact, Tidy, feed_of, fed_run}
+use Rattle.justfile_vocabulary.specs.declared.token_kind.TokenKind.{TokenKind}
 
 -- ---- parts
 
@@ -337,9 +338,22 @@ pub colons_front : (ts us : List Tok) (colon : Bool) → IndentsHaveColons colon
 colons_front [] us colon c = tt
 colons_front (t ∷ ts) us colon c = (c.0, colons_front ts us (colon_after t.kind colon) c.1)
 
-colons_closed : (ts : List Tok) (t : Tok) (colon : Bool) → t.kind ≡ kinds.Eof → IndentsHaveColons colon ts → IndentsHaveColons colon (ts ++ (t ∷ []))
-colons_closed [] t colon e c = (subst (λ k. NeedsColon k colon) (sym e) tt, tt)
-colons_closed (u ∷ ts) t colon e c = (c.0, colons_closed ts t (colon_after u.kind colon) e c.1)
+-- a colon before them does no harm
+colons_more : (ts : List Tok) (colon : Bool) → IndentsHaveColons false ts → IndentsHaveColons colon ts
+colons_more ts false h = h
+colons_more [] true h = tt
+colons_more (t ∷ ts) true h = by t.kind h.0 h.1 (colons_more ts true)
+  where
+    by : (k : TokenKind) → NeedsColon k false → IndentsHaveColons (colon_after k false) ts → (IndentsHaveColons false ts → IndentsHaveColons true ts)
+        → NeedsColon k true × IndentsHaveColons (colon_after k true) ts
+    by kinds.Indent n c f = (refl, f c)
+    by kinds.Colon n c f = (tt, c)
+    by kinds.Dedent n c f = (tt, c)
+    by _ n c f = (tt, f c)
+
+pub colons_append : (ts us : List Tok) (colon : Bool) → IndentsHaveColons colon ts → IndentsHaveColons false us → IndentsHaveColons colon (ts ++ us)
+colons_append [] us colon h k = colons_more us colon k
+colons_append (t ∷ ts) us colon h k = (h.0, colons_append ts us (colon_after t.kind colon) h.1 k)
 
 module _ (b : Borders) where
   -- a chunk that ends at a cut
@@ -351,8 +365,8 @@ module _ (b : Borders) where
       map-append (λ (t : Tok). mark t.kind t.lexeme) part (t ∷ []) ∙ (λ i. marks part ++ (mark (b.eof_kind first part i) (b.eof_text first part i) ∷ [])) in
       chunk_by b part (closed b first part) (marks part) are
       (λ c. record { is = part_lexes (text_of rest) rest n.some n.more part earlier start_mode false n.is_part (colons_front part (t ∷ []) false c) n.ended })
-      (λ us r o c. colons_closed part t false (b.eof_kind first part) (colons_back
-      (text_of rest) rest n.some n.more part us earlier start_mode false n.is_part r o c))
+      (λ us r o c. colons_append part (t ∷ []) false (colons_back (text_of rest) rest n.some n.more part us earlier start_mode false n.is_part r o c)
+      (subst (λ k. NeedsColon k false) (sym (b.eof_kind first part)) tt, tt))
       first
 
   -- the last chunk

@@ -1,9 +1,8 @@
 -- Parts before a cut are parts whatever tokens follow it, as long as the next one has the same kind; and those after a cut are parts wherever
 -- they are.
-use Rattle.std.proofs.Common.{◌≡◌, ◌∙◌, ℕ, ◌+◌, ◌-◌, ◌<◌, Bool, true, false, cond, List, [], ◌∷◌, ◌++◌, length, map, Some, refl, sym, ap, subst, arith, append_assoc, length-append}
+use Rattle.std.proofs.Common.{◌≡◌, ◌∙◌, ℕ, ◌+◌, ◌-◌, ◌<◌, Bool, false, cond, List, [], ◌∷◌, ◌++◌, length, map, Some, refl, sym, ap, subst, arith, append_assoc, length-append}
 use Rattle.std.specs.List.{AllByRecursion}
 use Rattle.std.specs.Str.{IsUtf8}
-use Rattle.justfile_vocabulary.specs.declared.token_kind.TokenKind.{TokenKind}
 use Rattle.justfile_vocabulary.specs.declared.token_kind.TokenKind.TheVariants as kinds
 use Rattle.justfile_model.specs.Lexing.Lexed.{Lexed}
 use Rattle.justfile_model.specs.Lexing.Modes.{mode}
@@ -16,7 +15,7 @@ use Rattle.justfile_chunks_grammar.proofs.Colons.{IndentsHaveColons, NeedsColon,
 use Rattle.justfile_chunks_grammar.proofs.CutTokens.{ends_dark}
 use Rattle.justfile_chunks_grammar.proofs.Passes.{line_with}
 use Rattle.justfile_chunks.proofs.AllCuts.{Fresh, cut_by, fresh, levels_like}
-use Rattle.justfile_chunks.proofs.ChunkTokens.{ChunkLexes, Later, NextPart, Split, colons_front, cut_chunk, first_part, last_chunk, next_part, onto, plain}
+use Rattle.justfile_chunks.proofs.ChunkTokens.{ChunkLexes, Later, NextPart, Split, colons_append, colons_front, cut_chunk, first_part, last_chunk, next_part, onto, plain}
 use Rattle.justfile_chunks.proofs.PartSteps.{Uncut, feed_utf8}
 use Rattle.justfile_chunks.proofs.SameModes.{NoneIsEof, marks}
 use Rattle.justfile_chunks.proofs.TidyModes.{EndsInFeed}
@@ -250,23 +249,6 @@ colons_marks (t ∷ ts) (u ∷ us) colon e h =
     let m = cons_parts (mark t.kind t.lexeme) (mark u.kind u.lexeme) (marks ts) (marks us) e in
     subst (λ k. NeedsColon k colon × IndentsHaveColons (colon_after k colon) us) (λ i. (m.0 i).kind) (h.0, colons_marks ts us (colon_after t.kind colon) m.1 h.1)
 colons_marks _ _ colon e h = cc
-
--- a colon before them does no harm
-colons_more : (ts : List Tok) (colon : Bool) → IndentsHaveColons false ts → IndentsHaveColons colon ts
-colons_more ts false h = h
-colons_more [] true h = tt
-colons_more (t ∷ ts) true h = by t.kind h.0 h.1 (colons_more ts true)
-  where
-    by : (k : TokenKind) → NeedsColon k false → IndentsHaveColons (colon_after k false) ts → (IndentsHaveColons false ts → IndentsHaveColons true ts)
-        → NeedsColon k true × IndentsHaveColons (colon_after k true) ts
-    by kinds.Indent n c f = (refl, f c)
-    by kinds.Colon n c f = (tt, c)
-    by kinds.Dedent n c f = (tt, c)
-    by _ n c f = (tt, f c)
-
-colons_append : (ts us : List Tok) (colon : Bool) → IndentsHaveColons colon ts → IndentsHaveColons false us → IndentsHaveColons colon (ts ++ us)
-colons_append [] us colon h k = colons_more us colon k
-colons_append (t ∷ ts) us colon h k = (h.0, colons_append ts us (colon_after t.kind colon) h.1 k)
 
 part_colons : (later part : List Tok) → FirstChunk later part → OwnTokens (after_feed part) → IndentsHaveColons false part
 part_colons later part c o = c.colons (colons_marks o.tokens (plain.feed part ∷ c.tokens) false (tokens_are later part c o) o.colons).1
