@@ -18,12 +18,12 @@ use Rattle.justfile_model.proofs.Lexing.UnclosedLaws.{reverse_more}
 use Rattle.justfile_round_trip.proofs.LiteralTexts.LexedModes.{Mark, mark}
 use Rattle.justfile_chunks_grammar.specs.Chunks.{AreParts, ChunksHave, Each, HasShape, IsCut, IsCutAfter, Parts, ShapeFeatures, ShapeLaw, chunk_texts, ends_line, joined, line_kind, next_kind}
 use Rattle.justfile_chunks_grammar.proofs.Colons.{IndentsHaveColons}
+use Rattle.justfile_chunks_grammar.proofs.CutTokens.{pairs_before}
 use Rattle.justfile_chunks_grammar.proofs.OneCut.{CutLaw, FeedLaw, TokensDeriveShape, colons_law, cut_law, feed_law, rederived, shape_from, shape_to}
 use Rattle.justfile_chunks_grammar.proofs.Passes.{line_ended, line_with}
 use Rattle.justfile_chunks.proofs.ChunkTokens.{Borders, ChunkLexes, chunks_by, chunks_lex, closed, ended_before, first_part, onto, plain, tokens_by}
 use Rattle.justfile_chunks.proofs.SameModes.{marks}
 use Rattle.justfile_chunks.proofs.SameNext.{cons_parts}
-use Rattle.justfile_chunks_grammar.proofs.CutTokens.{pairs_before}
 
 -- ---- tokens with the same kinds and lexemes
 
@@ -101,7 +101,7 @@ with_each P Q is js items features f h = record {
   features_are = h.features_are;
 }
 
-pub have_same : {I J X F : Type 0} (P : I → List X → List F → Type 0) (Q : J → List X → List F → Type 0) (is : List I) (js : List J)
+have_same : {I J X F : Type 0} (P : I → List X → List F → Type 0) (Q : J → List X → List F → Type 0) (is : List I) (js : List J)
     → AllZip (λ i j. (xs : List X) (fs : List F) → P i xs fs ↔ Q j xs fs) is js → (items : List X) (features : List F)
     → ChunksHave P is items features ↔ ChunksHave Q js items features
 have_same P Q is js e items features =

@@ -6,6 +6,7 @@ use Rattle.std.specs.Str.{IsUtf8}
 use Rattle.std.proofs.lemmas.List.{map-append}
 use Rattle.std.proofs.lemmas.List.Concat.{flat_map-append}
 use Rattle.justfile_vocabulary.specs.ByteClass.{class_of}
+use Rattle.justfile_vocabulary.specs.declared.token_kind.TokenKind.{TokenKind}
 use Rattle.justfile_vocabulary.specs.declared.token_kind.TokenKind.TheVariants as kinds
 use Rattle.justfile_model.specs.Lexing.Lexed.{Begins, Lexed}
 use Rattle.justfile_model.specs.Lexing.Modes.{Mode, mode, mode_after, start_mode}
@@ -29,7 +30,6 @@ use Rattle.justfile_chunks.proofs.SameModes.{HaveColon, NoneIsEof, marks, mode_p
 use Rattle.justfile_chunks.proofs.SameNext.{SameMode}
 use Rattle.justfile_chunks.proofs.SplitRuns.{in_order, runs_of, split_run, split_utf8}
 use Rattle.justfile_chunks.proofs.TidyModes.{EndsInFeed, LevelFact, Tidy, feed_of, fed_run}
-use Rattle.justfile_vocabulary.specs.declared.token_kind.TokenKind.{TokenKind}
 
 -- ---- parts
 
@@ -80,7 +80,7 @@ pub record Later (earlier later : List Tok) : Type 0 where
   pub ends : EndsOnce later
   pub empty : EndsEmpty later
 
--- what is said of tokens by the last one is said of the last ones
+-- what the last token decides of tokens holds of those at their end
 rest_of : (E : List Tok → Type 0) → ((t u : Tok) (ts : List Tok) → E (t ∷ u ∷ ts) → E (u ∷ ts)) → (p rest : List Tok) → 0 < length rest → E (p ++ rest) → E rest
 rest_of E step [] rest l h = h
 rest_of E step (t ∷ []) [] l h = absurd (omega arith)
@@ -270,7 +270,7 @@ module _ (b : Borders) where
   abbrev pub closed : Bool → List Tok → List Tok
   closed first part = part ++ (b.eof first part ∷ [])
 
-  -- before these parts
+  -- the part, which is ended if these are after it
   abbrev pub ended_before : List (List Tok) → Bool → List Tok → List Tok
   ended_before [] first part = part
   ended_before (q ∷ parts) first part = closed first part

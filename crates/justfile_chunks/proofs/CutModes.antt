@@ -3,6 +3,8 @@ use Rattle.std.proofs.Common.{◌≡◌, ◌⊎◌, ◌∙◌, ℕ, zero, suc, �
 use Rattle.std.specs.List.{starts_with}
 use Rattle.std.specs.Str.{bytes_eq}
 use Rattle.std.proofs.lemmas.Slice.Eq.{bytes_eq-Decides}
+use Rattle.std.proofs.lemmas.Bool.{false_from_ne_true, not-false}
+use Rattle.std.proofs.Math.Bool.{and-true}
 use Rattle.justfile_vocabulary.specs.declared.byte_class.ByteClass.{ByteClass}
 use Rattle.justfile_vocabulary.specs.declared.byte_class.ByteClass.TheVariants as classes
 use Rattle.justfile_vocabulary.specs.declared.token_kind.TokenKind.{TokenKind}
@@ -25,8 +27,6 @@ use Rattle.justfile_model.specs.Lexing.Tok.{Tok}
 use Rattle.justfile_round_trip.proofs.RecipeBodies.BodyTokens.{InBody}
 use Rattle.justfile_chunks_grammar.specs.Chunks.{ends_line}
 use Rattle.justfile_chunks.proofs.SameNext.{SameMode}
-use Rattle.std.proofs.lemmas.Bool.{false_from_ne_true, not-false}
-use Rattle.std.proofs.Math.Bool.{and-true}
 
 -- a line ends outside of the text of a body only if nothing is nested, and neither a dedent nor an indent comes within a line
 abbrev EndFact : Mode → TokenKind → Type 0

@@ -2,6 +2,7 @@
 use Rattle.std.proofs.Common.{◌≡◌, ◌∙◌, ℕ, zero, suc, ◌+◌, ◌<◌, ◌≤◌, Bool, true, false, cond, eqb, ltb, ◌&&◌, ◌||◌, List, [], ◌∷◌, ◌++◌, length, get_or, refl, sym, ap, arith, ⊎_elim}
 use Rattle.std.specs.List.{prefix_len}
 use Rattle.std.proofs.Math.Seq.{get_or-append_seam}
+use Rattle.std.proofs.Math.Bool.{and-false}
 use Rattle.std.proofs.lemmas.Bool.{cases_lt}
 use Rattle.justfile_vocabulary.specs.ByteClass.{class_of}
 use Rattle.justfile_token.specs.declared.string_kind.StringDelimiter.{StringDelimiter}
@@ -12,7 +13,6 @@ use Rattle.justfile_model.specs.declared.raw_text.RawText.TheVariants.{Body, Com
 use Rattle.justfile_model.specs.Lexing.Bytes.{is_blank, is_name_byte, is_interpolation_end, is_interpolation_escape, is_interpolation_start, is_line_end}
 use Rattle.justfile_model.specs.Lexing.LiteralText.{ends, hides, is_delimiter, pieces_len, raw_len}
 use Rattle.justfile_model.proofs.Lexing.CutLemmas.{body_no_newline, comment_no_newline, escape_no_newline, no_newline_in_pieces}
-use Rattle.std.proofs.Math.Bool.{and-false}
 
 -- ---- the first bytes
 

@@ -18,8 +18,8 @@ use Rattle.justfile_chunks.proofs.AllCuts.{Fresh, cut_by, fresh, levels_like}
 use Rattle.justfile_chunks.proofs.ChunkTokens.{ChunkLexes, Later, NextPart, Split, colons_append, colons_front, cut_chunk, first_part, last_chunk, next_part, onto, plain}
 use Rattle.justfile_chunks.proofs.PartSteps.{Uncut, feed_utf8}
 use Rattle.justfile_chunks.proofs.SameModes.{NoneIsEof, marks}
-use Rattle.justfile_chunks.proofs.TidyModes.{EndsInFeed}
 use Rattle.justfile_chunks.proofs.SameNext.{cons_parts}
+use Rattle.justfile_chunks.proofs.TidyModes.{EndsInFeed}
 
 -- ---- other tokens after a cut
 

@@ -20,9 +20,9 @@ use Rattle.justfile_chunks_grammar.proofs.OtherDedents.{IsEmptyDedent, NearToken
 use Rattle.justfile_chunks.proofs.ChunkTokens.{Borders, Later, NextPart, Split, chunks_by, closed, first_part, from_start, next_part, onto, some_text, whole_is}
 use Rattle.justfile_chunks.proofs.MovedPlaces.{AreMoved, IsMoved, Moves, Placed, after_text, all_moved, at_start, inside, last_moved, placed, placed_after, placed_front}
 use Rattle.justfile_chunks.proofs.SameModes.{NoneIsEof, marks}
+use Rattle.justfile_chunks.proofs.SameNext.{cons_parts}
 use Rattle.justfile_chunks.proofs.SplitRuns.{rest_utf8}
 use Rattle.justfile_chunks.proofs.TidyModes.{EndsInFeed, fed_more}
-use Rattle.justfile_chunks.proofs.SameNext.{cons_parts}
 
 -- ---- the line feeds before chunks and the ends after them, where they are in the chunks, moved
 

@@ -14,8 +14,8 @@ use Rattle.justfile_round_trip.proofs.LiteralTexts.LexedModes.{Mark, mark}
 use Rattle.justfile_chunks_grammar.specs.Chunks.{moved, text_of}
 use Rattle.justfile_chunks.proofs.FeedTexts.{run_same}
 use Rattle.justfile_chunks.proofs.SameModes.{marks}
-use Rattle.justfile_chunks.proofs.SplitRuns.{in_order}
 use Rattle.justfile_chunks.proofs.SameNext.{cons_parts}
+use Rattle.justfile_chunks.proofs.SplitRuns.{in_order}
 
 -- ---- places
 

@@ -4,10 +4,12 @@ use Rattle.std.proofs.Common.{◌≡◌, ◌≢◌, ◌∙◌, ℕ, zero, suc, �
 use Rattle.std.specs.List.{flat_map}
 use Rattle.std.specs.Str.{IsUtf8}
 use Rattle.std.proofs.Math.Seq.{get_or-append_seam}
+use Rattle.std.proofs.Math.Bool.{or-false}
 use Rattle.std.proofs.lemmas.Bool.{and_parts, false_from_ne_true}
 use Rattle.std.proofs.lemmas.Bool.Decides.{nat_tests}
 use Rattle.std.proofs.lemmas.List.{drop-append-le, length-take-le, take-append-drop}
 use Rattle.std.proofs.lemmas.Str.{IsCharBoundary-after_ascii, IsUtf8-take}
+use Rattle.std.proofs.lemmas.List.Sums.{prefix_len-le-length}
 use Rattle.justfile_vocabulary.specs.declared.token_kind.TokenKind.{TokenKind}
 use Rattle.justfile_vocabulary.specs.declared.token_kind.TokenKind.TheVariants as kinds
 use Rattle.justfile_vocabulary.specs.ByteClass.{class_of}
@@ -28,8 +30,6 @@ use Rattle.justfile_chunks.proofs.CutModes.{next_fact, or_none}
 use Rattle.justfile_chunks.proofs.FeedTexts.{no_blank_feed, run_within}
 use Rattle.justfile_chunks.proofs.PartNext.{ClosesAlike, part_next}
 use Rattle.justfile_chunks.proofs.TidyModes.{Fed, LevelFact, Tidy, blanks_end}
-use Rattle.std.proofs.Math.Bool.{or-false}
-use Rattle.std.proofs.lemmas.List.Sums.{prefix_len-le-length}
 
 -- there is no cut inside the part
 abbrev pub Uncut : (earlier part later : List Tok) → Type 0

@@ -1,11 +1,11 @@
 -- A text in which the chunks between two others are replaced has the parsed chunks of the old text around the new ones: two joins.
 use Rattle.std.proofs.Common.{◌≡◌, ◌≢◌, ◌∙◌, ℕ, ◌+◌, ◌-◌, List, [], ◌∷◌, ◌++◌, length, map, take, drop, sym, ap, subst, arith, append_assoc}
 use Rattle.std.proofs.lemmas.List.{map-append}
+use Rattle.std.proofs.Math.Seq.{take-append-add}
 use Rattle.justfile_chunks_grammar.specs.Chunks.{Chunk}
 use Rattle.justfile_chunks.specs.JoinedTexts.{HasChunks, HasParsed, ParsedChunk, ReplacedLaw, joined_parsed, joined_text, replaced_text}
 use Rattle.justfile_chunks.proofs.JoinedChunks.{front_fits}
 use Rattle.justfile_chunks.proofs.ParsedChunks.{chunks_in, joined_tree_law, some_chunk}
-use Rattle.std.proofs.Math.Seq.{take-append-add}
 
 some_append : {A : Type 0} (xs : List A) (y : A) (ys : List A) → xs ++ (y ∷ ys) ≢ []
 some_append [] y ys e = cc

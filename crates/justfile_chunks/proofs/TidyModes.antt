@@ -4,6 +4,7 @@ use Rattle.std.specs.List.{flat_map}
 use Rattle.std.specs.Str.{IsUtf8}
 use Rattle.std.proofs.Math.ListN.{get_or-append}
 use Rattle.std.proofs.lemmas.Bool.Decides.{nat_tests}
+use Rattle.std.proofs.lemmas.List.{nil_from_length}
 use Rattle.justfile_vocabulary.specs.declared.token_kind.TokenKind.{TokenKind}
 use Rattle.justfile_vocabulary.specs.declared.token_kind.TokenKind.TheVariants as kinds
 use Rattle.justfile_model.specs.Lexing.Bytes.{blank_len, is_blank}
@@ -18,9 +19,8 @@ use Rattle.justfile_chunks_grammar.specs.Chunks.{line_kind}
 use Rattle.justfile_chunks.proofs.CutModes.{NextFact, next_fact}
 use Rattle.justfile_chunks.proofs.SplitRuns.{rest_utf8}
 use Rattle.justfile_chunks_grammar.proofs.Colons.{NeedsColon}
-use Rattle.justfile_chunks.proofs.SameModes.{mode_past, or_true}
-use Rattle.std.proofs.lemmas.List.{nil_from_length}
 use Rattle.justfile_chunks_grammar.proofs.Passes.{line_with}
+use Rattle.justfile_chunks.proofs.SameModes.{mode_past, or_true}
 
 -- ---- the levels and the line
 

@@ -35,8 +35,8 @@ use Rattle.justfile_model.proofs.Meanings.ShapesMean.{none_of_none}
 use Rattle.justfile_model.proofs.Printed.DocsKept.{any_kind_over, documented_over}
 use Rattle.justfile_model.proofs.Relations.Graph.{SameView, all_over}
 use Rattle.justfile_chunks_grammar.specs.Chunks.{moved, moved_item}
-use Rattle.justfile_chunks_grammar.proofs.MovedKeys.{same_order}
 use Rattle.justfile_chunks_grammar.proofs.CutTokens.{pairs_before}
+use Rattle.justfile_chunks_grammar.proofs.MovedKeys.{same_order}
 
 module _ (offset line : ℕ) where
   abbrev move : Tok → Tok
