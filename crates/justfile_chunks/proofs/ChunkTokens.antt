@@ -1,11 +1,12 @@
 -- The chunks of a text are lexed by themselves to their tokens in the text.
-use Rattle.std.proofs.Common.{◌≡◌, ◌≢◌, ◌∙◌, ℕ, ◌+◌, ◌<◌, Bool, true, false, cond, List, [], ◌∷◌, ◌++◌, ◌⊎◌, inl, inr, length, map, Some, None, Ok, refl, sym, ap, subst, arith, append_assoc, length-append, ⊎_elim}
+use Rattle.std.proofs.Common.{◌≡◌, ◌≢◌, ◌∙◌, ℕ, ◌+◌, ◌<◌, Bool, true, false, cond, List, [], ◌∷◌, ◌++◌, length, map, Some, None, Ok, refl, sym, ap, subst, arith, append_assoc, length-append, ⊎_elim}
 use Rattle.std.specs.Prelude.{reverse}
 use Rattle.std.specs.List.{AllZip}
 use Rattle.std.specs.Str.{IsUtf8}
 use Rattle.std.proofs.lemmas.List.{map-append}
 use Rattle.std.proofs.lemmas.List.Concat.{flat_map-append}
 use Rattle.justfile_vocabulary.specs.ByteClass.{class_of}
+use Rattle.justfile_vocabulary.specs.declared.token_kind.TokenKind.{TokenKind}
 use Rattle.justfile_vocabulary.specs.declared.token_kind.TokenKind.TheVariants as kinds
 use Rattle.justfile_model.specs.Lexing.Lexed.{Begins, Lexed}
 use Rattle.justfile_model.specs.Lexing.Modes.{Mode, mode, mode_after, start_mode}
@@ -22,13 +23,13 @@ use Rattle.justfile_round_trip.proofs.RecipeBodies.Lines.{blank_line}
 use Rattle.justfile_round_trip.proofs.Values.TokenFacts.{Runs}
 use Rattle.justfile_chunks_grammar.specs.Chunks.{AreParts, IsCut, Parts, after_feed, chunk_texts, next_kind, text_of}
 use Rattle.justfile_chunks.proofs.CutModes.{BodyHasLevel, level_after, mode_at_cut}
-use Rattle.justfile_chunks.proofs.PartLexes.{EndsEmpty, EndsOnce, IsPart, but_last, colons_back, last_lexes, last_marks, part_lexes, same_colons}
+use Rattle.justfile_chunks.proofs.PartLexes.{EndsEmpty, EndsOnce, IsPart, but_last, colons_back, ends_later, last_lexes, last_marks, part_lexes, same_colons}
 use Rattle.justfile_chunks.proofs.PartSteps.{Uncut, kind_is, len_is}
 use Rattle.justfile_chunks_grammar.proofs.Colons.{IndentsHaveColons, NeedsColon, colon_after}
 use Rattle.justfile_chunks.proofs.SameModes.{HaveColon, NoneIsEof, marks, mode_past}
 use Rattle.justfile_chunks.proofs.SameNext.{SameMode}
 use Rattle.justfile_chunks.proofs.SplitRuns.{in_order, runs_of, split_run, split_utf8}
-use Rattle.justfile_chunks.proofs.TidyModes.{LevelFact, Tidy, fed_run}
+use Rattle.justfile_chunks.proofs.TidyModes.{EndsInFeed, LevelFact, Tidy, feed_of, fed_run}
 
 -- ---- parts
 
@@ -46,30 +47,24 @@ pub record Split (earlier later part : List Tok) (parts : List (List Tok)) : Typ
   pub cut : IsCut (onto earlier part) rest
   pub others : Parts (onto earlier part) rest parts
 
--- the first part is the last one, or a cut is after it
+-- the only part is all tokens, and a cut is after the first one of more
 abbrev pub FirstPart : (earlier later : List Tok) → (parts : List (List Tok)) → Type 0
 FirstPart earlier later [] = ⊥
-FirstPart earlier later (part ∷ parts) = ((later ≡ part) × (parts ≡ [])) ⊎ Split earlier later part parts
+FirstPart earlier later (part ∷ []) = later ≡ part
+FirstPart earlier later (part ∷ q ∷ parts) = Split earlier later part (q ∷ parts)
 
 pub first_part : {earlier later : List Tok} {parts : List (List Tok)} → Parts earlier later parts → FirstPart earlier later parts
-first_part Parts.last = inl (refl, refl)
-first_part (Parts.cut {later = l} c rest) = inr (record { rest = l; is = refl; some = omega arith; uncut = tt; cut = c; others = rest })
-first_part (Parts.uncut {earlier = e} {later = l} {part = p} {parts = ps} {t = t} u rest) = by (first_part rest)
+first_part Parts.last = refl
+first_part (Parts.cut {parts = []} c rest) = absurd (first_part rest)
+first_part (Parts.cut {later = l} {parts = q ∷ ps} c rest) = record { rest = l; is = refl; some = omega arith; uncut = tt; cut = c; others = rest }
+first_part (Parts.uncut {parts = []} {t = t} u rest) = ap (λ x. t ∷ x) (first_part rest)
+first_part (Parts.uncut {earlier = e} {later = l} {part = p} {parts = q ∷ ps} {t = t} u rest) =
+    let s = first_part rest in
+    record { rest = s.rest; is = ap (λ x. t ∷ x) s.is; some = omega arith; uncut = more p s.rest s.is s.uncut; cut = s.cut; others = s.others }
   where
     more : (p rest : List Tok) → l ≡ p ++ rest → Uncut (t ∷ e) p rest → Uncut e (t ∷ p) rest
     more [] rest is h = tt
     more (w ∷ p) rest is h = (λ c. u (subst (λ x. IsCut (t ∷ e) x) (sym is) c), h)
-
-    by : ((l ≡ p) × (ps ≡ [])) ⊎ Split (t ∷ e) l p ps → ((t ∷ l ≡ t ∷ p) × (ps ≡ [])) ⊎ Split e (t ∷ l) (t ∷ p) ps
-    by (inl h) = inl (ap (λ x. t ∷ x) h.0, h.1)
-    by (inr s) = inr (record {
-      rest = s.rest;
-      is = ap (λ x. t ∷ x) s.is;
-      some = omega arith;
-      uncut = more p s.rest s.is s.uncut;
-      cut = s.cut;
-      others = s.others;
-    })
 
 pub onto_mode : (part earlier : List Tok) → mode (onto earlier part) ≡ mode_past (mode earlier) part
 onto_mode [] earlier = refl
@@ -85,35 +80,29 @@ pub record Later (earlier later : List Tok) : Type 0 where
   pub ends : EndsOnce later
   pub empty : EndsEmpty later
 
-ends_rest : (p rest : List Tok) → 0 < length rest → EndsOnce (p ++ rest) → EndsOnce rest
-ends_rest [] rest l h = h
-ends_rest (t ∷ p) rest l h = by (p ++ rest) (omega (arith, l, length-append p rest)) h (ends_rest p rest l)
-  where
-    by : (x : List Tok) → 0 < length x → EndsOnce (t ∷ x) → (EndsOnce x → EndsOnce rest) → EndsOnce rest
-    by [] l h f = absurd (omega arith)
-    by (u ∷ x) l h f = f h.1
-
-empty_rest : (p rest : List Tok) → 0 < length rest → EndsEmpty (p ++ rest) → EndsEmpty rest
-empty_rest [] rest l h = h
-empty_rest (t ∷ p) rest l h = by (p ++ rest) (omega (arith, l, length-append p rest)) h (empty_rest p rest l)
-  where
-    by : (x : List Tok) → 0 < length x → EndsEmpty (t ∷ x) → (EndsEmpty x → EndsEmpty rest) → EndsEmpty rest
-    by [] l h f = absurd (omega arith)
-    by (u ∷ x) l h f = f h
+-- what the last token decides of tokens holds of those at their end
+rest_of : (E : List Tok → Type 0) → ((t u : Tok) (ts : List Tok) → E (t ∷ u ∷ ts) → E (u ∷ ts)) → (p rest : List Tok) → 0 < length rest → E (p ++ rest) → E rest
+rest_of E step [] rest l h = h
+rest_of E step (t ∷ []) [] l h = absurd (omega arith)
+rest_of E step (t ∷ []) (u ∷ rest) l h = step t u rest h
+rest_of E step (t ∷ w ∷ p) rest l h = rest_of E step (w ∷ p) rest l (step t w (p ++ rest) h)
 
 none_ends : (p rest : List Tok) → 0 < length rest → EndsOnce (p ++ rest) → NoneIsEof p
 none_ends [] rest l h = tt
-none_ends (t ∷ p) rest l h = by (p ++ rest) (omega (arith, l, length-append p rest)) h (none_ends p rest l)
-  where
-    by : (x : List Tok) → 0 < length x → EndsOnce (t ∷ x) → (EndsOnce x → NoneIsEof p) → (t.kind ≢ kinds.Eof) × NoneIsEof p
-    by [] l h f = absurd (omega arith)
-    by (u ∷ x) l h f = (h.0, f h.1)
+none_ends (t ∷ []) [] l h = absurd (omega arith)
+none_ends (t ∷ []) (u ∷ rest) l h = (h.0, tt)
+none_ends (t ∷ w ∷ p) rest l h = (h.0, none_ends (w ∷ p) rest l h.1)
 
 -- outside of levels a token has bytes
-pub first_bytes : (t : Tok) (ts : List Tok) (m : Mode) (x : List ℕ) → t.kind ≢ kinds.Eof → m.levels ≡ [] → IsUtf8 x → Runs m x (t ∷ ts) → 0 < length t.lexeme
+first_bytes : (t : Tok) (ts : List Tok) (m : Mode) (x : List ℕ) → t.kind ≢ kinds.Eof → m.levels ≡ [] → IsUtf8 x → Runs m x (t ∷ ts) → 0 < length t.lexeme
 first_bytes t ts m x ne ls u r =
     ⊎_elim (λ some. some) (λ none. absurd (⊎_elim (λ end. ne end) (λ close. omega (arith, close.1, ap length ls)) none))
     ((token_cut m x u t.kind (length t.lexeme) r.2).1)
+
+pub some_bytes : (ts rest : List Tok) (m : Mode) (x : List ℕ) → NoneIsEof ts → 0 < length ts → m.levels ≡ [] → IsUtf8 x → Runs m x (ts ++ rest)
+    → 0 < length (text_of ts)
+some_bytes [] rest m x n l ls u r = absurd (omega arith)
+some_bytes (t ∷ ts) rest m x n l ls u r = omega (arith, first_bytes t (ts ++ rest) m x n.0 ls u r, length-append t.lexeme (text_of ts))
 
 pub some_text : (rest : List Tok) (m : Mode) (x : List ℕ) → EndsOnce rest → next_kind rest ≢ Some kinds.Eof → m.levels ≡ [] → IsUtf8 x → Runs m x rest
     → 0 < length (text_of rest)
@@ -156,12 +145,20 @@ pub record NextPart (earlier part rest : List Tok) : Type 0 where
   pub more : 0 < length rest
   pub is_part : IsPart (text_of rest) rest some more part earlier start_mode false
   pub ended : SameMode (mode_past (mode earlier) part) start_mode
+  pub bytes : 0 < length (text_of part)
+  pub feeds : EndsInFeed (text_of part)
   pub goes_on : next_kind rest ≢ Some kinds.Eof
   pub later : Later (onto earlier part) rest
 
-pub next_part : (earlier later part : List Tok) (parts : List (List Tok)) → Later earlier later → (s : Split earlier later part parts) → 0 < length s.rest
+parts_some : {earlier later : List Tok} {parts : List (List Tok)} → Parts earlier later parts → 0 < length later
+parts_some Parts.last = omega arith
+parts_some (Parts.cut c rest) = omega arith
+parts_some (Parts.uncut u rest) = omega arith
+
+pub next_part : (earlier later part : List Tok) (parts : List (List Tok)) → Later earlier later → (s : Split earlier later part parts)
     → NextPart earlier part s.rest
-next_part earlier later part parts h s l =
+next_part earlier later part parts h s =
+    let l = parts_some s.others in
     let text : text_of later ≡ text_of part ++ text_of s.rest = ap text_of s.is ∙ flat_map-append lexeme part s.rest in
     let utf8 : IsUtf8 (text_of part ++ text_of s.rest) = subst IsUtf8 text h.utf8 in
     let run : Runs (mode earlier) (text_of part ++ text_of s.rest) (part ++ s.rest) =
@@ -172,12 +169,15 @@ next_part earlier later part parts h s l =
     let rest_run : Runs (mode_past (mode earlier) part) (text_of s.rest) s.rest = subst
     (λ x. Runs (mode_past (mode earlier) part) x s.rest) following two.run in
     let rest_utf8 : IsUtf8 (text_of s.rest) = subst IsUtf8 following (split_utf8 part s.rest (mode earlier) (text_of part ++ text_of s.rest) utf8 run) in
-    let some : 0 < length (text_of s.rest) = some_text s.rest (mode_past (mode earlier) part) (text_of s.rest) (ends_rest part s.rest l ends)
+    let some : 0 < length (text_of s.rest) = some_text s.rest (mode_past (mode earlier) part) (text_of s.rest) (rest_of EndsOnce (λ t u ts h. h.1) part s.rest l ends)
     (goes_on (onto earlier part) s.rest s.cut)
     (sym (ap (λ (m : Mode). m.levels) (onto_mode part earlier)) ∙ outside (onto earlier part) s.rest s.cut) rest_utf8 rest_run in
     let same : SameMode (mode (onto earlier part)) start_mode = at_cut part earlier s.rest (text_of s.rest) s.some
     (same_clear (mode earlier) h.same) run some s.cut in
     let past : SameMode (mode_past (mode earlier) part) start_mode = subst (λ m. SameMode m start_mode) (onto_mode part earlier) same in
+    let no_eof = none_ends part s.rest l ends in
+    let bytes = some_bytes part s.rest (mode earlier) (text_of part ++ text_of s.rest) no_eof s.some h.same.levels utf8 run in
+    let fed = fed_run part (mode earlier) (text_of part ++ text_of s.rest) utf8 two.first past.line_start in
     record {
       some = some;
       more = l;
@@ -185,20 +185,22 @@ next_part earlier later part parts h s l =
         tidy = start_tidy earlier h.same;
         same = h.same;
         colons = no_colon (mode earlier) start_mode;
-        no_eof = none_ends part s.rest l ends;
+        no_eof = no_eof;
         uncut = s.uncut;
-        fed = fed_run part (mode earlier) (text_of part ++ text_of s.rest) utf8 two.first past.line_start;
+        fed = fed;
         utf8 = utf8;
         run = run;
       };
       ended = past;
+      bytes = bytes;
+      feeds = feed_of (text_of part) fed bytes;
       goes_on = goes_on (onto earlier part) s.rest s.cut;
       later = record {
         same = same;
         utf8 = rest_utf8;
         run = subst (λ m. Runs m (text_of s.rest) s.rest) (sym (onto_mode part earlier)) rest_run;
-        ends = ends_rest part s.rest l ends;
-        empty = empty_rest part s.rest l (subst EndsEmpty s.is h.empty);
+        ends = rest_of EndsOnce (λ t u ts h. h.1) part s.rest l ends;
+        empty = rest_of EndsEmpty (λ t u ts h. h) part s.rest l (subst EndsEmpty s.is h.empty);
       };
     }
   where
@@ -268,11 +270,15 @@ module _ (b : Borders) where
   abbrev pub closed : Bool → List Tok → List Tok
   closed first part = part ++ (b.eof first part ∷ [])
 
+  -- the part, which is ended if these are after it
+  abbrev pub ended_before : List (List Tok) → Bool → List Tok → List Tok
+  ended_before [] first part = part
+  ended_before (q ∷ parts) first part = closed first part
+
   -- the tokens of the chunks: each but the last is ended
   abbrev pub chunks_by : Bool → List (List Tok) → List (List Tok)
   chunks_by first [] = []
-  chunks_by first (part ∷ []) = tokens_by first part part ∷ []
-  chunks_by first (part ∷ q ∷ parts) = tokens_by first part (closed first part) ∷ chunks_by false (q ∷ parts)
+  chunks_by first (part ∷ parts) = tokens_by first part (ended_before parts first part) ∷ chunks_by false parts
 
 -- The text has these tokens, up to their places, if each indent follows a colon: of these tokens, or of those of the text.
 pub record ChunkLexes (text : List ℕ) (tokens : List Tok) : Type 0 where
@@ -314,11 +320,7 @@ module _ (b : Borders) (part tokens : List Tok) (ms : List Mark) (are : marks to
       let front = same_front u.lexeme r.0 (10 ∷ []) (text_of part) (sym r.1) (len_is u.kind kinds.Eol (length u.lexeme) 1 same) in
       back us
       (subst (λ k. Runs (mode_after k u start_mode) (text_of part) us) kind (subst (λ x. Runs (mode_after u.kind u start_mode) x us) front.1 r.3))
-      (ends_later us o) (subst (λ k. IndentsHaveColons (colon_after k false) us) kind c.1)
-    where
-      ends_later : (us : List Tok) → EndsOnce (u ∷ us) → EndsOnce us
-      ends_later [] o = let bad : kinds.Eol ≡ kinds.Eof = sym (kind_is u.kind kinds.Eol (length u.lexeme) 1 (sym r.2 ∙ feed_first (text_of part))) ∙ o in cc
-      ends_later (w ∷ us) o = o.1
+      (ends_later u us o (λ e. let bad : kinds.Eol ≡ kinds.Eof = sym kind ∙ e in cc)) (subst (λ k. IndentsHaveColons (colon_after k false) us) kind c.1)
 
   chunk_by : (first : Bool) → ChunkLexes (text_by first part) (tokens_by b first part tokens)
   chunk_by first = record {
@@ -336,9 +338,22 @@ pub colons_front : (ts us : List Tok) (colon : Bool) → IndentsHaveColons colon
 colons_front [] us colon c = tt
 colons_front (t ∷ ts) us colon c = (c.0, colons_front ts us (colon_after t.kind colon) c.1)
 
-colons_closed : (ts : List Tok) (t : Tok) (colon : Bool) → t.kind ≡ kinds.Eof → IndentsHaveColons colon ts → IndentsHaveColons colon (ts ++ (t ∷ []))
-colons_closed [] t colon e c = (subst (λ k. NeedsColon k colon) (sym e) tt, tt)
-colons_closed (u ∷ ts) t colon e c = (c.0, colons_closed ts t (colon_after u.kind colon) e c.1)
+-- a colon before them does no harm
+colons_more : (ts : List Tok) (colon : Bool) → IndentsHaveColons false ts → IndentsHaveColons colon ts
+colons_more ts false h = h
+colons_more [] true h = tt
+colons_more (t ∷ ts) true h = by t.kind h.0 h.1 (colons_more ts true)
+  where
+    by : (k : TokenKind) → NeedsColon k false → IndentsHaveColons (colon_after k false) ts → (IndentsHaveColons false ts → IndentsHaveColons true ts)
+        → NeedsColon k true × IndentsHaveColons (colon_after k true) ts
+    by kinds.Indent n c f = (refl, f c)
+    by kinds.Colon n c f = (tt, c)
+    by kinds.Dedent n c f = (tt, c)
+    by _ n c f = (tt, f c)
+
+pub colons_append : (ts us : List Tok) (colon : Bool) → IndentsHaveColons colon ts → IndentsHaveColons false us → IndentsHaveColons colon (ts ++ us)
+colons_append [] us colon h k = colons_more us colon k
+colons_append (t ∷ ts) us colon h k = (h.0, colons_append ts us (colon_after t.kind colon) h.1 k)
 
 module _ (b : Borders) where
   -- a chunk that ends at a cut
@@ -350,8 +365,8 @@ module _ (b : Borders) where
       map-append (λ (t : Tok). mark t.kind t.lexeme) part (t ∷ []) ∙ (λ i. marks part ++ (mark (b.eof_kind first part i) (b.eof_text first part i) ∷ [])) in
       chunk_by b part (closed b first part) (marks part) are
       (λ c. record { is = part_lexes (text_of rest) rest n.some n.more part earlier start_mode false n.is_part (colons_front part (t ∷ []) false c) n.ended })
-      (λ us r o c. colons_closed part t false (b.eof_kind first part) (colons_back
-      (text_of rest) rest n.some n.more part us earlier start_mode false n.is_part r o c))
+      (λ us r o c. colons_append part (t ∷ []) false (colons_back (text_of rest) rest n.some n.more part us earlier start_mode false n.is_part r o c)
+      (subst (λ k. NeedsColon k false) (sym (b.eof_kind first part)) tt, tt))
       first
 
   -- the last chunk
@@ -361,30 +376,15 @@ module _ (b : Borders) where
       (λ c. record { is = last_lexes later (mode earlier) start_mode false h.same (no_colon (mode earlier) start_mode) c h.ends h.empty h.run })
       (λ us r o c. same_colons later us (mode earlier) start_mode false (text_of later) h.same (no_colon (mode earlier) start_mode) h.run r h.ends o c)
 
-pub parts_some : {earlier later : List Tok} {parts : List (List Tok)} → Parts earlier later parts → 0 < length later
-parts_some Parts.last = omega arith
-parts_some (Parts.cut c rest) = omega arith
-parts_some (Parts.uncut u rest) = omega arith
-
 all_lex : (b : Borders) (parts : List (List Tok)) (earlier later : List Tok) → Later earlier later → Parts earlier later parts → (first : Bool)
     → AllLex (texts_by first parts) (chunks_by b first parts)
 all_lex b [] earlier later h p first = absurd (first_part p)
-all_lex b (part ∷ []) earlier later h p first = by (first_part p)
-  where
-    by : ((later ≡ part) × (◌≡◌ {A = List (List Tok)} [] [])) ⊎ Split earlier later part []
-        → AllLex (text_by first part ∷ []) (tokens_by b first part part ∷ [])
-    by (inl e) = (subst (λ x. ChunkLexes (text_by first x) (tokens_by b first x x)) e.0 (last_chunk b earlier later h first), tt)
-    by (inr s) = absurd (first_part s.others)
-all_lex b (part ∷ q ∷ parts) earlier later h p first = by (first_part p) (all_lex b (q ∷ parts))
-  where
-    by : ((later ≡ part) × (q ∷ parts ≡ [])) ⊎ Split earlier later part (q ∷ parts)
-        → ((earlier later : List Tok) → Later earlier later → Parts earlier later (q ∷ parts) → (first : Bool)
-        → AllLex (texts_by first (q ∷ parts)) (chunks_by b first (q ∷ parts)))
-        → ChunkLexes (text_by first part) (tokens_by b first part (closed b first part)) × AllLex (map after_feed (q ∷ parts)) (chunks_by b false (q ∷ parts))
-    by (inl e) more = cc (e.1)
-    by (inr s) more =
-        let n = next_part earlier later part (q ∷ parts) h s (parts_some s.others) in
-        (cut_chunk b earlier part s.rest n first, more (onto earlier part) s.rest n.later s.others false)
+all_lex b (part ∷ []) earlier later h p first =
+    (subst (λ x. ChunkLexes (text_by first x) (tokens_by b first x x)) (first_part p) (last_chunk b earlier later h first), tt)
+all_lex b (part ∷ q ∷ parts) earlier later h p first =
+    let s = first_part p in
+    let n = next_part earlier later part (q ∷ parts) h s in
+    (cut_chunk b earlier part s.rest n first, all_lex b (q ∷ parts) (onto earlier part) s.rest n.later s.others false)
 
 module _ (text : List ℕ) (tokens : List Tok) (u : IsUtf8 text) (l : Lexed text tokens) where
   pub whole_is : text_of tokens ≡ text

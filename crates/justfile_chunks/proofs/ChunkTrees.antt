@@ -20,10 +20,10 @@ use Rattle.justfile_model.proofs.Derivations.CarryExpressions.{Pairs}
 use Rattle.justfile_chunks_grammar.specs.Chunks.{AreParts, Chunk, ChunksHave, Each, FollowOn, HasTokens, HasTree, NumberLaw, NumbersOf, TokenLaw, TreeLaw, after_feed, chunk_texts, chunks_of, first_chunk, joined, later_chunk, moved, moved_item, with_bytes}
 use Rattle.justfile_chunks_grammar.proofs.Colons.{IndentsHaveColons}
 use Rattle.justfile_chunks_grammar.proofs.Moved.{derives_moved, moved_derives}
-use Rattle.justfile_chunks_grammar.proofs.OneCut.{TokensDeriveTree, colons_law, cut_law, feed_law, tree_from, tree_to}
+use Rattle.justfile_chunks_grammar.proofs.OneCut.{TokensDeriveTree, colons_law, cut_law, feed_law, rederived, tree_from, tree_to}
 use Rattle.justfile_chunks_grammar.proofs.OtherDedents.{Near, NearToken, file_near, near_back, near_tokens}
-use Rattle.justfile_chunks.proofs.AllCuts.{all_cuts, each_same, have_same, zip_over}
-use Rattle.justfile_chunks.proofs.ChunkTokens.{ChunkLexes, chunks_by, chunks_lex, closed, first_part}
+use Rattle.justfile_chunks.proofs.AllCuts.{cuts_have, each_same, zip_over}
+use Rattle.justfile_chunks.proofs.ChunkTokens.{ChunkLexes, chunks_by, chunks_lex, ended_before, first_part}
 use Rattle.justfile_chunks.proofs.MovedChunks.{NearChunk, borders, chunks_near, in_text}
 
 -- ---- one chunk
@@ -33,25 +33,19 @@ record OneChunk (chunk : Chunk) (tokens : List Tok) : Type 0 where
   lexes : ChunkLexes chunk.text tokens
   near : NearChunk chunk tokens
 
--- such tokens derive the same
-near_derives : (conditions : Conditions) (ts us : List Tok) {all : Tree} {features : List (Noted Tok)}
-    → Pairs Near (significant_tokens ts) (significant_tokens us) → FileDerives conditions (significant_tokens ts) all features
-    → FileDerives conditions (significant_tokens us) all features
-near_derives conditions ts us n d = record {
-  written = d.written;
-  by_construct = d.by_construct;
-  derives = file_near to_tokens (BelowLimit conditions.limit) d.derives n;
-  features_are = d.features_are;
-  obeys = d.obeys;
-  ordered_is = d.ordered_is;
-}
-
 module _ (conditions : Conditions) where
   pub have_colons : (ts : List Tok) {all : Tree} {features : List (Noted Tok)} → FileDerives conditions (significant_tokens ts) all features
       → IndentsHaveColons false ts
   have_colons ts {all = all} {features = features} d =
       colons_law to_tokens conditions (views_tokens conditions.expander) (map (over_literal lexeme)) (map-append (over_literal lexeme)) ts all features
       (tree_to conditions ts d)
+
+  -- such tokens derive the same
+  near_derive : (ts us : List Tok) {all : Tree} {features : List (Noted Tok)} → Pairs Near (significant_tokens ts) (significant_tokens us)
+      → TokensDeriveTree conditions ts all features → TokensDeriveTree conditions us all features
+  near_derive ts us n d =
+      rederived to_tokens conditions (views_tokens conditions.expander) (map (over_literal lexeme)) (map-append (over_literal lexeme)) ts us d
+      (file_near to_tokens (BelowLimit conditions.limit) d.derives n)
 
   has_tree : (chunk : Chunk) (tokens : List Tok) → OneChunk chunk tokens → (all : Tree) (features : List (Noted Tok))
       → HasTree conditions chunk all features ↔ TokensDeriveTree conditions tokens all features
@@ -62,16 +56,16 @@ module _ (conditions : Conditions) where
           let us = map (in_text chunk) h.tokens in
           let near = c.near.near h.tokens h.lexed (c.lexes.has h.tokens h.lexed (have_colons h.tokens h.derives)) in
           let d = moved_derives chunk.offset chunk.line conditions h.tokens h.own_tree h.own_features h.derives in
-          let e = near_derives conditions us tokens (near_back (near_tokens tokens us near false)) d in
-          tree_to conditions tokens (subst (λ x. FileDerives conditions (significant_tokens tokens) x features) (sym h.tree_is)
-          (subst (λ fs. FileDerives conditions (significant_tokens tokens) (map (moved_item chunk.offset chunk.line) h.own_tree) fs) (sym h.features_are) e))
+          let e = near_derive us tokens (near_back (near_tokens tokens us near false)) (tree_to conditions us d) in
+          subst (λ x. TokensDeriveTree conditions tokens x features) (sym h.tree_is)
+          (subst (λ fs. TokensDeriveTree conditions tokens (map (moved_item chunk.offset chunk.line) h.own_tree) fs) (sym h.features_are) e)
 
       from : TokensDeriveTree conditions tokens all features → HasTree conditions chunk all features
       from d =
           let l = c.lexes.lexes (have_colons tokens (tree_from conditions tokens d)) in
           let us = map (in_text chunk) l.0 in
-          let e = near_derives conditions tokens us (near_tokens tokens us (c.near.near l.0 l.1 l.2) false) (tree_from conditions tokens d) in
-          let b = derives_moved chunk.offset chunk.line conditions l.0 all features e in
+          let e = near_derive tokens us (near_tokens tokens us (c.near.near l.0 l.1 l.2) false) d in
+          let b = derives_moved chunk.offset chunk.line conditions l.0 all features (tree_from conditions us e) in
           record {
             tokens = l.0;
             lexed = l.1;
@@ -94,9 +88,8 @@ texts_are (part ∷ parts) = ap (λ l. (first_chunk part).text ∷ l) (by parts)
 
 both : (cs : List Chunk) (ts : List (List Tok)) → AllZip ChunkLexes (map (λ (c : Chunk). c.text) cs) ts → AllZip NearChunk cs ts → AllZip OneChunk cs ts
 both [] [] l n = tt
-both [] (t ∷ ts) l n = absurd n
-both (c ∷ cs) [] l n = absurd n
 both (c ∷ cs) (t ∷ ts) l n = (record { lexes = l.0; near = n.0 }, both cs ts l.1 n.1)
+both _ _ l n = absurd n
 
 module _ (conditions : Conditions) (text : List ℕ) (tokens : List Tok) (utf8 : IsUtf8 text) (lexed : Lexed text tokens) where
   module _ (parts : List (List Tok)) (are : AreParts tokens parts) where
@@ -111,28 +104,18 @@ module _ (conditions : Conditions) (text : List ℕ) (tokens : List Tok) (utf8 :
     trees_are = zip_over (has_tree conditions) (chunks_of parts) (chunks_by borders true parts) chunks_are
 
 pub trees_derive : TreeLaw
-trees_derive conditions text tokens parts utf8 lexed are all features = by parts are
-  where
-    by : (parts : List (List Tok)) → AreParts tokens parts → FileDerives conditions (significant_tokens tokens) all features
-        ↔ ChunksHave (HasTree conditions) (chunks_of parts) all features
-    by [] are = absurd (first_part are)
-    by (part ∷ parts) are =
-        let view = views_tokens conditions.expander in
-        let cuts =
-        all_cuts tree.Newline (TokensDeriveTree conditions) (cut_law to_tokens conditions view (map (over_literal lexeme)) (map-append (over_literal lexeme)))
-        (feed_law to_tokens conditions view (map (over_literal lexeme)) (map-append (over_literal lexeme))) borders part parts [] tokens
-        (record { levels = refl; line = refl }) are true all features in
-        let have =
-        have_same (HasTree conditions) (TokensDeriveTree conditions) (chunks_of (part ∷ parts)) (chunks_by borders true (part ∷ parts))
-        (trees_are conditions text tokens utf8 lexed (part ∷ parts) are) all features in
-        (λ d. have.1 (cuts.0 (tree_to conditions tokens d)), λ c. tree_from conditions tokens (cuts.1 (have.0 c)))
+trees_derive conditions text tokens parts utf8 lexed are all features =
+    let view = views_tokens conditions.expander in
+    let have =
+    cuts_have tree.Newline (TokensDeriveTree conditions) (cut_law to_tokens conditions view (map (over_literal lexeme)) (map-append (over_literal lexeme)))
+    (feed_law to_tokens conditions view (map (over_literal lexeme)) (map-append (over_literal lexeme))) borders (HasTree conditions) (chunks_of parts) tokens
+    parts are (trees_are conditions text tokens utf8 lexed parts are) all features in
+    (λ d. have.0 (tree_to conditions tokens d), λ c. tree_from conditions tokens (have.1 c))
 
 -- ---- tokens
 
 near_bytes : (ts us : List Tok) → AllZip NearToken ts us → with_bytes ts ≡ with_bytes us
 near_bytes [] [] h = refl
-near_bytes [] (u ∷ us) h = absurd h
-near_bytes (t ∷ ts) [] h = absurd h
 near_bytes (t ∷ ts) (u ∷ us) h = by h.0 (near_bytes ts us h.1)
   where
     by : NearToken t u → with_bytes ts ≡ with_bytes us → with_bytes (t ∷ ts) ≡ with_bytes (u ∷ us)
@@ -140,6 +123,7 @@ near_bytes (t ∷ ts) (u ∷ us) h = by h.0 (near_bytes ts us h.1)
     by (inr d) more =
         ap (λ l. cond (not (is_empty l)) (t ∷ with_bytes ts) (with_bytes ts)) d.0.1 ∙ more
         ∙ sym (ap (λ l. cond (not (is_empty l)) (u ∷ with_bytes us) (with_bytes us)) d.1.1)
+near_bytes _ _ h = absurd h
 
 bytes_moved : (offset line : ℕ) (us : List Tok) → with_bytes (map (moved offset line) us) ≡ map (moved offset line) (with_bytes us)
 bytes_moved offset line [] = refl
@@ -163,23 +147,23 @@ module _ (conditions : Conditions) where
       let near = c.near.near us l (c.lexes.has us l (have_colons conditions us d)) in
       is ∙ ap (drop others) (near_bytes tokens (map (in_text chunk) us) near ∙ bytes_moved chunk.offset chunk.line us)
 
+  ended_bytes : (first : Bool) (part : List Tok) (parts : List (List Tok)) → with_bytes part ≡ with_bytes (ended_before borders parts first part)
+  ended_bytes first part [] = refl
+  ended_bytes first part (q ∷ parts) = sym (bytes_closed part (borders.eof first part) refl)
+
   later_tokens : (parts : List (List Tok)) → AllZip OneChunk (map later_chunk parts) (chunks_by borders false parts)
       → AllByRecursion (λ part. HasTokens conditions 1 part (later_chunk part)) parts
   later_tokens [] h = tt
-  later_tokens (part ∷ []) h = (one_tokens (later_chunk part) (borders.feed part ∷ part) part 1 h.0 refl, tt)
-  later_tokens (part ∷ q ∷ parts) h = (
-    one_tokens (later_chunk part) (borders.feed part ∷ closed borders false part) part 1 h.0 (sym (bytes_closed part (borders.eof false part) refl)),
-    later_tokens (q ∷ parts) h.1,
+  later_tokens (part ∷ parts) h = (
+    one_tokens (later_chunk part) (borders.feed part ∷ ended_before borders parts false part) part 1 h.0 (ended_bytes false part parts),
+    later_tokens parts h.1,
   )
 
 pub tokens_move : TokenLaw
-tokens_move conditions text tokens first [] utf8 lexed are =
-    let h = chunks_are conditions text tokens utf8 lexed (first ∷ []) are in
-    (one_tokens conditions (first_chunk first) first first 0 h.0 refl, tt)
-tokens_move conditions text tokens first (q ∷ parts) utf8 lexed are =
-    let h = chunks_are conditions text tokens utf8 lexed (first ∷ q ∷ parts) are in (
-      one_tokens conditions (first_chunk first) (closed borders true first) first 0 h.0 (sym (bytes_closed first (borders.eof true first) refl)),
-      later_tokens conditions (q ∷ parts) h.1,
+tokens_move conditions text tokens first others utf8 lexed are =
+    let h = chunks_are conditions text tokens utf8 lexed (first ∷ others) are in (
+      one_tokens conditions (first_chunk first) (ended_before borders others true first) first 0 h.0 (ended_bytes conditions true first others),
+      later_tokens conditions others h.1,
     )
 
 -- ---- numbers
@@ -197,58 +181,32 @@ module _ (count : Tree → ℕ) (count_append : (xs ys : Tree) → count (xs ++ 
   follow_on : (first : ℕ) (trees : List Tree) (numbers : List (List ℕ)) → FollowOn count first trees numbers
       → NumbersFrom first (flat_map (λ ns. ns) numbers) × (length (flat_map (λ ns. ns) numbers) ≡ total trees)
   follow_on first [] [] h = (tt, refl)
-  follow_on first [] (ns ∷ numbers) h = absurd h
-  follow_on first (x ∷ trees) [] h = absurd h
   follow_on first (x ∷ trees) (ns ∷ numbers) h =
       let m = follow_on (first + count x) trees numbers h.2 in (
         numbers_append first ns (flat_map (λ ns. ns) numbers) h.0
             (subst (λ n. NumbersFrom (first + n) (flat_map (λ ns. ns) numbers)) (sym h.1) m.0),
         length-append ns (flat_map (λ ns. ns) numbers) ∙ omega (arith, h.1, m.1),
       )
-
-  -- the trees of chunks begin with line ends
-  abbrev BeginNewline : List Tree → Type 0
-  BeginNewline trees = AllByRecursion (λ x. (right : Tree) × (x ≡ tree.Newline ∷ right)) trees
-
-  without_ends : (trees : List Tree) → BeginNewline trees → count (flat_map (drop 1) trees) ≡ total trees
-  without_ends [] h = count_none
-  without_ends (x ∷ trees) h =
-      count_append (drop 1 x) (flat_map (drop 1) trees)
-      ∙ (λ i. ((ap (λ y. count (drop 1 y)) h.0.1) ∙ sym (count_newline h.0.0) ∙ ap count (sym h.0.1)) i + without_ends trees h.1 i)
+  follow_on first _ _ h = absurd h
 
   module _ (conditions : Conditions) where
-    newline_first : (part tokens : List Tok) (x : Tree) (fs : List (Noted Tok)) → TokensDeriveTree conditions (borders.feed part ∷ tokens) x fs
-        → (right : Tree) × (x ≡ tree.Newline ∷ right)
-    newline_first part tokens x fs d =
-        feed_law to_tokens conditions (views_tokens conditions.expander) (map (over_literal lexeme)) (map-append (over_literal lexeme)) (borders.feed part) tokens x fs
-        refl d
-
-    begin_newline : (parts : List (List Tok)) (trees : List Tree) (noted : List (List (Noted Tok)))
-        → Each (TokensDeriveTree conditions) (chunks_by borders false parts) trees noted → BeginNewline trees
-    begin_newline [] [] noted h = tt
-    begin_newline [] (x ∷ trees) noted h = absurd h
-    begin_newline (part ∷ []) [] noted h = absurd h
-    begin_newline (part ∷ []) (x ∷ trees) [] h = absurd h
-    begin_newline (part ∷ []) (x ∷ []) (fs ∷ noted) h = (newline_first part part x fs h.0, tt)
-    begin_newline (part ∷ []) (x ∷ y ∷ trees) (fs ∷ noted) h = absurd h.1
-    begin_newline (part ∷ q ∷ parts) [] noted h = absurd h
-    begin_newline (part ∷ q ∷ parts) (x ∷ trees) [] h = absurd h
-    begin_newline (part ∷ q ∷ parts) (x ∷ trees) (fs ∷ noted) h =
-        (newline_first part (closed borders false part) x fs h.0, begin_newline (q ∷ parts) trees noted h.1)
+    -- the trees of later chunks begin with line ends
+    later_counts : (parts : List (List Tok)) (trees : List Tree) (noted : List (List (Noted Tok)))
+        → Each (TokensDeriveTree conditions) (chunks_by borders false parts) trees noted → count (flat_map (drop 1) trees) ≡ total trees
+    later_counts [] [] [] h = count_none
+    later_counts (part ∷ parts) (x ∷ trees) (fs ∷ noted) h =
+        let f =
+        feed_law to_tokens conditions (views_tokens conditions.expander) (map (over_literal lexeme)) (map-append (over_literal lexeme)) (borders.feed part)
+        (ended_before borders parts false part) x fs refl h.0 in
+        count_append (drop 1 x) (flat_map (drop 1) trees)
+        ∙ (λ i. (ap (λ y. count (drop 1 y)) f.1 ∙ sym (count_newline f.0) ∙ ap count (sym f.1)) i + later_counts parts trees noted h.1 i)
+    later_counts _ _ _ h = absurd h
 
     joined_counts : (part : List Tok) (parts : List (List Tok)) (trees : List Tree) (noted : List (List (Noted Tok)))
         → Each (TokensDeriveTree conditions) (chunks_by borders true (part ∷ parts)) trees noted → count (joined trees) ≡ total trees
-    joined_counts part parts [] noted h = count_none
-    joined_counts part parts (x ∷ trees) [] h = absurd (none part parts h)
-      where
-        none : (part : List Tok) (parts : List (List Tok)) → Each (TokensDeriveTree conditions) (chunks_by borders true (part ∷ parts)) (x ∷ trees) [] → ⊥
-        none part [] h = h
-        none part (q ∷ parts) h = h
-    joined_counts part [] (x ∷ []) (fs ∷ noted) h = count_append x [] ∙ ap (λ n. count x + n) count_none
-    joined_counts part [] (x ∷ y ∷ trees) (fs ∷ noted) h = absurd h.1
-    joined_counts part (q ∷ parts) (x ∷ trees) (fs ∷ noted) h =
-        count_append x (flat_map (drop 1) trees)
-        ∙ ap (λ n. count x + n) (without_ends trees (begin_newline (q ∷ parts) trees noted h.1))
+    joined_counts part parts (x ∷ trees) (fs ∷ noted) h =
+        count_append x (flat_map (drop 1) trees) ∙ ap (λ n. count x + n) (later_counts parts trees noted h.1)
+    joined_counts part parts _ _ h = absurd h
 
   numbers_of : NumbersOf count
   numbers_of conditions text tokens parts utf8 lexed are all features c first numbers h = by parts are c h

@@ -3,6 +3,8 @@ use Rattle.std.proofs.Common.{◌≡◌, ◌⊎◌, ◌∙◌, ℕ, zero, suc, �
 use Rattle.std.specs.List.{starts_with}
 use Rattle.std.specs.Str.{bytes_eq}
 use Rattle.std.proofs.lemmas.Slice.Eq.{bytes_eq-Decides}
+use Rattle.std.proofs.lemmas.Bool.{false_from_ne_true, not-false}
+use Rattle.std.proofs.Math.Bool.{and-true}
 use Rattle.justfile_vocabulary.specs.declared.byte_class.ByteClass.{ByteClass}
 use Rattle.justfile_vocabulary.specs.declared.byte_class.ByteClass.TheVariants as classes
 use Rattle.justfile_vocabulary.specs.declared.token_kind.TokenKind.{TokenKind}
@@ -252,12 +254,7 @@ module _ (m : Mode) (rest : List ℕ) where
   begins_within false text front h = cc
 
   no_body : (a s : Bool) → (a && s) ≡ false → not s ≡ false → a ≡ false
-  no_body a true h g = by a h
-    where
-      by : (a : Bool) → (a && true) ≡ false → a ≡ false
-      by true h = h
-      by false h = refl
-  no_body a false h g = cc
+  no_body a s h g = sym (and-true a) ∙ ap (λ t. a && t) (sym (not-false s g)) ∙ h
 
   laid_out : (on following : List ℕ) → length on ≤ blank_len rest → m.line_start ≡ true → NextEnds m rest (layout m on following rest)
   unfolding layout
@@ -297,11 +294,7 @@ level_after kinds.Dedent t m h = λ e. cc
 level_after _ t m h = h
 
 not_in_body : (m : Mode) → BodyHasLevel m → m.levels ≡ [] → m.in_body ≡ false
-not_in_body m c e = by m.in_body refl
-  where
-    by : (b : Bool) → m.in_body ≡ b → b ≡ false
-    by true h = let bad : false ≡ true = sym (c h) ∙ ap is_empty e in cc
-    by false h = refl
+not_in_body m c e = false_from_ne_true m.in_body (λ h. let bad : false ≡ true = sym (c h) ∙ ap is_empty e in cc)
 
 no_text : (b : Bool) (o : Option Tok) → b ≡ false → region_by b o ≡ InText → ⊥
 no_text true o e h = cc

@@ -2,6 +2,7 @@
 use Rattle.std.proofs.Common.{◌≡◌, ◌∙◌, ℕ, zero, suc, ◌+◌, ◌<◌, ◌≤◌, Bool, true, false, cond, eqb, ltb, ◌&&◌, ◌||◌, List, [], ◌∷◌, ◌++◌, length, get_or, refl, sym, ap, arith, ⊎_elim}
 use Rattle.std.specs.List.{prefix_len}
 use Rattle.std.proofs.Math.Seq.{get_or-append_seam}
+use Rattle.std.proofs.Math.Bool.{and-false}
 use Rattle.std.proofs.lemmas.Bool.{cases_lt}
 use Rattle.justfile_vocabulary.specs.ByteClass.{class_of}
 use Rattle.justfile_token.specs.declared.string_kind.StringDelimiter.{StringDelimiter}
@@ -38,10 +39,6 @@ not_both : (p r s : Bool) → ((p && false) && r) ≡ ((p && false) && s)
 not_both true r s = refl
 not_both false r s = refl
 
-pub off : (b : Bool) → (b && false) ≡ false
-off true = refl
-off false = refl
-
 escape_same : (w v x : List ℕ) → is_interpolation_escape (w ++ (10 ∷ v)) ≡ is_interpolation_escape (w ++ (10 ∷ x))
 escape_same [] v x = refl
 escape_same (a ∷ []) v x = not_both (eqb a 123) _ _
@@ -68,8 +65,8 @@ hides_same : (s : RawText) (w v x : List ℕ) → hides s (w ++ (10 ∷ v)) ≡ 
 hides_same Comment w v x = refl
 hides_same Body w v x = ap (λ b. cond b 3 0) (escape_same w v x)
 hides_same (Literal k format) [] v x =
-    ap (λ t. cond t (cond (format && is_interpolation_escape v) 4 1) (cond (format && false) 3 0)) (off (escapes k.delimiter))
-    ∙ sym (ap (λ t. cond t (cond (format && is_interpolation_escape x) 4 1) (cond (format && false) 3 0)) (off (escapes k.delimiter)))
+    ap (λ t. cond t (cond (format && is_interpolation_escape v) 4 1) (cond (format && false) 3 0)) (and-false (escapes k.delimiter))
+    ∙ sym (ap (λ t. cond t (cond (format && is_interpolation_escape x) 4 1) (cond (format && false) 3 0)) (and-false (escapes k.delimiter)))
 hides_same (Literal k format) (b ∷ w) v x =
     λ i. cond (escapes k.delimiter && eqb b 92) (cond (format && escape_same w v x i) 4 1) (cond (format && escape_same (b ∷ w) v x i) 3 0)
 

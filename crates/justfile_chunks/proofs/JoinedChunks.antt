@@ -1,5 +1,5 @@
 -- Two texts that are joined at a chunk have the chunks of the one before it, and those of the other from it on.
-use Rattle.std.proofs.Common.{◌≡◌, ◌≢◌, ◌∙◌, ℕ, ◌+◌, ◌-◌, ◌<◌, List, [], ◌∷◌, ◌++◌, ◌⊎◌, inl, inr, length, map, take, drop, refl, sym, ap, subst, arith, append_assoc, append-nil, length-append}
+use Rattle.std.proofs.Common.{◌≡◌, ◌≢◌, ◌∙◌, ℕ, ◌+◌, ◌-◌, ◌<◌, List, [], ◌∷◌, ◌++◌, length, map, take, drop, refl, sym, ap, subst, arith, append_assoc, append-nil}
 use Rattle.std.specs.List.{AllByRecursion}
 use Rattle.std.specs.Str.{IsUtf8}
 use Rattle.std.proofs.lemmas.List.{map-append}
@@ -8,7 +8,7 @@ use Rattle.std.proofs.lemmas.Str.{IsUtf8-append}
 use Rattle.justfile_model.specs.Grammars.Conditions.{Conditions}
 use Rattle.justfile_model.specs.Grammars.Features.{Noted}
 use Rattle.justfile_model.specs.Lexing.Lexed.{Lexed}
-use Rattle.justfile_model.specs.Lexing.Modes.{mode, start_mode}
+use Rattle.justfile_model.specs.Lexing.Modes.{mode, start_mode, tail_of}
 use Rattle.justfile_model.specs.Lexing.Tok.{Tok}
 use Rattle.justfile_model.specs.Trees.Tree.{Tree, lexeme}
 use Rattle.justfile_round_trip.specs.RoundTrip.{TextDerives}
@@ -16,7 +16,7 @@ use Rattle.justfile_round_trip.proofs.LiteralTexts.LexedModes.{drop_front, take_
 use Rattle.justfile_round_trip.proofs.Values.TokenFacts.{Runs}
 use Rattle.justfile_chunks_grammar.specs.Chunks.{AreParts, Chunk, Parts, after_feed, chunks_of, first_chunk, first_line, first_offset, later_chunk, next_kind, text_of}
 use Rattle.justfile_chunks.specs.JoinedTexts.{BeginsAtOnce, HasChunks, JoinLaw, joined_chunk, joined_text}
-use Rattle.justfile_chunks.proofs.ChunkTokens.{Split, first_bytes, first_part, from_start, onto_mode, whole_is}
+use Rattle.justfile_chunks.proofs.ChunkTokens.{first_part, from_start, onto_mode, some_bytes, whole_is}
 use Rattle.justfile_chunks.proofs.ChunkTrees.{have_colons}
 use Rattle.justfile_chunks.proofs.JoinedNext.{is_dark}
 use Rattle.justfile_chunks.proofs.JoinedParts.{Front, OwnTokens, all_of, chunks_elsewhere, colons_of, elsewhere, first_chunk_of, front_of, next_elsewhere, parts_elsewhere, same_first}
@@ -24,10 +24,10 @@ use Rattle.justfile_chunks.proofs.JoinedTokens.{Joined, joined_tokens}
 use Rattle.justfile_chunks.proofs.MovedChunks.{by_first}
 use Rattle.justfile_chunks.proofs.MovedPlaces.{Moves, Placed, placed, placed_after, placed_front}
 use Rattle.justfile_chunks.proofs.PartSteps.{feed_utf8}
-use Rattle.justfile_chunks.proofs.SameModes.{NoneIsEof, mode_past}
-use Rattle.justfile_chunks.proofs.SameNext.{SameMode}
+use Rattle.justfile_chunks.proofs.SameModes.{mode_past}
+use Rattle.justfile_chunks.proofs.SameNext.{SameMode, cons_parts}
 use Rattle.justfile_chunks.proofs.SplitRuns.{runs_of, split_run}
-use Rattle.justfile_chunks.proofs.TidyModes.{EndsInFeed, Fed, fed_run, tail_is}
+use Rattle.justfile_chunks.proofs.TidyModes.{EndsInFeed, feed_of, fed_run}
 
 -- ---- an element of a mapped list
 
@@ -41,39 +41,29 @@ module _ {A B : Type 0} (f : A → B) where
     one_is : f one ≡ y
     after_is : map f after ≡ ys
 
-  heads : (x y : B) (xs ys : List B) → ◌≡◌ {A = List B} (x ∷ xs) (y ∷ ys) → x ≡ y
-  heads x y xs ys e = cc
-
-  tails : (x y : B) (xs ys : List B) → ◌≡◌ {A = List B} (x ∷ xs) (y ∷ ys) → xs ≡ ys
-  tails x y xs ys e = cc
-
   at_map : (all : List A) (xs : List B) (y : B) (ys : List B) → xs ++ (y ∷ ys) ≡ map f all → AtMap xs y ys all
   at_map [] [] y ys e = cc
   at_map [] (x ∷ xs) y ys e = cc
-  at_map (a ∷ all) [] y ys e = record {
-    before = [];
-    one = a;
-    after = all;
-    all_is = refl;
-    before_is = refl;
-    one_is = sym (heads y (f a) ys (map f all) e);
-    after_is = sym (tails y (f a) ys (map f all) e);
-  }
+  at_map (a ∷ all) [] y ys e =
+      let h = cons_parts y (f a) ys (map f all) e in
+      record { before = []; one = a; after = all; all_is = refl; before_is = refl; one_is = sym h.0; after_is = sym h.1 }
   at_map (a ∷ all) (x ∷ xs) y ys e =
-      let m = at_map all xs y ys (tails x (f a) (xs ++ (y ∷ ys)) (map f all) e) in
+      let h = cons_parts x (f a) (xs ++ (y ∷ ys)) (map f all) e in
+      let m = at_map all xs y ys h.1 in
       record {
         before = a ∷ m.before;
         one = m.one;
         after = m.after;
         all_is = ap (λ l. a ∷ l) m.all_is;
-        before_is = λ i. sym (heads x (f a) (xs ++ (y ∷ ys)) (map f all) e) i ∷ m.before_is i;
+        before_is = λ i. sym h.0 i ∷ m.before_is i;
         one_is = m.one_is;
         after_is = m.after_is;
       }
 
-  all_map : (P : B → Type 0) (xs : List A) → AllByRecursion P (map f xs) → AllByRecursion (λ x. P (f x)) xs
-  all_map P [] h = tt
-  all_map P (x ∷ xs) h = (h.0, all_map P xs h.1)
+  -- what is said of what elements are mapped to is said of them
+  of_mapped : (P : B → Type 0) {Q : A → Type 0} → ((a : A) → P (f a) → Q a) → (xs : List A) → AllByRecursion P (map f xs) → AllByRecursion Q xs
+  of_mapped P back [] h = tt
+  of_mapped P back (x ∷ xs) h = (back x h.0, of_mapped P back xs h.1)
 
 -- ---- a text and one of its later chunks
 
@@ -106,11 +96,10 @@ first_is (Parts.uncut u others) = (refl, refl)
 
 first_text : (part : List Tok) (parts : List (List Tok)) (e later : List Tok) (d : ℕ) (more : List ℕ) → Parts e later (part ∷ parts)
     → text_of part ≡ d ∷ more → (others : List ℕ) × (text_of later ≡ d ∷ others)
-first_text part parts e later d more p is = by (first_part p)
-  where
-    by : ((later ≡ part) × (parts ≡ [])) ⊎ Split e later part parts → (others : List ℕ) × (text_of later ≡ d ∷ others)
-    by (inl s) = (more, ap text_of s.0 ∙ is)
-    by (inr s) = (more ++ text_of s.rest, ap text_of s.is ∙ flat_map-append lexeme part s.rest ∙ ap (λ x. x ++ text_of s.rest) is)
+first_text part [] e later d more p is = (more, ap text_of (first_part p) ∙ is)
+first_text part (q ∷ parts) e later d more p is =
+    let s = first_part p in
+    (more ++ text_of s.rest, ap text_of s.is ∙ flat_map-append lexeme part s.rest ∙ ap (λ x. x ++ text_of s.rest) is)
 
 moves_of : (text before : List ℕ) (rest : List Tok) → EndsInFeed before → text ≡ before ++ text_of rest → Placed text (length before) rest
     → 0 < length (text_of rest)
@@ -119,14 +108,6 @@ moves_of text before [] fed is h some = absurd (omega arith)
 moves_of text before (t ∷ rest) fed is h some =
     by_first text before [] t rest fed (is ∙ ap (λ x. before ++ x) (sym (append-nil (text_of (t ∷ rest))))) h some
 
-ends_fed : (x : List ℕ) → Fed x → 0 < length x → EndsInFeed x
-ends_fed x (inl e) l = absurd (omega (arith, l, ap length e))
-ends_fed x (inr h) l = h
-
-front_bytes : (ts rest : List Tok) (text : List ℕ) → IsUtf8 text → Runs start_mode text (ts ++ rest) → NoneIsEof ts → 0 < length ts → 0 < length (text_of ts)
-front_bytes [] rest text u r n l = absurd (omega arith)
-front_bytes (t ∷ ts) rest text u r n l = omega (arith, first_bytes t (ts ++ rest) start_mode text n.0 refl u r, length-append t.lexeme (text_of ts))
-
 module _ (text : List ℕ) (at : Chunk) (d : ℕ) (more : List ℕ) (begins : at.text ≡ 10 ∷ (d ∷ more)) where
   side_by : (front : List (List Tok)) (before after : List Chunk) (part : List Tok) (parts : List (List Tok)) (tokens : List Tok) → IsUtf8 text → Lexed text tokens
       → ((others : List (List Tok)) → chunks_of (front ++ others) ≡ before ++ map later_chunk others) → later_chunk part ≡ at → map later_chunk parts ≡ after
@@ -134,13 +115,14 @@ module _ (text : List ℕ) (at : Chunk) (d : ℕ) (more : List ℕ) (begins : at
   side_by front before after part parts tokens u l front_is at_is after_is some side =
       let ts = all_of front in
       let rest = side.rest in
-      let first = first_text part parts side.at rest d more side.are (tail_is 10 10 (text_of part) (d ∷ more) (ap (λ (c : Chunk). c.text) at_is ∙ begins)) in
+      let first = first_text part parts side.at rest d more side.are (ap tail_of (ap (λ (c : Chunk). c.text) at_is ∙ begins)) in
       let is : text ≡ text_of ts ++ text_of rest = sym (whole_is text tokens u l) ∙ ap text_of side.is ∙ flat_map-append lexeme ts rest in
       let runs : Runs start_mode text (ts ++ rest) = subst (Runs start_mode text) side.is (runs_of text tokens l) in
       let run = (split_run start_mode text ts rest runs).first in
       let ended : SameMode (mode_past start_mode ts) start_mode =
       subst (λ m. SameMode m start_mode) (ap mode side.at_is ∙ onto_mode ts []) side.later_at.same in
-      let fed = ends_fed (text_of ts) (fed_run ts start_mode text u run ended.line_start) (front_bytes ts rest text u runs side.no_eof (side.some some)) in
+      let fed = feed_of (text_of ts) (fed_run ts start_mode text u run ended.line_start)
+      (some_bytes ts rest start_mode text side.no_eof (side.some some) refl u runs) in
       let places : Placed text 0 (ts ++ rest) = subst (Placed text 0) side.is (placed text tokens l) in
       let rest_places : Placed text (length (text_of ts)) rest = subst (λ n. Placed text n rest) (omega arith) (placed_after text ts rest 0 places) in
       let moves = moves_of text (text_of ts) rest fed is rest_places (omega (arith, ap length first.1)) in
@@ -175,10 +157,10 @@ module _ (text : List ℕ) (at : Chunk) (d : ℕ) (more : List ℕ) (begins : at
       by : (parts : List (List Tok)) → AreParts h.tokens parts → b ∷ before ++ (at ∷ after) ≡ chunks_of parts → Side text (b ∷ before) at after d
       by [] are e = cc
       by (first ∷ parts) are e =
-          let first_eq : b ≡ first_chunk first = heads first_chunk b (first_chunk first) (before ++ (at ∷ after)) (map later_chunk parts) e in
-          let m = at_map later_chunk parts before at after (tails later_chunk b (first_chunk first) (before ++ (at ∷ after)) (map later_chunk parts) e) in
+          let same = cons_parts b (first_chunk first) (before ++ (at ∷ after)) (map later_chunk parts) e in
+          let m = at_map later_chunk parts before at after same.1 in
           side_by (first ∷ m.before) (b ∷ before) after m.one m.after h.tokens h.utf8 h.lexed
-          (λ others. λ i. sym first_eq i ∷ (map-append later_chunk m.before others ∙ ap (λ l. l ++ map later_chunk others) m.before_is) i)
+          (λ others. λ i. sym same.0 i ∷ (map-append later_chunk m.before others ∙ ap (λ l. l ++ map later_chunk others) m.before_is) i)
           m.one_is m.after_is (omega arith)
           (front_of (first ∷ m.before) m.one m.after [] h.tokens (from_start text h.tokens h.utf8 h.lexed) (record { levels = refl; line = refl })
           (subst (AreParts h.tokens) (ap (λ l. first ∷ l) m.all_is) are))
@@ -196,10 +178,6 @@ rest_text text before rest at is m =
 module _ (conditions : Conditions) where
   own_tokens : (text : List ℕ) → (tree : Tree) × (features : List (Noted Tok)) × TextDerives conditions text tree features → OwnTokens text
   own_tokens text h = record { tokens = h.2.tokens; lexed = h.2.lexed; colons = have_colons conditions h.2.tokens h.2.file }
-
-all_over : {A : Type 0} {P Q : A → Type 0} → ((a : A) → P a → Q a) → (xs : List A) → AllByRecursion P xs → AllByRecursion Q xs
-all_over f [] h = tt
-all_over f (x ∷ xs) h = (f x h.0, all_over f xs h.1)
 
 module _ (left right : List ℕ) (before rest skipped after : List Chunk) (at from : Chunk) (same : at.text ≡ from.text) (begins : BeginsAtOnce from)
     (l : Side left before at rest begins.first) (r : Side right skipped from after begins.first)
@@ -233,7 +211,7 @@ module _ (left right : List ℕ) (before rest skipped after : List Chunk) (at fr
   next_is =
       same_first l.side.rest l.part r.side.rest r.part (first_chunk_of l.part l.parts l.side.at l.side.rest l.side.later_at l.side.are)
       (first_chunk_of r.part r.parts r.side.at r.side.rest r.side.later_at r.side.are)
-      (tail_is 10 10 (text_of l.part) (text_of r.part) (ap (λ (c : Chunk). c.text) l.at_is ∙ same ∙ sym (ap (λ (c : Chunk). c.text) r.at_is))) own.0
+      (ap tail_of (ap (λ (c : Chunk). c.text) l.at_is ∙ same ∙ sym (ap (λ (c : Chunk). c.text) r.at_is))) own.0
       ∙ next_elsewhere at from r.side.rest
 
   parts_are : Parts [] (front ++ moved_rest) (l.front ++ new_parts)
@@ -270,8 +248,7 @@ join_law conditions left right before rest skipped after at from h k some skips 
     let r = side_of right from begins.first begins.others begins.are skipped after k skips in
     let later : from ∷ after ≡ map later_chunk (r.part ∷ r.parts) = λ i. sym r.at_is i ∷ sym r.after_is i in
     joined_has left right before rest skipped after at from same begins l r
-    (all_map later_chunk (λ c. OwnTokens c.text) (r.part ∷ r.parts)
-    (subst (AllByRecursion (λ c. OwnTokens c.text)) later (all_over (λ c. own_tokens conditions c.text) (from ∷ after) derive)))
+    (of_mapped later_chunk _ (λ part. own_tokens conditions (after_feed part)) (r.part ∷ r.parts) (subst (AllByRecursion _) later derive))
 
 -- the text is long enough for what is before the chunk
 pub front_fits : (text : List ℕ) (at : Chunk) (before after : List Chunk) {from : Chunk} (begins : BeginsAtOnce from) → at.text ≡ from.text

@@ -1,25 +1,25 @@
 -- Parts before a cut are parts whatever tokens follow it, as long as the next one has the same kind; and those after a cut are parts wherever
 -- they are.
-use Rattle.std.proofs.Common.{◌≡◌, ◌∙◌, ℕ, ◌+◌, ◌-◌, ◌<◌, Bool, true, false, cond, List, [], ◌∷◌, ◌++◌, ◌⊎◌, inl, inr, length, map, Some, None, refl, sym, ap, subst, arith, append_assoc, length-append}
+use Rattle.std.proofs.Common.{◌≡◌, ◌∙◌, ℕ, ◌+◌, ◌-◌, ◌<◌, Bool, false, cond, List, [], ◌∷◌, ◌++◌, length, map, Some, refl, sym, ap, subst, arith, append_assoc, length-append}
 use Rattle.std.specs.List.{AllByRecursion}
 use Rattle.std.specs.Str.{IsUtf8}
-use Rattle.std.proofs.lemmas.Str.{IsUtf8-nil}
-use Rattle.justfile_vocabulary.specs.declared.token_kind.TokenKind.{TokenKind}
 use Rattle.justfile_vocabulary.specs.declared.token_kind.TokenKind.TheVariants as kinds
 use Rattle.justfile_model.specs.Lexing.Lexed.{Lexed}
-use Rattle.justfile_model.specs.Lexing.Modes.{Mode, mode, mode_after, tail_of}
+use Rattle.justfile_model.specs.Lexing.Modes.{mode}
 use Rattle.justfile_model.specs.Lexing.SignificantTokens.{is_whitespace}
 use Rattle.justfile_model.specs.Lexing.Tok.{Tok, tok}
 use Rattle.justfile_round_trip.proofs.LiteralTexts.LexedModes.{mark}
-use Rattle.justfile_chunks_grammar.specs.Chunks.{Chunk, IsCut, IsCutAfter, Parts, after_feed, ends_line, first_or, is_ignored, later_chunk, line_kind, next_kind, text_of}
+use Rattle.justfile_chunks_grammar.specs.Chunks.{Chunk, IsCut, Parts, after_feed, later_chunk, line_kind, next_kind, text_of}
 use Rattle.justfile_chunks.specs.JoinedTexts.{joined_chunk}
 use Rattle.justfile_chunks_grammar.proofs.Colons.{IndentsHaveColons, NeedsColon, colon_after}
 use Rattle.justfile_chunks_grammar.proofs.CutTokens.{ends_dark}
-use Rattle.justfile_chunks.proofs.AllCuts.{Fresh, fresh}
-use Rattle.justfile_chunks.proofs.ChunkTokens.{ChunkLexes, Later, Split, colons_front, cut_chunk, first_part, last_chunk, next_part, onto, parts_some, plain}
+use Rattle.justfile_chunks_grammar.proofs.Passes.{line_with}
+use Rattle.justfile_chunks.proofs.AllCuts.{Fresh, cut_by, fresh, levels_like}
+use Rattle.justfile_chunks.proofs.ChunkTokens.{ChunkLexes, Later, NextPart, Split, colons_append, colons_front, cut_chunk, first_part, last_chunk, next_part, onto, plain}
 use Rattle.justfile_chunks.proofs.PartSteps.{Uncut, feed_utf8}
-use Rattle.justfile_chunks.proofs.SameModes.{NoneIsEof, marks, same_marks}
-use Rattle.justfile_chunks.proofs.TidyModes.{Fed}
+use Rattle.justfile_chunks.proofs.SameModes.{NoneIsEof, marks}
+use Rattle.justfile_chunks.proofs.SameNext.{cons_parts}
+use Rattle.justfile_chunks.proofs.TidyModes.{EndsInFeed}
 
 -- ---- other tokens after a cut
 
@@ -35,17 +35,6 @@ onto_append e (t ∷ p) q = onto_append (t ∷ e) p q
 next_same : (ts us vs : List Tok) → next_kind us ≡ next_kind vs → next_kind (ts ++ us) ≡ next_kind (ts ++ vs)
 next_same [] us vs h = h
 next_same (t ∷ ts) us vs h = ap (λ k. cond (is_whitespace t.kind) k (Some t.kind)) (next_same ts us vs h)
-
-cut_by : (t u : Tok) (e f ts us : List Tok) → t.kind ≡ u.kind → (mode (t ∷ e)).levels ≡ (mode (u ∷ f)).levels → line_kind e ≡ line_kind f
-    → next_kind ts ≡ next_kind us → IsCutAfter t e ts → IsCutAfter u f us
-cut_by t u e f ts us kind levels line next c = record {
-  ends = sym (ap ends_line kind) ∙ c.ends;
-  outside = sym levels ∙ c.outside;
-  no_body = λ h. c.no_body (next ∙ h);
-  no_attributes = λ h. c.no_attributes (line ∙ h);
-  no_doc = λ h. subst (λ n. (n ≡ Some kinds.Comment) ⊎ (n ≡ Some kinds.Eol)) next (c.no_doc (line ∙ h));
-  goes_on = λ h. c.goes_on (next ∙ h);
-}
 
 cut_before : (e ts us : List Tok) → next_kind ts ≡ next_kind us → IsCut e ts → IsCut e us
 cut_before [] ts us next c = absurd c
@@ -97,35 +86,39 @@ front_of [] part parts e later h f p = record {
   some = λ l. l;
   others = λ us ps next q. q;
 }
-front_of (q ∷ front) part parts e later h f p = by (first_part p) (front_of front part parts)
+front_of (q ∷ front) part parts e later h f p =
+    let s = split (front ++ (part ∷ parts)) (omega (arith, length-append front (part ∷ parts))) p in
+    let n = next_part e later q (front ++ (part ∷ parts)) h s in
+    by s n (front_of front part parts (onto e q) s.rest n.later (fresh (onto e q) s.rest s.cut) s.others)
   where
-    some : (xs : List (List Tok)) → xs ++ (part ∷ parts) ≡ [] → ⊥
-    some [] s = cc
-    some (x ∷ xs) s = cc
+    split : (ps : List (List Tok)) → 0 < length ps → Parts e later (q ∷ ps) → Split e later q ps
+    split [] l p = absurd (omega arith)
+    split (r ∷ ps) l p = first_part p
 
-    by : ((later ≡ q) × (front ++ (part ∷ parts) ≡ [])) ⊎ Split e later q (front ++ (part ∷ parts))
-        → ((e later : List Tok) → Later e later → Fresh e → Parts e later (front ++ (part ∷ parts)) → Front e later front (part ∷ parts))
+    by : (s : Split e later q (front ++ (part ∷ parts))) → NextPart e q s.rest → Front (onto e q) s.rest front (part ∷ parts)
         → Front e later (q ∷ front) (part ∷ parts)
-    by (inl s) more = absurd (some front s.1)
-    by (inr s) more =
-        let n = next_part e later q (front ++ (part ∷ parts)) h s (parts_some s.others) in
-        let m = more (onto e q) s.rest n.later (fresh (onto e q) s.rest s.cut) s.others in
-        record {
-          at = m.at;
-          at_is = m.at_is ∙ sym (onto_append e q (all_of front));
-          rest = m.rest;
-          is = s.is ∙ ap (λ x. q ++ x) m.is ∙ sym (append_assoc q (all_of front) m.rest);
-          later_at = m.later_at;
-          fresh_at = m.fresh_at;
-          are = m.are;
-          no_eof = none_append q (all_of front) n.is_part.no_eof m.no_eof;
-          some = λ l. omega (arith, s.some, length-append q (all_of front));
-          others = λ us ps next o.
-              let same : next_kind s.rest ≡ next_kind (all_of front ++ us) = ap next_kind m.is ∙ next_same (all_of front) m.rest us next in
-              subst (λ ts. Parts e ts (q ∷ front ++ ps)) (sym (append_assoc q (all_of front) us))
-              (one_part q e (all_of front ++ us) (front ++ ps) s.some (uncut_before e q s.rest (all_of front ++ us) same s.uncut)
-              (cut_before (onto e q) s.rest (all_of front ++ us) same s.cut) (m.others us ps next o));
-        }
+    by s n m = record {
+      at = m.at;
+      at_is = m.at_is ∙ sym (onto_append e q (all_of front));
+      rest = m.rest;
+      is = s.is ∙ ap (λ x. q ++ x) m.is ∙ sym (append_assoc q (all_of front) m.rest);
+      later_at = m.later_at;
+      fresh_at = m.fresh_at;
+      are = m.are;
+      no_eof = none_append q (all_of front) n.is_part.no_eof m.no_eof;
+      some = λ l. omega (arith, s.some, length-append q (all_of front));
+      others = λ us ps next o.
+          let same : next_kind s.rest ≡ next_kind (all_of front ++ us) = ap next_kind m.is ∙ next_same (all_of front) m.rest us next in
+          subst (λ ts. Parts e ts (q ∷ front ++ ps)) (sym (append_assoc q (all_of front) us))
+          (one_part q e (all_of front ++ us) (front ++ ps) s.some (uncut_before e q s.rest (all_of front ++ us) same s.uncut)
+          (cut_before (onto e q) s.rest (all_of front ++ us) same s.cut) (m.others us ps next o));
+    }
+
+-- what is said of elements is said of what they are mapped to
+pub all_mapped : {A B : Type 0} {P : A → Type 0} (Q : B → Type 0) (f : A → B) → ((a : A) → P a → Q (f a)) → (xs : List A) → AllByRecursion P xs
+    → AllByRecursion Q (map f xs)
+all_mapped Q f more [] h = tt
+all_mapped Q f more (x ∷ xs) h = (more x h.0, all_mapped Q f more xs h.1)
 
 -- ---- the same tokens elsewhere
 
@@ -138,22 +131,17 @@ module _ (at from : Chunk) where
   next_elsewhere [] = refl
   next_elsewhere (t ∷ ts) = ap (λ k. cond (is_whitespace t.kind) k (Some t.kind)) (next_elsewhere ts)
 
-  levels_elsewhere : (k : TokenKind) (t : Tok) (m n : Mode) → m.levels ≡ n.levels → (mode_after k t m).levels ≡ (mode_after k (elsewhere t) n).levels
-  levels_elsewhere kinds.Indent t m n e = ap (λ ls. t.lexeme ∷ ls) e
-  levels_elsewhere kinds.Dedent t m n e = ap tail_of e
-  levels_elsewhere _ t m n e = e
-
   pub parts_elsewhere : {e later : List Tok} {parts : List (List Tok)} (f : List Tok) → (mode e).levels ≡ (mode f).levels → line_kind e ≡ line_kind f
       → Parts e later parts → Parts f (map elsewhere later) (map (map elsewhere) parts)
   parts_elsewhere f levels line Parts.last = Parts.last
   parts_elsewhere f levels line (Parts.cut {earlier = e} {later = later} {t = t} c others) =
-      let more = levels_elsewhere t.kind t (mode e) (mode f) levels in
+      let more = levels_like t.kind t (elsewhere t) (mode e) (mode f) refl levels in
       Parts.cut (cut_by t (elsewhere t) e f later (map elsewhere later) refl more line (next_elsewhere later) c)
-      (parts_elsewhere (elsewhere t ∷ f) more (ap (λ o. cond (is_ignored t.kind) o (cond (ends_line t.kind) None (Some (first_or t.kind o)))) line) others)
+      (parts_elsewhere (elsewhere t ∷ f) more (ap (line_with t.kind) line) others)
   parts_elsewhere f levels line (Parts.uncut {earlier = e} {later = later} {t = t} u others) =
-      let more = levels_elsewhere t.kind t (mode e) (mode f) levels in
+      let more = levels_like t.kind t (elsewhere t) (mode e) (mode f) refl levels in
       Parts.uncut (λ c. u (cut_by (elsewhere t) t f e (map elsewhere later) later refl (sym more) (sym line) (sym (next_elsewhere later)) c))
-      (parts_elsewhere (elsewhere t ∷ f) more (ap (λ o. cond (is_ignored t.kind) o (cond (ends_line t.kind) None (Some (first_or t.kind o)))) line) others)
+      (parts_elsewhere (elsewhere t ∷ f) more (ap (line_with t.kind) line) others)
 
   -- the token is after the line feed before the chunk
   abbrev pub IsAfter : Tok → Type 0
@@ -215,31 +203,29 @@ ended_next (t ∷ []) e rest us vs l c =
 ended_next (t ∷ w ∷ p) e rest us vs l c = ap (λ k. cond (is_whitespace t.kind) k (Some t.kind)) (ended_next (w ∷ p) (t ∷ e) rest us vs (omega arith) c)
 
 pub first_chunk_of : (part : List Tok) (parts : List (List Tok)) (e later : List Tok) → Later e later → Parts e later (part ∷ parts) → FirstChunk later part
-first_chunk_of part parts e later h p = by (first_part p)
-  where
-    by : ((later ≡ part) × (parts ≡ [])) ⊎ Split e later part parts → FirstChunk later part
-    by (inl s) = record {
+first_chunk_of part [] e later h p =
+    let is : later ≡ part = first_part p in
+    record {
       tokens = part;
-      lexes = subst (λ x. ChunkLexes (after_feed x) (plain.feed x ∷ x)) s.0 (last_chunk plain e later h false);
-      next = ap next_kind s.0;
+      lexes = subst (λ x. ChunkLexes (after_feed x) (plain.feed x ∷ x)) is (last_chunk plain e later h false);
+      next = ap next_kind is;
       colons = λ c. c;
     }
-    by (inr s) =
-        let n = next_part e later part parts h s (parts_some s.others) in
-        record {
-          tokens = part ++ (plain.eof false part ∷ []);
-          lexes = cut_chunk plain e part s.rest n false;
-          next = ap next_kind s.is ∙ ended_next part e s.rest s.rest (plain.eof false part ∷ []) s.some s.cut;
-          colons = colons_front part (plain.eof false part ∷ []) false;
-        }
+first_chunk_of part (q ∷ parts) e later h p =
+    let s = first_part p in
+    record {
+      tokens = part ++ (plain.eof false part ∷ []);
+      lexes = cut_chunk plain e part s.rest (next_part e later part (q ∷ parts) h s) false;
+      next = ap next_kind s.is ∙ ended_next part e s.rest s.rest (plain.eof false part ∷ []) s.some s.cut;
+      colons = colons_front part (plain.eof false part ∷ []) false;
+    }
 
 next_marks : (ts us : List Tok) → marks ts ≡ marks us → next_kind ts ≡ next_kind us
 next_marks [] [] e = refl
-next_marks [] (u ∷ us) e = cc
-next_marks (t ∷ ts) [] e = cc
 next_marks (t ∷ ts) (u ∷ us) e =
-    let h = same_marks (mark t.kind t.lexeme) (mark u.kind u.lexeme) (marks ts) (marks us) e in
+    let h = cons_parts (mark t.kind t.lexeme) (mark u.kind u.lexeme) (marks ts) (marks us) e in
     λ i. cond (is_whitespace (h.0 i).kind) (next_marks ts us h.1 i) (Some (h.0 i).kind)
+next_marks _ _ e = cc
 
 tokens_are : (later part : List Tok) (c : FirstChunk later part) (o : OwnTokens (after_feed part)) → marks o.tokens ≡ marks (plain.feed part ∷ c.tokens)
 tokens_are later part c o = c.lexes.has o.tokens o.lexed o.colons
@@ -255,32 +241,14 @@ same_first later part others q c d text o =
     } in
     let both : marks (plain.feed part ∷ c.tokens) ≡ marks (plain.feed q ∷ d.tokens) = sym (tokens_are later part c mine) ∙ tokens_are others q d o in
     c.next
-    ∙ next_marks c.tokens d.tokens (same_marks (mark kinds.Eol (10 ∷ [])) (mark kinds.Eol (10 ∷ [])) (marks c.tokens) (marks d.tokens) both).1 ∙ sym d.next
+    ∙ next_marks c.tokens d.tokens (cons_parts (mark kinds.Eol (10 ∷ [])) (mark kinds.Eol (10 ∷ [])) (marks c.tokens) (marks d.tokens) both).1 ∙ sym d.next
 
 colons_marks : (ts us : List Tok) (colon : Bool) → marks ts ≡ marks us → IndentsHaveColons colon ts → IndentsHaveColons colon us
 colons_marks [] [] colon e h = tt
-colons_marks [] (u ∷ us) colon e h = cc
-colons_marks (t ∷ ts) [] colon e h = cc
 colons_marks (t ∷ ts) (u ∷ us) colon e h =
-    let m = same_marks (mark t.kind t.lexeme) (mark u.kind u.lexeme) (marks ts) (marks us) e in
+    let m = cons_parts (mark t.kind t.lexeme) (mark u.kind u.lexeme) (marks ts) (marks us) e in
     subst (λ k. NeedsColon k colon × IndentsHaveColons (colon_after k colon) us) (λ i. (m.0 i).kind) (h.0, colons_marks ts us (colon_after t.kind colon) m.1 h.1)
-
--- a colon before them does no harm
-colons_more : (ts : List Tok) (colon : Bool) → IndentsHaveColons false ts → IndentsHaveColons colon ts
-colons_more ts false h = h
-colons_more [] true h = tt
-colons_more (t ∷ ts) true h = by t.kind h.0 h.1 (colons_more ts true)
-  where
-    by : (k : TokenKind) → NeedsColon k false → IndentsHaveColons (colon_after k false) ts → (IndentsHaveColons false ts → IndentsHaveColons true ts)
-        → NeedsColon k true × IndentsHaveColons (colon_after k true) ts
-    by kinds.Indent n c f = (refl, f c)
-    by kinds.Colon n c f = (tt, c)
-    by kinds.Dedent n c f = (tt, c)
-    by _ n c f = (tt, f c)
-
-colons_append : (ts us : List Tok) (colon : Bool) → IndentsHaveColons colon ts → IndentsHaveColons false us → IndentsHaveColons colon (ts ++ us)
-colons_append [] us colon h k = colons_more us colon k
-colons_append (t ∷ ts) us colon h k = (h.0, colons_append ts us (colon_after t.kind colon) h.1 k)
+colons_marks _ _ colon e h = cc
 
 part_colons : (later part : List Tok) → FirstChunk later part → OwnTokens (after_feed part) → IndentsHaveColons false part
 part_colons later part c o = c.colons (colons_marks o.tokens (plain.feed part ∷ c.tokens) false (tokens_are later part c o) o.colons).1
@@ -289,34 +257,25 @@ part_colons later part c o = c.colons (colons_marks o.tokens (plain.feed part �
 pub colons_of : (parts : List (List Tok)) (e later : List Tok) → Later e later → Parts e later parts → AllByRecursion (λ part. OwnTokens (after_feed part)) parts
     → IndentsHaveColons false later
 colons_of [] e later h p o = absurd (first_part p)
-colons_of (part ∷ parts) e later h p o = by (first_part p) (colons_of parts)
-  where
-    here : IndentsHaveColons false part
-    here = part_colons later part (first_chunk_of part parts e later h p) o.0
-
-    by : ((later ≡ part) × (parts ≡ [])) ⊎ Split e later part parts
-        → ((e later : List Tok) → Later e later → Parts e later parts → AllByRecursion (λ part. OwnTokens (after_feed part)) parts → IndentsHaveColons false later)
-        → IndentsHaveColons false later
-    by (inl s) more = subst (IndentsHaveColons false) (sym s.0) here
-    by (inr s) more =
-        let n = next_part e later part parts h s (parts_some s.others) in
-        subst (IndentsHaveColons false) (sym s.is) (colons_append part s.rest false here (more (onto e part) s.rest n.later s.others o.1))
+colons_of (part ∷ []) e later h p o =
+    subst (IndentsHaveColons false) (sym (first_part p)) (part_colons later part (first_chunk_of part [] e later h p) o.0)
+colons_of (part ∷ q ∷ parts) e later h p o =
+    let s = first_part p in
+    let n = next_part e later part (q ∷ parts) h s in
+    subst (IndentsHaveColons false) (sym s.is)
+    (colons_append part s.rest false (part_colons later part (first_chunk_of part (q ∷ parts) e later h p) o.0)
+    (colons_of (q ∷ parts) (onto e part) s.rest n.later s.others o.1))
 
 -- ---- the texts of parts
 
-fed_utf8 : (text rest : List ℕ) → Fed text → IsUtf8 (text ++ rest) → IsUtf8 text
-fed_utf8 text rest (inl h) u = subst IsUtf8 (sym h) IsUtf8-nil
-fed_utf8 text rest (inr h) u =
+fed_utf8 : (text rest : List ℕ) → EndsInFeed text → IsUtf8 (text ++ rest) → IsUtf8 text
+fed_utf8 text rest h u =
     subst IsUtf8 (sym h.is) (feed_utf8 h.front rest (subst IsUtf8 (ap (λ x. x ++ rest) h.is ∙ append_assoc h.front (10 ∷ []) rest) u))
 
 pub parts_utf8 : (parts : List (List Tok)) (e later : List Tok) → Later e later → Parts e later parts → AllByRecursion (λ part. IsUtf8 (text_of part)) parts
 parts_utf8 [] e later h p = tt
-parts_utf8 (part ∷ parts) e later h p = by (first_part p) (parts_utf8 parts)
-  where
-    by : ((later ≡ part) × (parts ≡ [])) ⊎ Split e later part parts
-        → ((e later : List Tok) → Later e later → Parts e later parts → AllByRecursion (λ part. IsUtf8 (text_of part)) parts)
-        → IsUtf8 (text_of part) × AllByRecursion (λ part. IsUtf8 (text_of part)) parts
-    by (inl s) more = (subst (λ x. IsUtf8 (text_of x)) s.0 h.utf8, subst (AllByRecursion (λ part. IsUtf8 (text_of part))) (sym s.1) tt)
-    by (inr s) more =
-        let n = next_part e later part parts h s (parts_some s.others) in
-        (fed_utf8 (text_of part) (text_of s.rest) n.is_part.fed n.is_part.utf8, more (onto e part) s.rest n.later s.others)
+parts_utf8 (part ∷ []) e later h p = (subst (λ x. IsUtf8 (text_of x)) (first_part p) h.utf8, tt)
+parts_utf8 (part ∷ q ∷ parts) e later h p =
+    let s = first_part p in
+    let n = next_part e later part (q ∷ parts) h s in
+    (fed_utf8 (text_of part) (text_of s.rest) n.feeds n.is_part.utf8, parts_utf8 (q ∷ parts) (onto e part) s.rest n.later s.others)

@@ -6,7 +6,7 @@ use Rattle.justfile_vocabulary.specs.declared.token_kind.TokenKind.TheVariants a
 use Rattle.justfile_model.specs.Lexing.Lexed.{Lexed}
 use Rattle.justfile_model.specs.Lexing.Modes.{Mode, mode, mode_after, start_mode}
 use Rattle.justfile_model.specs.Lexing.Places.{column_at, is_line_feed, last_line_start, line_of_offset, text_before}
-use Rattle.justfile_model.specs.Lexing.Tok.{Tok}
+use Rattle.justfile_model.specs.Lexing.Tok.{Tok, tok}
 use Rattle.justfile_model.proofs.Lexing.LexedLaws.{from_follows}
 use Rattle.justfile_round_trip.proofs.LiteralTexts.FormatScans.{same_front}
 use Rattle.justfile_round_trip.proofs.LiteralTexts.LexedModes.{LexesIn, Mark, follows, lexed, mark, tok_at, toks}
@@ -16,12 +16,12 @@ use Rattle.justfile_chunks_grammar.specs.Chunks.{Chunk, moved, text_of}
 use Rattle.justfile_chunks_grammar.proofs.Colons.{IndentsHaveColons}
 use Rattle.justfile_chunks.proofs.ChunkTokens.{Later, marks_toks, no_colon}
 use Rattle.justfile_chunks.proofs.JoinedNext.{IsDark, joined_next}
-use Rattle.justfile_chunks.proofs.JoinedParts.{IsAfter, elsewhere}
-use Rattle.justfile_chunks.proofs.MovedChunks.{none_more}
+use Rattle.justfile_chunks.proofs.JoinedParts.{IsAfter, all_mapped, elsewhere}
+use Rattle.justfile_chunks.proofs.MovedChunks.{none_more, stands}
 use Rattle.justfile_chunks.proofs.MovedPlaces.{Moves, Placed, feeds_append, inside, last_moved, placed, placed_after}
 use Rattle.justfile_chunks.proofs.PartLexes.{but_last, last_lexes, last_marks}
-use Rattle.justfile_chunks.proofs.SameModes.{NoneIsEof, marks, mode_past, same_marks}
-use Rattle.justfile_chunks.proofs.SameNext.{SameMode}
+use Rattle.justfile_chunks.proofs.SameModes.{NoneIsEof, marks, mode_past}
+use Rattle.justfile_chunks.proofs.SameNext.{SameMode, cons_parts}
 use Rattle.justfile_chunks.proofs.SplitRuns.{rest_utf8}
 use Rattle.justfile_chunks.proofs.TidyModes.{EndsInFeed, Fed, fed_suffix}
 
@@ -64,13 +64,7 @@ module _ (p r s : List ℕ) where
   standing [] k h l = tt
   standing (t ∷ ts) k h l =
       let here : k < length p = omega (arith, l, length-append t.lexeme (text_of ts)) in (
-        (λ i. record {
-          kind = t.kind;
-          lexeme = t.lexeme;
-          offset = h.0.offset_is i;
-          line = (h.0.line_is ∙ ap (line_of_offset (p ++ r)) h.0.offset_is ∙ line_same k here) i;
-          column = (h.0.column_is ∙ ap (column_at (p ++ r)) h.0.offset_is ∙ column_same k here) i;
-        }),
+        stands (p ++ r) k t (mark t.kind t.lexeme) h.0 refl ∙ (λ i. tok t.kind t.lexeme k (line_same k here i) (column_same k here i)),
         standing ts (k + length t.lexeme) h.1 (omega (arith, l, length-append t.lexeme (text_of ts))),
       )
 
@@ -107,11 +101,10 @@ module _ (text rest : List ℕ) (ms : List Mark) where
 
 text_marks : (ts us : List Tok) → marks ts ≡ marks us → text_of ts ≡ text_of us
 text_marks [] [] e = refl
-text_marks [] (u ∷ us) e = cc
-text_marks (t ∷ ts) [] e = cc
 text_marks (t ∷ ts) (u ∷ us) e =
-    let h = same_marks (mark t.kind t.lexeme) (mark u.kind u.lexeme) (marks ts) (marks us) e in
+    let h = cons_parts (mark t.kind t.lexeme) (mark u.kind u.lexeme) (marks ts) (marks us) e in
     λ i. (h.0 i).lexeme ++ text_marks ts us h.1 i
+text_marks _ _ e = cc
 
 -- tokens that are moved to two places
 module _ (at from : Chunk) where
@@ -131,10 +124,6 @@ module _ (at from : Chunk) where
 
   abbrev IsLater : Tok → Type 0
   IsLater u = (0 < u.offset) × (0 < u.line)
-
-  moved_after : (us : List Tok) → AllByRecursion IsLater us → AllByRecursion (IsAfter at from) (map (moved from.offset from.line) us)
-  moved_after [] h = tt
-  moved_after (u ∷ us) h = ((omega (arith, h.0.0), omega (arith, h.0.1)), moved_after us h.1)
 
   -- after a line feed at the start, tokens are on a later line
   line_later : (r : List ℕ) (k : ℕ) → 0 < length r → 0 < k → 0 < line_of_offset (10 ∷ r) k
@@ -184,8 +173,8 @@ module _ (at from : Chunk) (d : ℕ) (dark : IsDark d) (v x : List ℕ) (front e
   abbrev ms : List Mark
   ms = marks (but_last rest)
 
-  stands : Standing text 0 front
-  stands =
+  front_stands : Standing text 0 front
+  front_stands =
       subst (λ y. Standing y 0 front) (append_assoc (text_of front) (d ∷ []) x)
       (standing (text_of front ++ (d ∷ [])) v x front 0
       (subst (λ y. Placed y 0 front) (sym (append_assoc (text_of front) (d ∷ []) v)) left_places)
@@ -208,14 +197,14 @@ module _ (at from : Chunk) (d : ℕ) (dark : IsDark d) (v x : List ℕ) (front e
       }
 
   whole_lexes : LexesIn text 0 start_mode text (marks front ++ ms)
-  whole_lexes = front_lexes text (d ∷ x) ms front start_mode 0 (runs_joined d dark v x front start_mode utf8 (inr fed) no_eof run) no_eof stands rest_lexes
+  whole_lexes = front_lexes text (d ∷ x) ms front start_mode 0 (runs_joined d dark v x front start_mode utf8 (inr fed) no_eof run) no_eof front_stands rest_lexes
 
   abbrev others : List Tok
   others = toks text (0 + length (text_of front)) ms
 
   lexed_text : Lexed text (front ++ others)
   lexed_text =
-      subst (Lexed text) (front_toks text (d ∷ x) ms front 0 stands)
+      subst (Lexed text) (front_toks text (d ∷ x) ms front 0 front_stands)
       (from_follows text [] (toks text 0 (marks front ++ ms)) tt (follows text (marks front ++ ms) [] start_mode 0 text refl refl refl whole_lexes))
 
   others_marks : marks others ≡ marks rest
@@ -259,5 +248,6 @@ module _ (at from : Chunk) (d : ℕ) (dark : IsDark d) (v x : List ℕ) (front e
   joined_tokens = record {
     lexed = subst (λ ts. Lexed text (front ++ ts)) (others_are ∙ sym (moved_elsewhere at from own) ∙ ap (map (elsewhere at from)) (sym rest_are)) lexed_text;
     after = subst (AllByRecursion (IsAfter at from)) (sym rest_are)
-        (moved_after at from own (placed_later at from (text_of rest) own 1 some (omega arith) own_placed));
+        (all_mapped _ (moved from.offset from.line) (λ u h. (omega (arith, h.0), omega (arith, h.1))) own
+        (placed_later at from (text_of rest) own 1 some (omega arith) own_placed));
   }

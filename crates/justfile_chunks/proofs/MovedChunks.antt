@@ -2,7 +2,7 @@
 use Rattle.std.proofs.Common.{suc, ◌≡◌, ◌≢◌, ◌∙◌, ℕ, ◌+◌, ◌-◌, ◌<◌, Bool, true, false, List, [], ◌∷◌, ◌++◌, ◌⊎◌, inl, inr, length, map, Some, refl, sym, ap, subst, arith, append_assoc, append-nil, length-append}
 use Rattle.std.specs.List.{AllByRecursion, AllZip, count_by}
 use Rattle.std.specs.Str.{IsUtf8}
-use Rattle.std.proofs.lemmas.List.{map-append}
+use Rattle.std.proofs.lemmas.List.{map-append, nil_from_length}
 use Rattle.std.proofs.lemmas.List.Concat.{flat_map-append}
 use Rattle.justfile_vocabulary.specs.declared.token_kind.TokenKind.TheVariants as kinds
 use Rattle.justfile_model.specs.Lexing.Lexed.{Lexed, StandsAt}
@@ -17,11 +17,12 @@ use Rattle.justfile_round_trip.proofs.LiteralTexts.LexedModes.{Mark, mark, tok_a
 use Rattle.justfile_round_trip.proofs.Values.TokenFacts.{Runs}
 use Rattle.justfile_chunks_grammar.specs.Chunks.{AreParts, Chunk, Parts, after_feed, chunks_of, first_chunk, later_chunk, moved, next_kind, text_of}
 use Rattle.justfile_chunks_grammar.proofs.OtherDedents.{IsEmptyDedent, NearToken}
-use Rattle.justfile_chunks.proofs.ChunkTokens.{Borders, Later, NextPart, Split, chunks_by, closed, first_bytes, first_part, from_start, next_part, onto, parts_some, some_text, whole_is}
+use Rattle.justfile_chunks.proofs.ChunkTokens.{Borders, Later, NextPart, Split, chunks_by, closed, first_part, from_start, next_part, onto, some_text, whole_is}
 use Rattle.justfile_chunks.proofs.MovedPlaces.{AreMoved, IsMoved, Moves, Placed, after_text, all_moved, at_start, inside, last_moved, placed, placed_after, placed_front}
-use Rattle.justfile_chunks.proofs.SameModes.{NoneIsEof, marks, same_marks}
+use Rattle.justfile_chunks.proofs.SameModes.{NoneIsEof, marks}
+use Rattle.justfile_chunks.proofs.SameNext.{cons_parts}
 use Rattle.justfile_chunks.proofs.SplitRuns.{rest_utf8}
-use Rattle.justfile_chunks.proofs.TidyModes.{EndsInFeed, Fed, fed_more}
+use Rattle.justfile_chunks.proofs.TidyModes.{EndsInFeed, fed_more}
 
 -- ---- the line feeds before chunks and the ends after them, where they are in the chunks, moved
 
@@ -57,10 +58,6 @@ pub record NearChunk (chunk : Chunk) (tokens : List Tok) : Type 0 where
 abbrev HasBytes : Tok → Type 0
 HasBytes t = (0 < length t.lexeme) ⊎ IsEmptyDedent t
 
-no_bytes : (xs : List ℕ) → length xs ≡ 0 → xs ≡ []
-no_bytes [] e = refl
-no_bytes (x ∷ xs) e = cc
-
 abbrev NextMoves : Mode → Tok → Type 0
 NextMoves m t = next_law.Moves m t.kind (length t.lexeme)
 
@@ -73,7 +70,7 @@ bytes_of (t ∷ ts) us m x u r n =
     by : NextMoves m t → EndsAt x t.kind (length t.lexeme) → HasBytes t
     by (inl some) e = inl some
     by (inr (inl end)) e = absurd (n.0 end)
-    by (inr (inr d)) e = inr (d.0, no_bytes t.lexeme (subst (λ k. EndsAt x k (length t.lexeme)) d.0 e))
+    by (inr (inr d)) e = inr (d.0, nil_from_length t.lexeme (subst (λ k. EndsAt x k (length t.lexeme)) d.0 e))
 
 near_one : (offset line : ℕ) {t u : Tok} → IsMoved offset line t u → HasBytes t → NearToken t (moved offset line u)
 near_one offset line m (inl some) = inl (m.place some)
@@ -87,7 +84,7 @@ near_itself ts us e = subst (AllZip NearToken ts) e (by ts)
     by (t ∷ ts) = (inl refl, by ts)
 
 -- the token that stands at an offset, and is this one
-stands : (text : List ℕ) (k : ℕ) (u : Tok) (m : Mark) → StandsAt text k u → mark u.kind u.lexeme ≡ m → u ≡ tok_at text k m
+pub stands : (text : List ℕ) (k : ℕ) (u : Tok) (m : Mark) → StandsAt text k u → mark u.kind u.lexeme ≡ m → u ≡ tok_at text k m
 stands text k u m s e = place ∙ ap (tok_at text k) e
   where
     place : u ≡ tok_at text k (mark u.kind u.lexeme)
@@ -107,7 +104,7 @@ module _ (c : Chunk) where
   near_end : (us : List Tok) (k : ℕ) → Placed c.text k us → marks us ≡ mark kinds.Eof [] ∷ [] → AllZip NearToken (end_at k ∷ []) (map (in_text c) us)
   near_end [] k p e = cc
   near_end (u ∷ us) k p e =
-      let h = same_marks (mark u.kind u.lexeme) (mark kinds.Eof []) (marks us) [] e in
+      let h = cons_parts (mark u.kind u.lexeme) (mark kinds.Eof []) (marks us) [] e in
       (inl (sym (ap (in_text c) (stands c.text k u (mark kinds.Eof []) p.0 h.0))), none us h.1)
     where
       none : (us : List Tok) → marks us ≡ [] → AllZip NearToken [] (map (in_text c) us)
@@ -120,7 +117,7 @@ module _ (c : Chunk) where
   near_part [] us k m b p e = subst (λ n. AllZip NearToken (end_at n ∷ []) (map (in_text c) us)) (omega arith) (near_end us k p e)
   near_part (t ∷ part) [] k m b p e = absurd m
   near_part (t ∷ part) (u ∷ us) k m b p e =
-      let h = same_marks (mark u.kind u.lexeme) (mark t.kind t.lexeme) (marks us) (marks part ++ (mark kinds.Eof [] ∷ [])) e in (
+      let h = cons_parts (mark u.kind u.lexeme) (mark t.kind t.lexeme) (marks us) (marks part ++ (mark kinds.Eof [] ∷ [])) e in (
         near_one c.offset c.line m.0 b.0,
         subst (λ n. AllZip NearToken (part ++ (end_at n ∷ [])) (map (in_text c) us))
             (omega (arith, ap length m.0.lexeme, length-append t.lexeme (text_of part)))
@@ -178,7 +175,7 @@ module _ (text before rest : List ℕ) (t : Tok) (part : List Tok) (feed : EndsI
       → AllZip NearToken (borders.feed (t ∷ part) ∷ tokens) (map (in_text (later_chunk (t ∷ part))) us)
   near_feed [] tokens l e more = cc
   near_feed (u ∷ us) tokens l e more =
-      let h = same_marks (mark u.kind u.lexeme) feed_mark (marks us) (marks tokens) e in (
+      let h = cons_parts (mark u.kind u.lexeme) feed_mark (marks us) (marks tokens) e in (
         inl (sym (ap (in_text (later_chunk (t ∷ part)))
             (stands (after_feed (t ∷ part)) 0 u feed_mark (placed (after_feed (t ∷ part)) (u ∷ us) l).0 h.0))),
         more u us l (ap (λ (m : Mark). length m.lexeme) h.0) h.1,
@@ -207,86 +204,60 @@ last_near text before t part feed is h some = record {
       (in_whole text before [] t part feed is h some) (in_chunk text before [] t part feed is h some u others l one) marked (omega arith)));
 }
 
+-- a part after this text, up to a cut, and the tokens after it, where they are in the whole text
+record PlacedPart (text before : List ℕ) (earlier part rest : List Tok) : Type 0 where
+  next : NextPart earlier part rest
+  text_is : text ≡ before ++ (text_of part ++ text_of rest)
+  text_after : text ≡ (before ++ text_of part) ++ text_of rest
+  place : Placed text (length before) part
+  rest_place : Placed text (length (before ++ text_of part)) rest
+  bytes : AllByRecursion HasBytes part
+
 module _ (text : List ℕ) where
-  -- the text before, and the part
-  module _ (before : List ℕ) (earlier later part : List Tok) (parts : List (List Tok)) (h : Later earlier later) (s : Split earlier later part parts)
-      (is : text ≡ before ++ text_of later) where
-    next : NextPart earlier part s.rest
-    next = next_part earlier later part parts h s (parts_some s.others)
-
-    text_is : text ≡ before ++ (text_of part ++ text_of s.rest)
-    text_is = is ∙ ap (λ x. before ++ x) (ap text_of s.is ∙ flat_map-append lexeme part s.rest)
-
-    text_after : text ≡ (before ++ text_of part) ++ text_of s.rest
-    text_after = text_is ∙ sym (append_assoc before (text_of part) (text_of s.rest))
-
-    placed_rest : Placed text (length before) later → Placed text (length (before ++ text_of part)) s.rest
-    placed_rest p =
-        subst (λ n. Placed text n s.rest) (sym (length-append before (text_of part)))
-        (placed_after text part s.rest (length before) (subst (Placed text (length before)) s.is p))
-
-    placed_part : Placed text (length before) later → Placed text (length before) part
-    placed_part p = placed_front text part s.rest (length before) (subst (Placed text (length before)) s.is p)
-
-    feed_after : EndsInFeed before → EndsInFeed (before ++ text_of part)
-    feed_after f = by (text_of part) next.is_part.fed
-      where
-        by : (x : List ℕ) → Fed x → EndsInFeed (before ++ x)
-        by x (inl e) = subst EndsInFeed (sym (ap (λ y. before ++ y) e ∙ append-nil before)) f
-        by x (inr g) = fed_more before x g
-
-    part_bytes : 0 < length (text_of part)
-    part_bytes = by part s.some next.is_part.no_eof s.is
-      where
-        by : (p : List Tok) → 0 < length p → NoneIsEof p → later ≡ p ++ s.rest → 0 < length (text_of p)
-        by [] l ne e = absurd (omega arith)
-        by (t ∷ p) l ne e =
-            let run = subst (λ x. Runs (mode earlier) (text_of later) x) e h.run in
-            omega (arith, first_bytes t (p ++ s.rest) (mode earlier) (text_of later) ne.0 h.same.levels h.utf8 run, length-append t.lexeme (text_of p))
-
-    bytes : AllByRecursion HasBytes part
-    bytes = bytes_of part s.rest (mode earlier) (text_of part ++ text_of s.rest) next.is_part.utf8 next.is_part.run next.is_part.no_eof
+  placed_part : (before : List ℕ) (earlier later part : List Tok) (parts : List (List Tok)) → Later earlier later → (s : Split earlier later part parts)
+      → text ≡ before ++ text_of later → Placed text (length before) later → PlacedPart text before earlier part s.rest
+  placed_part before earlier later part parts h s is p =
+      let n = next_part earlier later part parts h s in
+      let places = subst (Placed text (length before)) s.is p in
+      let whole = is ∙ ap (λ x. before ++ x) (ap text_of s.is ∙ flat_map-append lexeme part s.rest) in
+      record {
+        next = n;
+        text_is = whole;
+        text_after = whole ∙ sym (append_assoc before (text_of part) (text_of s.rest));
+        place = placed_front text part s.rest (length before) places;
+        rest_place =
+            subst (λ n. Placed text n s.rest) (sym (length-append before (text_of part))) (placed_after text part s.rest (length before) places);
+        bytes = bytes_of part s.rest (mode earlier) (text_of part ++ text_of s.rest) n.is_part.utf8 n.is_part.run n.is_part.no_eof;
+      }
 
   all_near : (parts : List (List Tok)) (earlier later : List Tok) (before : List ℕ) → Later earlier later → Parts earlier later parts
       → next_kind later ≢ Some kinds.Eof → text ≡ before ++ text_of later
       → Placed text (length before) later → EndsInFeed before → AllZip NearChunk (map later_chunk parts) (chunks_by borders false parts)
   all_near [] earlier later before h p ne is pl f = absurd (first_part p)
-  all_near (part ∷ []) earlier later before h p ne is pl f = by (first_part p)
+  all_near (part ∷ []) earlier later before h p ne is pl f =
+      let e : later ≡ part = first_part p in
+      let bytes = some_text later (mode earlier) (text_of later) h.ends ne h.same.levels h.utf8 h.run in (
+        last part (is ∙ ap (λ x. before ++ x) (ap text_of e ∙ sym (append-nil (text_of part)))) (subst (Placed text (length before)) e pl)
+            (subst (λ x. 0 < length (text_of x)) e bytes),
+        tt,
+      )
     where
       last : (p : List Tok) → text ≡ before ++ (text_of p ++ []) → Placed text (length before) p → 0 < length (text_of p)
           → NearChunk (later_chunk p) (borders.feed p ∷ p)
       last [] is pl l = absurd (omega arith)
       last (t ∷ p) is pl l = last_near text before t p f is pl l
-
-      by : ((later ≡ part) × (◌≡◌ {A = List (List Tok)} [] [])) ⊎ Split earlier later part []
-          → AllZip NearChunk (later_chunk part ∷ []) ((borders.feed part ∷ part) ∷ [])
-      by (inl e) =
-          let bytes = some_text later (mode earlier) (text_of later) h.ends ne h.same.levels h.utf8 h.run in (
-            last part (is ∙ ap (λ x. before ++ x) (ap text_of e.0 ∙ sym (append-nil (text_of part)))) (subst (Placed text (length before)) e.0 pl)
-                (subst (λ x. 0 < length (text_of x)) e.0 bytes),
-            tt,
-          )
-      by (inr s) = absurd (first_part s.others)
-  all_near (part ∷ q ∷ parts) earlier later before h p ne is pl f = by (first_part p) (all_near (q ∷ parts))
+  all_near (part ∷ q ∷ parts) earlier later before h p ne is pl f =
+      let s = first_part p in
+      let n = placed_part before earlier later part (q ∷ parts) h s is pl in (
+        inner part (text_of s.rest) n.text_is n.place n.next.bytes n.bytes,
+        all_near (q ∷ parts) (onto earlier part) s.rest (before ++ text_of part) n.next.later s.others n.next.goes_on n.text_after n.rest_place
+            (fed_more before (text_of part) n.next.feeds),
+      )
     where
       inner : (p : List Tok) (rest : List ℕ) → text ≡ before ++ (text_of p ++ rest) → Placed text (length before) p → 0 < length (text_of p)
           → AllByRecursion HasBytes p → NearChunk (later_chunk p) (borders.feed p ∷ closed borders false p)
       inner [] rest is pl l b = absurd (omega arith)
       inner (t ∷ p) rest is pl l b = later_near text before rest t p f is pl l b
-
-      by : ((later ≡ part) × (q ∷ parts ≡ [])) ⊎ Split earlier later part (q ∷ parts)
-          → ((earlier later : List Tok) (before : List ℕ) → Later earlier later → Parts earlier later (q ∷ parts) → next_kind later ≢ Some kinds.Eof
-          → text ≡ before ++ text_of later → Placed text (length before) later → EndsInFeed before
-          → AllZip NearChunk (map later_chunk (q ∷ parts)) (chunks_by borders false (q ∷ parts)))
-          → AllZip NearChunk (map later_chunk (part ∷ q ∷ parts)) (chunks_by borders false (part ∷ q ∷ parts))
-      by (inl e) more = cc (e.1)
-      by (inr s) more =
-          let n = next before earlier later part (q ∷ parts) h s is in (
-            inner part (text_of s.rest) (text_is before earlier later part (q ∷ parts) h s is) (placed_part before earlier later part (q ∷ parts) h s is pl)
-                (part_bytes before earlier later part (q ∷ parts) h s is) (bytes before earlier later part (q ∷ parts) h s is),
-            more (onto earlier part) s.rest (before ++ text_of part) n.later s.others n.goes_on (text_after before earlier later part (q ∷ parts) h s is)
-                (placed_rest before earlier later part (q ∷ parts) h s is pl) (feed_after before earlier later part (q ∷ parts) h s is f),
-          )
 
 pub none_more : (n : ℕ) → 0 + n ≡ n
 none_more n = omega arith
@@ -300,33 +271,13 @@ unmoved (t ∷ ts) = λ i.
 pub chunks_near : (text : List ℕ) (tokens : List Tok) (parts : List (List Tok)) → IsUtf8 text → Lexed text tokens → AreParts tokens parts
     → AllZip NearChunk (chunks_of parts) (chunks_by borders true parts)
 chunks_near text tokens [] u l p = absurd (first_part p)
-chunks_near text tokens (part ∷ []) u l p = by (first_part p)
-  where
-    by : ((tokens ≡ part) × (◌≡◌ {A = List (List Tok)} [] [])) ⊎ Split [] tokens part [] → AllZip NearChunk (first_chunk part ∷ []) (part ∷ [])
-    by (inl e) =
-        let here : Lexed (text_of part) part = subst (λ x. Lexed (text_of x) x) e.0 (subst (λ x. Lexed x tokens) (sym (whole_is text tokens u l)) l) in
-        (record { near = λ us k m. near_itself part (map (moved 0 0) us) (one_list (text_of part) part us here k ∙ sym (unmoved us)) }, tt)
-    by (inr s) = absurd (first_part s.others)
-chunks_near text tokens (part ∷ q ∷ parts) u l p = by (first_part p)
-  where
-    whole : text ≡ [] ++ text_of tokens
-    whole = sym (whole_is text tokens u l)
-
-    by : ((tokens ≡ part) × (q ∷ parts ≡ [])) ⊎ Split [] tokens part (q ∷ parts)
-        → AllZip NearChunk (chunks_of (part ∷ q ∷ parts)) (chunks_by borders true (part ∷ q ∷ parts))
-    by (inl e) = cc (e.1)
-    by (inr s) =
-        let h = from_start text tokens u l in
-        let n = next text [] [] tokens part (q ∷ parts) h s whole in (
-          first_near text (text_of s.rest) part (text_is text [] [] tokens part (q ∷ parts) h s whole)
-              (placed_part text [] [] tokens part (q ∷ parts) h s whole (placed text tokens l))
-              (bytes text [] [] tokens part (q ∷ parts) h s whole),
-          all_near text (q ∷ parts) (onto [] part) s.rest (text_of part) n.later s.others n.goes_on
-              (text_after text [] [] tokens part (q ∷ parts) h s whole)
-              (placed_rest text [] [] tokens part (q ∷ parts) h s whole (placed text tokens l))
-              (ends (text_of part) (part_bytes text [] [] tokens part (q ∷ parts) h s whole) n.is_part.fed),
-        )
-      where
-        ends : (x : List ℕ) → 0 < length x → Fed x → EndsInFeed x
-        ends x l (inl e) = absurd (omega (arith, ap length e))
-        ends x l (inr h) = h
+chunks_near text tokens (part ∷ []) u l p =
+    let e : tokens ≡ part = first_part p in
+    let here : Lexed (text_of part) part = subst (λ x. Lexed (text_of x) x) e (subst (λ x. Lexed x tokens) (sym (whole_is text tokens u l)) l) in
+    (record { near = λ us k m. near_itself part (map (moved 0 0) us) (one_list (text_of part) part us here k ∙ sym (unmoved us)) }, tt)
+chunks_near text tokens (part ∷ q ∷ parts) u l p =
+    let s = first_part p in
+    let n = placed_part text [] [] tokens part (q ∷ parts) (from_start text tokens u l) s (sym (whole_is text tokens u l)) (placed text tokens l) in (
+      first_near text (text_of s.rest) part n.text_is n.place n.bytes,
+      all_near text (q ∷ parts) (onto [] part) s.rest (text_of part) n.next.later s.others n.next.goes_on n.text_after n.rest_place n.next.feeds,
+    )

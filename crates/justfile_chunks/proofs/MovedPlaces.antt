@@ -2,7 +2,7 @@
 use Rattle.std.proofs.Common.{◌≡◌, ◌∙◌, ℕ, ◌+◌, ◌-◌, ◌<◌, ◌≤◌, List, [], ◌∷◌, ◌++◌, length, map, take, refl, sym, ap, subst, arith, ⊎_elim, append-nil, length-append, length-take, take_all}
 use Rattle.std.specs.Prelude.{not, reverse}
 use Rattle.std.specs.List.{count_by, prefix_len}
-use Rattle.std.proofs.Math.Seq.{take-add, take-take}
+use Rattle.std.proofs.Math.Seq.{take-append-add, take-take}
 use Rattle.std.proofs.lemmas.Bool.{cases_lt}
 use Rattle.std.proofs.lemmas.List.{length-reverse, reverse-append, take-append-le}
 use Rattle.std.proofs.lemmas.List.Sums.{prefix_len-le-length, sum_by-append}
@@ -10,10 +10,11 @@ use Rattle.justfile_model.specs.Lexing.Lexed.{Begins, Lexed, StandsAt, end_of}
 use Rattle.justfile_model.specs.Lexing.Places.{column_at, is_line_feed, last_line_start, line_of_offset, text_before}
 use Rattle.justfile_model.specs.Lexing.Tok.{Tok}
 use Rattle.justfile_model.proofs.Lexing.UnclosedLaws.{reverse_more}
-use Rattle.justfile_round_trip.proofs.LiteralTexts.LexedModes.{Mark, drop_front, mark, take_front}
+use Rattle.justfile_round_trip.proofs.LiteralTexts.LexedModes.{Mark, mark}
 use Rattle.justfile_chunks_grammar.specs.Chunks.{moved, text_of}
 use Rattle.justfile_chunks.proofs.FeedTexts.{run_same}
-use Rattle.justfile_chunks.proofs.SameModes.{marks, same_marks}
+use Rattle.justfile_chunks.proofs.SameModes.{marks}
+use Rattle.justfile_chunks.proofs.SameNext.{cons_parts}
 use Rattle.justfile_chunks.proofs.SplitRuns.{in_order}
 
 -- ---- places
@@ -23,16 +24,13 @@ pub record Before (a p r : List ℕ) (k : ℕ) (bs : List ℕ) (more : ℕ) : Ty
   pub is : text_before (a ++ (p ++ r)) (length a + k) ≡ a ++ bs
   pub bytes : k ≡ length bs + more
 
-pub front_of : (a x : List ℕ) (k : ℕ) → take (length a + k) (a ++ x) ≡ a ++ take k x
-front_of a x k = take-add (length a) k (a ++ x) ∙ (λ i. take_front a x i ++ take k (drop_front a x i))
-
 pub inside : (a p r : List ℕ) (k : ℕ) → k < length p → Before a p r k (take k p) 0
 inside a p r k l =
     let size : length (a ++ (p ++ r)) ≡ length a + (length p + length r) = length-append a (p ++ r) ∙ ap (λ n. length a + n) (length-append p r) in
     record {
       is =
           take-take (length a + k) (length (a ++ (p ++ r)) - 1) (a ++ (p ++ r)) (omega (arith, size, l))
-          ∙ front_of a (p ++ r) k ∙ ap (λ x. a ++ x) (take-append-le k p r (omega arith));
+          ∙ take-append-add a (p ++ r) k ∙ ap (λ x. a ++ x) (take-append-le k p r (omega arith));
       bytes = omega (arith, length-take k p, l);
     }
 
@@ -45,7 +43,7 @@ at_end a p some =
       is =
           take_all (length a + length p) (take (length (a ++ (p ++ [])) - 1) (a ++ (p ++ [])))
           (omega (arith, length-take (length (a ++ (p ++ [])) - 1) (a ++ (p ++ [])), size))
-          ∙ ap (λ n. take n (a ++ (p ++ []))) less ∙ front_of a (p ++ []) (length p - 1) ∙ ap (λ x. a ++ take (length p - 1) x) (append-nil p);
+          ∙ ap (λ n. take n (a ++ (p ++ []))) less ∙ take-append-add a (p ++ []) (length p - 1) ∙ ap (λ x. a ++ take (length p - 1) x) (append-nil p);
       bytes = omega (arith, length-take (length p - 1) p, some);
     }
 
@@ -139,7 +137,7 @@ module _ (a b p r s : List ℕ) (offset line : ℕ) (m : Moves a b offset line) 
   all_moved [] us ms k x y e l = tt
   all_moved (t ∷ ts) [] ms k x y e l = cc
   all_moved (t ∷ ts) (u ∷ us) ms k x y e l =
-      let h = same_marks (mark u.kind u.lexeme) (mark t.kind t.lexeme) (marks us) (marks ts ++ ms) e in
+      let h = cons_parts (mark u.kind u.lexeme) (mark t.kind t.lexeme) (marks us) (marks ts ++ ms) e in
       let kind : t.kind ≡ u.kind = ap (λ (m : Mark). m.kind) (sym h.0) in
       let same : t.lexeme ≡ u.lexeme = ap (λ (m : Mark). m.lexeme) (sym h.0) in
       let n = length t.lexeme in
@@ -174,10 +172,8 @@ module _ (a b p : List ℕ) (offset line : ℕ) (m : Moves a b offset line) (som
       → k + length (text_of ts) ≤ length p
       → ts ≡ map (moved offset line) us
   last_moved [] [] k x y e l = refl
-  last_moved [] (u ∷ us) k x y e l = cc
-  last_moved (t ∷ ts) [] k x y e l = cc
   last_moved (t ∷ ts) (u ∷ us) k x y e l =
-      let h = same_marks (mark u.kind u.lexeme) (mark t.kind t.lexeme) (marks us) (marks ts) e in
+      let h = cons_parts (mark u.kind u.lexeme) (mark t.kind t.lexeme) (marks us) (marks ts) e in
       let same : t.lexeme ≡ u.lexeme = ap (λ (m : Mark). m.lexeme) (sym h.0) in
       let n = length t.lexeme in
       let size : length (t.lexeme ++ text_of ts) ≡ n + length (text_of ts) = length-append t.lexeme (text_of ts) in
@@ -186,6 +182,7 @@ module _ (a b p : List ℕ) (offset line : ℕ) (m : Moves a b offset line) (som
       (subst (λ j. Placed (a ++ (p ++ [])) j ts) (omega arith) x.1) (subst (λ j. Placed (b ++ (p ++ [])) j us) (omega (arith, ap length same)) y.1) h.1
       (omega (arith, l, size)) in
       λ i. first i ∷ others i
+  last_moved _ _ k x y e l = cc
 
 -- ---- after a line feed
 

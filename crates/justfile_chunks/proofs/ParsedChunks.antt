@@ -18,7 +18,7 @@ use Rattle.justfile_chunks.specs.JoinedTexts.{HasChunks, HasParsed, JoinedTreeLa
 use Rattle.justfile_chunks.proofs.ChunkTokens.{from_start}
 use Rattle.justfile_chunks.proofs.ChunkTrees.{trees_derive}
 use Rattle.justfile_chunks.proofs.JoinedChunks.{join_law}
-use Rattle.justfile_chunks.proofs.JoinedParts.{parts_utf8}
+use Rattle.justfile_chunks.proofs.JoinedParts.{all_mapped, parts_utf8}
 
 -- ---- one text
 
@@ -34,24 +34,19 @@ feed_ascii : IsAscii (10 ∷ [])
 feed_ascii zero = omega arith
 feed_ascii (suc i) = omega arith
 
-later_utf8 : (parts : List (List Tok)) → AllByRecursion (λ part. IsUtf8 (text_of part)) parts → AllByRecursion (λ (c : Chunk). IsUtf8 c.text) (map later_chunk parts)
-later_utf8 [] h = tt
-later_utf8 (part ∷ parts) h = (IsUtf8-append (10 ∷ []) (text_of part) (IsUtf8-from_ascii (10 ∷ []) feed_ascii) h.0, later_utf8 parts h.1)
-
 chunks_utf8 : (text : List ℕ) (tokens : List Tok) (parts : List (List Tok)) → IsUtf8 text → Lexed text tokens → AreParts tokens parts
     → AllByRecursion (λ (c : Chunk). IsUtf8 c.text) (chunks_of parts)
 chunks_utf8 text tokens [] u l are = tt
 chunks_utf8 text tokens (part ∷ parts) u l are =
-    let h = parts_utf8 (part ∷ parts) [] tokens (from_start text tokens u l) are in (h.0, later_utf8 parts h.1)
+    let h = parts_utf8 (part ∷ parts) [] tokens (from_start text tokens u l) are in (
+      h.0,
+      all_mapped _ later_chunk (λ part u. IsUtf8-append (10 ∷ []) (text_of part) (IsUtf8-from_ascii (10 ∷ []) feed_ascii) u) parts h.1,
+    )
 
 module _ (conditions : Conditions) where
   as_parsed : (chunks : List Chunk) (trees : List Tree) (noted : List (List (Noted Tok))) → AllByRecursion (λ (c : Chunk). IsUtf8 c.text) chunks
       → Each (HasTree conditions) chunks trees noted → AsParsed conditions chunks trees noted
   as_parsed [] [] [] u h = record { parsed = []; chunks_are = refl; derive = tt; trees_are = refl; noted_are = refl }
-  as_parsed [] [] (fs ∷ noted) u h = absurd h
-  as_parsed [] (x ∷ trees) noted u h = absurd h
-  as_parsed (c ∷ chunks) [] noted u h = absurd h
-  as_parsed (c ∷ chunks) (x ∷ trees) [] u h = absurd h
   as_parsed (c ∷ chunks) (x ∷ trees) (fs ∷ noted) u h =
       let one = h.0 in
       let more = as_parsed chunks trees noted u.1 h.1 in
@@ -62,6 +57,7 @@ module _ (conditions : Conditions) where
         trees_are = λ i. one.tree_is i ∷ more.trees_are i;
         noted_are = λ i. one.features_are i ++ more.noted_are i;
       }
+  as_parsed _ _ _ u h = absurd h
 
   each_has : (parsed : List ParsedChunk) → AllByRecursion (λ (p : ParsedChunk). TextDerives conditions p.chunk.text p.tree p.features) parsed
       → Each (HasTree conditions) (map (λ (p : ParsedChunk). p.chunk) parsed) (map items_in_text parsed) (map features_in_text parsed)
@@ -142,28 +138,15 @@ module _ (conditions : Conditions) where
   abbrev IsParsed : ParsedChunk → Type 0
   IsParsed p = TextDerives conditions p.chunk.text p.tree p.features
 
-  all_front : (xs ys : List ParsedChunk) → AllByRecursion IsParsed (xs ++ ys) → AllByRecursion IsParsed xs
-  all_front [] ys h = tt
-  all_front (x ∷ xs) ys h = (h.0, all_front xs ys h.1)
-
-  all_after : (xs ys : List ParsedChunk) → AllByRecursion IsParsed (xs ++ ys) → AllByRecursion IsParsed ys
-  all_after [] ys h = h
-  all_after (x ∷ xs) ys h = all_after xs ys h.1
+  all_apart : (xs ys : List ParsedChunk) → AllByRecursion IsParsed (xs ++ ys) → AllByRecursion IsParsed xs × AllByRecursion IsParsed ys
+  all_apart [] ys h = (tt, h)
+  all_apart (x ∷ xs) ys h = let r = all_apart xs ys h.1 in ((h.0, r.0), r.1)
 
   all_append : (xs ys : List ParsedChunk) → AllByRecursion IsParsed xs → AllByRecursion IsParsed ys → AllByRecursion IsParsed (xs ++ ys)
   all_append [] ys h k = k
   all_append (x ∷ xs) ys h k = (h.0, all_append xs ys h.1 k)
 
-  have_trees : (xs : List ParsedChunk) → AllByRecursion IsParsed xs
-      → AllByRecursion (λ (c : Chunk). (tree : Tree) × (features : List (Noted Tok)) × TextDerives conditions c.text tree features) (chunks_in xs)
-  have_trees [] h = tt
-  have_trees (x ∷ xs) h = ((x.tree, x.features, h.0), have_trees xs h.1)
-
   module _ (at from : Chunk) where
-    parsed_moved : (xs : List ParsedChunk) → AllByRecursion IsParsed xs → AllByRecursion IsParsed (map (joined_parsed at from) xs)
-    parsed_moved [] h = tt
-    parsed_moved (x ∷ xs) h = (h.0, parsed_moved xs h.1)
-
     chunks_moved : (xs : List ParsedChunk) → map (joined_chunk at from) (chunks_in xs) ≡ chunks_in (map (joined_parsed at from) xs)
     chunks_moved [] = refl
     chunks_moved (x ∷ xs) = ap (λ l. joined_chunk at from x.chunk ∷ l) (chunks_moved xs)
@@ -171,7 +154,7 @@ module _ (conditions : Conditions) where
 pub joined_tree_law : JoinedTreeLaw
 joined_tree_law conditions left right before rest skipped after at from h k some skips same begins =
     let split = λ (xs ys : List ParsedChunk). map-append (λ (p : ParsedChunk). p.chunk) xs ys in
-    let later = all_after conditions skipped (from ∷ after) k.derive in
+    let later = (all_apart conditions skipped (from ∷ after) k.derive).1 in
     let text = joined_text left at.chunk right from.chunk in
     record {
       has = subst (HasChunks text)
@@ -179,7 +162,8 @@ joined_tree_law conditions left right before rest skipped after at from h k some
           ∙ sym (split before (map (joined_parsed at.chunk from.chunk) (from ∷ after))))
           (join_law conditions left right (chunks_in before) (chunks_in rest) (chunks_in skipped) (chunks_in after) at.chunk from.chunk
           (subst (HasChunks left) (split before (at ∷ rest)) h.has) (subst (HasChunks right) (split skipped (from ∷ after)) k.has)
-          (some_chunk before some) (some_chunk skipped skips) same begins (have_trees conditions (from ∷ after) later));
-      derive = all_append conditions before (map (joined_parsed at.chunk from.chunk) (from ∷ after)) (all_front conditions before (at ∷ rest) h.derive)
-          (parsed_moved conditions at.chunk from.chunk (from ∷ after) later);
+          (some_chunk before some) (some_chunk skipped skips) same begins
+          (all_mapped _ (λ (p : ParsedChunk). p.chunk) (λ p d. (p.tree, p.features, d)) (from ∷ after) later));
+      derive = all_append conditions before (map (joined_parsed at.chunk from.chunk) (from ∷ after)) (all_apart conditions before (at ∷ rest) h.derive).0
+          (all_mapped _ (joined_parsed at.chunk from.chunk) (λ p d. d) (from ∷ after) later);
     }

@@ -24,6 +24,10 @@ EndsOnce [] = ⊥
 EndsOnce (t ∷ []) = t.kind ≡ kinds.Eof
 EndsOnce (t ∷ u ∷ ts) = (t.kind ≢ kinds.Eof) × EndsOnce (u ∷ ts)
 
+pub ends_later : (t : Tok) (ts : List Tok) → EndsOnce (t ∷ ts) → t.kind ≢ kinds.Eof → EndsOnce ts
+ends_later t [] o ne = absurd (ne o)
+ends_later t (u ∷ ts) o ne = o.1
+
 found_back : {x y : NextToken} → SameFound x y → SameFound y x
 found_back h = record { same = sym h.same }
 
@@ -116,13 +120,9 @@ module _ (v : List ℕ) (later : List Tok) (some : 0 < length v) (more : 0 < len
         here,
         colons_back ts us (t ∷ earlier) (mode_after t.kind u n) (colon_after t.kind colon) (part_after t ts earlier n colon p here u (sym front.0))
             (subst (λ k. Runs (mode_after k u n) (flat_map lexeme ts) us) kind (subst (λ x. Runs (mode_after u.kind u n) x us) front.1 r.3))
-            (ends_later us o (λ e. p.no_eof.0 (sym kind ∙ e)))
+            (ends_later u us o (λ e. p.no_eof.0 (sym kind ∙ e)))
             (subst (λ k. IndentsHaveColons (colon_after k colon) us) kind c.1),
       )
-    where
-      ends_later : (us : List Tok) → EndsOnce (u ∷ us) → u.kind ≢ kinds.Eof → EndsOnce us
-      ends_later [] o ne = absurd (ne o)
-      ends_later (w ∷ us) o ne = o.1
 
 -- ---- the last part
 
@@ -171,24 +171,18 @@ pub same_colons : (ts us : List Tok) (m n : Mode) (colon : Bool) (rest : List �
     → IndentsHaveColons colon us → IndentsHaveColons colon ts
 same_colons [] us m n colon rest s h r q o p c = tt
 same_colons (t ∷ ts) [] m n colon rest s h r q o p c = absurd p
-same_colons (t ∷ ts) (u ∷ us) m n colon rest s h r q o p c =
+same_colons (t ∷ []) (u ∷ us) m n colon rest s h r q o p c =
+    let same = sym q.2 ∙ some_same (t.kind, length t.lexeme) _ _ (same_next m n rest s) r.2 in
+    (subst (λ k. NeedsColon k colon) (kind_is u.kind t.kind (length u.lexeme) (length t.lexeme) same) c.0, tt)
+same_colons (t ∷ w ∷ ts) (u ∷ us) m n colon rest s h r q o p c =
     let same = sym q.2 ∙ some_same (t.kind, length t.lexeme) _ _ (same_next m n rest s) r.2 in
     let kind : u.kind ≡ t.kind = kind_is u.kind t.kind (length u.lexeme) (length t.lexeme) same in
     let size : length u.lexeme ≡ length t.lexeme = len_is u.kind t.kind (length u.lexeme) (length t.lexeme) same in
     let front = same_front u.lexeme q.0 t.lexeme r.0 (sym q.1 ∙ r.1) size in
     let here : NeedsColon t.kind colon = subst (λ k. NeedsColon k colon) kind c.0 in (
       here,
-      by r.0 ts us r.3 (subst (λ k. Runs (mode_after k u n) r.0 us) kind (subst (λ x. Runs (mode_after u.kind u n) x us) front.1 q.3)) o p kind
-          (same_after t.kind t u m n (sym front.0) s (both_indent t.kind m n colon h here)) (subst (λ k. IndentsHaveColons (colon_after k colon) us) kind c.1)
-          (λ a. same_colons ts us (mode_after t.kind t m) (mode_after t.kind u n) (colon_after t.kind colon) r.0 a (colons_kept t.kind t u m n colon h)),
+      same_colons (w ∷ ts) us (mode_after t.kind t m) (mode_after t.kind u n) (colon_after t.kind colon) r.0
+          (same_after t.kind t u m n (sym front.0) s (both_indent t.kind m n colon h here)) (colons_kept t.kind t u m n colon h) r.3
+          (subst (λ k. Runs (mode_after k u n) r.0 us) kind (subst (λ x. Runs (mode_after u.kind u n) x us) front.1 q.3)) o.1
+          (ends_later u us p (λ e. o.0 (sym kind ∙ e))) (subst (λ k. IndentsHaveColons (colon_after k colon) us) kind c.1),
     )
-  where
-    by : (X : List ℕ) (ts us : List Tok) → Runs (mode_after t.kind t m) X ts → Runs (mode_after t.kind u n) X us → EndsOnce (t ∷ ts) → EndsOnce (u ∷ us)
-        → u.kind ≡ t.kind
-        → SameMode (mode_after t.kind t m) (mode_after t.kind u n) → IndentsHaveColons (colon_after t.kind colon) us
-        → (SameMode (mode_after t.kind t m) (mode_after t.kind u n) → Runs (mode_after t.kind t m) X ts → Runs (mode_after t.kind u n) X us → EndsOnce ts
-        → EndsOnce us → IndentsHaveColons (colon_after t.kind colon) us → IndentsHaveColons (colon_after t.kind colon) ts)
-        → IndentsHaveColons (colon_after t.kind colon) ts
-    by X [] us r q o p kind s c f = tt
-    by X (w ∷ ts) [] r q o p kind s c f = absurd (o.0 (sym kind ∙ p))
-    by X (w ∷ ts) (x ∷ us) r q o p kind s c f = f s r q o.1 p.1 c

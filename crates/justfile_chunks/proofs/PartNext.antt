@@ -7,6 +7,7 @@ use Rattle.std.proofs.lemmas.Bool.Decides.{nat_tests}
 use Rattle.std.proofs.lemmas.List.{drop-append-le, take-append-le}
 use Rattle.std.proofs.lemmas.Str.{chars-append, encodes-chars}
 use Rattle.std.proofs.Math.Utf8.{encodes}
+use Rattle.std.proofs.Math.Bool.{and-false}
 use Rattle.justfile_vocabulary.specs.declared.byte_class.ByteClass.{ByteClass}
 use Rattle.justfile_vocabulary.specs.declared.byte_class.ByteClass.TheVariants as classes
 use Rattle.justfile_vocabulary.specs.declared.token_kind.TokenKind.{TokenKind}
@@ -22,7 +23,7 @@ use Rattle.justfile_model.specs.Lexing.LiteralText.{pieces_len, raw_len}
 use Rattle.justfile_model.specs.Lexing.Modes.{Mode, head_of, innermost, is_empty, nested}
 use Rattle.justfile_model.specs.Lexing.Next.{NextToken, Region, InText, InInterpolation, OutsideText, begins_blank_line, blanks_or, body_token, brace_by, closing, doubled_token, escaped_line_end, fixed_token, format_kind, is_backtick, is_level, layout, literal_part, literal_token, multibyte_token, next, next_by, opening, other_token, region_by, tested_blanks, text_or, token_by_class, token_in_region, token_within_line, unterminated}
 use Rattle.justfile_model.proofs.Lexing.CutLemmas.{is_line_feed}
-use Rattle.justfile_chunks.proofs.FeedTexts.{body_within, comment_within, end_same, head_same, line_end_same, no_blank_feed, no_word_feed, off, raw_same, run_same, run_within, start_same}
+use Rattle.justfile_chunks.proofs.FeedTexts.{body_within, comment_within, end_same, head_same, line_end_same, no_blank_feed, no_word_feed, raw_same, run_same, run_within, start_same}
 
 -- a token of at most this many bytes is found again
 abbrev KeptBy : ℕ → NextToken → NextToken → Type 0
@@ -189,7 +190,7 @@ module _ (m : Mode) (b : ℕ) (bs v x : List ℕ) (stops : blank_len x ≡ 0) wh
   two_bytes h = by bs h
     where
       by : (cs : List ℕ) → is_interpolation_end (b ∷ cs ++ (10 ∷ v)) ≡ true → 2 ≤ length (b ∷ cs)
-      by [] h = let bad : false ≡ true = sym (off (eqb b 125)) ∙ h in cc
+      by [] h = let bad : false ≡ true = sym (and-false (eqb b 125)) ∙ h in cc
       by (c ∷ cs) h = omega arith
 
   brace_kept : (f : Option StringKind) (o : Option OpenDelimiter) → KeptHere (brace_by f o whole) (brace_by f o other)

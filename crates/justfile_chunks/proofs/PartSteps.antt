@@ -1,17 +1,19 @@
 -- In a part of a text that is cut nowhere inside, each token is found without the text after the part. A dedent before blank lines that
 -- reach the end of the part would be a cut.
-use Rattle.std.proofs.Common.{◌≡◌, ◌≢◌, ◌∙◌, ℕ, zero, suc, ◌+◌, ◌<◌, ◌≤◌, Bool, true, false, cond, eqb, not, ◌&&◌, ◌||◌, List, [], ◌∷◌, ◌++◌, inl, inr, length, get_or, take, drop, Some, None, Ok, refl, sym, ap, subst, arith, append_assoc, length-append, length-take, ⊎_elim}
+use Rattle.std.proofs.Common.{◌≡◌, ◌≢◌, ◌∙◌, ℕ, zero, suc, ◌+◌, ◌<◌, ◌≤◌, Bool, true, false, cond, eqb, not, ◌&&◌, ◌||◌, List, [], ◌∷◌, ◌++◌, inl, inr, length, get_or, take, drop, Some, None, Ok, refl, sym, ap, subst, arith, append_assoc, length-append, ⊎_elim}
 use Rattle.std.specs.List.{flat_map}
 use Rattle.std.specs.Str.{IsUtf8}
 use Rattle.std.proofs.Math.Seq.{get_or-append_seam}
-use Rattle.std.proofs.lemmas.Bool.{and_parts}
+use Rattle.std.proofs.Math.Bool.{or-false}
+use Rattle.std.proofs.lemmas.Bool.{and_parts, false_from_ne_true}
 use Rattle.std.proofs.lemmas.Bool.Decides.{nat_tests}
-use Rattle.std.proofs.lemmas.List.{drop-append-le}
+use Rattle.std.proofs.lemmas.List.{drop-append-le, length-take-le, take-append-drop}
 use Rattle.std.proofs.lemmas.Str.{IsCharBoundary-after_ascii, IsUtf8-take}
+use Rattle.std.proofs.lemmas.List.Sums.{prefix_len-le-length}
 use Rattle.justfile_vocabulary.specs.declared.token_kind.TokenKind.{TokenKind}
 use Rattle.justfile_vocabulary.specs.declared.token_kind.TokenKind.TheVariants as kinds
 use Rattle.justfile_vocabulary.specs.ByteClass.{class_of}
-use Rattle.justfile_model.specs.Lexing.Bytes.{blank_len, closes_levels, is_line_end, line_feed, white}
+use Rattle.justfile_model.specs.Lexing.Bytes.{blank_len, closes_levels, is_blank, is_line_end, line_feed, white}
 use Rattle.justfile_model.specs.Lexing.Modes.{Mode, ends_in_line_feed, is_empty, mode, mode_after, nested, tail_of}
 use Rattle.justfile_model.specs.Lexing.Next.{NextToken, at_end_by, begins_blank_line, blanks_or, layout, line_end_token, next, region_by, token_by_class, token_in_region, token_outside_text, token_within_line}
 use Rattle.justfile_model.specs.Lexing.SignificantTokens.{is_whitespace}
@@ -117,6 +119,9 @@ eol_next m rest (t ∷ u ∷ us) s flat ls out some h l r = by (length (take (bl
     found : next m rest ≡ blanks_or (length (take (blank_len rest) rest)) m rest
     found = next_start m rest some s ∙ layout_blank m _ _ rest flat (ap (λ b. b || is_empty (drop (blank_len rest) rest)) h) (ap is_empty ls)
 
+    size : length (take (blank_len rest) rest) ≡ blank_len rest
+    size = length-take-le (blank_len rest) rest (prefix_len-le-length is_blank rest)
+
     first : t.kind ≡ kinds.Eol → next_kind (t ∷ u ∷ us) ≡ Some kinds.Eol
     first e = ap (λ k. cond (is_whitespace k) (next_kind (u ∷ us)) (Some k)) e
 
@@ -125,39 +130,22 @@ eol_next m rest (t ∷ u ∷ us) s flat ls out some h l r = by (length (take (bl
 
     by : (n : ℕ) → length (take (blank_len rest) rest) ≡ n → next_kind (t ∷ u ∷ us) ≡ Some kinds.Eol
     by zero e =
-        let none : blank_len rest ≡ 0 = zero_len rest e in
+        let none : blank_len rest ≡ 0 = sym size ∙ e in
         let f = within_finds m flat out rest (sym (ap (λ n. is_line_end (drop n rest)) none) ∙ h) in
         first (kind_is t.kind kinds.Eol (length t.lexeme) f.bytes (sym r.2 ∙ found ∙ ap (λ n. blanks_or n m rest) e ∙ f.is))
-      where
-        zero_len : (rest : List ℕ) → length (take (blank_len rest) rest) ≡ 0 → blank_len rest ≡ 0
-        zero_len [] e = refl
-        zero_len (x ∷ xs) e = omega (arith, length-take (blank_len (x ∷ xs)) (x ∷ xs), e)
     by (suc n) e =
         let token = sym r.2 ∙ found ∙ ap (λ n. blanks_or n m rest) e in
         let kind : t.kind ≡ kinds.Whitespace = kind_is t.kind kinds.Whitespace (length t.lexeme) (suc n) token in
-        let size : length t.lexeme ≡ suc n = len_is t.kind kinds.Whitespace (length t.lexeme) (suc n) token in
-        let fits : length (take (blank_len rest) rest) ≤ blank_len rest = omega (arith, length-take (blank_len rest) rest) in
-        let bytes : length (take (blank_len rest) rest) ≤ length rest = omega (arith, length-take (blank_len rest) rest) in
-        let front : t.lexeme ≡ take (blank_len rest) rest = (same_front t.lexeme r.0 (take (blank_len rest) rest) (drop (blank_len rest) rest) (sym r.1
-        ∙ cut (blank_len rest) rest) (size ∙ sym e)).0 in
+        let here : length t.lexeme ≡ suc n = len_is t.kind kinds.Whitespace (length t.lexeme) (suc n) token in
         let following : r.0 ≡ drop (blank_len rest) rest = (same_front t.lexeme r.0 (take (blank_len rest) rest) (drop (blank_len rest) rest) (sym r.1
-        ∙ cut (blank_len rest) rest) (size ∙ sym e)).1 in
+        ∙ sym (take-append-drop (blank_len rest) rest)) (here ∙ sym e)).1 in
         let ended : is_line_end r.0 ≡ true = ap is_line_end following ∙ h in
         let after : Mode = mode_after kinds.Whitespace t m in
-        let amid : after.line_start ≡ false = no_feed (ends_in_line_feed t.lexeme) refl
-        (λ f. blanks_end t.lexeme r.0 f (omega (arith, size), subst (λ x. length t.lexeme ≤ blank_len x) r.1 (omega (arith, size, e, fits)))) in
+        let amid : after.line_start ≡ false = false_from_ne_true (ends_in_line_feed t.lexeme)
+        (λ f. blanks_end t.lexeme r.0 f (omega (arith, here), subst (λ x. length t.lexeme ≤ blank_len x) r.1 (omega (arith, here, e, size)))) in
         let f = within_finds after flat out r.0 ended in
-        let here : next after r.0 ≡ Ok (u.kind, length u.lexeme) = sym (ap (λ k. next (mode_after k t m) r.0) kind) ∙ r.3.2 in
-        second kind (kind_is u.kind kinds.Eol (length u.lexeme) f.bytes (sym here ∙ next_amid after r.0 (some_line_end r.0 ended) amid ∙ f.is))
-      where
-        no_feed : (b : Bool) → ends_in_line_feed t.lexeme ≡ b → (ends_in_line_feed t.lexeme ≡ true → ⊥) → ends_in_line_feed t.lexeme ≡ false
-        no_feed true e h = absurd (h e)
-        no_feed false e h = e
-
-        cut : (n : ℕ) (xs : List ℕ) → xs ≡ take n xs ++ drop n xs
-        cut zero xs = refl
-        cut (suc n) [] = refl
-        cut (suc n) (x ∷ xs) = ap (λ l. x ∷ l) (cut n xs)
+        let next_is : next after r.0 ≡ Ok (u.kind, length u.lexeme) = sym (ap (λ k. next (mode_after k t m) r.0) kind) ∙ r.3.2 in
+        second kind (kind_is u.kind kinds.Eol (length u.lexeme) f.bytes (sym next_is ∙ next_amid after r.0 (some_line_end r.0 ended) amid ∙ f.is))
 
 -- the text up to a line feed
 pub feed_utf8 : (w v : List ℕ) → IsUtf8 (w ++ (10 ∷ v)) → IsUtf8 (w ++ (10 ∷ []))
@@ -223,11 +211,7 @@ module _ (v : List ℕ) (later : List Tok) (some : 0 < length v) (more : 0 < len
         where
           by : (x : List ℕ) → begins_blank_line (x ++ (10 ∷ v)) ≡ true → is_line_end (x ++ (10 ∷ v)) ≡ true
           by [] h = refl
-          by (a ∷ x) h = or_false (is_line_end (a ∷ x ++ (10 ∷ v))) h
-            where
-              or_false : (b : Bool) → (b || false) ≡ true → b ≡ true
-              or_false true h = refl
-              or_false false h = h
+          by (a ∷ x) h = sym (or-false (is_line_end (a ∷ x ++ (10 ∷ v)))) ∙ h
 
       -- the level doesn't close before blank lines that reach the end of the part
       no_dedent : (l : List ℕ) → before.levels ≡ l ∷ [] → before.in_body ≡ true → before.line_start ≡ true → nested before ≡ false

@@ -1,10 +1,10 @@
 -- A text in which the chunks between two others are replaced has the parsed chunks of the old text around the new ones: two joins.
 use Rattle.std.proofs.Common.{◌≡◌, ◌≢◌, ◌∙◌, ℕ, ◌+◌, ◌-◌, List, [], ◌∷◌, ◌++◌, length, map, take, drop, sym, ap, subst, arith, append_assoc}
 use Rattle.std.proofs.lemmas.List.{map-append}
+use Rattle.std.proofs.Math.Seq.{take-append-add}
 use Rattle.justfile_chunks_grammar.specs.Chunks.{Chunk}
 use Rattle.justfile_chunks.specs.JoinedTexts.{HasChunks, HasParsed, ParsedChunk, ReplacedLaw, joined_parsed, joined_text, replaced_text}
 use Rattle.justfile_chunks.proofs.JoinedChunks.{front_fits}
-use Rattle.justfile_chunks.proofs.MovedPlaces.{front_of}
 use Rattle.justfile_chunks.proofs.ParsedChunks.{chunks_in, joined_tree_law, some_chunk}
 
 some_append : {A : Type 0} (xs : List A) (y : A) (ys : List A) → xs ++ (y ∷ ys) ≢ []
@@ -20,7 +20,7 @@ text_joined old part at from last to fits =
     let n = last.offset - from.offset in
     let back = drop (to.offset + 1) old in
     let size : at.offset + n + 1 ≡ length front + n = omega (arith, fits) in
-    ap (λ x. x ++ back) (ap (λ k. take k (front ++ middle)) size ∙ front_of front middle n) ∙ append_assoc front (take n middle) back
+    ap (λ x. x ++ back) (ap (λ k. take k (front ++ middle)) size ∙ take-append-add front middle n) ∙ append_assoc front (take n middle) back
 
 pub replaced_law : ReplacedLaw
 replaced_law conditions old part before rest skipped between more passed after at from last to h k p some skips passes same_first same_last begins ends =

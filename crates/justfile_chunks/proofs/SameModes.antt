@@ -25,81 +25,23 @@ abbrev pub SameIndent : TokenKind → Mode → Mode → Type 0
 SameIndent kinds.Indent m n = (m.in_body || m.colon) ≡ (n.in_body || n.colon)
 SameIndent _ m n = Unit {0}
 
+-- the modes after a token within a line, with these delimiters open
+amid_line : {m n : Mode} {os ps : List OpenDelimiter} → SameMode m n → delimiters os ≡ delimiters ps
+    → SameMode (record m { openers = os; line_start = false; after_f = false }) (record n { openers = ps; line_start = false; after_f = false })
+amid_line s e =
+    record { openers = e; levels = s.levels; in_body = s.in_body; interpolation = s.interpolation; line_start = refl; after_f = refl }
+
 -- the modes after a token of this kind and this text
 pub same_after : (k : TokenKind) (t u : Tok) (m n : Mode) → t.lexeme ≡ u.lexeme → SameMode m n → SameIndent k m n
     → SameMode (mode_after k t m) (mode_after k u n)
-same_after kinds.BraceL t u m n l s e =
-    record {
-      openers = ap (λ ds. Brace ∷ ds) s.openers;
-      levels = s.levels;
-      in_body = s.in_body;
-      interpolation = s.interpolation;
-      line_start = refl;
-      after_f = refl;
-    }
-same_after kinds.BracketL t u m n l s e =
-    record {
-      openers = ap (λ ds. Bracket ∷ ds) s.openers;
-      levels = s.levels;
-      in_body = s.in_body;
-      interpolation = s.interpolation;
-      line_start = refl;
-      after_f = refl;
-    }
-same_after kinds.ParenL t u m n l s e =
-    record {
-      openers = ap (λ ds. Paren ∷ ds) s.openers;
-      levels = s.levels;
-      in_body = s.in_body;
-      interpolation = s.interpolation;
-      line_start = refl;
-      after_f = refl;
-    }
-same_after kinds.FormatStringStart t u m n l s e =
-    record {
-      openers = λ i. FormatString (kind_of (l i)) ∷ s.openers i;
-      levels = s.levels;
-      in_body = s.in_body;
-      interpolation = s.interpolation;
-      line_start = refl;
-      after_f = refl;
-    }
-same_after kinds.BraceR t u m n l s e =
-    record {
-      openers = tails m.openers n.openers s.openers;
-      levels = s.levels;
-      in_body = s.in_body;
-      interpolation = s.interpolation;
-      line_start = refl;
-      after_f = refl;
-    }
-same_after kinds.BracketR t u m n l s e =
-    record {
-      openers = tails m.openers n.openers s.openers;
-      levels = s.levels;
-      in_body = s.in_body;
-      interpolation = s.interpolation;
-      line_start = refl;
-      after_f = refl;
-    }
-same_after kinds.ParenR t u m n l s e =
-    record {
-      openers = tails m.openers n.openers s.openers;
-      levels = s.levels;
-      in_body = s.in_body;
-      interpolation = s.interpolation;
-      line_start = refl;
-      after_f = refl;
-    }
-same_after kinds.FormatStringEnd t u m n l s e =
-    record {
-      openers = tails m.openers n.openers s.openers;
-      levels = s.levels;
-      in_body = s.in_body;
-      interpolation = s.interpolation;
-      line_start = refl;
-      after_f = refl;
-    }
+same_after kinds.BraceL t u m n l s e = amid_line s (ap (λ ds. Brace ∷ ds) s.openers)
+same_after kinds.BracketL t u m n l s e = amid_line s (ap (λ ds. Bracket ∷ ds) s.openers)
+same_after kinds.ParenL t u m n l s e = amid_line s (ap (λ ds. Paren ∷ ds) s.openers)
+same_after kinds.FormatStringStart t u m n l s e = amid_line s (λ i. FormatString (kind_of (l i)) ∷ s.openers i)
+same_after kinds.BraceR t u m n l s e = amid_line s (tails m.openers n.openers s.openers)
+same_after kinds.BracketR t u m n l s e = amid_line s (tails m.openers n.openers s.openers)
+same_after kinds.ParenR t u m n l s e = amid_line s (tails m.openers n.openers s.openers)
+same_after kinds.FormatStringEnd t u m n l s e = amid_line s (tails m.openers n.openers s.openers)
 same_after kinds.Indent t u m n l s e =
     record { openers = s.openers; levels = λ i. l i ∷ s.levels i; in_body = e; interpolation = s.interpolation; line_start = refl; after_f = refl }
 same_after kinds.Dedent t u m n l s e =
@@ -147,9 +89,6 @@ both_indent _ m n colon h e = tt
 
 abbrev pub marks : List Tok → List Mark
 marks ts = map (λ t. mark t.kind t.lexeme) ts
-
-pub same_marks : (m n : Mark) (ms ns : List Mark) → ◌≡◌ {A = List Mark} (m ∷ ms) (n ∷ ns) → (m ≡ n) × (ms ≡ ns)
-same_marks m n ms ns e = (cc, cc)
 
 -- the mode after these tokens
 abbrev pub mode_past : Mode → List Tok → Mode

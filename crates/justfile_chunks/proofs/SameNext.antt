@@ -55,6 +55,10 @@ none_open : (os : List OpenDelimiter) → is_empty os ≡ is_empty (delimiters o
 none_open [] = refl
 none_open (o ∷ os) = refl
 
+-- equal lists have equal parts
+pub cons_parts : {A : Type 0} (x y : A) (xs ys : List A) → ◌≡◌ {A = List A} (x ∷ xs) (y ∷ ys) → (x ≡ y) × (xs ≡ ys)
+cons_parts x y xs ys e = (cc, cc)
+
 -- ---- closing delimiters, by the innermost open one
 
 closed : (o p : OpenDelimiter) (delimiter : Delimiter) (kind : TokenKind) → o.delimiter ≡ p.delimiter
@@ -78,29 +82,21 @@ closes_same o p b rest e =
 closes : (os ps : List OpenDelimiter) (b : ℕ) (rest : List ℕ) → delimiters os ≡ delimiters ps
     → SameFound (closing (head_of os) b rest) (closing (head_of ps) b rest)
 closes [] [] b rest e = itself _
-closes [] (p ∷ ps) b rest e = cc
-closes (o ∷ os) [] b rest e = cc
-closes (o ∷ os) (p ∷ ps) b rest e = closes_same o p b rest (cons_first o.delimiter p.delimiter (delimiters os) (delimiters ps) e)
-  where
-    cons_first : (d c : Delimiter) (ds cs : List Delimiter) → ◌≡◌ {A = List Delimiter} (d ∷ ds) (c ∷ cs) → d ≡ c
-    cons_first d c ds cs e = cc
+closes (o ∷ os) (p ∷ ps) b rest e = closes_same o p b rest (cons_parts o.delimiter p.delimiter (delimiters os) (delimiters ps) e).0
+closes _ _ b rest e = cc
 
 -- ---- the end of the text
 
 ended : (o p : Option Tok) (levels others : List (List ℕ)) → is_some o ≡ is_some p → levels ≡ others → SameFound (at_end_by o levels) (at_end_by p others)
 ended None None levels others e l = either (is_empty levels) (is_empty others) (ap is_empty l) (itself _) (itself _)
-ended None (Some t) levels others e l = cc
-ended (Some t) None levels others e l = cc
 ended (Some t) (Some u) levels others e l = record { same = refl }
+ended _ _ levels others e l = cc
 
 same_region : (b c : Bool) (o p : Option Tok) → b ≡ c → is_some o ≡ is_some p → region_by b o ≡ region_by c p
 same_region true true None None e h = refl
 same_region false false None None e h = refl
 same_region b c (Some t) (Some u) e h = refl
-same_region b c None (Some u) e h = cc
-same_region b c (Some t) None e h = cc
-same_region true false None None e h = cc
-same_region false true None None e h = cc
+same_region _ _ _ _ e h = cc
 
 module _ (m n : Mode) (s : SameMode m n) (rest : List ℕ) where
   same_empty : is_empty m.openers ≡ is_empty n.openers

@@ -1,9 +1,10 @@
 -- If each indent follows a colon, a level is open only in a body, and one at most; and where a line of a body starts, the line before it is ended.
-use Rattle.std.proofs.Common.{◌≡◌, ◌∙◌, ℕ, suc, ◌-◌, ◌<◌, ◌≤◌, Bool, true, false, cond, eqb, ◌||◌, List, [], ◌∷◌, ◌++◌, ◌⊎◌, inl, inr, length, get_or, Option, Some, None, Ok, refl, sym, ap, subst, arith, append_assoc, append-nil, ⊎_elim}
+use Rattle.std.proofs.Common.{◌≡◌, ◌∙◌, ℕ, suc, ◌-◌, ◌<◌, ◌≤◌, Bool, true, false, eqb, ◌||◌, List, [], ◌∷◌, ◌++◌, ◌⊎◌, inl, inr, length, get_or, Option, None, Ok, refl, sym, ap, subst, arith, append_assoc, append-nil, ⊎_elim}
 use Rattle.std.specs.List.{flat_map}
 use Rattle.std.specs.Str.{IsUtf8}
 use Rattle.std.proofs.Math.ListN.{get_or-append}
 use Rattle.std.proofs.lemmas.Bool.Decides.{nat_tests}
+use Rattle.std.proofs.lemmas.List.{nil_from_length}
 use Rattle.justfile_vocabulary.specs.declared.token_kind.TokenKind.{TokenKind}
 use Rattle.justfile_vocabulary.specs.declared.token_kind.TokenKind.TheVariants as kinds
 use Rattle.justfile_model.specs.Lexing.Bytes.{blank_len, is_blank}
@@ -14,10 +15,11 @@ use Rattle.justfile_model.specs.Trees.Tree.{lexeme}
 use Rattle.justfile_model.proofs.Lexing.CutLemmas.{blank_no_newline, run_last}
 use Rattle.justfile_model.proofs.Lexing.NextLaws.{token_cut}
 use Rattle.justfile_round_trip.proofs.Values.TokenFacts.{Runs}
-use Rattle.justfile_chunks_grammar.specs.Chunks.{ends_line, first_or, is_ignored, line_kind}
+use Rattle.justfile_chunks_grammar.specs.Chunks.{line_kind}
 use Rattle.justfile_chunks.proofs.CutModes.{NextFact, next_fact}
 use Rattle.justfile_chunks.proofs.SplitRuns.{rest_utf8}
 use Rattle.justfile_chunks_grammar.proofs.Colons.{NeedsColon}
+use Rattle.justfile_chunks_grammar.proofs.Passes.{line_with}
 use Rattle.justfile_chunks.proofs.SameModes.{mode_past, or_true}
 
 -- ---- the levels and the line
@@ -57,13 +59,9 @@ blanks_end l following h f =
     let bad : true ≡ false = sym (ap (λ b. eqb b 10) last ∙ h) ∙ run_last is_blank blank_no_newline (l ++ following) (length l) f.1 f.0 in
     cc
 
--- the kind that the line has after a token of this kind
-abbrev line_after : TokenKind → Option TokenKind → Option TokenKind
-line_after k line = cond (is_ignored k) line (cond (ends_line k) None (Some (first_or k line)))
-
 line_kept : (k : TokenKind) (t : Tok) (m : Mode) (following : List ℕ) (line : Option TokenKind) → NextFact m (t.lexeme ++ following) k (length t.lexeme)
     → (m.line_start ≡ true → nested m ≡ false → m.in_body ≡ true → line ≡ None)
-    → (mode_after k t m).line_start ≡ true → nested (mode_after k t m) ≡ false → (mode_after k t m).in_body ≡ true → line_after k line ≡ None
+    → (mode_after k t m).line_start ≡ true → nested (mode_after k t m) ≡ false → (mode_after k t m).in_body ≡ true → line_with k line ≡ None
 line_kept kinds.Eol t m following line f h s n b = refl
 line_kept kinds.Dedent t m following line f h s n b = cc
 line_kept kinds.Whitespace t m following line f h s n b = absurd (blanks_end t.lexeme following s (f b n))
@@ -89,6 +87,11 @@ pub record EndsInFeed (text : List ℕ) : Type 0 where
 abbrev pub Fed : List ℕ → Type 0
 Fed text = (text ≡ []) ⊎ EndsInFeed text
 
+-- of a text with bytes
+pub feed_of : (text : List ℕ) → Fed text → 0 < length text → EndsInFeed text
+feed_of text (inl e) some = absurd (omega (arith, some, ap length e))
+feed_of text (inr h) some = h
+
 pub fed_more : (text l : List ℕ) → EndsInFeed l → EndsInFeed (text ++ l)
 fed_more text l h = record { front = text ++ h.front; is = ap (λ z. text ++ z) h.is ∙ sym (append_assoc text h.front (10 ∷ [])) }
 
@@ -99,17 +102,14 @@ last_feed (x ∷ y ∷ l) h =
     let at : length (x ∷ y ∷ l) - 1 ≡ suc (length (y ∷ l) - 1) = omega arith in
     fed_more (x ∷ []) (y ∷ l) (last_feed (y ∷ l) (subst (λ n. eqb (get_or (x ∷ y ∷ l) n 0) 10 ≡ true) at h))
 
-pub tail_is : (x y : ℕ) (xs ys : List ℕ) → ◌≡◌ {A = List ℕ} (x ∷ xs) (y ∷ ys) → xs ≡ ys
-tail_is x y xs ys e = cc
-
 pub fed_suffix : (xs ys : List ℕ) → Fed (xs ++ ys) → Fed ys
 fed_suffix [] ys h = h
 fed_suffix (x ∷ xs) ys (inl e) = cc
 fed_suffix (x ∷ xs) ys (inr h) = fed_suffix xs ys (by h.front h.is)
   where
     by : (w : List ℕ) → x ∷ xs ++ ys ≡ w ++ (10 ∷ []) → Fed (xs ++ ys)
-    by [] e = inl (tail_is x 10 (xs ++ ys) [] e)
-    by (y ∷ w) e = inr (record { front = w; is = tail_is x y (xs ++ ys) (w ++ (10 ∷ [])) e })
+    by [] e = inl (ap tail_of e)
+    by (y ∷ w) e = inr (record { front = w; is = ap tail_of e })
 
 -- a token after which a line starts ends in a line feed, or it is a dedent
 fed_token : (k : TokenKind) (t : Tok) (m : Mode) (following text : List ℕ) → IsUtf8 (t.lexeme ++ following)
@@ -122,12 +122,7 @@ fed_token kinds.Eol t m following text u e h s =
     ∙ cut.2)))
 fed_token kinds.Dedent t m following text u e h s =
     let cut = token_cut m (t.lexeme ++ following) u kinds.Dedent (length t.lexeme) e in
-    let none : t.lexeme ≡ [] = empty t.lexeme cut.2 in
-    subst Fed (sym (ap (λ l. text ++ l) none ∙ append-nil text)) (h s)
-  where
-    empty : (l : List ℕ) → length l ≡ 0 → l ≡ []
-    empty [] e = refl
-    empty (x ∷ xs) e = absurd (omega arith)
+    subst Fed (sym (ap (λ l. text ++ l) (nil_from_length t.lexeme cut.2) ∙ append-nil text)) (h s)
 fed_token kinds.Whitespace t m following text u e h s = inr (fed_more text t.lexeme (last_feed t.lexeme s))
 fed_token _ t m following text u e h s = cc
 

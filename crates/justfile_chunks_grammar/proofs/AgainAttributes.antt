@@ -17,10 +17,6 @@ key_kind t [] k = k
 key_kind t (u ∷ ts) k = k.0
 
 module _ {A B : Type 0} (leaf : Tok → A) (position : Tok → B) (MayEnter : ℕ → Option SignificantToken → Type 0) where
-  expression : {e : Expr A B} {fs : List (Noted B)} {ts x y : Tokens} → Expression leaf position MayEnter false 0 e fs ts x → Ahead x y
-      → Again is_quiet x y (λ r. Expression leaf position MayEnter false 0 e fs r y) ts
-  expression e h = expressions.expression leaf position MayEnter e h
-
   positional : {keys : Bool} {e : Expr A B} {fs : List (Noted B)} {t : SignificantToken} {ts x y after : Tokens} → (keys ≡ true → IsKey (t ∷ ts) → ⊥)
       → Expression leaf position MayEnter false 0 e fs after y → Over is_quiet x y (t ∷ ts) after → Ahead (t ∷ ts) after
       → Again is_quiet x y (λ r. ArgumentOf leaf position MayEnter keys (tree.Positional (position t.tok) e) fs r y) (t ∷ ts)
@@ -32,11 +28,11 @@ module _ {A B : Type 0} (leaf : Tok → A) (position : Tok → B) (MayEnter : �
   argument : {keys : Bool} {a : Argument A B} {fs : List (Noted B)} {ts x y : Tokens} → ArgumentOf leaf position MayEnter keys a fs ts x → Ahead x y
       → Again is_quiet x y (λ r. ArgumentOf leaf position MayEnter keys a fs r y) ts
   argument (g.positional n inside) h =
-      let r = expression inside h in
+      let r = expressions.expression leaf position MayEnter inside h in
       positional n r.derives r.over r.ahead
   argument (g.bare {key = t} {rest = rest} k n) h = again (g.bare (is_key (more h) k) (next _ h n)) (step (ap is_quiet (key_kind t rest k)) same) h
   argument (g.keyed kind kind2 inside) h =
-      let r = expression inside h in
+      let r = expressions.expression leaf position MayEnter inside h in
       again (g.keyed kind kind2 r.derives) (step (ap is_quiet kind) (step (ap is_quiet kind2) r.over)) h
 
   arguments : {keys : Bool} {as' : List (Argument A B)} {fs : List (Noted B)} {ts x y : Tokens} → Arguments leaf position MayEnter keys as' fs ts x → Ahead x y
@@ -64,7 +60,7 @@ module _ {A B : Type 0} (leaf : Tok → A) (position : Tok → B) (MayEnter : �
       → Again is_quiet x y (λ r. AttributeOf leaf position MayEnter w fs r y) ts
   attribute (g.plain kind n n2) h = again (g.plain kind (next _ h n) (next _ h n2)) (step (ap is_quiet kind) same) h
   attribute (g.short kind kind2 inside) h =
-      let r = expression inside h in
+      let r = expressions.expression leaf position MayEnter inside h in
       short kind kind2 r.derives r.over r.ahead
   attribute (g.long kind kind2 inside) h =
       let r = arguments inside h in

@@ -1,13 +1,13 @@
 -- The header of a recipe is derived again before other tokens that look the same.
-use Rattle.std.proofs.Common.{ℕ, Bool, false, List, Option, ap}
+use Rattle.std.proofs.Common.{ℕ, Bool, List, Option, ap}
 use Rattle.justfile_model.specs.declared.parameter_kind.ParameterKind.{ParameterKind}
-use Rattle.justfile_model.specs.Grammars.Expressions.{Tokens, Expression, Value}
+use Rattle.justfile_model.specs.Grammars.Expressions.{Tokens}
 use Rattle.justfile_model.specs.Grammars.Features.{Noted}
 use Rattle.justfile_model.specs.Grammars.Headers as g
 use Rattle.justfile_model.specs.Grammars.Headers.{PathRest, PathOf, NamedParameter, ParameterOf, Parameters, DependencyArguments, DependencyOf, Dependencies, AllDependencies, NamedHeader, HeaderOf}
 use Rattle.justfile_model.specs.Lexing.SignificantTokens.{SignificantToken}
 use Rattle.justfile_model.specs.Lexing.Tok.{Tok}
-use Rattle.justfile_model.specs.Trees.Tree.{Dependency, DependencyArgument, Expr, Header, Parameter}
+use Rattle.justfile_model.specs.Trees.Tree.{Dependency, DependencyArgument, Header, Parameter}
 use Rattle.justfile_chunks_grammar.proofs.AgainExpressions as expressions
 use Rattle.justfile_chunks_grammar.proofs.Over.{Again, Ahead, again, is_quiet, more, next, past, same, step}
 
@@ -24,20 +24,12 @@ module _ {A : Type 0} (leaf : Tok → A) where
       again (g.path kind r.derives) (step (ap is_quiet kind) r.over) h
 
 module _ {A B S : Type 0} (leaf : Tok → A) (position : Tok → B) (star : Tok → S) (MayEnter : ℕ → Option SignificantToken → Type 0) where
-  expression : {e : Expr A B} {fs : List (Noted B)} {ts x y : Tokens} → Expression leaf position MayEnter false 0 e fs ts x → Ahead x y
-      → Again is_quiet x y (λ r. Expression leaf position MayEnter false 0 e fs r y) ts
-  expression e h = expressions.expression leaf position MayEnter e h
-
-  value : {e : Expr A B} {fs : List (Noted B)} {ts x y : Tokens} → Value leaf position MayEnter 0 e fs ts x → Ahead x y
-      → Again is_quiet x y (λ r. Value leaf position MayEnter 0 e fs r y) ts
-  value e h = expressions.value leaf position MayEnter e h
-
   named : {kind : ParameterKind} {export : Bool} {p : Parameter A B} {fs : List (Noted B)} {ts x y : Tokens}
       → NamedParameter leaf position MayEnter kind export p fs ts x
       → Ahead x y → Again is_quiet x y (λ r. NamedParameter leaf position MayEnter kind export p fs r y) ts
   named (g.required kind n) h = again (g.required kind (next _ h n)) (step (ap is_quiet kind) same) h
   named (g.optional kind kind2 v) h =
-      let r = value v h in
+      let r = expressions.value leaf position MayEnter v h in
       again (g.optional kind kind2 r.derives) (step (ap is_quiet kind) (step (ap is_quiet kind2) r.over)) h
 
   pub parameter : {kind : ParameterKind} {p : Parameter A B} {fs : List (Noted B)} {ts x y : Tokens} → ParameterOf leaf position MayEnter kind p fs ts x
@@ -70,11 +62,11 @@ module _ {A B S : Type 0} (leaf : Tok → A) (position : Tok → B) (star : Tok 
   arguments (g.none kind) h = again (g.none kind) (step (ap is_quiet kind) same) h
   arguments (g.plain e others) h =
       let o = arguments others h in
-      let r = expression e o.ahead in
+      let r = expressions.expression leaf position MayEnter e o.ahead in
       again (g.plain r.derives o.derives) (past r.over o.over) h
   arguments (g.starred kind e others) h =
       let o = arguments others h in
-      let r = value e o.ahead in
+      let r = expressions.value leaf position MayEnter e o.ahead in
       again (g.starred kind r.derives o.derives) (step (ap is_quiet kind) (past r.over o.over)) h
 
   dependency : {d : Dependency A B S} {fs : List (Noted B)} {ts x y : Tokens} → DependencyOf leaf position star MayEnter d fs ts x → Ahead x y

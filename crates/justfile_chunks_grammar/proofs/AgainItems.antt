@@ -1,7 +1,7 @@
 -- A construct is derived again before other tokens: one on a line before those that look the same, a recipe with a body before any.
-use Rattle.std.proofs.Common.{ℕ, false, List, ◌∷◌, ◌++◌, Option, refl, ap}
+use Rattle.std.proofs.Common.{ℕ, List, ◌∷◌, ◌++◌, Option, refl, ap}
 use Rattle.justfile_vocabulary.specs.declared.token_kind.TokenKind.TheVariants as kinds
-use Rattle.justfile_model.specs.Grammars.Expressions.{Tokens, IsKind, Expression}
+use Rattle.justfile_model.specs.Grammars.Expressions.{Tokens, IsKind}
 use Rattle.justfile_model.specs.Grammars.Features.{Noted}
 use Rattle.justfile_model.specs.Grammars.Grammar as g
 use Rattle.justfile_model.specs.Grammars.Grammar.{BeforeBody, Block, BodyLines, LineRest, OnLine, TokenProjection}
@@ -10,7 +10,7 @@ use Rattle.justfile_model.specs.Grammars.ItemParts.{FilePath, Names, ValueOf}
 use Rattle.justfile_model.specs.Grammars.Settings.{SettingForm}
 use Rattle.justfile_model.specs.Lexing.SignificantTokens.{SignificantToken}
 use Rattle.justfile_model.specs.Lexing.Tok.{Tok}
-use Rattle.justfile_model.specs.Trees.Tree.{BodyLine, Content, Expr, Fragment, Line, Quoted, SettingValue}
+use Rattle.justfile_model.specs.Trees.Tree.{BodyLine, Content, Fragment, Line, Quoted, SettingValue}
 use Rattle.justfile_chunks_grammar.proofs.AgainExpressions as expressions
 use Rattle.justfile_chunks_grammar.proofs.AgainHeaders as headers
 use Rattle.justfile_chunks_grammar.proofs.Over.{Again, Ahead, Over, again, any_of, ends_line, is_any, is_inside, is_quiet, more, no_path, not_name, one, past, quiet_inside, same, step, two, widened}
@@ -28,10 +28,6 @@ module _ {A : Type 0} (leaf : Tok → A) where
       again (parts.more kind kind2 r.derives) (step (ap is_quiet kind) (step (ap is_quiet kind2) r.over)) h
 
 module _ {A B C S : Type 0} (projection : TokenProjection A B C S) (MayEnter : ℕ → Option SignificantToken → Type 0) where
-  expression : {e : Expr A B} {fs : List (Noted B)} {ts x y : Tokens} → Expression projection.leaf projection.position MayEnter false 0 e fs ts x → Ahead x y
-      → Again is_quiet x y (λ r. Expression projection.leaf projection.position MayEnter false 0 e fs r y) ts
-  expression e h = expressions.expression projection.leaf projection.position MayEnter e h
-
   setting_value : {form : SettingForm} {v : SettingValue A B} {fs : List (Noted B)} {ts x y : Tokens}
       → ValueOf projection.leaf projection.position MayEnter form v fs ts x
       → Ahead x y → Again is_quiet x y (λ r. ValueOf projection.leaf projection.position MayEnter form v fs r y) ts
@@ -39,10 +35,10 @@ module _ {A B C S : Type 0} (projection : TokenProjection A B C S) (MayEnter : �
   setting_value (parts.yes kind w) h = again (parts.yes kind w) (step (ap is_quiet kind) (step (ap is_quiet w.is_name) same)) h
   setting_value (parts.no kind w) h = again (parts.no kind w) (step (ap is_quiet kind) (step (ap is_quiet w.is_name) same)) h
   setting_value (parts.expression kind e) h =
-      let r = expression e h in
+      let r = expressions.expression projection.leaf projection.position MayEnter e h in
       again (parts.expression kind r.derives) (step (ap is_quiet kind) r.over) h
   setting_value (parts.plain kind e) h =
-      let r = expression e h in
+      let r = expressions.expression projection.leaf projection.position MayEnter e h in
       again (parts.plain kind r.derives) (step (ap is_quiet kind) r.over) h
   setting_value (parts.interpreter kind kind2 es) h =
       let r = expressions.sequence projection.leaf projection.position MayEnter es refl h in
@@ -54,16 +50,16 @@ module _ {A B C S : Type 0} (projection : TokenProjection A B C S) (MayEnter : �
       let r = headers.path projection.leaf p h in
       again (g.alias w kind kind2 r.derives) (step (ap is_quiet w.is_name) (step (ap is_quiet kind) (step (ap is_quiet kind2) r.over))) h
   on_line (g.assignment kind kind2 e) h =
-      let r = expression e h in
+      let r = expressions.expression projection.leaf projection.position MayEnter e h in
       again (g.assignment kind kind2 r.derives) (step (ap is_quiet kind) (step (ap is_quiet kind2) r.over)) h
   on_line (g.eager w kind kind2 e) h =
-      let r = expression e h in
+      let r = expressions.expression projection.leaf projection.position MayEnter e h in
       again (g.eager w kind kind2 r.derives) (step (ap is_quiet w.is_name) (step (ap is_quiet kind) (step (ap is_quiet kind2) r.over))) h
   on_line (g.export w kind kind2 e) h =
-      let r = expression e h in
+      let r = expressions.expression projection.leaf projection.position MayEnter e h in
       again (g.export w kind kind2 r.derives) (step (ap is_quiet w.is_name) (step (ap is_quiet kind) (step (ap is_quiet kind2) r.over))) h
   on_line (g.function kind kind2 ns kind3 e) h =
-      let r = expression e h in
+      let r = expressions.expression projection.leaf projection.position MayEnter e h in
       let n = names projection.leaf ns (more r.ahead) in
       again (g.function kind kind2 n.derives kind3 r.derives)
       (step (ap is_quiet kind) (step (ap is_quiet kind2) (past n.over (step (ap is_quiet kind3) r.over)))) h
@@ -103,7 +99,7 @@ module _ {A B C S : Type 0} (projection : TokenProjection A B C S) (MayEnter : �
       again (g.text kind r.derives) (step (ap is_inside kind) r.over) h
   line_rest (g.interpolation kind e kind2 others) h =
       let r = line_rest others h in
-      let x = expression e (more r.ahead) in
+      let x = expressions.expression projection.leaf projection.position MayEnter e (more r.ahead) in
       again (g.interpolation kind x.derives kind2 r.derives)
       (step (ap is_inside kind) (past (widened quiet_inside x.over) (step (ap is_inside kind2) r.over))) h
 

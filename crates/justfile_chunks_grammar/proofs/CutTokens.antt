@@ -7,6 +7,7 @@ use Rattle.justfile_model.specs.Grammars.Expressions.{Tokens}
 use Rattle.justfile_model.specs.Lexing.Modes.{Mode, mode, mode_after}
 use Rattle.justfile_model.specs.Lexing.SignificantTokens.{SignificantToken, is_whitespace, significant_from}
 use Rattle.justfile_model.specs.Lexing.Tok.{Tok}
+use Rattle.justfile_model.proofs.Derivations.CarryExpressions.{Pairs, cons}
 use Rattle.justfile_model.proofs.Lexing.UnclosedLaws.{reverse_more}
 use Rattle.justfile_chunks_grammar.specs.Chunks.{IsCutAfter, ends_line, line_kind, next_kind}
 use Rattle.justfile_chunks_grammar.proofs.Passes.{CutAfter, CutHere, bare, in_body, line_with, open_after}
@@ -23,12 +24,9 @@ ends_dark _ e = refl
 
 pub significant_append : (ts : List Tok) (t : Tok) (us : List Tok) (glued : Bool) → is_whitespace t.kind ≡ false
     → significant_from glued (ts ++ (t ∷ us)) ≡ significant_from glued (ts ++ (t ∷ [])) ++ significant_from true us
-significant_append [] t us glued e = by (is_whitespace t.kind) e
-  where
-    by : (b : Bool) → b ≡ false
-        → cond b (significant_from false us) (significant t glued ∷ significant_from true us) ≡ cond b [] (significant t glued ∷ []) ++ significant_from true us
-    by true h = cc
-    by false h = refl
+significant_append [] t us glued e =
+    ap (λ b. cond b (significant_from false us) (significant t glued ∷ significant_from true us)) e
+    ∙ sym (ap (λ b. cond b [] (significant t glued ∷ []) ++ significant_from true us) e)
 significant_append (a ∷ ts) t us glued e = by (significant_append ts t us false e) (significant_append ts t us true e) (is_whitespace a.kind)
   where
     by : significant_from false (ts ++ (t ∷ us)) ≡ significant_from false (ts ++ (t ∷ [])) ++ significant_from true us
@@ -38,33 +36,26 @@ significant_append (a ∷ ts) t us glued e = by (significant_append ts t us fals
     by h k true = h
     by h k false = ap (λ l. significant a glued ∷ l) k
 
--- the last token, and those before it
-record EndsWith (earlier : Tokens) (glued : Bool) (ts : List Tok) (t : Tok) : Type 0 where
+-- these tokens are those and one more
+record EndsWith (earlier xs ys : Tokens) (t : Tok) : Type 0 where
   is_glued : Bool
-  is : behind earlier (significant_from glued (ts ++ (t ∷ []))) ≡ significant t is_glued ∷ behind earlier (significant_from glued ts)
+  is : behind earlier xs ≡ significant t is_glued ∷ behind earlier ys
 
-ends_with : (ts : List Tok) (t : Tok) (glued : Bool) (earlier : Tokens) → is_whitespace t.kind ≡ false → EndsWith earlier glued ts t
-ends_with [] t glued earlier e = record { is_glued = glued; is = by (is_whitespace t.kind) e }
+ends_with : (ts : List Tok) (t : Tok) (glued : Bool) (earlier : Tokens) → is_whitespace t.kind ≡ false
+    → EndsWith earlier (significant_from glued (ts ++ (t ∷ []))) (significant_from glued ts) t
+ends_with [] t glued earlier e = record { is_glued = glued; is = ap (λ b. behind earlier (cond b [] (significant t glued ∷ []))) e }
+ends_with (a ∷ ts) t glued earlier e = by (is_whitespace a.kind) (ends_with ts t false earlier e) (ends_with ts t true (significant a glued ∷ earlier) e)
   where
-    by : (b : Bool) → b ≡ false → behind earlier (cond b [] (significant t glued ∷ [])) ≡ significant t glued ∷ earlier
-    by true h = cc
-    by false h = refl
-ends_with (a ∷ ts) t glued earlier e = by (ends_with ts t false earlier e) (ends_with ts t true (significant a glued ∷ earlier) e) (is_whitespace a.kind) refl
-  where
-    by : EndsWith earlier false ts t → EndsWith (significant a glued ∷ earlier) true ts t → (b : Bool) → is_whitespace a.kind ≡ b
-        → EndsWith earlier glued (a ∷ ts) t
-    by h k true w = record {
-      is_glued = h.is_glued;
-      is =
-          ap (λ c. behind earlier (cond c (significant_from false (ts ++ (t ∷ []))) (significant a glued ∷ significant_from true (ts ++ (t ∷ []))))) w ∙ h.is
-          ∙ sym (ap (λ c. significant t h.is_glued ∷ behind earlier (cond c (significant_from false ts) (significant a glued ∷ significant_from true ts))) w);
-    }
-    by h k false w = record {
-      is_glued = k.is_glued;
-      is =
-          ap (λ c. behind earlier (cond c (significant_from false (ts ++ (t ∷ []))) (significant a glued ∷ significant_from true (ts ++ (t ∷ []))))) w ∙ k.is
-          ∙ sym (ap (λ c. significant t k.is_glued ∷ behind earlier (cond c (significant_from false ts) (significant a glued ∷ significant_from true ts))) w);
-    }
+    by : {xs ys xs' ys' : Tokens} (b : Bool) → EndsWith earlier xs ys t → EndsWith (significant a glued ∷ earlier) xs' ys' t
+        → EndsWith earlier (cond b xs (significant a glued ∷ xs')) (cond b ys (significant a glued ∷ ys')) t
+    by true h k = h
+    by false h k = record { is_glued = k.is_glued; is = k.is }
+
+-- related tokens, each but whitespace before others
+pub pairs_before : {R : SignificantToken → SignificantToken → Type 0} {xs ys ts us : Tokens} (t u : SignificantToken) (white : Bool) → R t u → Pairs R xs ys
+    → Pairs R ts us → Pairs R (cond white xs (t ∷ ts)) (cond white ys (u ∷ us))
+pairs_before t u true r p q = p
+pairs_before t u false r p q = cons r q
 
 -- ---- what whitespace doesn't change
 

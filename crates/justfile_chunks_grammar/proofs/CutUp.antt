@@ -1,10 +1,14 @@
 -- Tokens are cut up by computing: whether there is a cut is decided by the kinds and the levels.
-use Rattle.std.proofs.Common.{◌≡◌, ◌≢◌, ◌⊎◌, Bool, true, false, List, [], ◌∷◌, Option, Some, refl, sym, ap, ◌∙◌, inl, inr}
+use Rattle.std.proofs.Common.{◌≡◌, ◌≢◌, ◌⊎◌, Bool, true, false, List, [], ◌∷◌, Option, Some, None, is_some, refl, ap, inl, inr}
+use denote.Enum.Bare.{same_true, sameb, true_same}
+use Rattle.justfile_vocabulary.specs.contracts.token_kind.TokenKind.{the_type}
 use Rattle.justfile_vocabulary.specs.declared.token_kind.TokenKind.{TokenKind}
 use Rattle.justfile_vocabulary.specs.declared.token_kind.TokenKind.TheVariants as kinds
-use Rattle.justfile_model.specs.Lexing.Modes.{mode}
+use Rattle.justfile_model.specs.Lexing.Modes.{is_empty, mode}
 use Rattle.justfile_model.specs.Lexing.Tok.{Tok}
+use Rattle.justfile_model.proofs.Lists.Binds.{some_back}
 use Rattle.justfile_chunks_grammar.specs.Chunks.{IsCutAfter, Parts, cut, ends_line, last, line_kind, next_kind, uncut}
+use Rattle.justfile_chunks_grammar.proofs.Passes.{clash}
 
 abbrev Decided : Type 0 → Type 0
 Decided P = P ⊎ (P → ⊥)
@@ -27,61 +31,18 @@ only_if (inr n) d = inl (λ p. absurd (n p))
 only_if (inl p) (inl q) = inl (λ x. q)
 only_if (inl p) (inr m) = inr (λ f. m (f p))
 
--- what a test tells apart isn't the same
-pub apart : {X : Type 0} (test : X → Bool) (x y : X) → test x ≡ false → test y ≡ true → x ≡ y → ⊥
-apart test x y h k e = let bad : false ≡ true = sym h ∙ ap test e ∙ k in cc
-
-abbrev is_true : (b : Bool) → Decided (b ≡ true)
-is_true true = inl refl
-is_true false = inr (apart (λ b. b) false true refl refl)
-
-abbrev empty : {X : Type 0} → List X → Bool
-empty [] = true
-empty (x ∷ xs) = false
+-- by a test
+abbrev tested : {P : Type 0} (b : Bool) → (b ≡ true → P) → (P → b ≡ true) → Decided P
+tested true holds passes = inl (holds refl)
+tested false holds passes = inr (λ p. clash refl (passes p))
 
 abbrev is_nil : {X : Type 0} (xs : List X) → Decided (xs ≡ [])
 is_nil [] = inl refl
-is_nil (x ∷ xs) = inr (apart empty (x ∷ xs) [] refl refl)
+is_nil (x ∷ xs) = inr (λ e. clash refl (ap is_empty e))
 
-abbrev bracket : Option TokenKind → Bool
-bracket (Some kinds.BracketL) = true
-bracket _ = false
-
-abbrev is_bracket : (o : Option TokenKind) → Decided (o ≡ Some kinds.BracketL)
-is_bracket (Some kinds.BracketL) = inl refl
-is_bracket _ = inr (apart bracket _ (Some kinds.BracketL) refl refl)
-
-abbrev comment : Option TokenKind → Bool
-comment (Some kinds.Comment) = true
-comment _ = false
-
-abbrev is_comment : (o : Option TokenKind) → Decided (o ≡ Some kinds.Comment)
-is_comment (Some kinds.Comment) = inl refl
-is_comment _ = inr (apart comment _ (Some kinds.Comment) refl refl)
-
-abbrev eof : Option TokenKind → Bool
-eof (Some kinds.Eof) = true
-eof _ = false
-
-abbrev is_eof : (o : Option TokenKind) → Decided (o ≡ Some kinds.Eof)
-is_eof (Some kinds.Eof) = inl refl
-is_eof _ = inr (apart eof _ (Some kinds.Eof) refl refl)
-
-abbrev eol : Option TokenKind → Bool
-eol (Some kinds.Eol) = true
-eol _ = false
-
-abbrev is_eol : (o : Option TokenKind) → Decided (o ≡ Some kinds.Eol)
-is_eol (Some kinds.Eol) = inl refl
-is_eol _ = inr (apart eol _ (Some kinds.Eol) refl refl)
-
-abbrev indent : Option TokenKind → Bool
-indent (Some kinds.Indent) = true
-indent _ = false
-
-abbrev is_indent : (o : Option TokenKind) → Decided (o ≡ Some kinds.Indent)
-is_indent (Some kinds.Indent) = inl refl
-is_indent _ = inr (apart indent _ (Some kinds.Indent) refl refl)
+abbrev is : (kind : TokenKind) (o : Option TokenKind) → Decided (o ≡ Some kind)
+is kind None = inr (λ e. clash refl (ap is_some e))
+is kind (Some k) = tested (sameb the_type k kind) (λ e. ap Some (same_true the_type tt k kind e)) (λ e. true_same the_type k kind (some_back k kind e))
 
 module _ (t : Tok) (earlier later : List Tok) where
   abbrev all : Decided (ends_line t.kind ≡ true) → Decided ((mode (t ∷ earlier)).levels ≡ []) → Decided (next_kind later ≢ Some kinds.Indent)
@@ -99,8 +60,10 @@ module _ (t : Tok) (earlier later : List Tok) where
 
   abbrev decided : Decided (IsCutAfter t earlier later)
   decided =
-      all (is_true (ends_line t.kind)) (is_nil (mode (t ∷ earlier)).levels) (refuted (is_indent (next_kind later))) (refuted (is_bracket (line_kind earlier)))
-      (only_if (is_comment (line_kind earlier)) (one_of (is_comment (next_kind later)) (is_eol (next_kind later)))) (refuted (is_eof (next_kind later)))
+      all (tested (ends_line t.kind) (λ e. e) (λ e. e)) (is_nil (mode (t ∷ earlier)).levels) (refuted (is kinds.Indent (next_kind later)))
+      (refuted (is kinds.BracketL (line_kind earlier)))
+      (only_if (is kinds.Comment (line_kind earlier)) (one_of (is kinds.Comment (next_kind later)) (is kinds.Eol (next_kind later))))
+      (refuted (is kinds.Eof (next_kind later)))
 
 -- tokens, in parts
 pub record CutUp (earlier later : List Tok) : Type 0 where

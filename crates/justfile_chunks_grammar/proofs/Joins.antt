@@ -77,9 +77,8 @@ module _ {A B C S : Type 0} (projection : TokenProjection A B C S) (MayEnter : �
         rest_joined : {items : ManyItems} {fs : ManyFeatures} {part : Tokens} → ItemRest projection MayEnter items fs part → (earlier : Tokens)
             → LastOpen earlier
             → Before' earlier part → JoinedRest (ItemRest projection MayEnter) items fs part
-        rest_joined (g.trailing kind e) earlier o (here k) = absurd (no_cut us earlier o k)
-        rest_joined (g.trailing {token = t} kind e) earlier o (later at) =
-            let x = end_joined e (t ∷ earlier) (ap ends_line kind) at in
+        rest_joined (g.trailing {token = t} kind e) earlier o at =
+            let x = end_joined e (t ∷ earlier) (ap ends_line kind) (onward at (no_cut us earlier o)) in
             record {
               joined = record { whole = t ∷ x.joined.whole; derives = g.trailing kind x.joined.derives; over = step refl x.joined.over };
               ahead = one (not_name t (ap is_quiet kind));
@@ -91,15 +90,13 @@ module _ {A B C S : Type 0} (projection : TokenProjection A B C S) (MayEnter : �
         end_joined : {items : ManyItems} {fs : ManyFeatures} {part : Tokens} → g.LineEnd projection MayEnter items fs part → (earlier : Tokens)
             → LastOpen earlier
             → Before' earlier part → JoinedRest (g.LineEnd projection MayEnter) items fs part
-        end_joined (g.line_end kind more) earlier o (here k) = absurd (no_cut us earlier o k)
-        end_joined (g.line_end {token = t} kind more) earlier o (later at) =
-            let x = items_joined more (t ∷ earlier) at (starts t earlier (ap ends_line kind)) in
+        end_joined (g.line_end {token = t} kind more) earlier o at =
+            let x = items_joined more (t ∷ earlier) (onward at (no_cut us earlier o)) (starts t earlier (ap ends_line kind)) in
             record {
               joined = record { whole = t ∷ x.whole; derives = g.line_end kind x.derives; over = step refl x.over };
               ahead = one (not_name t (ap is_quiet kind));
             }
-        end_joined (g.file_end kind) earlier o (here k) = absurd (no_cut us earlier o k)
-        end_joined (g.file_end kind) earlier o (later at) = elim at [ ]
+        end_joined (g.file_end kind) earlier o at = absurd (none_left (onward at (no_cut us earlier o)))
 
       pub file_joined : {items : ManyItems} {fs : ManyFeatures} {part : Tokens} → File projection MayEnter items fs part → Before' [] part
           → Joined (File projection MayEnter) items fs part
@@ -134,17 +131,14 @@ module _ {A B C S : Type 0} (projection : TokenProjection A B C S) (MayEnter : �
 
       rest_end : {items : ManyItems} {fs : ManyFeatures} {part : Tokens} → ItemRest projection MayEnter items fs part → (earlier : Tokens) → LastOpen earlier
           → Before' earlier part → before_after Other items ≡ LineEnd
-      rest_end (g.trailing kind e) earlier o (here k) = absurd (no_cut us earlier o k)
-      rest_end (g.trailing {token = t} kind e) earlier o (later at) = end_end e (t ∷ earlier) (ap ends_line kind) at
+      rest_end (g.trailing {token = t} kind e) earlier o at = end_end e (t ∷ earlier) (ap ends_line kind) (onward at (no_cut us earlier o))
       rest_end (g.bare e) earlier o at = end_end e earlier o at
 
       end_end : {items : ManyItems} {fs : ManyFeatures} {part : Tokens} → g.LineEnd projection MayEnter items fs part → (earlier : Tokens) → LastOpen earlier
           → Before' earlier part → before_after Other items ≡ LineEnd
-      end_end (g.line_end kind more) earlier o (here k) = absurd (no_cut us earlier o k)
-      end_end (g.line_end {token = t} kind more) earlier o (later at) =
-          items_end more (t ∷ earlier) at (starts t earlier (ap ends_line kind)) LineEnd (λ k. refl)
-      end_end (g.file_end kind) earlier o (here k) = absurd (no_cut us earlier o k)
-      end_end (g.file_end kind) earlier o (later at) = elim at [ ]
+      end_end (g.line_end {token = t} kind more) earlier o at =
+          items_end more (t ∷ earlier) (onward at (no_cut us earlier o)) (starts t earlier (ap ends_line kind)) LineEnd (λ k. refl)
+      end_end (g.file_end kind) earlier o at = absurd (none_left (onward at (no_cut us earlier o)))
 
     -- the items before a cut end in a line end
     pub file_end : {items : ManyItems} {fs : ManyFeatures} {part : Tokens} → File projection MayEnter items fs part → Before' [] part
@@ -201,34 +195,30 @@ module _ {A B C S : Type 0} (projection : TokenProjection A B C S) (MayEnter : �
             → LastOpen earlier
             → Before' earlier part → AreApart Other items js
         rest_apart (g.trailing kind e) earlier o at = trailing_apart kind e earlier o at
-        rest_apart (g.bare (g.line_end kind more)) earlier o (here k) = absurd (no_cut us earlier o k)
-        rest_apart (g.bare (g.line_end {token = t} kind more)) earlier o (later at) =
-            items_apart more (t ∷ earlier) at (starts t earlier (ap ends_line kind)) LineEnd
-        rest_apart (g.bare (g.file_end kind)) earlier o (here k) = absurd (no_cut us earlier o k)
-        rest_apart (g.bare (g.file_end kind)) earlier o (later at) = elim at [ ]
+        rest_apart (g.bare (g.line_end {token = t} kind more)) earlier o at =
+            items_apart more (t ∷ earlier) (onward at (no_cut us earlier o)) (starts t earlier (ap ends_line kind)) LineEnd
+        rest_apart (g.bare (g.file_end kind)) earlier o at = absurd (none_left (onward at (no_cut us earlier o)))
 
         -- a comment at the end of a line
         trailing_apart : {items : ManyItems} {fs : ManyFeatures} {t : SignificantToken} {part : Tokens} → IsKind kinds.Comment t
             → g.LineEnd projection MayEnter items fs part → (earlier : Tokens) → LastOpen earlier → Before' earlier (t ∷ part)
             → AreApart Other (tree.Comment (trim_end t.tok.lexeme) ∷ items) js
-        trailing_apart kind e earlier o (here k) = absurd (no_cut us earlier o k)
-        trailing_apart {t = t} kind (g.line_end kind2 more) earlier o (later (here k)) = absurd (no_cut us (t ∷ earlier) (ap ends_line kind) k)
-        trailing_apart {t = t} kind (g.line_end {items = items} {token = u} kind2 more) earlier o (later (later at)) =
+        trailing_apart {t = t} kind (g.line_end {items = items} {token = u} kind2 more) earlier o at =
             comment_apart Other (trim_end t.tok.lexeme) items
-            (items_apart more (u ∷ t ∷ earlier) at (starts u (t ∷ earlier) (ap ends_line kind2)) LineEnd) (λ e. tt)
-        trailing_apart {t = t} kind (g.file_end kind2) earlier o (later (here k)) = absurd (no_cut us (t ∷ earlier) (ap ends_line kind) k)
-        trailing_apart kind (g.file_end kind2) earlier o (later (later at)) = elim at [ ]
+            (items_apart more (u ∷ t ∷ earlier) (onward (onward at (no_cut us earlier o)) (no_cut us (t ∷ earlier) (ap ends_line kind)))
+            (starts u (t ∷ earlier) (ap ends_line kind2)) LineEnd) (λ e. tt)
+        trailing_apart {t = t} kind (g.file_end kind2) earlier o at =
+            absurd (none_left (onward (onward at (no_cut us earlier o)) (no_cut us (t ∷ earlier) (ap ends_line kind))))
 
         -- the rest of a line after a comment that begins it
         comment_rest : {items : ManyItems} {fs : ManyFeatures} {part : Tokens} → ItemRest projection MayEnter items fs part → (before : Before) (text : List ℕ)
             (earlier : Tokens) → LastOpen earlier → Before' earlier part → line_kind (bare earlier) ≡ Some kinds.Comment → AreApart before (tree.Comment text ∷ items) js
         comment_rest (g.trailing kind e) before text earlier o at line = trailing_apart kind e earlier o at
-        comment_rest (g.bare (g.line_end kind more)) before text earlier o (here k) line = absurd (no_cut us earlier o k)
-        comment_rest (g.bare (g.line_end {items = items} {token = t} kind more)) before text earlier o (later at) line =
-            comment_apart before text items (items_apart more (t ∷ earlier) at (starts t earlier (ap ends_line kind)) LineEnd)
-            (λ e. takes_none before (last_doc more t earlier at line e))
-        comment_rest (g.bare (g.file_end kind)) before text earlier o (here k) line = absurd (no_cut us earlier o k)
-        comment_rest (g.bare (g.file_end kind)) before text earlier o (later at) line = elim at [ ]
+        comment_rest (g.bare (g.line_end {items = items} {token = t} kind more)) before text earlier o at line =
+            let on = onward at (no_cut us earlier o) in
+            comment_apart before text items (items_apart more (t ∷ earlier) on (starts t earlier (ap ends_line kind)) LineEnd)
+            (λ e. takes_none before (last_doc more t earlier on line e))
+        comment_rest (g.bare (g.file_end kind)) before text earlier o at line = absurd (none_left (onward at (no_cut us earlier o)))
 
       pub file_apart : {items : ManyItems} {fs : ManyFeatures} {part : Tokens} → File projection MayEnter items fs part → Before' [] part
           → AreApart Nothing items js
@@ -256,6 +246,24 @@ module _ {A B C S : Type 0} (projection : TokenProjection A B C S) (MayEnter : �
       pub over : Over is_any (u ∷ x) (eof ∷ []) whole part
       pub second_derives : Items projection MayEnter second second_features (u ∷ x)
 
+    -- other items, which end in those of a split
+    abbrev longer : {R Q : ManyItems → ManyFeatures → Tokens → Type 0} {items all : ManyItems} {fs all_features : ManyFeatures} {ts whole part : Tokens}
+        (first : ManyItems) (first_features : ManyFeatures) (y : Split R items fs ts) → all ≡ first ++ y.second
+        → all_features ≡ first_features ++ y.second_features → Q first first_features part → Over is_any (u ∷ x) (eof ∷ []) whole part
+        → Split Q all all_features whole
+    longer first first_features y is are d o = record {
+      first = first;
+      second = y.second;
+      first_features = first_features;
+      second_features = y.second_features;
+      items_are = is;
+      features_are = are;
+      part = _;
+      first_derives = d;
+      over = o;
+      second_derives = y.second_derives;
+    }
+
     record SplitRest (R : ManyItems → ManyFeatures → Tokens → Type 0) (items : ManyItems) (fs : ManyFeatures) (whole : Tokens) : Type 0 where
       split : Split R items fs whole
       ahead : Ahead whole split.part
@@ -279,125 +287,46 @@ module _ {A B C S : Type 0} (projection : TokenProjection A B C S) (MayEnter : �
       items_split (g.end kind) earlier (later at) s = elim at [ ]
       items_split (g.blank {token = t} kind more) earlier (later at) s =
           let y = items_split more (t ∷ earlier) at (starts t earlier (ap ends_line kind)) in
-          record {
-            first = tree.Newline ∷ y.first;
-            second = y.second;
-            first_features = y.first_features;
-            second_features = y.second_features;
-            items_are = ap (λ l. tree.Newline ∷ l) y.items_are;
-            features_are = y.features_are;
-            part = t ∷ y.part;
-            first_derives = g.blank kind y.first_derives;
-            over = step refl y.over;
-            second_derives = y.second_derives;
-          }
+          longer _ _ y (ap (λ l. tree.Newline ∷ l) y.items_are) y.features_are (g.blank kind y.first_derives) (step refl y.over)
       items_split (g.comment {token = t} kind r) earlier (later at) s =
-          let y = rest_split r (t ∷ earlier) (ap ends_line kind) at in
-          record {
-            first = tree.Comment (trim_end t.tok.lexeme) ∷ y.split.first;
-            second = y.split.second;
-            first_features = y.split.first_features;
-            second_features = y.split.second_features;
-            items_are = ap (λ l. tree.Comment (trim_end t.tok.lexeme) ∷ l) y.split.items_are;
-            features_are = y.split.features_are;
-            part = t ∷ y.split.part;
-            first_derives = g.comment kind y.split.first_derives;
-            over = step refl y.split.over;
-            second_derives = y.split.second_derives;
-          }
+          let y = (rest_split r (t ∷ earlier) (ap ends_line kind) at).split in
+          longer _ _ y (ap (λ l. tree.Comment (trim_end t.tok.lexeme) ∷ l) y.items_are) y.features_are (g.comment kind y.first_derives) (step refl y.over)
       items_split (g.on_line {ws = ws} {c = c} {gs = gs} {cs = cs} a o r) earlier (later at) s =
           let p = (past_line (u ∷ x) u x projection MayEnter a o r earlier s (later at) tt).1 in
           let y = rest_split r p.earlier p.unended p.at in
           let z = again_items.on_line projection MayEnter o y.ahead in
           let w = again_attributes.attribute_lines projection.leaf projection.position MayEnter a z.ahead in
-          record {
-            first = Construct ws c ∷ y.split.first;
-            second = y.split.second;
-            first_features = record { attributes = gs; content = cs } ∷ y.split.first_features;
-            second_features = y.split.second_features;
-            items_are = ap (λ l. Construct ws c ∷ l) y.split.items_are;
-            features_are = ap (λ l. record { attributes = gs; content = cs } ∷ l) y.split.features_are;
-            part = w.after;
-            first_derives = g.on_line w.derives z.derives y.split.first_derives;
-            over = past (any_of w.over) (past (any_of z.over) y.split.over);
-            second_derives = y.split.second_derives;
-          }
+          longer _ _ y.split (ap (λ l. Construct ws c ∷ l) y.split.items_are) (ap (λ l. record { attributes = gs; content = cs } ∷ l) y.split.features_are)
+          (g.on_line w.derives z.derives y.split.first_derives) (past (any_of w.over) (past (any_of z.over) y.split.over))
       items_split (g.block {ws = ws} {c = c} {gs = gs} {cs = cs} a b more) earlier (later at) s =
           let p = past_recipe (u ∷ x) u x no_body projection MayEnter a b earlier s (later at) tt in
           let y = items_split more p.earlier p.at p.start in
           let z = again_items.block projection MayEnter b y.part in
           let w = again_attributes.attribute_lines projection.leaf projection.position MayEnter a z.ahead in
-          record {
-            first = Construct ws c ∷ tree.Newline ∷ y.first;
-            second = y.second;
-            first_features = record { attributes = gs; content = cs } ∷ y.first_features;
-            second_features = y.second_features;
-            items_are = ap (λ l. Construct ws c ∷ tree.Newline ∷ l) y.items_are;
-            features_are = ap (λ l. record { attributes = gs; content = cs } ∷ l) y.features_are;
-            part = w.after;
-            first_derives = g.block w.derives z.derives y.first_derives;
-            over = past (any_of w.over) (past z.over y.over);
-            second_derives = y.second_derives;
-          }
+          longer _ _ y (ap (λ l. Construct ws c ∷ tree.Newline ∷ l) y.items_are) (ap (λ l. record { attributes = gs; content = cs } ∷ l) y.features_are)
+          (g.block w.derives z.derives y.first_derives) (past (any_of w.over) (past z.over y.over))
 
       rest_split : {items : ManyItems} {fs : ManyFeatures} {whole : Tokens} → ItemRest projection MayEnter items fs whole → (earlier : Tokens)
           → LastOpen earlier
           → At (CutHere (u ∷ x)) u x earlier whole → SplitRest (ItemRest projection MayEnter) items fs whole
-      rest_split (g.trailing kind e) earlier o (here k) = absurd (no_cut (u ∷ x) earlier o k)
-      rest_split (g.trailing {token = t} kind e) earlier o (later at) =
-          let y = end_split e (t ∷ earlier) (ap ends_line kind) at in
+      rest_split (g.trailing {token = t} kind e) earlier o at =
+          let y = (end_split e (t ∷ earlier) (ap ends_line kind) (onward at (no_cut (u ∷ x) earlier o))).split in
           record {
-            split = record {
-              first = tree.Comment (trim_end t.tok.lexeme) ∷ y.split.first;
-              second = y.split.second;
-              first_features = y.split.first_features;
-              second_features = y.split.second_features;
-              items_are = ap (λ l. tree.Comment (trim_end t.tok.lexeme) ∷ l) y.split.items_are;
-              features_are = y.split.features_are;
-              part = t ∷ y.split.part;
-              first_derives = g.trailing kind y.split.first_derives;
-              over = step refl y.split.over;
-              second_derives = y.split.second_derives;
-            };
+            split = longer _ _ y (ap (λ l. tree.Comment (trim_end t.tok.lexeme) ∷ l) y.items_are) y.features_are (g.trailing kind y.first_derives)
+                (step refl y.over);
             ahead = one (not_name t (ap is_quiet kind));
           }
       rest_split (g.bare e) earlier o at =
           let y = end_split e earlier o at in
-          record {
-            split = record {
-              first = y.split.first;
-              second = y.split.second;
-              first_features = y.split.first_features;
-              second_features = y.split.second_features;
-              items_are = y.split.items_are;
-              features_are = y.split.features_are;
-              part = y.split.part;
-              first_derives = g.bare y.split.first_derives;
-              over = y.split.over;
-              second_derives = y.split.second_derives;
-            };
-            ahead = y.ahead;
-          }
+          record { split = longer _ _ y.split y.split.items_are y.split.features_are (g.bare y.split.first_derives) y.split.over; ahead = y.ahead }
 
       end_split : {items : ManyItems} {fs : ManyFeatures} {whole : Tokens} → g.LineEnd projection MayEnter items fs whole → (earlier : Tokens)
           → LastOpen earlier
           → At (CutHere (u ∷ x)) u x earlier whole → SplitRest (g.LineEnd projection MayEnter) items fs whole
-      end_split (g.line_end kind more) earlier o (here k) = absurd (no_cut (u ∷ x) earlier o k)
-      end_split (g.line_end {token = t} kind more) earlier o (later at) =
-          let y = items_split more (t ∷ earlier) at (starts t earlier (ap ends_line kind)) in
+      end_split (g.line_end {token = t} kind more) earlier o at =
+          let y = items_split more (t ∷ earlier) (onward at (no_cut (u ∷ x) earlier o)) (starts t earlier (ap ends_line kind)) in
           record {
-            split = record {
-              first = tree.Newline ∷ y.first;
-              second = y.second;
-              first_features = y.first_features;
-              second_features = y.second_features;
-              items_are = ap (λ l. tree.Newline ∷ l) y.items_are;
-              features_are = y.features_are;
-              part = t ∷ y.part;
-              first_derives = g.line_end kind y.first_derives;
-              over = step refl y.over;
-              second_derives = y.second_derives;
-            };
+            split = longer _ _ y (ap (λ l. tree.Newline ∷ l) y.items_are) y.features_are (g.line_end kind y.first_derives) (step refl y.over);
             ahead = one (not_name t (ap is_quiet kind));
           }
       end_split (g.file_end kind) earlier o at = absurd (none_left (onward at (no_cut (u ∷ x) earlier o)))
@@ -407,32 +336,10 @@ module _ {A B C S : Type 0} (projection : TokenProjection A B C S) (MayEnter : �
     file_split (g.with_byte_order_mark kind more) (here k) = absurd k
     file_split (g.with_byte_order_mark {token = t} kind more) (later at) =
         let y = items_split more (t ∷ []) at (mark_start t kind) in
-        record {
-          first = y.first;
-          second = y.second;
-          first_features = y.first_features;
-          second_features = y.second_features;
-          items_are = y.items_are;
-          features_are = y.features_are;
-          part = t ∷ y.part;
-          first_derives = g.with_byte_order_mark kind y.first_derives;
-          over = step refl y.over;
-          second_derives = y.second_derives;
-        }
+        longer _ _ y y.items_are y.features_are (g.with_byte_order_mark kind y.first_derives) (step refl y.over)
     file_split (g.without_byte_order_mark more) at =
         let y = items_split more [] at refl in
-        record {
-          first = y.first;
-          second = y.second;
-          first_features = y.first_features;
-          second_features = y.second_features;
-          items_are = y.items_are;
-          features_are = y.features_are;
-          part = y.part;
-          first_derives = g.without_byte_order_mark y.first_derives;
-          over = y.over;
-          second_derives = y.second_derives;
-        }
+        longer _ _ y y.items_are y.features_are (g.without_byte_order_mark y.first_derives) y.over
 
   -- ---- items after a cut, with the line end before them
 

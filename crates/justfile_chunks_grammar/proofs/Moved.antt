@@ -1,5 +1,5 @@
 -- A file that is moved derives the moved tree.
-use Rattle.std.proofs.Common.{◌≡◌, ◌∙◌, ℕ, ◌+◌, Bool, true, false, cond, List, [], ◌∷◌, ◌++◌, map, Option, Some, None, refl, sym, ap, subst}
+use Rattle.std.proofs.Common.{◌≡◌, ◌∙◌, ℕ, ◌+◌, Bool, true, false, List, [], ◌∷◌, ◌++◌, map, Option, Some, None, refl, sym, ap, subst}
 use Rattle.std.proofs.lemmas.List.{map-append}
 use Rattle.std.specs.Option.{option_map}
 use Rattle.justfile_vocabulary.specs.declared.attribute_kind.AttributeKind.TheVariants.{Doc}
@@ -35,6 +35,7 @@ use Rattle.justfile_model.proofs.Meanings.ShapesMean.{none_of_none}
 use Rattle.justfile_model.proofs.Printed.DocsKept.{any_kind_over, documented_over}
 use Rattle.justfile_model.proofs.Relations.Graph.{SameView, all_over}
 use Rattle.justfile_chunks_grammar.specs.Chunks.{moved, moved_item}
+use Rattle.justfile_chunks_grammar.proofs.CutTokens.{pairs_before}
 use Rattle.justfile_chunks_grammar.proofs.MovedKeys.{same_order}
 
 module _ (offset line : ℕ) where
@@ -67,14 +68,7 @@ module _ (offset line : ℕ) where
 
   moved_pairs : (ts : List Tok) (glued : Bool) → Pairs IsMoved (significant_from glued ts) (significant_from glued (map move ts))
   moved_pairs [] glued = nil
-  moved_pairs (t ∷ ts) glued = by (moved_pairs ts false) (moved_pairs ts true) (is_whitespace t.kind)
-    where
-      by : Pairs IsMoved (significant_from false ts) (significant_from false (map move ts))
-          → Pairs IsMoved (significant_from true ts) (significant_from true (map move ts))
-          → (b : Bool) → Pairs IsMoved (cond b (significant_from false ts) (record { tok = t; glued = glued } ∷ significant_from true ts))
-          (cond b (significant_from false (map move ts)) (record { tok = move t; glued = glued } ∷ significant_from true (map move ts)))
-      by h k true = h
-      by h k false = cons (record { tok_is = refl; glued_is = refl }) k
+  moved_pairs (t ∷ ts) glued = pairs_before _ _ (is_whitespace t.kind) (record { tok_is = refl; glued_is = refl }) (moved_pairs ts false) (moved_pairs ts true)
 
   moved_file : (limit : ℕ) {written : WrittenTree} {fs : List (ConstructFeatures Tok)} {ts us : Tokens} → File to_tokens (BelowLimit limit) written fs ts
       → Pairs IsMoved ts us

@@ -145,6 +145,20 @@ module _ {A B C : Type 0} (projection : TokenProjection A B C B) (conditions : C
   abbrev pub TokensDerive : List Tok → Ordered → List (Noted B) → Type 0
   TokensDerive tokens = Derived (significant_tokens tokens)
 
+  -- other tokens that derive what is written derive the same
+  pub rederived : (ts us : List Tok) {all : Ordered} {features : List (Noted B)} (d : TokensDerive ts all features)
+      → File projection (BelowLimit conditions.limit) d.written d.by_construct (significant_tokens us) → TokensDerive us all features
+  rederived ts us d derives = record {
+    written = d.written;
+    by_construct = d.by_construct;
+    derives = derives;
+    features_are = d.features_are;
+    cooked = d.cooked;
+    cooks = d.cooks;
+    unbroken = d.unbroken;
+    ordered_is = d.ordered_is;
+  }
+
   abbrev SidesDerive : (before after : List Tok) (feed eof : Tok) → Ordered → List (Noted B) → Type 0
   SidesDerive = CutSides tree.Newline TokensDerive
 

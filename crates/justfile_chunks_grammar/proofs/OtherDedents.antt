@@ -1,5 +1,5 @@
 -- A file whose dedents are other tokens derives the same.
-use Rattle.std.proofs.Common.{◌≡◌, ◌⊎◌, inl, inr, ◌∙◌, ℕ, Bool, true, false, cond, List, [], ◌∷◌, ◌++◌, Option, refl, sym, ap, subst}
+use Rattle.std.proofs.Common.{◌≡◌, ◌⊎◌, inl, inr, ◌∙◌, ℕ, Bool, true, false, cond, List, [], ◌∷◌, Option, refl, sym, ap, subst}
 use Rattle.std.specs.List.{AllZip}
 use Rattle.justfile_vocabulary.specs.declared.token_kind.TokenKind.{TokenKind}
 use Rattle.justfile_vocabulary.specs.declared.token_kind.TokenKind.TheVariants as kinds
@@ -15,8 +15,8 @@ use Rattle.justfile_chunks_grammar.proofs.AgainAttributes as again_attributes
 use Rattle.justfile_chunks_grammar.proofs.AgainExpressions as again_expressions
 use Rattle.justfile_chunks_grammar.proofs.AgainHeaders as again_headers
 use Rattle.justfile_chunks_grammar.proofs.AgainItems as again_items
-use Rattle.justfile_chunks_grammar.proofs.CutTokens.{significant}
-use Rattle.justfile_chunks_grammar.proofs.Over.{Again, Ahead, Over, is_inside, is_quiet, not_name, one, other_end, same, step}
+use Rattle.justfile_chunks_grammar.proofs.CutTokens.{pairs_before, significant}
+use Rattle.justfile_chunks_grammar.proofs.Over.{Again, Ahead, Front, Over, is_inside, is_quiet, not_name, one, other_end, same, step}
 use Rattle.justfile_chunks_grammar.proofs.Passes.{clash, self_ahead}
 
 abbrev is_dedent : TokenKind → Bool
@@ -39,9 +39,10 @@ same_one : {t u : SignificantToken} → is_dedent t.tok.kind ≡ false → Near 
 same_one n (inl e) = e
 same_one n (inr d) = absurd (clash n (ap is_dedent d.0))
 
-other_dedent : {t u : SignificantToken} → IsKind kinds.Dedent t → Near t u → IsKind kinds.Dedent u
-other_dedent k (inl e) = ap (λ (x : SignificantToken). x.tok.kind) (sym e) ∙ k
-other_dedent k (inr d) = d.1
+-- a near token has the same kind
+kind_near : {kind : TokenKind} {t u : SignificantToken} → IsKind kind t → Near t u → IsKind kind u
+kind_near k (inl e) = ap (λ (x : SignificantToken). x.tok.kind) (sym e) ∙ k
+kind_near k (inr d) = d.1 ∙ sym d.0 ∙ k
 
 pub near_back : {ts us : Tokens} → Pairs Near ts us → Pairs Near us ts
 near_back nil = nil
@@ -53,15 +54,10 @@ near_back (cons n ns) = cons (by n) (near_back ns)
 
 -- ---- tokens that end in these, and in those in their place
 
-record Followed (x y a us : Tokens) : Type 0 where
-  front : Tokens
-  first_is : a ≡ front ++ x
-  second_is : us ≡ front ++ y
-
 record Follows (x a us : Tokens) : Type 0 where
   after : Tokens
   near : Pairs Near x after
-  followed : Followed x after a us
+  followed : Front x after a us
 
 follow : {ok : TokenKind → Bool} (loud : (k : TokenKind) → ok k ≡ true → is_dedent k ≡ false) {x y a b us : Tokens} → Over ok x y a b → Pairs Near a us
     → Follows x a us
@@ -83,7 +79,7 @@ record Rederived (R : Tokens → Type 0) (a us : Tokens) : Type 0 where
   derives : R us
   ahead : Ahead a us
 
-rederived : {ok : TokenKind → Bool} {x y a us : Tokens} {R : Tokens → Type 0} → Followed x y a us → Again ok x y R a → Rederived R a us
+rederived : {ok : TokenKind → Bool} {x y a us : Tokens} {R : Tokens → Type 0} → Front x y a us → Again ok x y R a → Rederived R a us
 rederived {ok = ok} {x = x} {y = y} {a = a} {R = R} f h =
     let is = other_end f.front x y h.after (subst (λ l. Over ok x y l h.after) f.first_is h.over) ∙ sym f.second_is in
     record { derives = subst R is h.derives; ahead = subst (Ahead a) is h.ahead }
@@ -92,14 +88,14 @@ rederived {ok = ok} {x = x} {y = y} {a = a} {R = R} f h =
 record Until (t : SignificantToken) (x a us : Tokens) : Type 0 where
   after : Tokens
   near : Pairs Near x after
-  followed : Followed (t ∷ x) (t ∷ after) a us
+  followed : Front (t ∷ x) (t ∷ after) a us
 
 until : {t : SignificantToken} {x a us : Tokens} → is_dedent t.tok.kind ≡ false → Follows (t ∷ x) a us → Until t x a us
 until {t = t} {x = x} {a = a} {us = us} loud f = by f.after f.near f.followed
   where
-    by : (after : Tokens) → Pairs Near (t ∷ x) after → Followed (t ∷ x) after a us → Until t x a us
+    by : (after : Tokens) → Pairs Near (t ∷ x) after → Front (t ∷ x) after a us → Until t x a us
     by _ (cons {us = after} n ns) f =
-        record { after = after; near = ns; followed = subst (λ u. Followed (t ∷ x) (u ∷ after) a us) (sym (same_one loud n)) f }
+        record { after = after; near = ns; followed = subst (λ u. Front (t ∷ x) (u ∷ after) a us) (sym (same_one loud n)) f }
 
 near_ahead : {t u : SignificantToken} {x y : Tokens} → is_quiet t.tok.kind ≡ false → is_dedent t.tok.kind ≡ false → Near t u → Ahead (t ∷ x) (u ∷ y)
 near_ahead {t = t} {x = x} {y = y} q loud n = subst (λ u. Ahead (t ∷ x) (u ∷ y)) (same_one loud n) (one (not_name t q))
@@ -116,24 +112,16 @@ record ReachedAhead (R : Tokens → Type 0) (a us rest : Tokens) : Type 0 where
 
 before_body : {comment : Option (List ℕ)} {ts rest us : Tokens} → BeforeBody comment ts rest → Pairs Near ts us
     → ReachedAhead (λ r. BeforeBody comment us r) ts us rest
-before_body {comment = c} (g.at_once {newline = t} kind kind2) (cons n (cons {u = v} {us = us} m ns)) = record {
-  reached = record {
-    after = us;
-    near = ns;
-    derives =
-        subst (λ u. BeforeBody c (u ∷ v ∷ us) us) (same_one (ap is_dedent kind) n)
-        (subst (λ u. BeforeBody c (t ∷ u ∷ us) us) (same_one (ap is_dedent kind2) m) (g.at_once kind kind2));
-  };
+before_body (g.at_once kind kind2) (cons n (cons {us = us} m ns)) = record {
+  reached = record { after = us; near = ns; derives = g.at_once (kind_near kind n) (kind_near kind2 m) };
   ahead = near_ahead (ap is_quiet kind) (ap is_dedent kind) n;
 }
-before_body {comment = c} (g.commented {comment = t} {newline = e} kind kind2 kind3) (cons n (cons {u = v} m (cons {u = w} {us = us} l ns))) = record {
+before_body {comment = c} (g.commented kind kind2 kind3) (cons n (cons {u = v} m (cons {u = w} {us = us} l ns))) = record {
   reached = record {
     after = us;
     near = ns;
     derives =
-        subst (λ u. BeforeBody c (u ∷ v ∷ w ∷ us) us) (same_one (ap is_dedent kind) n)
-        (subst (λ u. BeforeBody c (t ∷ u ∷ w ∷ us) us) (same_one (ap is_dedent kind2) m)
-        (subst (λ u. BeforeBody c (t ∷ e ∷ u ∷ us) us) (same_one (ap is_dedent kind3) l) (g.commented kind kind2 kind3)));
+        subst (λ u. BeforeBody c (u ∷ v ∷ w ∷ us) us) (same_one (ap is_dedent kind) n) (g.commented kind (kind_near kind2 m) (kind_near kind3 l));
   };
   ahead = near_ahead (ap is_quiet kind) (ap is_dedent kind) n;
 }
@@ -147,9 +135,9 @@ module _ {A B C S : Type 0} (projection : TokenProjection A B C S) (MayEnter : �
   line_rest : {fragments : List (Fragment A B)} {fs : List (Noted B)} {ts rest us : Tokens} → Rest fragments fs ts rest → Pairs Near ts us
       → Reached (λ r. Rest fragments fs us r) rest
   line_rest (g.line_ends kind) (cons {us = us} n ns) =
-      record { after = us; near = ns; derives = subst (λ u. Rest [] [] (u ∷ us) us) (same_one (ap is_dedent kind) n) (g.line_ends kind) }
+      record { after = us; near = ns; derives = g.line_ends (kind_near kind n) }
   line_rest (g.body_ends kind) (cons {u = u} {us = us} n ns) =
-      record { after = u ∷ us; near = cons n ns; derives = g.body_ends (other_dedent kind n) }
+      record { after = u ∷ us; near = cons n ns; derives = g.body_ends (kind_near kind n) }
   line_rest {fragments = fragments} {fs = fs} (g.text kind others) (cons {us = us} n ns) =
       let r = line_rest others ns in
       record {
@@ -157,24 +145,20 @@ module _ {A B C S : Type 0} (projection : TokenProjection A B C S) (MayEnter : �
         near = r.near;
         derives = subst (λ u. Rest fragments fs (u ∷ us) r.after) (same_one (ap is_dedent kind) n) (g.text kind r.derives);
       }
-  line_rest {fragments = fragments} {fs = fs} (g.interpolation {end = t} {others = x} kind e kind2 others) (cons {us = us} n ns) =
+  line_rest (g.interpolation {end = t} {others = x} kind e kind2 others) (cons n ns) =
       let name = not_end t kind2 in
       let self = again_expressions.expression projection.leaf projection.position MayEnter e (one {t = t} {a = x} {b = x} name) in
       let f = until (ap is_dedent kind2) (follow quiet_loud self.over ns) in
       let r = line_rest others f.near in
       let x = rederived f.followed (again_expressions.expression projection.leaf projection.position MayEnter e (one name)) in
-      record {
-        after = r.after;
-        near = r.near;
-        derives = subst (λ u. Rest fragments fs (u ∷ us) r.after) (same_one (ap is_dedent kind) n) (g.interpolation kind x.derives kind2 r.derives);
-      }
+      record { after = r.after; near = r.near; derives = g.interpolation (kind_near kind n) x.derives kind2 r.derives }
     where
       not_end : (t : SignificantToken) → IsKind kinds.InterpolationEnd t → IsKind kinds.Identifier t → ⊥
       not_end t k e = let bad : kinds.InterpolationEnd ≡ kinds.Identifier = sym k ∙ e in cc
 
   body_lines : {lines : List (BodyLine A B C)} {fs : List (Noted B)} {ts rest us : Tokens} → BodyLines projection MayEnter lines fs ts rest → Pairs Near ts us
       → Reached (λ r. BodyLines projection MayEnter lines fs us r) rest
-  body_lines (g.no_line kind) (cons {us = us} n ns) = record { after = us; near = ns; derives = g.no_line (other_dedent kind n) }
+  body_lines (g.no_line kind) (cons {us = us} n ns) = record { after = us; near = ns; derives = g.no_line (kind_near kind n) }
   body_lines {lines = lines} {fs = fs} (g.empty_line kind others) (cons {us = us} n ns) =
       let r = body_lines others ns in
       record {
@@ -220,9 +204,8 @@ module _ {A B C S : Type 0} (projection : TokenProjection A B C S) (MayEnter : �
   mutual
     items_near : {items : List (WrittenItem A B C S)} {fs : List (ConstructFeatures B)} {ts us : Tokens} → Items projection MayEnter items fs ts
         → Pairs Near ts us → Items projection MayEnter items fs us
-    items_near (g.end kind) (cons n nil) = subst (λ u. Items projection MayEnter [] [] (u ∷ [])) (same_one (ap is_dedent kind) n) (g.end kind)
-    items_near {items = items} {fs = fs} (g.blank kind more) (cons {us = us} n ns) =
-        subst (λ u. Items projection MayEnter items fs (u ∷ us)) (same_one (ap is_dedent kind) n) (g.blank kind (items_near more ns))
+    items_near (g.end kind) (cons n nil) = g.end (kind_near kind n)
+    items_near (g.blank kind more) (cons n ns) = g.blank (kind_near kind n) (items_near more ns)
     items_near {items = items} {fs = fs} (g.comment kind r) (cons {us = us} n ns) =
         subst (λ u. Items projection MayEnter items fs (u ∷ us)) (same_one (ap is_dedent kind) n) (g.comment kind (rest_near r ns))
     items_near (g.on_line a o r) ns =
@@ -249,14 +232,12 @@ module _ {A B C S : Type 0} (projection : TokenProjection A B C S) (MayEnter : �
 
     end_near : {items : List (WrittenItem A B C S)} {fs : List (ConstructFeatures B)} {ts us : Tokens} → g.LineEnd projection MayEnter items fs ts
         → Pairs Near ts us → g.LineEnd projection MayEnter items fs us
-    end_near {items = items} {fs = fs} (g.line_end kind more) (cons {us = us} n ns) =
-        subst (λ u. g.LineEnd projection MayEnter items fs (u ∷ us)) (same_one (ap is_dedent kind) n) (g.line_end kind (items_near more ns))
-    end_near (g.file_end kind) (cons n nil) = subst (λ u. g.LineEnd projection MayEnter [] [] (u ∷ [])) (same_one (ap is_dedent kind) n) (g.file_end kind)
+    end_near (g.line_end kind more) (cons n ns) = g.line_end (kind_near kind n) (items_near more ns)
+    end_near (g.file_end kind) (cons n nil) = g.file_end (kind_near kind n)
 
   pub file_near : {items : List (WrittenItem A B C S)} {fs : List (ConstructFeatures B)} {ts us : Tokens} → File projection MayEnter items fs ts
       → Pairs Near ts us → File projection MayEnter items fs us
-  file_near {items = items} {fs = fs} (g.with_byte_order_mark kind more) (cons {us = us} n ns) =
-      subst (λ u. File projection MayEnter items fs (u ∷ us)) (same_one (ap is_dedent kind) n) (g.with_byte_order_mark kind (items_near more ns))
+  file_near (g.with_byte_order_mark kind more) (cons n ns) = g.with_byte_order_mark (kind_near kind n) (items_near more ns)
   file_near (g.without_byte_order_mark more) ns = g.without_byte_order_mark (items_near more ns)
 
 -- ---- tokens of a text
@@ -276,20 +257,13 @@ put glued t ts kind = cond (is_whitespace kind) (significant_from false ts) (sig
 -- so are the significant ones
 pub near_tokens : (ts us : List Tok) → AllZip NearToken ts us → (glued : Bool) → Pairs Near (significant_from glued ts) (significant_from glued us)
 near_tokens [] [] h glued = nil
-near_tokens [] (u ∷ us) h glued = absurd h
-near_tokens (t ∷ ts) [] h glued = absurd h
 near_tokens (t ∷ ts) (u ∷ us) h glued = by h.0 (near_tokens ts us h.1)
   where
-    equal : (b : Bool) → ((g : Bool) → Pairs Near (significant_from g ts) (significant_from g us))
-        → Pairs Near (cond b (significant_from false ts) (significant t glued ∷ significant_from true ts))
-        (cond b (significant_from false us) (significant t glued ∷ significant_from true us))
-    equal true more = more false
-    equal false more = cons (inl refl) (more true)
-
     by : NearToken t u → ((g : Bool) → Pairs Near (significant_from g ts) (significant_from g us))
         → Pairs Near (significant_from glued (t ∷ ts)) (significant_from glued (u ∷ us))
     by (inl e) more =
-        subst (λ x. Pairs Near (significant_from glued (t ∷ ts)) (significant_from glued (x ∷ us))) e (equal (is_whitespace t.kind) more)
+        subst (λ x. Pairs Near (significant_from glued (t ∷ ts)) (significant_from glued (x ∷ us))) e (pairs_before _ _ (is_whitespace t.kind) (inl refl) (more false) (more true))
     by (inr d) more =
         subst (λ k. Pairs Near (put glued t ts k) (put glued u us u.kind)) (sym d.0.0)
         (subst (λ k. Pairs Near (put glued t ts kinds.Dedent) (put glued u us k)) (sym d.1.0) (cons (inr (d.0.0, d.1.0)) (more true)))
+near_tokens _ _ h glued = absurd h

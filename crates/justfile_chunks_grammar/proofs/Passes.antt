@@ -7,7 +7,7 @@ use Rattle.justfile_model.specs.Grammars.AttributeLines.{AttributeLines, Attribu
 use Rattle.justfile_model.specs.Grammars.Expressions.{Tokens, IsKind}
 use Rattle.justfile_model.specs.Grammars.Features.{ConstructFeatures, Noted}
 use Rattle.justfile_model.specs.Grammars.Grammar as g
-use Rattle.justfile_model.specs.Grammars.Grammar.{BeforeBody, Block, BodyLines, ItemRest, LineEnd, OnLine, TokenProjection}
+use Rattle.justfile_model.specs.Grammars.Grammar.{BeforeBody, Block, ItemRest, OnLine, TokenProjection}
 use Rattle.justfile_model.specs.Grammars.Headers as headers
 use Rattle.justfile_model.specs.Grammars.Headers.{HeaderOf}
 use Rattle.justfile_model.specs.Lexing.SignificantTokens.{SignificantToken}
@@ -78,7 +78,7 @@ line_with k line = cond (is_ignored k) line (cond (ends_line k) None (Some (firs
 abbrev pub AtStart : Tokens → Type 0
 AtStart earlier = line_kind (bare earlier) ≡ None
 
-line_ended : (k : TokenKind) (line : Option TokenKind) → ends_line k ≡ true → line_with k line ≡ None
+pub line_ended : (k : TokenKind) (line : Option TokenKind) → ends_line k ≡ true → line_with k line ≡ None
 line_ended kinds.Eol line e = refl
 line_ended kinds.Dedent line e = refl
 line_ended _ line e = cc
@@ -217,9 +217,8 @@ module _ (cut : Tokens) (u : SignificantToken) (x : Tokens) where
   pass : {y rest ts after : Tokens} → Over is_quiet rest y ts after → (earlier : Tokens) → LastOpen earlier → At (CutHere cut) u x earlier ts
       → Within (CutHere cut) u x (line_kind (bare earlier)) rest
   pass same earlier o at = record { earlier = earlier; at = at; unended = o; line = λ kind h. h }
-  pass (step q over) earlier o (here k) = absurd (no_cut cut earlier o k)
-  pass (step {t = t} q over) earlier o (later at) =
-      let p = pass over (t ∷ earlier) (quiet_open t.tok.kind q) at in
+  pass (step {t = t} q over) earlier o at =
+      let p = pass over (t ∷ earlier) (quiet_open t.tok.kind q) (onward at (no_cut cut earlier o)) in
       record { earlier = p.earlier; at = p.at; unended = p.unended; line = λ kind h. p.line kind (goes_on t earlier kind (quiet_open t.tok.kind q) h) }
 
   pass_first : {y rest ts after : Tokens} → Over is_quiet rest y ts after → FirstQuiet ts → (FirstQuiet rest → ⊥)
@@ -274,14 +273,14 @@ module _ (cut : Tokens) (u : SignificantToken) (x : Tokens) where
   pass_inside : {y rest ts after : Tokens} → Over is_inside rest y ts after → (earlier : Tokens) → in_body earlier ≡ true → At (CutHere cut) u x earlier ts
       → Inside (CutHere cut) u x rest
   pass_inside same earlier h at = record { earlier = earlier; at = at; inside = h }
-  pass_inside (step q over) earlier h (here k) = absurd (body_uncut earlier h k)
-  pass_inside (step {t = t} q over) earlier h (later at) = pass_inside over (t ∷ earlier) (ap (open_after t.tok.kind) h ∙ inside_stays t.tok.kind q) at
+  pass_inside (step {t = t} q over) earlier h at =
+      pass_inside over (t ∷ earlier) (ap (open_after t.tok.kind) h ∙ inside_stays t.tok.kind q) (onward at (body_uncut earlier h))
 
   past_dedent : {t : SignificantToken} {ts : Tokens} → IsKind kinds.Dedent t → (earlier : Tokens) → in_body earlier ≡ true
       → At (CutHere cut) u x earlier (t ∷ ts)
       → Onward (CutHere cut) u x ts
-  past_dedent kind earlier h (here k) = absurd (body_uncut earlier h k)
-  past_dedent {t = t} kind earlier h (later at) = record { earlier = t ∷ earlier; at = at; start = starts t earlier (ap ends_line kind) }
+  past_dedent {t = t} kind earlier h at =
+      record { earlier = t ∷ earlier; at = onward at (body_uncut earlier h); start = starts t earlier (ap ends_line kind) }
 
   module _ (no_indent : (earlier : Tokens) → CutHere cut earlier → IsKind kinds.Indent u → ⊥) where
     past_indent : {t : SignificantToken} {ts : Tokens} → IsKind kinds.Indent t → (earlier : Tokens) → At (CutHere cut) u x earlier (t ∷ ts)

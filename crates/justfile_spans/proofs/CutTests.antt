@@ -1,6 +1,7 @@
 -- The tests of a loop decide where the cuts are.
 use Rattle.std.proofs.Common.{◌≡◌, ◌≢◌, ◌∙◌, ℕ, suc, ◌+◌, ◌≤◌, Bool, true, false, cond, not, ◌&&◌, nat_eq, List, [], ◌∷◌, ◌⊎◌, inl, inr, ⊎_elim, length, Option, Some, None, refl, sym, ap, arith}
 use Rattle.std.proofs.lemmas.Bool.Decides.{nat_tests}
+use Rattle.std.proofs.lemmas.Bool.{and_parts}
 use Rattle.justfile_vocabulary.specs.declared.token_kind.TokenKind.{TokenKind}
 use Rattle.justfile_vocabulary.specs.declared.token_kind.TokenKind.TheVariants.{BracketL, Comment, Dedent, Eof, Eol, Indent}
 use Rattle.justfile_model.specs.Lexing.Modes.{Mode, mode, mode_after, tail_of}
@@ -56,14 +57,6 @@ joins_not (Some _) next f g = refl
 
 -- ---- the test
 
-first_of_two : (a b : Bool) → (a && b) ≡ true → a ≡ true
-first_of_two true b e = refl
-first_of_two false b e = e
-
-second_of_two : (a b : Bool) → (a && b) ≡ true → b ≡ true
-second_of_two true b e = e
-second_of_two false b e = cc
-
 module _ (t : Tok) (earlier later : List Tok) where
   abbrev test : Bool
   test = is_cut t.kind (length (mode (t ∷ earlier)).levels) (line_kind earlier) (next_kind later)
@@ -74,17 +67,16 @@ module _ (t : Tok) (earlier later : List Tok) where
       let b = nat_eq (length (mode (t ∷ earlier)).levels) 0 in
       let c = not (goes_on (next_kind later)) in
       let d = not (joins (line_kind earlier) (next_kind later)) in
-      let abc = first_of_two (a && b && c) d e in
-      let ab = first_of_two (a && b) c abc in
-      let next : c ≡ true = second_of_two (a && b) c abc in
-      let line : d ≡ true = second_of_two (a && b && c) d e in
+      let abc = and_parts (a && b && c) d e in
+      let ab = and_parts (a && b) c abc.0 in
+      let each = and_parts a b ab.0 in
       record {
-        ends = first_of_two a b ab;
-        outside = no_levels (mode (t ∷ earlier)).levels (second_of_two a b ab);
-        no_body = λ h. let bad : true ≡ false = sym next ∙ ap (λ n. not (goes_on n)) h in cc;
-        no_attributes = λ h. let bad : true ≡ false = sym line ∙ ap (λ l. not (joins l (next_kind later))) h in cc;
-        no_doc = λ h. no_item (next_kind later) (sym (ap (λ l. not (joins l (next_kind later))) h) ∙ line);
-        goes_on = λ h. let bad : true ≡ false = sym next ∙ ap (λ n. not (goes_on n)) h in cc;
+        ends = each.0;
+        outside = no_levels (mode (t ∷ earlier)).levels each.1;
+        no_body = λ h. let bad : true ≡ false = sym ab.1 ∙ ap (λ n. not (goes_on n)) h in cc;
+        no_attributes = λ h. let bad : true ≡ false = sym abc.1 ∙ ap (λ l. not (joins l (next_kind later))) h in cc;
+        no_doc = λ h. no_item (next_kind later) (sym (ap (λ l. not (joins l (next_kind later))) h) ∙ abc.1);
+        goes_on = λ h. let bad : true ≡ false = sym ab.1 ∙ ap (λ n. not (goes_on n)) h in cc;
       }
 
   pub cut_holds : IsCutAfter t earlier later → test ≡ true
