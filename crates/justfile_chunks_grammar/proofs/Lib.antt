@@ -11,7 +11,6 @@ pub mod ItemsAppend
 pub mod ItemsFeatures
 pub mod Joins
 pub mod Moved
-pub mod MovedKeys
 pub mod OneCut
 pub mod OtherDedents
 pub mod Over

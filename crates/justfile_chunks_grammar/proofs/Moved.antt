@@ -15,28 +15,27 @@ use Rattle.justfile_model.specs.LiteralTexts.Literals as literals
 use Rattle.justfile_model.specs.LiteralTexts.Literals.{AreCookedTexts, Expansions, Literal, over_literal}
 use Rattle.justfile_model.specs.Meanings.AttributeKinds.{same_attribute}
 use Rattle.justfile_model.specs.Meanings.AttributeRules.{of_some}
-use Rattle.justfile_model.specs.Lists.Order.{in_order}
-use Rattle.justfile_model.specs.Meanings.Meaning.{◌>>=◌, all_of, entries_of, entry_of}
+use Rattle.justfile_model.specs.Meanings.Meaning.{entries_of}
 use Rattle.justfile_model.specs.Meanings.Rules.{over_broken}
 use Rattle.justfile_model.specs.Trees.ContentLeaf.{literal_value}
-use Rattle.justfile_model.specs.Trees.ContentKeys.{entry_cmp}
-use Rattle.justfile_model.specs.Trees.LeafView.{LeafView, views_tokens}
+use Rattle.justfile_model.specs.Trees.LeafView.{LeafView, tok_content, views_tokens}
 use Rattle.justfile_model.specs.Trees.Tree.{Comment, Construct, Content, Entry, Newline, Tree, WrittenAttribute, WrittenItem, WrittenTree, lexeme, line_of, over_content, over_entry, over_item, over_written_attribute}
 use Rattle.justfile_model.proofs.Derivations.Carry as carry
 use Rattle.justfile_model.proofs.Derivations.Carry.{Alike, Maps, over_items}
 use Rattle.justfile_model.proofs.Derivations.CarryExpressions.{Pairs, Same, cons, nil}
 use Rattle.justfile_model.proofs.Derivations.Leaves.{features_itself, items_itself, items_over, unchanged, written_over}
 use Rattle.justfile_model.proofs.Lists.Binds.{never_some, some_back}
-use Rattle.justfile_model.proofs.Lists.OrderMaps.{in_order_map}
 use Rattle.justfile_model.proofs.Meanings.Ordered.{both_mapped, content_over}
 use Rattle.justfile_model.proofs.Meanings.SameViewRecipes.{construct_broken_over, entries_features_over}
 use Rattle.justfile_model.proofs.Meanings.SameViewRules.{both_over, some_over}
 use Rattle.justfile_model.proofs.Meanings.ShapesMean.{none_of_none}
 use Rattle.justfile_model.proofs.Printed.DocsKept.{any_kind_over, documented_over}
-use Rattle.justfile_model.proofs.Relations.Graph.{SameView, all_over}
+use Rattle.justfile_model.proofs.Relations.AlikeAttributes as alike
+use Rattle.justfile_model.proofs.Relations.AlikeAttributes.{AlikeLiteral, SeesContent}
+use Rattle.justfile_model.proofs.Relations.AlikeMeanings.{entries_alike}
+use Rattle.justfile_model.proofs.Relations.Graph.{SameView, entries_same, graph, sees_graph, written_graph}
 use Rattle.justfile_chunks_grammar.specs.Chunks.{moved, moved_item}
 use Rattle.justfile_chunks_grammar.proofs.CutTokens.{pairs_before}
-use Rattle.justfile_chunks_grammar.proofs.MovedKeys.{same_order}
 
 module _ (offset line : ℕ) where
   abbrev move : Tok → Tok
@@ -139,15 +138,30 @@ module _ (offset line : ℕ) where
 
     -- ---- what attributes mean
 
+    literal_moved : {l l' : Literal Tok} → AlikeLiteral (graph move move) l l' → over_literal move l ≡ l'
+    unfolding graph
+    literal_moved (alike.plain_literal h) = ap literals.Plain h
+    literal_moved (alike.expanded_literal h) = ap literals.Expanded h
+    literal_moved (alike.command_literal h) = ap literals.Command h
+    literal_moved (alike.single_literal h) = ap literals.Single h
+    literal_moved (alike.start_literal h) = ap literals.Start h
+    literal_moved (alike.continue_literal h k) = λ i. literals.Continue (h i) (k i)
+    literal_moved (alike.end_literal h k) = λ i. literals.End (h i) (k i)
+
+    contents : SeesContent (graph move move) view view
+    unfolding graph
+    contents = record {
+      cooked = (sees_graph sees).cooked;
+      name_content = λ n n' h. ap tok_content h;
+      command_content = λ lexeme t t' h. ap tok_content h;
+      position_content = λ kind spelled b b' h. ap tok_content h;
+      literal_content = λ l l' h. sym (content_moved l) ∙ ap view.literal_content (literal_moved h);
+    }
+
     entries_moved : (ws : List (WrittenAttribute Tok Tok))
         → entries_of view (move_written ws) ≡ option_map (map (over_entry move move)) (entries_of view ws)
-    entries_moved ws = ap (λ o. o >>= (λ es. Some (in_order (entry_cmp view) es))) (all_over sees ws) ∙ go (all_of (entry_of view) ws)
-      where
-        go : (o : Option (List (Entry Tok Tok)))
-            → (option_map (map (over_entry move move)) o >>= (λ es. Some (in_order (entry_cmp view) es)))
-            ≡ option_map (map (over_entry move move)) (o >>= (λ es. Some (in_order (entry_cmp view) es)))
-        go None = refl
-        go (Some es) = ap Some (in_order_map (entry_cmp view) (entry_cmp view) (over_entry move move) (same_order offset line expander) es)
+    entries_moved ws =
+        sym (entries_same move move (entries_alike (graph move move) view view (sees_graph sees) contents (written_graph move move ws)))
 
     -- ---- items
 

@@ -22,7 +22,7 @@ use Rattle.justfile_model.proofs.Relations.Projected.{Relates, RelatesOnly, cont
 use Rattle.justfile_model.proofs.Relations.Related.{Alike, Each, Relations}
 
 module _ {A B C D : Type 0} (f : A → C) (g : B → D) where
-  pub graph : Relations (Unit {0}) (Unit {0}) A B (Unit {0}) (Unit {0}) (Unit {0}) (Unit {0}) C D (Unit {0}) (Unit {0})
+  unfoldable pub graph : Relations (Unit {0}) (Unit {0}) A B (Unit {0}) (Unit {0}) (Unit {0}) (Unit {0}) C D (Unit {0}) (Unit {0})
   graph = record {
     run = λ r r'. Unit {0};
     looser = ⊥;
