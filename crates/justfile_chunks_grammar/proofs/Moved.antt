@@ -30,10 +30,9 @@ use Rattle.justfile_model.proofs.Meanings.SameViewRecipes.{construct_broken_over
 use Rattle.justfile_model.proofs.Meanings.SameViewRules.{both_over, some_over}
 use Rattle.justfile_model.proofs.Meanings.ShapesMean.{none_of_none}
 use Rattle.justfile_model.proofs.Printed.DocsKept.{any_kind_over, documented_over}
-use Rattle.justfile_model.proofs.Relations.AlikeAttributes as alike
-use Rattle.justfile_model.proofs.Relations.AlikeAttributes.{AlikeLiteral, SeesContent}
+use Rattle.justfile_model.proofs.Relations.AlikeAttributes.{SeesContent}
 use Rattle.justfile_model.proofs.Relations.AlikeMeanings.{entries_alike}
-use Rattle.justfile_model.proofs.Relations.Graph.{SameView, entries_same, graph, sees_graph, written_graph}
+use Rattle.justfile_model.proofs.Relations.Graph.{SameView, entries_same, graph, literal_graph, sees_graph, written_graph}
 use Rattle.justfile_chunks_grammar.specs.Chunks.{moved, moved_item}
 use Rattle.justfile_chunks_grammar.proofs.CutTokens.{pairs_before}
 
@@ -138,16 +137,6 @@ module _ (offset line : ℕ) where
 
     -- ---- what attributes mean
 
-    literal_moved : {l l' : Literal Tok} → AlikeLiteral (graph move move) l l' → over_literal move l ≡ l'
-    unfolding graph
-    literal_moved (alike.plain_literal h) = ap literals.Plain h
-    literal_moved (alike.expanded_literal h) = ap literals.Expanded h
-    literal_moved (alike.command_literal h) = ap literals.Command h
-    literal_moved (alike.single_literal h) = ap literals.Single h
-    literal_moved (alike.start_literal h) = ap literals.Start h
-    literal_moved (alike.continue_literal h k) = λ i. literals.Continue (h i) (k i)
-    literal_moved (alike.end_literal h k) = λ i. literals.End (h i) (k i)
-
     contents : SeesContent (graph move move) view view
     unfolding graph
     contents = record {
@@ -155,7 +144,7 @@ module _ (offset line : ℕ) where
       name_content = λ n n' h. ap tok_content h;
       command_content = λ lexeme t t' h. ap tok_content h;
       position_content = λ kind spelled b b' h. ap tok_content h;
-      literal_content = λ l l' h. sym (content_moved l) ∙ ap view.literal_content (literal_moved h);
+      literal_content = λ l l' h. sym (content_moved l) ∙ ap view.literal_content (literal_graph move move h);
     }
 
     entries_moved : (ws : List (WrittenAttribute Tok Tok))

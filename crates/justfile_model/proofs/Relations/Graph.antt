@@ -103,7 +103,7 @@ module _ {A B C D : Type 0} (f : A → C) (g : B → D) where
 
   -- ---- what is seen
 
-  literal_graph : {l : Literal A} {l' : Literal C} → AlikeLiteral graph l l' → over_literal f l ≡ l'
+  pub literal_graph : {l : Literal A} {l' : Literal C} → AlikeLiteral graph l l' → over_literal f l ≡ l'
   literal_graph h = literal_same graph f g relates_only h
 
   -- ---- what is broken
