@@ -32,7 +32,8 @@ use Rattle.justfile_model.proofs.Meanings.ShapesMean.{none_of_none}
 use Rattle.justfile_model.proofs.Printed.DocsKept.{any_kind_over, documented_over}
 use Rattle.justfile_model.proofs.Relations.AlikeAttributes.{SeesContent}
 use Rattle.justfile_model.proofs.Relations.AlikeMeanings.{entries_alike}
-use Rattle.justfile_model.proofs.Relations.Graph.{SameView, entries_same, graph, literal_graph, sees_graph, written_graph}
+use Rattle.justfile_model.proofs.Relations.Graph.{SameView, graph, literal_graph, relates_only, sees_graph, written_graph}
+use Rattle.justfile_model.proofs.Relations.Projected.{entries_same}
 use Rattle.justfile_chunks_grammar.specs.Chunks.{moved, moved_item}
 use Rattle.justfile_chunks_grammar.proofs.CutTokens.{pairs_before}
 
@@ -150,7 +151,8 @@ module _ (offset line : ℕ) where
     entries_moved : (ws : List (WrittenAttribute Tok Tok))
         → entries_of view (move_written ws) ≡ option_map (map (over_entry move move)) (entries_of view ws)
     entries_moved ws =
-        sym (entries_same move move (entries_alike (graph move move) view view (sees_graph sees) contents (written_graph move move ws)))
+        let related = entries_alike (graph move move) view view (sees_graph sees) contents (written_graph move move ws) in
+        sym (entries_same (graph move move) move move (relates_only move move) related)
 
     -- ---- items
 

@@ -43,7 +43,7 @@ module _ {A B C D : Type 0} (f : A → C) (g : B → D) where
   unfolding graph
   relates = record { position = λ b. refl; name = λ n. refl; literal = λ l h. refl }
 
-  relates_only : RelatesOnly graph f g
+  pub relates_only : RelatesOnly graph f g
   unfolding graph
   relates_only = record { position = λ b b' h. h; name = λ n n' h. h; literal = λ l t t' h. h }
 

@@ -11,7 +11,7 @@ use Rattle.justfile_parse_header.proofs.dependency.check_stars.Goals as goal
 pub returns-in-None-Some : goal.returns-in-None-Some
 returns-in-None-Some c =
     let all : List TableEntry = stars (map read_argument c.args.arguments.now) in
-    let first = c.in-None-Some.field-0 in
+    let first : TableEntry = (c.in-None-Some.first, c.in-None-Some.field-0-1-1) in
     let none : None ≡ c.args.star = cc in
     let found : first_of all ≡ Some first = cc in
     λ s. subst (λ (o : Option TableEntry). IsParseError c.rule_error.result s ⊥ (place_checked s o all)) none
@@ -21,7 +21,7 @@ returns-in-None-Some c =
 pub returns-in-Some-None : goal.returns-in-Some-None
 returns-in-Some-None c =
     let all : List TableEntry = stars (map read_argument c.args.arguments.now) in
-    let star = c.in-Some-None.field-0 in
+    let star : TableEntry = (c.in-Some-None.star, c.in-Some-None.field-0-1-0) in
     let there : Some star ≡ c.args.star = cc in
     let found : first_of all ≡ None = cc in
     let error = c.error-in-Some-None in

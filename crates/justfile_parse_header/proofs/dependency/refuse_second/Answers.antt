@@ -16,7 +16,7 @@ returns-in-None c =
 pub returns-in-Some : goal.returns-in-Some
 returns-in-Some c =
     let all : List TableEntry = stars (map read_argument c.args.before.now) ++ c.args.star ∷ [] in
-    let second = c.in-Some.field-0 in
+    let second : TableEntry = (c.in-Some.second, c.in-Some.field-0-1) in
     let found : second_from false all ≡ Some second = cc in
     λ s. second_fails s (faults.Compile c.error.result) c.rule_error.result c.rule_error.ensures all second found
     (refuses_second second c.error.result c.error.ensures.token c.error.ensures.kind)
