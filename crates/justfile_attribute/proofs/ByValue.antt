@@ -29,8 +29,8 @@ given_same keys = all keys.entries
     all (e ∷ es) = λ i. record { key = Command e.1.0.token e.0.now; value = value_same e.1.1 i } ∷ all es i
 
 -- the attribute is the same
-pub made_same : (at : Token) (kind : AttributeKind) (boxed : List (Token × Box Expression)) (placed : List Placed) (keys : KeyMap) (keywords : List GivenKey)
-    → map unboxed_pair boxed ≡ placed → map unboxed_entry keys.entries ≡ keywords
-    → new_attribute views_keys at kind (placed_leaves placed) (given_leaves keywords) ≡ new_attribute views_keys at kind (positional_leaves boxed) (key_arguments keys)
-made_same at kind boxed placed keys keywords p k =
+pub made_same : (at : Token) (kind : AttributeKind) (boxed : List (Token × Box Expression)) (placed : List Placed) (keys : KeyMap) (given : List GivenKey)
+    → map unboxed_pair boxed ≡ placed → map unboxed_entry keys.entries ≡ given
+    → new_attribute views_keys at kind (placed_leaves placed) (given_leaves given) ≡ new_attribute views_keys at kind (positional_leaves boxed) (key_arguments keys)
+made_same at kind boxed placed keys given p k =
     λ i. new_attribute views_keys at kind ((ap placed_leaves (sym p) ∙ sym (placed_same boxed)) i) ((ap given_leaves (sym k) ∙ sym (given_same keys)) i)

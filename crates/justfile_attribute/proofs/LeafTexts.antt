@@ -29,8 +29,8 @@ given_text : (o : Option Expression) → ValueHasText views_keys (option_map lea
 given_text None e is = cc
 given_text (Some value) e is = let same : leaf_tree_of value ≡ e = cc in subst (HasText views_keys) same (expression_text value)
 
-pub have_texts : (placed : List Placed) (keywords : List GivenKey) → HasTexts views_keys (placed_leaves placed) (given_leaves keywords)
-have_texts placed keywords = record {
+pub have_texts : (placed : List Placed) (keys : List GivenKey) → HasTexts views_keys (placed_leaves placed) (given_leaves keys)
+have_texts placed keys = record {
   values = All-map (λ (p : PositionalArgument Leaf Token). HasText views_keys p.value) placed_leaf placed (λ k d lt. expression_text (get_or placed k d).1);
-  given = All-map (λ (k : KeyArgument Leaf Token). ValueHasText views_keys k.value) given_leaf keywords (λ k d lt. given_text (get_or keywords k d).1.1);
+  given = All-map (λ (k : KeyArgument Leaf Token). ValueHasText views_keys k.value) given_leaf keys (λ k d lt. given_text (get_or keys k d).1.1);
 }

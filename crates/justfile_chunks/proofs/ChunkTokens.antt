@@ -47,7 +47,7 @@ pub record Split (earlier later part : List Tok) (parts : List (List Tok)) : Typ
   pub cut : IsCut (onto earlier part) rest
   pub others : Parts (onto earlier part) rest parts
 
--- the only part is all tokens, and a cut is after the first one of more
+-- if it is the only part, it is all tokens; else a cut is after the first
 abbrev pub FirstPart : (earlier later : List Tok) → (parts : List (List Tok)) → Type 0
 FirstPart earlier later [] = ⊥
 FirstPart earlier later (part ∷ []) = later ≡ part
@@ -80,7 +80,7 @@ pub record Later (earlier later : List Tok) : Type 0 where
   pub ends : EndsOnce later
   pub empty : EndsEmpty later
 
--- what the last token decides of tokens holds of those at their end
+-- what is said of tokens by their last one holds of each end of them
 rest_of : (E : List Tok → Type 0) → ((t u : Tok) (ts : List Tok) → E (t ∷ u ∷ ts) → E (u ∷ ts)) → (p rest : List Tok) → 0 < length rest → E (p ++ rest) → E rest
 rest_of E step [] rest l h = h
 rest_of E step (t ∷ []) [] l h = absurd (omega arith)
@@ -270,7 +270,7 @@ module _ (b : Borders) where
   abbrev pub closed : Bool → List Tok → List Tok
   closed first part = part ++ (b.eof first part ∷ [])
 
-  -- the part, which is ended if these are after it
+  -- the part, with its end if others follow it
   abbrev pub ended_before : List (List Tok) → Bool → List Tok → List Tok
   ended_before [] first part = part
   ended_before (q ∷ parts) first part = closed first part

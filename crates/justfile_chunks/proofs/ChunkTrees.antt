@@ -40,7 +40,7 @@ module _ (conditions : Conditions) where
       colons_law to_tokens conditions (views_tokens conditions.expander) (map (over_literal lexeme)) (map-append (over_literal lexeme)) ts all features
       (tree_to conditions ts d)
 
-  -- such tokens derive the same
+  -- near tokens derive the same
   near_derive : (ts us : List Tok) {all : Tree} {features : List (Noted Tok)} → Pairs Near (significant_tokens ts) (significant_tokens us)
       → TokensDeriveTree conditions ts all features → TokensDeriveTree conditions us all features
   near_derive ts us n d =

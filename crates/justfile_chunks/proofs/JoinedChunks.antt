@@ -60,7 +60,7 @@ module _ {A B : Type 0} (f : A → B) where
         after_is = m.after_is;
       }
 
-  -- what is said of what elements are mapped to is said of them
+  -- what holds of the images holds of the elements
   of_mapped : (P : B → Type 0) {Q : A → Type 0} → ((a : A) → P (f a) → Q a) → (xs : List A) → AllByRecursion P (map f xs) → AllByRecursion Q xs
   of_mapped P back [] h = tt
   of_mapped P back (x ∷ xs) h = (back x h.0, of_mapped P back xs h.1)

@@ -87,7 +87,7 @@ pub record EndsInFeed (text : List ℕ) : Type 0 where
 abbrev pub Fed : List ℕ → Type 0
 Fed text = (text ≡ []) ⊎ EndsInFeed text
 
--- of a text with bytes
+-- a text with bytes ends in a line feed
 pub feed_of : (text : List ℕ) → Fed text → 0 < length text → EndsInFeed text
 feed_of text (inl e) some = absurd (omega (arith, some, ap length e))
 feed_of text (inr h) some = h

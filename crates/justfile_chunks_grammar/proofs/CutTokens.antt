@@ -36,7 +36,7 @@ significant_append (a ∷ ts) t us glued e = by (significant_append ts t us fals
     by h k true = h
     by h k false = ap (λ l. significant a glued ∷ l) k
 
--- these tokens are those and one more
+-- `xs` are `ys` and the token `t`
 record EndsWith (earlier xs ys : Tokens) (t : Tok) : Type 0 where
   is_glued : Bool
   is : behind earlier xs ≡ significant t is_glued ∷ behind earlier ys
@@ -51,7 +51,7 @@ ends_with (a ∷ ts) t glued earlier e = by (is_whitespace a.kind) (ends_with ts
     by true h k = h
     by false h k = record { is_glued = k.is_glued; is = k.is }
 
--- related tokens, each but whitespace before others
+-- related tokens before related ones; whitespace is left out
 pub pairs_before : {R : SignificantToken → SignificantToken → Type 0} {xs ys ts us : Tokens} (t u : SignificantToken) (white : Bool) → R t u → Pairs R xs ys
     → Pairs R ts us → Pairs R (cond white xs (t ∷ ts)) (cond white ys (u ∷ us))
 pairs_before t u true r p q = p

@@ -31,7 +31,7 @@ only_if (inr n) d = inl (λ p. absurd (n p))
 only_if (inl p) (inl q) = inl (λ x. q)
 only_if (inl p) (inr m) = inr (λ f. m (f p))
 
--- by a test
+-- decided by a test that passes exactly if it holds
 abbrev tested : {P : Type 0} (b : Bool) → (b ≡ true → P) → (P → b ≡ true) → Decided P
 tested true holds passes = inl (holds refl)
 tested false holds passes = inr (λ p. clash refl (passes p))
@@ -40,9 +40,9 @@ abbrev is_nil : {X : Type 0} (xs : List X) → Decided (xs ≡ [])
 is_nil [] = inl refl
 is_nil (x ∷ xs) = inr (λ e. clash refl (ap is_empty e))
 
-abbrev is : (kind : TokenKind) (o : Option TokenKind) → Decided (o ≡ Some kind)
-is kind None = inr (λ e. clash refl (ap is_some e))
-is kind (Some k) = tested (sameb the_type k kind) (λ e. ap Some (same_true the_type tt k kind e)) (λ e. true_same the_type k kind (some_back k kind e))
+abbrev is_kind : (kind : TokenKind) (o : Option TokenKind) → Decided (o ≡ Some kind)
+is_kind kind None = inr (λ e. clash refl (ap is_some e))
+is_kind kind (Some k) = tested (sameb the_type k kind) (λ e. ap Some (same_true the_type tt k kind e)) (λ e. true_same the_type k kind (some_back k kind e))
 
 module _ (t : Tok) (earlier later : List Tok) where
   abbrev all : Decided (ends_line t.kind ≡ true) → Decided ((mode (t ∷ earlier)).levels ≡ []) → Decided (next_kind later ≢ Some kinds.Indent)
@@ -60,10 +60,10 @@ module _ (t : Tok) (earlier later : List Tok) where
 
   abbrev decided : Decided (IsCutAfter t earlier later)
   decided =
-      all (tested (ends_line t.kind) (λ e. e) (λ e. e)) (is_nil (mode (t ∷ earlier)).levels) (refuted (is kinds.Indent (next_kind later)))
-      (refuted (is kinds.BracketL (line_kind earlier)))
-      (only_if (is kinds.Comment (line_kind earlier)) (one_of (is kinds.Comment (next_kind later)) (is kinds.Eol (next_kind later))))
-      (refuted (is kinds.Eof (next_kind later)))
+      all (tested (ends_line t.kind) (λ e. e) (λ e. e)) (is_nil (mode (t ∷ earlier)).levels) (refuted (is_kind kinds.Indent (next_kind later)))
+      (refuted (is_kind kinds.BracketL (line_kind earlier)))
+      (only_if (is_kind kinds.Comment (line_kind earlier)) (one_of (is_kind kinds.Comment (next_kind later)) (is_kind kinds.Eol (next_kind later))))
+      (refuted (is_kind kinds.Eof (next_kind later)))
 
 -- tokens, in parts
 pub record CutUp (earlier later : List Tok) : Type 0 where

@@ -246,12 +246,12 @@ module _ {A B C S : Type 0} (projection : TokenProjection A B C S) (MayEnter : �
       pub over : Over is_any (u ∷ x) (eof ∷ []) whole part
       pub second_derives : Items projection MayEnter second second_features (u ∷ x)
 
-    -- other items, which end in those of a split
-    abbrev longer : {R Q : ManyItems → ManyFeatures → Tokens → Type 0} {items all : ManyItems} {fs all_features : ManyFeatures} {ts whole part : Tokens}
+    -- a split with the same second part
+    abbrev resplit : {R Q : ManyItems → ManyFeatures → Tokens → Type 0} {items all : ManyItems} {fs all_features : ManyFeatures} {ts whole part : Tokens}
         (first : ManyItems) (first_features : ManyFeatures) (y : Split R items fs ts) → all ≡ first ++ y.second
         → all_features ≡ first_features ++ y.second_features → Q first first_features part → Over is_any (u ∷ x) (eof ∷ []) whole part
         → Split Q all all_features whole
-    longer first first_features y is are d o = record {
+    resplit first first_features y is are d o = record {
       first = first;
       second = y.second;
       first_features = first_features;
@@ -287,23 +287,23 @@ module _ {A B C S : Type 0} (projection : TokenProjection A B C S) (MayEnter : �
       items_split (g.end kind) earlier (later at) s = elim at [ ]
       items_split (g.blank {token = t} kind more) earlier (later at) s =
           let y = items_split more (t ∷ earlier) at (starts t earlier (ap ends_line kind)) in
-          longer _ _ y (ap (λ l. tree.Newline ∷ l) y.items_are) y.features_are (g.blank kind y.first_derives) (step refl y.over)
+          resplit _ _ y (ap (λ l. tree.Newline ∷ l) y.items_are) y.features_are (g.blank kind y.first_derives) (step refl y.over)
       items_split (g.comment {token = t} kind r) earlier (later at) s =
           let y = (rest_split r (t ∷ earlier) (ap ends_line kind) at).split in
-          longer _ _ y (ap (λ l. tree.Comment (trim_end t.tok.lexeme) ∷ l) y.items_are) y.features_are (g.comment kind y.first_derives) (step refl y.over)
+          resplit _ _ y (ap (λ l. tree.Comment (trim_end t.tok.lexeme) ∷ l) y.items_are) y.features_are (g.comment kind y.first_derives) (step refl y.over)
       items_split (g.on_line {ws = ws} {c = c} {gs = gs} {cs = cs} a o r) earlier (later at) s =
           let p = (past_line (u ∷ x) u x projection MayEnter a o r earlier s (later at) tt).1 in
           let y = rest_split r p.earlier p.unended p.at in
           let z = again_items.on_line projection MayEnter o y.ahead in
           let w = again_attributes.attribute_lines projection.leaf projection.position MayEnter a z.ahead in
-          longer _ _ y.split (ap (λ l. Construct ws c ∷ l) y.split.items_are) (ap (λ l. record { attributes = gs; content = cs } ∷ l) y.split.features_are)
+          resplit _ _ y.split (ap (λ l. Construct ws c ∷ l) y.split.items_are) (ap (λ l. record { attributes = gs; content = cs } ∷ l) y.split.features_are)
           (g.on_line w.derives z.derives y.split.first_derives) (past (any_of w.over) (past (any_of z.over) y.split.over))
       items_split (g.block {ws = ws} {c = c} {gs = gs} {cs = cs} a b more) earlier (later at) s =
           let p = past_recipe (u ∷ x) u x no_body projection MayEnter a b earlier s (later at) tt in
           let y = items_split more p.earlier p.at p.start in
           let z = again_items.block projection MayEnter b y.part in
           let w = again_attributes.attribute_lines projection.leaf projection.position MayEnter a z.ahead in
-          longer _ _ y (ap (λ l. Construct ws c ∷ tree.Newline ∷ l) y.items_are) (ap (λ l. record { attributes = gs; content = cs } ∷ l) y.features_are)
+          resplit _ _ y (ap (λ l. Construct ws c ∷ tree.Newline ∷ l) y.items_are) (ap (λ l. record { attributes = gs; content = cs } ∷ l) y.features_are)
           (g.block w.derives z.derives y.first_derives) (past (any_of w.over) (past z.over y.over))
 
       rest_split : {items : ManyItems} {fs : ManyFeatures} {whole : Tokens} → ItemRest projection MayEnter items fs whole → (earlier : Tokens)
@@ -312,13 +312,13 @@ module _ {A B C S : Type 0} (projection : TokenProjection A B C S) (MayEnter : �
       rest_split (g.trailing {token = t} kind e) earlier o at =
           let y = (end_split e (t ∷ earlier) (ap ends_line kind) (onward at (no_cut (u ∷ x) earlier o))).split in
           record {
-            split = longer _ _ y (ap (λ l. tree.Comment (trim_end t.tok.lexeme) ∷ l) y.items_are) y.features_are (g.trailing kind y.first_derives)
+            split = resplit _ _ y (ap (λ l. tree.Comment (trim_end t.tok.lexeme) ∷ l) y.items_are) y.features_are (g.trailing kind y.first_derives)
                 (step refl y.over);
             ahead = one (not_name t (ap is_quiet kind));
           }
       rest_split (g.bare e) earlier o at =
           let y = end_split e earlier o at in
-          record { split = longer _ _ y.split y.split.items_are y.split.features_are (g.bare y.split.first_derives) y.split.over; ahead = y.ahead }
+          record { split = resplit _ _ y.split y.split.items_are y.split.features_are (g.bare y.split.first_derives) y.split.over; ahead = y.ahead }
 
       end_split : {items : ManyItems} {fs : ManyFeatures} {whole : Tokens} → g.LineEnd projection MayEnter items fs whole → (earlier : Tokens)
           → LastOpen earlier
@@ -326,7 +326,7 @@ module _ {A B C S : Type 0} (projection : TokenProjection A B C S) (MayEnter : �
       end_split (g.line_end {token = t} kind more) earlier o at =
           let y = items_split more (t ∷ earlier) (onward at (no_cut (u ∷ x) earlier o)) (starts t earlier (ap ends_line kind)) in
           record {
-            split = longer _ _ y (ap (λ l. tree.Newline ∷ l) y.items_are) y.features_are (g.line_end kind y.first_derives) (step refl y.over);
+            split = resplit _ _ y (ap (λ l. tree.Newline ∷ l) y.items_are) y.features_are (g.line_end kind y.first_derives) (step refl y.over);
             ahead = one (not_name t (ap is_quiet kind));
           }
       end_split (g.file_end kind) earlier o at = absurd (none_left (onward at (no_cut (u ∷ x) earlier o)))
@@ -336,10 +336,10 @@ module _ {A B C S : Type 0} (projection : TokenProjection A B C S) (MayEnter : �
     file_split (g.with_byte_order_mark kind more) (here k) = absurd k
     file_split (g.with_byte_order_mark {token = t} kind more) (later at) =
         let y = items_split more (t ∷ []) at (mark_start t kind) in
-        longer _ _ y y.items_are y.features_are (g.with_byte_order_mark kind y.first_derives) (step refl y.over)
+        resplit _ _ y y.items_are y.features_are (g.with_byte_order_mark kind y.first_derives) (step refl y.over)
     file_split (g.without_byte_order_mark more) at =
         let y = items_split more [] at refl in
-        longer _ _ y y.items_are y.features_are (g.without_byte_order_mark y.first_derives) y.over
+        resplit _ _ y y.items_are y.features_are (g.without_byte_order_mark y.first_derives) y.over
 
   -- ---- items after a cut, with the line end before them
 

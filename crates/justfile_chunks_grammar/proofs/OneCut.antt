@@ -145,7 +145,7 @@ module _ {A B C : Type 0} (projection : TokenProjection A B C B) (conditions : C
   abbrev pub TokensDerive : List Tok → Ordered → List (Noted B) → Type 0
   TokensDerive tokens = Derived (significant_tokens tokens)
 
-  -- other tokens that derive what is written derive the same
+  -- tokens that derive the same written items derive the same items and features
   pub rederived : (ts us : List Tok) {all : Ordered} {features : List (Noted B)} (d : TokensDerive ts all features)
       → File projection (BelowLimit conditions.limit) d.written d.by_construct (significant_tokens us) → TokensDerive us all features
   rederived ts us d derives = record {

@@ -67,7 +67,7 @@ module _ (tokens : List Token) (glued : Bool) (table : List Entry) (t : Token) (
       subst (λ b. IsTableTo (tokens ++ t ∷ []) b longer) (sym after_is)
       (subst (IsTableTo (tokens ++ t ∷ []) (not (is_whitespace t.kind))) (sym longer_is) adds)
 
--- the table of the tokens before an index, and of the next one
+-- a step of a loop: the table up to an index, and one token more
 pub goes_on : (tokens : List Token) (index : ℕ) (before after : Bool) (so_far table : List Entry) (t : Token) → index < length tokens → t ≡ get_or tokens index t
     → IsTableTo (take index tokens) before so_far → after ≡ not (is_whitespace t.kind) → table ≡ so_far ++ cond (is_whitespace t.kind) [] ((t, before) ∷ [])
     → IsTableTo (take (index + 1) tokens) after table

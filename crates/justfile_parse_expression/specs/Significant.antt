@@ -1,4 +1,4 @@
--- The table of significant tokens.
+-- The entries of the table of significant tokens, and how the definitions see them.
 use Rattle.std.specs.Prelude.{Bool}
 use Rattle.justfile_token.specs.declared.token.Token.{Token}
 use Rattle.justfile_model.specs.Lexing.Tok.{tok_of}

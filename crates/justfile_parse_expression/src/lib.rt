@@ -1,5 +1,5 @@
-//! From tokens to expressions: the table of significant tokens, how tokens are taken from it, and
-//! how expressions are parsed.
+//! From tokens to expressions: how tokens are taken from the table of significant tokens, and how
+//! expressions are parsed.
 #![tactic(auto)]
 
 mod conditional;

@@ -73,11 +73,11 @@ fn parse_recipe<'src, X: Expander>(
     let attributes = AttributeSet::from_parsed(attributes)?;
     let header = parse_header(&attributes, parser, numerator)?;
     let body = parse_body_after_header(parser)?;
-    let (name, _) = &header.name;
-    check_exclusions(&attributes, parser.alloc, *name)?;
+    let (name, _) = header.name;
+    check_exclusions(&attributes, parser.alloc, name)?;
     let import_offsets = parser.import_offsets.to_vec(parser.alloc)?;
     let number = next_recipe_number(numerator)?;
-    let private = is_private_item(*name, &attributes);
+    let private = is_private_item(name, &attributes);
     let shebang = is_script(&attributes, body.1.as_slice());
     push_parsed_item(
         items,
@@ -89,7 +89,7 @@ fn parse_recipe<'src, X: Expander>(
             doc: None,
             file_depth: parser.file_depth,
             import_offsets,
-            name: Name::from_identifier(*name),
+            name: Name::from_identifier(name),
             number,
             parameters: header.parameters,
             priors: header.priors,

@@ -12,7 +12,7 @@ use justfile_syntax::version::Version;
 use row_items::items::push_items;
 use row_notation::{Answer, field_at, names_of, number_at, path_of, push_fault};
 use row_parts::made::{push_keyed, push_new};
-use std::alloc::{AllocError, AllocFailed, Global};
+use std::alloc::{AllocError, AllocFailed};
 
 /// Writes the attribute that is made of a number of arguments and the names of a text.
 pub(crate) fn makes(answer: &mut Answer, fields: &[String]) {

@@ -495,7 +495,8 @@ module _ (conditions : Conditions) (Hit : Option SignificantToken → Type 0) wh
       (ap (λ b. next_are token_leaves (kinds.QuestionMark ∷ []) (input conditions 0 ts ns) || b) (path_begins conditions ns ts p) ∙ or_true conditions ns _))
       (rw (accept_left kinds.QuestionMark ts conditions 0 ns (path_unmarked p)) (imported_reached false xs ns p n))
   content_reached xs ns (g.optional_import {word = word} {question_mark = mark} {tokens = ts} is kind p) none n =
-      r.by conditions Hit (keyword_read conditions ns xs n (codes "import") word (mark ∷ ts) is (rw (next_taken (kinds.QuestionMark ∷ []) (input conditions 0 (mark ∷ ts) ns) (kind, tt)) refl))
+      r.by conditions Hit (keyword_read conditions ns xs n (codes "import") word (mark ∷ ts) is
+      (rw (next_taken (kinds.QuestionMark ∷ []) (input conditions 0 (mark ∷ ts) ns) (kind, tt)) refl))
       (rw (accept_taken kinds.QuestionMark mark ts conditions 0 ns kind) (imported_reached true xs ns p n))
   content_reached xs ns (g.module_alone {word = word} {name = name} {rest = rest} is kind ends) none n =
       r.by conditions Hit (keyword_read conditions ns xs n (codes "mod") word (name ∷ rest) is
@@ -508,10 +509,12 @@ module _ (conditions : Conditions) (Hit : Option SignificantToken → Type 0) wh
       r.by conditions Hit (keyword_read conditions ns xs n (codes "mod") word (name ∷ ts) is (module_follows conditions ns name ts kind p))
       (rw (accept_left kinds.QuestionMark (name ∷ ts) conditions 0 ns (λ e. cc)) (module_at_reached false xs ns name kind p n))
   content_reached xs ns (g.optional_module_alone {word = word} {question_mark = mark} {name = name} {rest = rest} is kind kind2 no_path) none n =
-      r.by conditions Hit (keyword_read conditions ns xs n (codes "mod") word (mark ∷ name ∷ rest) is (rw (next_taken (kinds.QuestionMark ∷ []) (input conditions 0 (mark ∷ name ∷ rest) ns) (kind, tt)) refl))
+      r.by conditions Hit (keyword_read conditions ns xs n (codes "mod") word (mark ∷ name ∷ rest) is
+      (rw (next_taken (kinds.QuestionMark ∷ []) (input conditions 0 (mark ∷ name ∷ rest) ns) (kind, tt)) refl))
       (rw (accept_taken kinds.QuestionMark mark (name ∷ rest) conditions 0 ns kind) (module_reached true xs ns name kind2 no_path n))
   content_reached xs ns (g.optional_module_at {word = word} {question_mark = mark} {name = name} {tokens = ts} is kind kind2 p) none n =
-      r.by conditions Hit (keyword_read conditions ns xs n (codes "mod") word (mark ∷ name ∷ ts) is (rw (next_taken (kinds.QuestionMark ∷ []) (input conditions 0 (mark ∷ name ∷ ts) ns) (kind, tt)) refl))
+      r.by conditions Hit (keyword_read conditions ns xs n (codes "mod") word (mark ∷ name ∷ ts) is
+      (rw (next_taken (kinds.QuestionMark ∷ []) (input conditions 0 (mark ∷ name ∷ ts) ns) (kind, tt)) refl))
       (rw (accept_taken kinds.QuestionMark mark (name ∷ ts) conditions 0 ns kind) (module_at_reached true xs ns name kind2 p n))
   content_reached xs ns (g.setting {word = word} {name = name} {tokens = ts} is is2 form value) none n =
       r.by conditions Hit (keyword_read conditions ns xs n (codes "set") word (name ∷ ts) is (setting_follows conditions ns name ts is2.is_name value))

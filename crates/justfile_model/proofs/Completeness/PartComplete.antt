@@ -1,12 +1,12 @@
 -- If a part of an item derives, where the depth limit doesn't apply to expressions that begin at some tokens, it is parsed, or the error is
 -- a literal without a text, the depth at one of these tokens, or a rule that it breaks.
-use Rattle.std.proofs.Common.{◌≡◌, ℕ, Bool, true, false, ◌||◌, List, [], ◌∷◌, ◌++◌, ◌+◌, Option, Some, None, Ok, Err, codes, refl, sym, ap, ◌∙◌, append-nil, arith}
+use Rattle.std.proofs.Common.{◌≡◌, ℕ, true, false, ◌||◌, List, [], ◌∷◌, ◌++◌, ◌+◌, Option, Some, None, Ok, codes, refl, sym, ap, ◌∙◌, append-nil, arith}
 use Rattle.justfile_vocabulary.specs.declared.keyword.Keyword.{Keyword}
 use Rattle.justfile_vocabulary.specs.declared.token_kind.TokenKind.TheVariants as kinds
 use Rattle.justfile_model.specs.Grammars.Conditions.{Conditions}
 use Rattle.justfile_model.specs.Grammars.Expressions.{Tokens, IsKind, IsWord, NotNext, PastLimitAt}
 use Rattle.justfile_model.specs.Grammars.Features.{Noted}
-use Rattle.justfile_model.specs.Grammars.Files.{optional_literals, quoted_literals, setting_literals}
+use Rattle.justfile_model.specs.Grammars.Files.{quoted_literals, setting_literals}
 use Rattle.justfile_model.specs.Readers.HeaderReader.{next_binding_number, with_bindings}
 use Rattle.justfile_model.specs.Grammars.ItemParts as g
 use Rattle.justfile_model.specs.Grammars.ItemParts.{EndsLine, FilePath, Names, NoPath, ValueOf}
@@ -22,7 +22,7 @@ use Rattle.justfile_model.specs.Lexing.SignificantTokens.{SignificantToken}
 use Rattle.justfile_model.specs.Lexing.Tok.{Tok}
 use Rattle.justfile_model.specs.Trees.Tree as tree
 use Rattle.justfile_model.specs.Trees.Tree.{Quoted, SettingValue, itself}
-use Rattle.justfile_model.specs.Readers.TreeReader.{State, token_leaves}
+use Rattle.justfile_model.specs.Readers.TreeReader.{token_leaves}
 use Rattle.justfile_model.proofs.Readers.Counters.{after_parameters}
 use Rattle.justfile_model.proofs.Completeness.ExpressionDeep.{expression_deep, sequence_deep}
 use Rattle.justfile_model.proofs.Completeness.HeaderComplete.{obeying_reached}

@@ -1,4 +1,4 @@
--- What the tokens of a construct don't begin with.
+-- What the tokens of a construct, an expression or a value don't begin with.
 use Rattle.std.proofs.Common.{ℕ, Bool, List, ◌∷◌, Option}
 use Rattle.justfile_vocabulary.specs.declared.token_kind.TokenKind.TheVariants as kinds
 use Rattle.justfile_model.specs.Grammars.AttributeLines as lines_of
@@ -69,7 +69,8 @@ pub record StartsValue (ts : Tokens) : Type 0 where
   pub no_star : NotNext kinds.Asterisk ts
 
 module _ {A B : Type 0} (leaf : Tok → A) (position : Tok → B) (MayEnter : ℕ → Option SignificantToken → Type 0) where
-  pub value_starts : {d : ℕ} {v : Expr A B} {fs : List (Noted B)} {ts rest : Tokens} → expressions.Value leaf position MayEnter d v fs ts rest → StartsValue ts × NotNext kinds.Slash ts
+  pub value_starts : {d : ℕ} {v : Expr A B} {fs : List (Noted B)} {ts rest : Tokens}
+      → expressions.Value leaf position MayEnter d v fs ts rest → StartsValue ts × NotNext kinds.Slash ts
   value_starts (expressions.not kind v) = (record { no_closer = λ k. cc; no_star = λ k. cc }, λ k. cc)
   value_starts (expressions.literal kind) = (record { no_closer = λ k. cc; no_star = λ k. cc }, λ k. cc)
   value_starts (expressions.expanded m) = let is = m.marks.is_name in (record { no_closer = λ k. cc; no_star = λ k. cc }, λ k. cc)

@@ -100,7 +100,8 @@ module _ {A B A' B' C D : Type 0} (leaf : Tok → A) (position : Tok → B) (May
   attribute (g.long {name = t} kind kind2 all) us (cons {u = u} s (cons {us = us2} s2 ss)) =
       let x = arguments all us2 ss in
       of_one x (bare_attribute (leaf' u.tok) x.tree)
-      (g.long (kind_of s kind) (kind_of s2 kind2) (subst (λ lexeme. Arguments leaf' position' MayEnter' (name_takes_keys lexeme) x.tree x.features us2 x.after) (weak t u s).lexeme x.derives))
+      (g.long (kind_of s kind) (kind_of s2 kind2)
+      (subst (λ lexeme. Arguments leaf' position' MayEnter' (name_takes_keys lexeme) x.tree x.features us2 x.after) (weak t u s).lexeme x.derives))
       (λ i. bare_attribute (leaves t u s i) (x.alike i))
 
   bracketed : {ws : List (WrittenAttribute A B)} {fs : List (Noted B)} {ts rest : Tokens} → Bracketed leaf position MayEnter ws fs ts rest → (us : Tokens)

@@ -1,5 +1,5 @@
 -- Parts of items derive from at least one token, and have at most as many names as identifiers.
-use Rattle.std.proofs.Common.{◌≡◌, ℕ, ◌+◌, ◌≤◌, List, ◌∷◌, length, Option, arith}
+use Rattle.std.proofs.Common.{ℕ, ◌+◌, ◌≤◌, List, ◌∷◌, length, Option, arith}
 use Rattle.justfile_model.specs.Grammars.Expressions.{Tokens}
 use Rattle.justfile_model.specs.Grammars.Features.{Noted}
 use Rattle.justfile_model.specs.Grammars.ItemParts as g
@@ -8,7 +8,7 @@ use Rattle.justfile_model.specs.Grammars.Settings.{SettingForm}
 use Rattle.justfile_model.specs.Lexing.SignificantTokens.{SignificantToken, identifiers}
 use Rattle.justfile_model.specs.Lexing.Tok.{Tok}
 use Rattle.justfile_model.specs.Trees.Tree.{Quoted, SettingValue}
-use Rattle.justfile_model.proofs.Derivations.ExpressionProgress.{LeftOf, expression_left, fewer, later, next, sequence_left, then}
+use Rattle.justfile_model.proofs.Derivations.ExpressionProgress.{LeftOf, expression_left, later, next, sequence_left}
 use Rattle.justfile_model.proofs.Derivations.HeaderProgress.{counts_one}
 
 module _ {A : Type 0} (leaf : Tok → A) where

@@ -1,6 +1,5 @@
 -- A comparison by kind first: which element a test finds first in sorted order, by its kind.
-use Rattle.std.proofs.Common.{◌≡◌, ◌∙◌, List, [], ◌∷◌, Bool, true, false, cond, ◌||◌, Some, is_some, refl}
-use Rattle.std.specs.Cmp.{IsTotalOrder}
+use Rattle.std.proofs.Common.{◌≡◌, List, [], ◌∷◌, Bool, true, false, cond, ◌||◌, Some, is_some, refl}
 use Rattle.std.specs.List.{find, list_any}
 
 module _ {X : Type 0} (test : X → Bool) where

@@ -1,6 +1,6 @@
 -- What is made of the arguments of `arg` is their meaning, and an error is a rule that is broken.
 use Rattle.std.proofs.Common.{◌≡◌, ◌∙◌, ℕ, List, [], ◌∷◌, ◌++◌, Bool, true, false, not, cond, ◌&&◌, nat_lt, codes, Option, Some, None, Ok, is_some, refl, sym, ap, subst, true≢false}
-use Rattle.std.specs.List.{All, AllByRecursion, find, flat_map}
+use Rattle.std.specs.List.{AllByRecursion, find, flat_map}
 use Rattle.std.proofs.lemmas.List.{append-nil}
 use Rattle.std.proofs.lemmas.List.Elements.{recursion_from_All}
 use Rattle.justfile_model.specs.Meanings.ArgumentTexts.{ValueHasText, KeysHaveTexts}

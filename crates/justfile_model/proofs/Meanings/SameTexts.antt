@@ -159,7 +159,7 @@ module _ {A B : Type 0} (view : LeafView A B) (cooked : Literal A → Option (Li
         (broken_alike current items p.1)
 
 module _ {A B : Type 0} (view : LeafView A B) (cooked : Literal A → Option (List ℕ)) (content : Literal A → LiteralContent) (seen : SeeSame view cooked content) where
-  -- both views are alike to the first, one of them itself
+  -- the first view is alike to itself, and to the other: so both mean the same
   entries_kept : (ws : List (WrittenAttribute A B)) → AllByRecursion (Agreed view cooked content) (written_literals ws)
       → entries_of view ws ≡ entries_of (other view cooked content) ws
   entries_kept ws h =

@@ -5,8 +5,6 @@ use Rattle.std.specs.List.{AllByRecursion}
 use Rattle.std.specs.Option.{option_map}
 use denote.Enum.Declared.{tag_of}
 use Rattle.justfile_vocabulary.specs.contracts.attribute_kind.AttributeKind as attribute_kinds
-use Rattle.justfile_token.specs.StringKind.{kind_of}
-use Rattle.justfile_vocabulary.specs.declared.format_string_part.FormatStringPart.TheVariants as string_parts
 use Rattle.justfile_vocabulary.specs.declared.token_kind.TokenKind.{TokenKind}
 use Rattle.justfile_vocabulary.specs.declared.token_kind.TokenKind.TheVariants as kinds
 use Rattle.justfile_model.specs.Meanings.AttributeKinds.{TextsForm, ApartForm, RowForm, CommandForm, is_optional, kind_form}

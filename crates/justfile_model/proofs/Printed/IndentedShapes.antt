@@ -118,7 +118,6 @@ module _ (current : VersionNumbers) (expander : Expansions) where
       → HaveTexts expander (content_literals content) → IfSome (indentation_in content) IsIndentationLiteral
   content_valid (tree.Alias parts) unbroken texts = tt
   content_valid (tree.Setting parts) unbroken texts = setting_valid parts.keyword parts.name parts.value unbroken texts
-  content_valid (tree.Unexport name) unbroken texts = tt
   content_valid _ unbroken texts = tt
 
   first_valid : (b : Bool) (o found : Option (List ℕ)) → IfSome o IsIndentationLiteral → IfSome found IsIndentationLiteral

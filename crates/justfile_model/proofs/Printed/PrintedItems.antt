@@ -12,7 +12,7 @@ use Rattle.justfile_model.specs.Meanings.Meaning.{entries_of}
 use Rattle.justfile_model.specs.Printed.NormalShape.{normal}
 use Rattle.justfile_model.specs.Printed.Printing.{shown_doc}
 use Rattle.justfile_model.specs.Printed.PrintedAttributes.{after_doc, docs_written, rewritten, rewritten_entries, rewritten_item}
-use Rattle.justfile_model.specs.Trees.Tree.{Alias, Assignment, Comment, Construct, Content, Dependency, DependencyArgument, Entry, Function, Import, Module, Newline, OrderedItem, Recipe, Setting, Shape, Unexport, WrittenItem, WrittenShape, starless, starless_argument, starless_dependency}
+use Rattle.justfile_model.specs.Trees.Tree.{Assignment, Comment, Construct, Content, Dependency, DependencyArgument, Entry, Module, Newline, OrderedItem, Recipe, Shape, WrittenItem, WrittenShape, starless, starless_argument, starless_dependency}
 use Rattle.justfile_model.proofs.Lists.Binds.{nothing_in, some_back}
 use Rattle.justfile_model.proofs.Lists.Mapped.{map_same, option_same}
 use Rattle.justfile_model.proofs.Meanings.Ordered.{construct_meant, meanings_of, undocumented_of}

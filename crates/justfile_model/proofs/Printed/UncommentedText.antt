@@ -2,7 +2,7 @@
 use Rattle.std.proofs.Common.{◌≡◌, ◌∙◌, ℕ, List, [], ◌∷◌, ◌++◌, None, append-nil, append_assoc, codes, refl, ap}
 use Rattle.justfile_model.specs.Printed.NormalShape.{after_newline, normal, normal_rest}
 use Rattle.justfile_model.specs.Printed.Printing.{attribute_text, body_text, after_line_text, content_text, doc_line, entries_text, entry_text, fixed_text, header_text, if_some, item_end, item_text, shown_doc, text}
-use Rattle.justfile_model.specs.Trees.Tree.{Alias, Comment, Construct, Content, Entry, Newline, OrderedItem, Recipe, Setting, Shape, Unexport}
+use Rattle.justfile_model.specs.Trees.Tree.{Alias, Comment, Construct, Content, Entry, Newline, OrderedItem, Recipe, Shape}
 use Rattle.justfile_model.specs.Printed.Uncommented.{HasNoBodyComment, HasNoComments, HasNoEntryComments, HasNoItemComments, uncommented_content, uncommented_entries, uncommented_entry, uncommented_item, uncommented_text}
 
 entry_same : (e : Entry (List ℕ) (Unit {0})) → e.comment ≡ None → entry_text e ≡ uncommented_entry e
@@ -22,8 +22,6 @@ content_same (Alias parts) indentation none = refl
 content_same (Recipe parts) indentation none =
     ap (λ o. header_text parts.header ++ after_line_text o ++ body_text indentation parts.body) none
     ∙ ap (λ t. t ++ body_text indentation parts.body) (append-nil (header_text parts.header))
-content_same (Setting parts) indentation none = refl
-content_same (Unexport name) indentation none = refl
 content_same _ indentation none = refl
 
 item_same : (i : OrderedItem (List ℕ) (Unit {0}) (Unit {0})) (indentation : List ℕ) → HasNoItemComments i → item_text i indentation ≡ uncommented_item i indentation

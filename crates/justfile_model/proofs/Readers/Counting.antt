@@ -1,5 +1,5 @@
 -- There are at most as many bindings and recipes as identifiers.
-use Rattle.std.proofs.Common.{◌≡◌, ℕ, ◌+◌, ◌≤◌, List, ◌∷◌, ◌++◌, Option, Ok, ap, ◌∙◌, arith}
+use Rattle.std.proofs.Common.{◌≡◌, ℕ, ◌+◌, ◌≤◌, List, Option, Ok, ap, ◌∙◌, arith}
 use Rattle.justfile_model.specs.Lexing.Tok.{Tok}
 use Rattle.justfile_model.specs.Lexing.SignificantTokens.{SignificantToken, identifiers}
 use Rattle.justfile_model.specs.Trees.Tree.{Fragment, BodyLine, Content, WrittenItem, WrittenTree}

@@ -255,20 +255,20 @@ module _ (conditions : Conditions) (ns : List (Noted Tok)) where
 
     module _ (word : List ℕ) where
       -- what the word's row says of the next tokens, and what is read by it
-      abbrev follows_it : List (Row X) → Bool
-      follows_it [] = false
-      follows_it (row ∷ rows) = if bytes_eq word row.word then row.follows (here ts) else follows_it rows
+      abbrev follows_word : List (Row X) → Bool
+      follows_word [] = false
+      follows_word (row ∷ rows) = if bytes_eq word row.word then row.follows (here ts) else follows_word rows
 
-      abbrev read_by_it : List (Row X) → X
-      read_by_it [] = otherwise
-      read_by_it (row ∷ rows) = if bytes_eq word row.word then row.read (here ts) else read_by_it rows
+      abbrev read_by_word : List (Row X) → X
+      read_by_word [] = otherwise
+      read_by_word (row ∷ rows) = if bytes_eq word row.word then row.read (here ts) else read_by_word rows
 
-      word_chosen : IsWord word t → (rows : List (Row X)) → follows_it rows ≡ true → chosen rows ≡ read_by_it rows
+      word_chosen : IsWord word t → (rows : List (Row X)) → follows_word rows ≡ true → chosen rows ≡ read_by_word rows
       word_chosen is [] h = refl
       word_chosen is (row ∷ rows) h = go (bytes_eq word row.word) refl h (word_chosen is rows)
         where
-          go : (same : Bool) → bytes_eq word row.word ≡ same → (if same then row.follows (here ts) else follows_it rows) ≡ true
-              → (follows_it rows ≡ true → chosen rows ≡ read_by_it rows) → chosen (row ∷ rows) ≡ (if same then row.read (here ts) else read_by_it rows)
+          go : (same : Bool) → bytes_eq word row.word ≡ same → (if same then row.follows (here ts) else follows_word rows) ≡ true
+              → (follows_word rows ≡ true → chosen rows ≡ read_by_word rows) → chosen (row ∷ rows) ≡ (if same then row.read (here ts) else read_by_word rows)
           go true e h k = rw (word_met row.word row.follows t ts (subst (λ w. IsWord w t) ((bytes_eq-Decides word row.word).0 e) is) h) refl
           go false e h k = rw (other_word word row.word row.follows t ts is e) (k h)
 
@@ -298,6 +298,7 @@ module _ (conditions : Conditions) (ns : List (Noted Tok)) where
         → r.is_module token_leaves (here ts) ≡ false → r.is_set token_leaves (here ts) ≡ false
         → content token_leaves token_attributes xs n (here (t ∷ ts)) ≡ without_keyword token_leaves token_attributes xs n (here (t ∷ ts))
     unfolding content
+    -- in the order of `rows`
     wordless_read t ts a l i m s =
         none_chosen (wordless t ts) t ts rows
         (each_of (λ row. row.follows (here ts) ≡ false) (λ row. accepted (wordless t ts) t ts row ≡ None) (λ row. unfollowed row.word row.follows t ts) rows
@@ -308,7 +309,7 @@ module _ (conditions : Conditions) (ns : List (Noted Tok)) where
     none_read t ts none = wordless_read t ts (assigned_left ts none) (line_left ts none) (imported_left ts none) (module_left ts none) (set_left ts none)
 
     -- a keyword before what has to follow it
-    pub keyword_read : (word : List ℕ) (t : SignificantToken) (ts : Tokens) → IsWord word t → follows_it (wordless t ts) t ts word rows ≡ true
-        → content token_leaves token_attributes xs n (here (t ∷ ts)) ≡ read_by_it (wordless t ts) t ts word rows
+    pub keyword_read : (word : List ℕ) (t : SignificantToken) (ts : Tokens) → IsWord word t → follows_word (wordless t ts) t ts word rows ≡ true
+        → content token_leaves token_attributes xs n (here (t ∷ ts)) ≡ read_by_word (wordless t ts) t ts word rows
     unfolding content
     keyword_read word t ts is h = word_chosen (wordless t ts) t ts word is rows h

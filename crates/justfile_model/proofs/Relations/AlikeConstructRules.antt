@@ -97,7 +97,6 @@ module _ {R T A B S D R' T' A' B' S' D' : Type 0} (rel : Relations R T A B S D R
     form_alike current (alias n) = a.nil
     form_alike current (recipe n ps priors subsequents) = each_both (dependencies_alike priors) (dependencies_alike subsequents)
     form_alike current (setting {keyword = keyword} n v) = value_alike current (setting_form keyword) keyword n v
-    form_alike current (unexport n) = a.nil
     form_alike current _ = a.nil
 
     -- where the attributes mean related ones in order

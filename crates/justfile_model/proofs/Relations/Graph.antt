@@ -48,14 +48,14 @@ module _ {A B C D : Type 0} (f : A → C) (g : B → D) where
   relates_only = record { position = λ b b' h. h; name = λ n n' h. h; literal = λ l t t' h. h }
 
   -- nothing is asked of literals
-  any : (ls : List (Literal A)) → AllByRecursion (λ l. Unit {0}) ls
-  any = all_have (λ l. Unit {0}) (λ l. tt)
+  nothing_asked : (ls : List (Literal A)) → AllByRecursion (λ l. Unit {0}) ls
+  nothing_asked = all_have (λ l. Unit {0}) (λ l. tt)
 
   expr_graph : (e : Expr A B) → Alike graph e (over_expr f g e)
-  expr_graph e = expr_alike graph f g relates e (any (expr_literals e))
+  expr_graph e = expr_alike graph f g relates e (nothing_asked (expr_literals e))
 
   pub written_graph : (ws : List (WrittenAttribute A B)) → Each (AlikeWritten graph) ws (map (over_written_attribute f g) ws)
-  written_graph ws = written_alike graph f g relates ws (any (written_literals ws))
+  written_graph ws = written_alike graph f g relates ws (nothing_asked (written_literals ws))
 
   -- ---- what attributes mean
 
@@ -141,7 +141,7 @@ module _ {A B C D : Type 0} {f : A → C} {g : B → D} {view : LeafView A B} {o
   }
 
   pub content_graph : {Z Z' : Type 0} (h : Z → Z') (c : Content A B Z B) → AlikeForm (graph f g) view other c (over_content f g h g c)
-  content_graph h c = content_alike (graph f g) f g (relates f g) sees_graph h c (any f g (content_literals c))
+  content_graph h c = content_alike (graph f g) f g (relates f g) sees_graph h c (nothing_asked f g (content_literals c))
 
   -- ---- what attributes mean
 

@@ -11,18 +11,17 @@ use Rattle.justfile_vocabulary.specs.declared.token_kind.TokenKind.TheVariants a
 use Rattle.justfile_model.specs.Meanings.AttributeRules.{of_some}
 use Rattle.justfile_model.specs.Grammars.Conditions.{VersionNumbers}
 use Rattle.justfile_model.specs.Readers.ExpressionReader as expressions
-use Rattle.justfile_model.specs.Readers.HeaderReader.{next_binding_number, expression, obeying, with_bindings}
+use Rattle.justfile_model.specs.Readers.HeaderReader.{next_binding_number, with_bindings}
 use Rattle.justfile_model.specs.LiteralTexts.Literals.{string_of}
 use Rattle.justfile_model.specs.Meanings.Meaning.{quoted_text}
 use Rattle.justfile_model.specs.Readers.PartReader as r
 use Rattle.justfile_model.specs.Readers.PartReader.{accept_keyword_before, after_numbered}
-use Rattle.justfile_model.specs.Readers.ReaderState.{◌>>=◌, Counters, Leaves, NoNumber, Read, State, Taken, accept, accept_keyword, choose, expect, is_word, next_are}
+use Rattle.justfile_model.specs.Readers.ReaderState.{◌>>=◌, Counters, Leaves, NoNumber, Read, State, Taken, accept, choose, expect, is_word}
 use Rattle.justfile_model.specs.Meanings.Rules.{Broken, InvalidIndentation, Rule, broken_if}
 use Rattle.justfile_model.specs.Meanings.SettingRules.{literal_broken, plain_literal, text_broken, value_broken, version_broken}
 use Rattle.justfile_model.specs.Grammars.Settings.{ExpressionForm, InterpreterForm, PlainForm, SettingForm, TruthForm}
 use Rattle.justfile_model.specs.Trees.LeafView.{LeafView}
 use Rattle.justfile_model.specs.Lexing.SignificantTokens.{SignificantToken}
-use Rattle.justfile_model.specs.Trees.Tree as tree
 use Rattle.justfile_model.specs.Trees.Tree.{Expr, Exprs, Quoted, SettingValue}
 use Rattle.justfile_model.specs.Meanings.Versions.{is_above, version_of}
 use Rattle.justfile_model.proofs.Relations.AlikeAttributes.{AlikeQuoted, SeesAlike}

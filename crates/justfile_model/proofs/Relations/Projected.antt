@@ -103,7 +103,7 @@ module _ {R T A B S D R' T' A' B' S' D' : Type 0} (rel : Relations R T A B S D R
           let p = parts Has (expr_literals e) (parts_literals start ps) h.1 in
           a.continue [] (on.literal (literals.Continue start t) h.0) (expr_alike e p.0) (parts_alike start ps p.1)
 
-    -- of a list whose elements have these literals
+    -- lists, by the literals of their elements
     each_alike : {X Y : Type 0} {Q : X → Y → Type 0} (k : X → Y) (of : X → List (Literal A)) → ((x : X) → All (of x) → Q x (k x)) → (xs : List X)
         → All (flat_map of xs) → Each Q xs (map k xs)
     each_alike k of one [] h = a.nil

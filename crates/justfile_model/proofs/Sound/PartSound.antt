@@ -1,5 +1,5 @@
 -- Parts of items that are parsed derive. Their literals have texts, and the value of a setting breaks no rule.
-use Rattle.std.proofs.Common.{◌≡◌, ℕ, Bool, true, false, ◌||◌, ◌+◌, ◌⊎◌, inl, inr, List, [], ◌∷◌, ◌++◌, length, Option, Some, None, Ok, Err, IfOk, codes, refl, sym, subst, ap, ◌∙◌}
+use Rattle.std.proofs.Common.{◌≡◌, ℕ, Bool, true, false, ◌||◌, ◌+◌, ◌⊎◌, inl, inr, List, [], ◌∷◌, length, Option, Some, None, Ok, Err, IfOk, codes, refl, sym, subst, ◌∙◌}
 use Rattle.justfile_vocabulary.specs.Keyword.{keyword_named, keyword_text}
 use Rattle.justfile_vocabulary.specs.declared.keyword.Keyword.{Keyword}
 use Rattle.justfile_vocabulary.specs.declared.token_kind.TokenKind.{TokenKind}
@@ -9,11 +9,11 @@ use Rattle.justfile_model.specs.Grammars.Conditions.{Conditions}
 use Rattle.justfile_model.specs.Readers.ExpressionReader as expressions
 use Rattle.justfile_model.specs.Readers.ExpressionReader.{cooked}
 use Rattle.justfile_model.specs.Grammars.Expressions.{Tokens, IsKind, IsWord, NotNext, BelowLimit}
-use Rattle.justfile_model.specs.Grammars.Files.{exprs_literals, optional_literals, quoted_literals, setting_literals}
+use Rattle.justfile_model.specs.Grammars.Files.{quoted_literals, setting_literals}
 use Rattle.justfile_model.specs.Readers.HeaderReader.{next_binding_number, expression}
 use Rattle.justfile_model.specs.Grammars.ItemParts as g
 use Rattle.justfile_model.specs.Grammars.ItemParts.{EndsLine, FilePath, Names, NoPath, NotNamedString, ValueOf}
-use Rattle.justfile_model.specs.LiteralTexts.Literals.{cooked_text, string_of}
+use Rattle.justfile_model.specs.LiteralTexts.Literals.{string_of}
 use Rattle.justfile_model.specs.Readers.PartReader as r
 use Rattle.justfile_model.specs.Readers.PartReader.{after_numbered}
 use Rattle.justfile_model.specs.Meanings.ReadAttribute.{token_view}

@@ -13,7 +13,7 @@ use Rattle.justfile_model.specs.Meanings.AttributeKinds.{same_attribute, known_k
 use Rattle.justfile_model.specs.Trees.ContentKeys.{kind_of_attribute}
 use Rattle.justfile_model.specs.Trees.ContentLeaf.{LiteralValue, literal_value, text_cmp}
 use Rattle.justfile_model.specs.LiteralTexts.Literals.{string_of}
-use Rattle.justfile_model.specs.Meanings.Meaning.{quoted, PositionalArgument, KeyArgument, by_position, by_key, first_of, quoted_text, text_of, at_key, is_count, count_of, entry_of, entries_of}
+use Rattle.justfile_model.specs.Meanings.Meaning.{quoted, PositionalArgument, KeyArgument, by_position, by_key, first_of, quoted_text, text_of, at_key, is_count, count_of, entry_of}
 use Rattle.justfile_model.specs.Meanings.Rules.{Rule, UnknownAttribute, AttributeArgumentCountMismatch, AttributeArgumentExpression, AttributePositionalFollowsKeyword, DuplicateAttributeKey, UnknownAttributeKey, AttributeKeyMissingValue, AttributeKeyTakesNoValue, InvalidSignal, OptionNameContainsEqualSign, OptionNameStartsWithDash, OptionNameEmpty, ShortOptionWithMultipleCharacters, ArgAttributeRequiresOption, FlagAttributeTakesNoValue, FlagAndValueArgAttribute, FlagAndPatternArgAttribute, ArgumentCountValue, ArgumentCountParse, ArgAttributeMinExceedsMax, DuplicateAttribute, DuplicateArgAttribute, DuplicateGroupAttribute, InvalidAttribute, Broken, broken_if}
 use Rattle.justfile_model.specs.Trees.LeafView.{LeafView}
 use Rattle.justfile_model.specs.Trees.Tree as tree

@@ -1,6 +1,5 @@
 -- The rules that a construct with its attributes breaks, each at a token.
 use Rattle.std.specs.Prelude.{List, [], ◌++◌}
-use Rattle.justfile_vocabulary.specs.declared.item_kind.ItemKind.{ItemKind}
 use Rattle.justfile_vocabulary.specs.declared.item_kind.ItemKind.TheVariants as items
 use Rattle.justfile_model.specs.Meanings.AttributeRules.{allowed_broken, attributes_broken, of_some}
 use Rattle.justfile_model.specs.Grammars.Conditions.{VersionNumbers}

@@ -1,5 +1,5 @@
 -- The items that are enabled on the current system, which is Linux, and the indentation that a file sets.
-use Rattle.std.specs.Prelude.{Bool, true, false, ◌||◌, not, List, [], ◌∷◌, Option, Some, None, if◌then◌else◌}
+use Rattle.std.specs.Prelude.{Bool, ◌||◌, not, List, [], ◌∷◌, Option, Some, None, if◌then◌else◌}
 use Rattle.std.specs.List.{list_any}
 use Rattle.justfile_vocabulary.specs.AttributeKind.{is_enabler_kind}
 use Rattle.justfile_vocabulary.specs.declared.attribute_kind.AttributeKind.TheVariants.{Linux, Unix}

@@ -1,5 +1,5 @@
 -- The rules that the value of a setting breaks, each at a token.
-use Rattle.std.specs.Prelude.{ℕ, Bool, true, false, List, [], ◌∷◌, Option, Some, None, if◌then◌else◌}
+use Rattle.std.specs.Prelude.{ℕ, true, false, List, [], Option, Some, None, if◌then◌else◌}
 use Rattle.justfile_vocabulary.specs.Indentation.{indentation_refusal}
 use Rattle.justfile_token.specs.StringKind.{kind_of}
 use Rattle.justfile_vocabulary.specs.declared.keyword.Keyword.{Keyword}

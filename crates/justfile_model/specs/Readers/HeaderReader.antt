@@ -1,12 +1,11 @@
 -- Parses the headers of recipes from left to right, up to the first error, and numbers their parameters.
-use Rattle.std.specs.Prelude.{ℕ, ◌+◌, Bool, true, false, ◌||◌, List, [], ◌∷◌, ◌++◌, length, map, Option, Some, None, Ok, Err, if◌then◌else◌}
+use Rattle.std.specs.Prelude.{ℕ, ◌+◌, Bool, false, ◌||◌, List, [], ◌∷◌, ◌++◌, length, map, Option, Some, None, Ok, Err, if◌then◌else◌}
 use Rattle.std.specs.List.{flat_map}
 use Rattle.std.specs.Option.{option_map}
 use Rattle.justfile_model.specs.declared.parameter_kind.ParameterKind.{ParameterKind}
 use Rattle.justfile_model.specs.declared.parameter_kind.ParameterKind.TheVariants.{Plus, Singular, Star}
 use Rattle.justfile_vocabulary.specs.declared.token_kind.TokenKind.TheVariants as kinds
 use Rattle.justfile_model.specs.declared.level.Level.TheVariants.{Expression}
-use Rattle.justfile_model.specs.Meanings.AttributeRules.{arg_rules}
 use Rattle.justfile_model.specs.Readers.ExpressionReader as expressions
 use Rattle.justfile_model.specs.Grammars.Features.{rules_features}
 use Rattle.justfile_model.specs.Readers.ReaderState.{◌>>=◌, AfterVariadic, BreaksRule, Counters, Leaves, NoNumber, Read, State, Unexpected, accept, accepted, choose, expect, next_are, prepend, refused, with}

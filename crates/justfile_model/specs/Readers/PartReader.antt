@@ -6,7 +6,6 @@ use Rattle.justfile_vocabulary.specs.declared.keyword.Keyword.{Keyword}
 use Rattle.justfile_vocabulary.specs.declared.keyword.Keyword.TheVariants as words
 use Rattle.justfile_vocabulary.specs.declared.token_kind.TokenKind.{TokenKind}
 use Rattle.justfile_vocabulary.specs.declared.token_kind.TokenKind.TheVariants as kinds
-use Rattle.justfile_model.specs.Grammars.Conditions.{VersionNumbers}
 use Rattle.justfile_model.specs.Readers.ExpressionReader as expressions
 use Rattle.justfile_model.specs.Readers.ExpressionReader.{cooked}
 use Rattle.justfile_model.specs.Readers.HeaderReader.{next_binding_number, expression, obeying}

@@ -1,4 +1,4 @@
-use Rattle.std.proofs.Common.{List, subst, take}
+use Rattle.std.proofs.Common.{List, subst}
 use Rattle.std.proofs.lemmas.List.{take_all}
 use Rattle.justfile_token.specs.declared.token.Token.{Token}
 use Rattle.justfile_lex.proofs.TableLemmas.{IsTableTo, all_significant, goes_on}
@@ -11,4 +11,5 @@ loop-token-preserved c =
 pub returns : goal.returns
 returns c =
     let tokens = c.args.tokens.now in
-    all_significant tokens c.loop-token.glued _ (subst (λ (l : List Token). IsTableTo l c.loop-token.glued c.loop-token.table.items) (take_all _ tokens c.loop-token-test.false) c.loop-token.invariant)
+    all_significant tokens c.loop-token.glued _
+    (subst (λ (l : List Token). IsTableTo l c.loop-token.glued c.loop-token.table.items) (take_all _ tokens c.loop-token-test.false) c.loop-token.invariant)

@@ -21,14 +21,16 @@ returns-clause-unparsed g c =
     let Q : List TableEntry → Type 0 = λ t. All (λ entry. Contains c.args.tokens.now entry.0) t in
     IfErr-weaker c.parse_significant.result _ _
     (unparsed_of (conditions_of g.X.Expander.answer c.args.expander.now c.args.current c.args.limit) c.args.tokens.now c.as_slice.result.now c.args.numerator.now c.parse_significant.new.numerator
-    (ap (map significant_of) c.as_slice.ensures.value ∙ c.in_ok-table.ensures.marked) (subst Q (sym c.as_slice.ensures.value) (entries_among c.args.tokens.now c.in_ok-table.table.items c.in_ok-table.ensures)))
+    (ap (map significant_of) c.as_slice.ensures.value ∙ c.in_ok-table.ensures.marked)
+    (subst Q (sym c.as_slice.ensures.value) (entries_among c.args.tokens.now c.in_ok-table.table.items c.in_ok-table.ensures)))
     c.parse_significant.ensures.unread
 
 pub returns-clause-parsed : goal.returns-clause-parsed
 returns-clause-parsed g c =
     let Q : List TableEntry → Type 0 = λ t. All (λ entry. Contains c.args.tokens.now entry.0) t in
     parsed_if (conditions_of g.X.Expander.answer c.args.expander.now c.args.current c.args.limit) c.args.tokens.now c.as_slice.result.now c.args.numerator.now c.parse_significant.new.numerator
-    (ap (map significant_of) c.as_slice.ensures.value ∙ c.in_ok-table.ensures.marked) (subst Q (sym c.as_slice.ensures.value) (entries_among c.args.tokens.now c.in_ok-table.table.items c.in_ok-table.ensures))
+    (ap (map significant_of) c.as_slice.ensures.value ∙ c.in_ok-table.ensures.marked)
+    (subst Q (sym c.as_slice.ensures.value) (entries_among c.args.tokens.now c.in_ok-table.table.items c.in_ok-table.ensures))
     _ c.parse_significant.result c.parse_significant.ensures.file
 
 pub returns-clause-module_path : goal.returns-clause-module_path

@@ -43,7 +43,8 @@ returns-clause-parsed g c =
     IfOk-weaker c.parse_significant.result _ _
     (text_parsed conditions c.args.path.now c.args.src.now c.utf8.src t.tokens t.lexed t.sources old new c.args.source.now.file_depth c.args.source.now.import_offsets.now)
     (parsed_if conditions t.tokens c.as_slice.result.now old new (ap (map significant_of) c.as_slice.ensures.value ∙ t.significant.marked)
-    (subst Q (sym c.as_slice.ensures.value) (entries_among t.tokens c.in_ok-table.table.items t.significant)) c.args.source.now c.parse_significant.result c.parse_significant.ensures.file)
+    (subst Q (sym c.as_slice.ensures.value) (entries_among t.tokens c.in_ok-table.table.items t.significant))
+    c.args.source.now c.parse_significant.result c.parse_significant.ensures.file)
 
 pub returns-clause-moved : goal.returns-clause-moved
 returns-clause-moved g c tokens lexed =

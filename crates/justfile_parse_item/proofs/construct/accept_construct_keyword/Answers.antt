@@ -8,7 +8,8 @@ returns-in_err-accept_keyword_before-clause-takes g c =
     let A = g.X.Expander.answer in
     let p = c.args.parser.now in
     let row = c.in_ok-construct in
-    let none = not_followed (state_of A p) c.in_ok-word.field-0.now (state_from A p (p.next + 1)) (search rules) row.construct row.keyword row.lookahead (search rules) (search rules) in
+    let left = state_from A p (p.next + 1) in
+    let none = not_followed (state_of A p) c.in_ok-word.field-0.now left (search rules) row.construct row.keyword row.lookahead (search rules) (search rules) in
     search (rules, none)
 
 pub returns-clause-takes : goal.returns-clause-takes

@@ -10,8 +10,9 @@ use Rattle.justfile_parse_item_parts.proofs.body.push_fragment.Goals as goal
 pub returns-in-Some-clause-reads : goal.returns-in-Some-clause-reads
 returns-in-Some-clause-reads g c =
     let A = g.X.Expander.answer in
-    one_text c.args.fragments.now.items c.reserve.new.self.items c.push_reserved.new.self.items (fragments.Text c.in-Some.field-0.now.0) c.reserve.ensures.items c.push_reserved.ensures.items
-    (state_of A c.args.parser.now) (state_of A c.accept.new.self) c.in-Some.text.now refl c.in-Some.ensures.takes
+    one_text c.args.fragments.now.items c.reserve.new.self.items c.push_reserved.new.self.items (fragments.Text c.in-Some.field-0.now.0)
+    c.reserve.ensures.items c.push_reserved.ensures.items
+    (state_of A c.args.parser.now) (state_of A c.accept.new.self) c.in-Some.field-0.now refl c.in-Some.ensures.takes
 
 pub returns-clause-reads : goal.returns-clause-reads
 returns-clause-reads g c =
