@@ -11,6 +11,7 @@ use Rattle.justfile_model.specs.Lexing.Lexed.{Lexed}
 use Rattle.justfile_model.specs.Lexing.Modes.{mode, start_mode, tail_of}
 use Rattle.justfile_model.specs.Lexing.Tok.{Tok}
 use Rattle.justfile_model.specs.Trees.Tree.{Tree, lexeme}
+use Rattle.justfile_model.proofs.Lists.AllParts.{of_mapped}
 use Rattle.justfile_round_trip.specs.RoundTrip.{TextDerives}
 use Rattle.justfile_round_trip.proofs.LiteralTexts.LexedModes.{drop_front, take_front}
 use Rattle.justfile_round_trip.proofs.Values.TokenFacts.{Runs}
@@ -59,11 +60,6 @@ module _ {A B : Type 0} (f : A → B) where
         one_is = m.one_is;
         after_is = m.after_is;
       }
-
-  -- what holds of the images holds of the elements
-  of_mapped : (P : B → Type 0) {Q : A → Type 0} → ((a : A) → P (f a) → Q a) → (xs : List A) → AllByRecursion P (map f xs) → AllByRecursion Q xs
-  of_mapped P back [] h = tt
-  of_mapped P back (x ∷ xs) h = (back x h.0, of_mapped P back xs h.1)
 
 -- ---- a text and one of its later chunks
 
@@ -248,7 +244,7 @@ join_law conditions left right before rest skipped after at from h k some skips 
     let r = side_of right from begins.first begins.others begins.are skipped after k skips in
     let later : from ∷ after ≡ map later_chunk (r.part ∷ r.parts) = λ i. sym r.at_is i ∷ sym r.after_is i in
     joined_has left right before rest skipped after at from same begins l r
-    (of_mapped later_chunk _ (λ part. own_tokens conditions (after_feed part)) (r.part ∷ r.parts) (subst (AllByRecursion _) later derive))
+    (of_mapped _ later_chunk (λ part. own_tokens conditions (after_feed part)) (r.part ∷ r.parts) (subst (AllByRecursion _) later derive))
 
 -- the text is long enough for what is before the chunk
 pub front_fits : (text : List ℕ) (at : Chunk) (before after : List Chunk) {from : Chunk} (begins : BeginsAtOnce from) → at.text ≡ from.text

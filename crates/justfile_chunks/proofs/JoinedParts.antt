@@ -114,12 +114,6 @@ front_of (q ∷ front) part parts e later h f p =
           (cut_before (onto e q) s.rest (all_of front ++ us) same s.cut) (m.others us ps next o));
     }
 
--- what is said of elements is said of what they are mapped to
-pub all_mapped : {A B : Type 0} {P : A → Type 0} (Q : B → Type 0) (f : A → B) → ((a : A) → P a → Q (f a)) → (xs : List A) → AllByRecursion P xs
-    → AllByRecursion Q (map f xs)
-all_mapped Q f more [] h = tt
-all_mapped Q f more (x ∷ xs) h = (more x h.0, all_mapped Q f more xs h.1)
-
 -- ---- the same tokens elsewhere
 
 module _ (at from : Chunk) where

@@ -8,6 +8,7 @@ use Rattle.justfile_model.specs.Lexing.Modes.{Mode, mode, mode_after, start_mode
 use Rattle.justfile_model.specs.Lexing.Places.{column_at, is_line_feed, last_line_start, line_of_offset, text_before}
 use Rattle.justfile_model.specs.Lexing.Tok.{Tok, tok}
 use Rattle.justfile_model.proofs.Lexing.LexedLaws.{from_follows}
+use Rattle.justfile_model.proofs.Lists.AllParts.{all_mapped}
 use Rattle.justfile_round_trip.proofs.LiteralTexts.FormatScans.{same_front}
 use Rattle.justfile_round_trip.proofs.LiteralTexts.LexedModes.{LexesIn, Mark, follows, lexed, mark, tok_at, toks}
 use Rattle.justfile_round_trip.proofs.RecipeBodies.Lines.{blank_line}
@@ -16,7 +17,7 @@ use Rattle.justfile_chunks_grammar.specs.Chunks.{Chunk, moved, text_of}
 use Rattle.justfile_chunks_grammar.proofs.Colons.{IndentsHaveColons}
 use Rattle.justfile_chunks.proofs.ChunkTokens.{Later, marks_toks, no_colon}
 use Rattle.justfile_chunks.proofs.JoinedNext.{IsDark, joined_next}
-use Rattle.justfile_chunks.proofs.JoinedParts.{IsAfter, all_mapped, elsewhere}
+use Rattle.justfile_chunks.proofs.JoinedParts.{IsAfter, elsewhere}
 use Rattle.justfile_chunks.proofs.MovedChunks.{none_more, stands}
 use Rattle.justfile_chunks.proofs.MovedPlaces.{Moves, Placed, feeds_append, inside, last_moved, placed, placed_after}
 use Rattle.justfile_chunks.proofs.PartLexes.{but_last, last_lexes, last_marks}

@@ -11,6 +11,7 @@ use Rattle.justfile_model.specs.Lexing.Lexed.{Lexed}
 use Rattle.justfile_model.specs.Lexing.SignificantTokens.{significant_tokens}
 use Rattle.justfile_model.specs.Lexing.Tok.{Tok}
 use Rattle.justfile_model.specs.Trees.Tree.{Tree}
+use Rattle.justfile_model.proofs.Lists.AllParts.{all_mapped, both, parts}
 use Rattle.justfile_round_trip.specs.RoundTrip.{TextDerives}
 use Rattle.justfile_chunks_grammar.specs.Chunks.{AreParts, Chunk, Each, HasTree, chunks_of, joined, later_chunk, text_of}
 use Rattle.justfile_chunks_grammar.proofs.CutUp.{cut_up}
@@ -18,7 +19,7 @@ use Rattle.justfile_chunks.specs.JoinedTexts.{HasChunks, HasParsed, JoinedTreeLa
 use Rattle.justfile_chunks.proofs.ChunkTokens.{from_start}
 use Rattle.justfile_chunks.proofs.ChunkTrees.{trees_derive}
 use Rattle.justfile_chunks.proofs.JoinedChunks.{join_law}
-use Rattle.justfile_chunks.proofs.JoinedParts.{all_mapped, parts_utf8}
+use Rattle.justfile_chunks.proofs.JoinedParts.{parts_utf8}
 
 -- ---- one text
 
@@ -138,14 +139,6 @@ module _ (conditions : Conditions) where
   abbrev IsParsed : ParsedChunk → Type 0
   IsParsed p = TextDerives conditions p.chunk.text p.tree p.features
 
-  all_apart : (xs ys : List ParsedChunk) → AllByRecursion IsParsed (xs ++ ys) → AllByRecursion IsParsed xs × AllByRecursion IsParsed ys
-  all_apart [] ys h = (tt, h)
-  all_apart (x ∷ xs) ys h = let r = all_apart xs ys h.1 in ((h.0, r.0), r.1)
-
-  all_append : (xs ys : List ParsedChunk) → AllByRecursion IsParsed xs → AllByRecursion IsParsed ys → AllByRecursion IsParsed (xs ++ ys)
-  all_append [] ys h k = k
-  all_append (x ∷ xs) ys h k = (h.0, all_append xs ys h.1 k)
-
   module _ (at from : Chunk) where
     chunks_moved : (xs : List ParsedChunk) → map (joined_chunk at from) (chunks_in xs) ≡ chunks_in (map (joined_parsed at from) xs)
     chunks_moved [] = refl
@@ -154,7 +147,7 @@ module _ (conditions : Conditions) where
 pub joined_tree_law : JoinedTreeLaw
 joined_tree_law conditions left right before rest skipped after at from h k some skips same begins =
     let split = λ (xs ys : List ParsedChunk). map-append (λ (p : ParsedChunk). p.chunk) xs ys in
-    let later = (all_apart conditions skipped (from ∷ after) k.derive).1 in
+    let later = (parts (IsParsed conditions) skipped (from ∷ after) k.derive).1 in
     let text = joined_text left at.chunk right from.chunk in
     record {
       has = subst (HasChunks text)
@@ -164,6 +157,6 @@ joined_tree_law conditions left right before rest skipped after at from h k some
           (subst (HasChunks left) (split before (at ∷ rest)) h.has) (subst (HasChunks right) (split skipped (from ∷ after)) k.has)
           (some_chunk before some) (some_chunk skipped skips) same begins
           (all_mapped _ (λ (p : ParsedChunk). p.chunk) (λ p d. (p.tree, p.features, d)) (from ∷ after) later));
-      derive = all_append conditions before (map (joined_parsed at.chunk from.chunk) (from ∷ after)) (all_apart conditions before (at ∷ rest) h.derive).0
+      derive = both (IsParsed conditions) before (map (joined_parsed at.chunk from.chunk) (from ∷ after)) (parts (IsParsed conditions) before (at ∷ rest) h.derive).0
           (all_mapped _ (joined_parsed at.chunk from.chunk) (λ p d. d) (from ∷ after) later);
     }

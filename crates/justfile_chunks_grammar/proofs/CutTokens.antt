@@ -7,7 +7,6 @@ use Rattle.justfile_model.specs.Grammars.Expressions.{Tokens}
 use Rattle.justfile_model.specs.Lexing.Modes.{Mode, mode, mode_after}
 use Rattle.justfile_model.specs.Lexing.SignificantTokens.{SignificantToken, is_whitespace, significant_from}
 use Rattle.justfile_model.specs.Lexing.Tok.{Tok}
-use Rattle.justfile_model.proofs.Derivations.CarryExpressions.{Pairs, cons}
 use Rattle.justfile_model.proofs.Lexing.UnclosedLaws.{reverse_more}
 use Rattle.justfile_chunks_grammar.specs.Chunks.{IsCutAfter, ends_line, line_kind, next_kind}
 use Rattle.justfile_chunks_grammar.proofs.Passes.{CutAfter, CutHere, bare, in_body, line_with, open_after}
@@ -50,12 +49,6 @@ ends_with (a ∷ ts) t glued earlier e = by (is_whitespace a.kind) (ends_with ts
         → EndsWith earlier (cond b xs (significant a glued ∷ xs')) (cond b ys (significant a glued ∷ ys')) t
     by true h k = h
     by false h k = record { is_glued = k.is_glued; is = k.is }
-
--- related tokens before related ones; whitespace is left out
-pub pairs_before : {R : SignificantToken → SignificantToken → Type 0} {xs ys ts us : Tokens} (t u : SignificantToken) (white : Bool) → R t u → Pairs R xs ys
-    → Pairs R ts us → Pairs R (cond white xs (t ∷ ts)) (cond white ys (u ∷ us))
-pairs_before t u true r p q = p
-pairs_before t u false r p q = cons r q
 
 -- ---- what whitespace doesn't change
 

@@ -22,7 +22,7 @@ use Rattle.justfile_model.specs.Trees.LeafView.{LeafView, tok_content, views_tok
 use Rattle.justfile_model.specs.Trees.Tree.{Comment, Construct, Content, Entry, Newline, Tree, WrittenAttribute, WrittenItem, WrittenTree, lexeme, line_of, over_content, over_entry, over_item, over_written_attribute}
 use Rattle.justfile_model.proofs.Derivations.Carry as carry
 use Rattle.justfile_model.proofs.Derivations.Carry.{Alike, Maps, over_items}
-use Rattle.justfile_model.proofs.Derivations.CarryExpressions.{Pairs, Same, cons, nil}
+use Rattle.justfile_model.proofs.Derivations.CarryExpressions.{Pairs, Same, cons, nil, pairs_before}
 use Rattle.justfile_model.proofs.Derivations.Leaves.{features_itself, items_itself, items_over, unchanged, written_over}
 use Rattle.justfile_model.proofs.Lists.Binds.{never_some, some_back}
 use Rattle.justfile_model.proofs.Meanings.Ordered.{both_mapped, content_over}
@@ -35,7 +35,6 @@ use Rattle.justfile_model.proofs.Relations.AlikeMeanings.{entries_alike}
 use Rattle.justfile_model.proofs.Relations.Graph.{SameView, graph, literal_graph, relates_only, sees_graph, written_graph}
 use Rattle.justfile_model.proofs.Relations.Projected.{entries_same}
 use Rattle.justfile_chunks_grammar.specs.Chunks.{moved, moved_item}
-use Rattle.justfile_chunks_grammar.proofs.CutTokens.{pairs_before}
 
 module _ (offset line : ℕ) where
   abbrev move : Tok → Tok

@@ -10,12 +10,12 @@ use Rattle.justfile_model.specs.Grammars.Grammar.{BeforeBody, Block, BodyLines, 
 use Rattle.justfile_model.specs.Lexing.SignificantTokens.{SignificantToken, is_whitespace, significant_from}
 use Rattle.justfile_model.specs.Lexing.Tok.{Tok}
 use Rattle.justfile_model.specs.Trees.Tree.{BodyLine, Content, Fragment, WrittenItem}
-use Rattle.justfile_model.proofs.Derivations.CarryExpressions.{Pairs, cons, nil}
+use Rattle.justfile_model.proofs.Derivations.CarryExpressions.{Pairs, cons, nil, pairs_before}
 use Rattle.justfile_chunks_grammar.proofs.AgainAttributes as again_attributes
 use Rattle.justfile_chunks_grammar.proofs.AgainExpressions as again_expressions
 use Rattle.justfile_chunks_grammar.proofs.AgainHeaders as again_headers
 use Rattle.justfile_chunks_grammar.proofs.AgainItems as again_items
-use Rattle.justfile_chunks_grammar.proofs.CutTokens.{pairs_before, significant}
+use Rattle.justfile_chunks_grammar.proofs.CutTokens.{significant}
 use Rattle.justfile_chunks_grammar.proofs.Over.{Again, Ahead, Front, Over, is_inside, is_quiet, not_name, one, other_end, same, step}
 use Rattle.justfile_chunks_grammar.proofs.Passes.{clash, self_ahead}
 

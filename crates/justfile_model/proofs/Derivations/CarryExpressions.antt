@@ -1,6 +1,6 @@
 -- A derivation of an expression, moved to tokens that differ only in their positions, to other projections, and to another limit. The
 -- features are the same, at the other tokens.
-use Rattle.std.proofs.Common.{◌≡◌, ℕ, Bool, true, false, List, [], ◌∷◌, ◌++◌, map, Option, Some, None, codes, refl, sym, subst, ap, ◌∙◌}
+use Rattle.std.proofs.Common.{◌≡◌, ℕ, Bool, true, false, cond, List, [], ◌∷◌, ◌++◌, map, Option, Some, None, codes, refl, sym, subst, ap, ◌∙◌}
 use Rattle.std.proofs.lemmas.List.{map-append}
 use Rattle.justfile_vocabulary.specs.declared.token_kind.TokenKind.{TokenKind}
 use Rattle.justfile_vocabulary.specs.declared.list_feature.ListFeature.{ListFeature}
@@ -23,6 +23,12 @@ pub record Same (t u : SignificantToken) : Type 0 where
 pub data Pairs (Rel : SignificantToken → SignificantToken → Type 0) : Tokens → Tokens → Type 0 where
   nil : Pairs Rel [] []
   cons : {t u : SignificantToken} {ts us : Tokens} → Rel t u → Pairs Rel ts us → Pairs Rel (t ∷ ts) (u ∷ us)
+
+-- related tokens before related ones; whitespace is left out
+pub pairs_before : {R : SignificantToken → SignificantToken → Type 0} {xs ys ts us : Tokens} (t u : SignificantToken) (white : Bool) → R t u → Pairs R xs ys
+    → Pairs R ts us → Pairs R (cond white xs (t ∷ ts)) (cond white ys (u ∷ us))
+pairs_before t u true r p q = p
+pairs_before t u false r p q = cons r q
 
 -- the partner of a first token
 pub record First (Rel : SignificantToken → SignificantToken → Type 0) (t : SignificantToken) (ts us : Tokens) : Type 0 where

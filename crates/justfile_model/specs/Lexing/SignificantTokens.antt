@@ -3,7 +3,8 @@ use Rattle.std.specs.Prelude.{◌≡◌, ℕ, ◌+◌, Bool, true, false, cond, 
 use Rattle.std.specs.List.{AllByRecursion}
 use Rattle.justfile_vocabulary.specs.declared.token_kind.TokenKind.{TokenKind}
 use Rattle.justfile_vocabulary.specs.declared.token_kind.TokenKind.TheVariants.{BangEquals, BangTilde, BracketL, EqualsEquals, EqualsTilde, Identifier, Plus, PlusPlus, Slash, Whitespace}
-use Rattle.justfile_model.specs.Lexing.Tok.{Tok}
+use Rattle.justfile_token.specs.declared.token.Token.{Token}
+use Rattle.justfile_model.specs.Lexing.Tok.{Tok, tok_of}
 
 -- a token, and whether it is glued to the one before, that is, directly follows it without whitespace
 pub record SignificantToken : Type 0 where
@@ -22,6 +23,14 @@ significant_from glued (t ∷ ts) = cond (is_whitespace t.kind) (significant_fro
 -- the tokens of a file without whitespace; the first one isn't glued
 abbrev pub significant_tokens : List Tok → List SignificantToken
 significant_tokens = significant_from false
+
+-- an entry of the table that the parser reads: a token, and whether it is glued to the one before
+abbrev pub TableEntry : Type 0
+TableEntry = Token × Bool
+
+-- an entry as the definitions see it
+abbrev pub significant_of : TableEntry → SignificantToken
+significant_of entry = record { tok = tok_of entry.0; glued = entry.1 }
 
 abbrev pub is_identifier : TokenKind → Bool
 is_identifier Identifier = true
