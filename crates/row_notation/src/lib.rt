@@ -1,5 +1,5 @@
 //! The notation of rows of data: reads the rows of files and runs them, and writes what they find
-//! like their fields. `docs/ROWS.md` has the notation.
+//! like their fields. Also reads names and paths in fields. `docs/ROWS.md` has the notation.
 #![tactic(auto)]
 
 mod answer;
