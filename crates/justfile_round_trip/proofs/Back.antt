@@ -56,16 +56,11 @@ ends_here _ = true
 
 no_string : (kind : TokenKind) → closes kind ≡ true → is_string kind ≡ false
 no_string kinds.StringToken h = cc
-no_string kinds.FormatStringStart h = cc
-no_string _ h = refl
+no_string _ h = cc
 
 pub here_too : (kind : TokenKind) → closes kind ≡ true → ends_here kind ≡ true
 here_too kinds.ParenL h = cc
-here_too kinds.Slash h = cc
-here_too kinds.PlusPlus h = cc
-here_too kinds.Plus h = cc
-here_too kinds.Identifier h = cc
-here_too _ h = refl
+here_too _ h = cc
 
 other : (f : TokenKind → Bool) (t : SignificantToken) (ts : Tokens) (kind : TokenKind) → f t.tok.kind ≡ true → f kind ≡ false → NotNext kind (t ∷ ts)
 other f t ts kind h n = λ e. let c : true ≡ false = sym h ∙ ap f e ∙ n in cc
@@ -191,18 +186,8 @@ module _ (MayEnter MayEnter' : ℕ → Option SignificantToken → Type 0) (fewe
   as_condition (same_head kind spelled glued) x = g.condition x
 
   value_no_conditional : {d : ℕ} {e : canon.Value} {fs : Shown} {ts rest : Tokens} → Value lexeme nothing MayEnter d e fs ts rest → is_conditional e ≡ true → ⊥
-  value_no_conditional (g.not kind v) = λ e. cc
-  value_no_conditional (g.literal kind) = λ e. cc
-  value_no_conditional (g.expanded m) = λ e. cc
-  value_no_conditional (g.format_literal m) = λ e. cc
-  value_no_conditional (g.format_string m e ps) = λ e. cc
-  value_no_conditional (g.backtick kind) = λ e. cc
-  value_no_conditional (g.assert w kind c kind2) = λ e. cc
-  value_no_conditional (g.assert_message w kind c kind2 m kind3) = λ e. cc
-  value_no_conditional (g.variable kind no_assert unmarked next) = λ e. cc
-  value_no_conditional (g.call kind no_assert kind2 s) = λ e. cc
-  value_no_conditional (g.group kind e kind2) = λ e. cc
-  value_no_conditional (g.list kind s) = λ e. cc
+  value_no_conditional (g.not kind v) e = cc
+  value_no_conditional _ e = cc
 
   conditional_yes : {d : ℕ} {w : SignificantToken} {e : canon.Value} {fs : Shown} {ts rest : Tokens} → Conditional lexeme nothing MayEnter d w e fs ts rest → is_conditional e ≡ true
   conditional_yes (g.if_only c b next) = refl
@@ -276,12 +261,8 @@ module _ (MayEnter MayEnter' : ℕ → Option SignificantToken → Type 0) (fewe
         → Compared lexeme nothing MayEnter' condition d' e fs (significant b (expr_marks e on)) (significant true on)
     compared_back (g.compare Equality l kind r) d' le b on ends stop =
         g.compare Equality (conjunct_back l d' le b _ (ends_before _ _ _ refl) (record { apart = refl })) refl (conjunct_back r d' le false on ends stop.conjunct)
-    compared_back (g.compare Inequality l kind r) d' le b on ends stop =
-        g.compare Inequality (conjunct_back l d' le b _ (ends_before _ _ _ refl) (record { apart = refl })) refl (conjunct_back r d' le false on ends stop.conjunct)
-    compared_back (g.compare RegexMatch l kind r) d' le b on ends stop =
-        g.compare RegexMatch (conjunct_back l d' le b _ (ends_before _ _ _ refl) (record { apart = refl })) refl (conjunct_back r d' le false on ends stop.conjunct)
-    compared_back (g.compare RegexMismatch l kind r) d' le b on ends stop =
-        g.compare RegexMismatch (conjunct_back l d' le b _ (ends_before _ _ _ refl) (record { apart = refl })) refl (conjunct_back r d' le false on ends stop.conjunct)
+    compared_back (g.compare by l kind r) d' le b on ends stop =
+        g.compare by (conjunct_back l d' le b _ (ends_before _ _ _ refl) (record { apart = refl })) refl (conjunct_back r d' le false on ends stop.conjunct)
     compared_back (g.conjunct l next) d' le b on ends stop = g.conjunct (conjunct_back l d' le b on ends stop.conjunct) stop.compared
 
     conjunct_back : {d : ℕ} {e : canon.Value} {fs : Shown} {ts rest : Tokens} → Conjunct lexeme nothing MayEnter d e fs ts rest → (d' : ℕ) → d' ≤ d → (b : Bool) (on : List Mark) → EndsIn (tail e) (significant true on) → StopC (significant true on)
@@ -341,11 +322,8 @@ module _ (MayEnter MayEnter' : ℕ → Option SignificantToken → Type 0) (fewe
     conjunct_conditional : {d : ℕ} {e : canon.Value} {fs : Shown} {ts rest : Tokens} → Conjunct lexeme nothing MayEnter d e fs ts rest → is_conditional e ≡ true → (d' : ℕ) → d' ≤ d → (on : List Mark) → EndsIn (tail e) (significant true on)
         → Conditional lexeme nothing MayEnter' d' (if_token false) e fs (significant true (following (expr_marks e on))) (significant true on)
     conjunct_conditional (g.conditional i c) is d' le on ends = conditional_back c (if_token false) d' le on ends
-    conjunct_conditional (g.root kind r) is d' le on ends = absurd (no_bool (sym is))
-    conjunct_conditional (g.join next l kind r) is d' le on ends = absurd (no_bool (sym is))
-    conjunct_conditional (g.list_concatenation next l kind r) is d' le on ends = absurd (no_bool (sym is))
-    conjunct_conditional (g.concatenation next l kind r) is d' le on ends = absurd (no_bool (sym is))
     conjunct_conditional (g.value next v unjoined) is d' le on ends = absurd (value_no_conditional v is)
+    conjunct_conditional _ is d' le on ends = absurd (no_bool (sym is))
 
     pub value_back : {d : ℕ} {e : canon.Value} {fs : Shown} {ts rest : Tokens} → Value lexeme nothing MayEnter d e fs ts rest → (d' : ℕ) → d' ≤ d → (b : Bool) (on : List Mark) → ValueEndsIn (tail e) (significant true on) → glued_string (significant true on) ≡ false
         → Value lexeme nothing MayEnter' d' e fs (significant b (expr_marks e on)) (significant true on)

@@ -3,7 +3,7 @@ use Rattle.std.proofs.Common.{◌≡◌, ℕ, zero, suc, ◌+◌, ◌<◌, Bool,
 use Rattle.std.specs.Prelude.{◌&&◌, ◌||◌, not, nat_eq}
 use Rattle.std.specs.Str.{bytes_eq}
 use Rattle.std.specs.List.{prefix_len, starts_with}
-use Rattle.std.proofs.lemmas.Bool.{and_parts}
+use Rattle.std.proofs.lemmas.Bool.{and_parts, not-true}
 use Rattle.std.proofs.lemmas.Bool.Decides.{nat_tests}
 use Rattle.std.proofs.lemmas.List.{append-nil}
 use Rattle.justfile_vocabulary.specs.declared.byte_class.ByteClass.{ByteClass}
@@ -230,13 +230,9 @@ module _ (m : Mode) (rest : List ℕ) where
       part_finds k format (delimiter_len k) kinds.FormatStringStart (token_kind_of k.delimiter)
       (λ start l following split len.
       let parts = and_parts format _ start in
-      start_fact k format refl (delimiter_there rest e) (no_backtick (is_backtick k.delimiter) (and_parts m.after_f _ parts.0).1) parts.0 parts.1 l following split len)
+      start_fact k format refl (delimiter_there rest e) (not-true (is_backtick k.delimiter) (and_parts m.after_f _ parts.0).1) parts.0 parts.1 l following split len)
       (λ unfinished no_start l following split len. whole k.delimiter k.indented l following (literal_fact k format rest refl (delimiter_there rest e) unfinished no_start l following split len))
     where
-      no_backtick : (b : Bool) → not b ≡ true → b ≡ false
-      no_backtick true h = cc
-      no_backtick false h = refl
-
       whole : (d : StringDelimiter) (i : Bool) (l following : List ℕ) → IsDelimitedBy (record { delimiter = d; indented = i }) (m.after_f && not (is_backtick d)) l → Fact m (token_kind_of d) l following
       whole delimiters.Backtick i l following f = f.delimited
       whole delimiters.QuoteDouble i l following f = (f.delimited, λ g. record { string = f.delimited; ends = f.whole (ap (λ b. b && true) g) })

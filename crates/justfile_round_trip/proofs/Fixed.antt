@@ -44,20 +44,8 @@ module _ {os : List OpenDelimiter} {ls : List (List ℕ)} {c : Bool} {i : Option
 
   pub token_step : {k : TokenKind} {bs more : List ℕ} {ts : List Mark} → IsFixed k bs → LexesTo (amid os ls c i false) more ts → LexesTo (amid os ls c i f) (bs ++ more) (mark k bs ∷ ts)
   unfolding class_of fixed_token
-  token_step dollar k = fixed_step Dollar 36 [] refl refl refl (λ e. cc) (λ t. refl) k
-  token_step asterisk k = fixed_step Asterisk 42 [] refl refl refl (λ e. cc) (λ t. refl) k
-  token_step comma k = fixed_step Comma 44 [] refl refl refl (λ e. cc) (λ t. refl) k
-  token_step slash k = fixed_step Slash 47 [] refl refl refl (λ e. cc) (λ t. refl) k
-  token_step question_mark k = fixed_step QuestionMark 63 [] refl refl refl (λ e. cc) (λ t. refl) k
-  token_step and k = fixed_step AmpersandAmpersand 38 (38 ∷ []) refl refl refl (λ e. cc) (λ t. refl) k
-  token_step or k = fixed_step BarBar 124 (124 ∷ []) refl refl refl (λ e. cc) (λ t. refl) k
-  token_step plus_plus k = fixed_step PlusPlus 43 (43 ∷ []) refl refl refl (λ e. cc) (λ t. refl) k
-  token_step equals_equals k = fixed_step EqualsEquals 61 (61 ∷ []) refl refl refl (λ e. cc) (λ t. refl) k
-  token_step equals_tilde k = fixed_step EqualsTilde 61 (126 ∷ []) refl refl refl (λ e. cc) (λ t. refl) k
-  token_step bang_equals k = fixed_step BangEquals 33 (61 ∷ []) refl refl refl (λ e. cc) (λ t. refl) k
-  token_step bang_tilde k = fixed_step BangTilde 33 (126 ∷ []) refl refl refl (λ e. cc) (λ t. refl) k
-  token_step colon_equals k = fixed_step ColonEquals 58 (61 ∷ []) refl refl refl (λ e. cc) (λ t. refl) k
-  token_step colon_colon k = fixed_step ColonColon 58 (58 ∷ []) refl refl refl (λ e. cc) (λ t. refl) k
+  token_step dollar r = fixed_step _ _ _ refl refl refl (λ e. cc) (λ t. refl) r
+  token_step _ r = fixed_step _ _ _ refl refl refl (λ e. cc) (λ t. refl) r
 
   pub plus_step : {more : List ℕ} {ts : List Mark} → LexesTo (amid os ls c i false) (32 ∷ more) ts → LexesTo (amid os ls c i f) (43 ∷ 32 ∷ more) (mark Plus (43 ∷ []) ∷ ts)
   unfolding class_of fixed_token

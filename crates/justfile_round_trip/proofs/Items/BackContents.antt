@@ -142,14 +142,9 @@ module _ (limit : ℕ) where
 
   pub content_no_bracket : {content : ShapeContent} → GoodContent limit content → (glued : Bool) (on : List Mark)
       → NotNext kinds.BracketL (significant glued (content_marks content on))
-  content_no_bracket (good.alias named path) glued on = λ e. cc
   content_no_bracket (good.assignment {eager = eager} {export = export} {name = name} {value = value} one named h) glued on = assignment_no_bracket eager export name value glued on
-  content_no_bracket (good.function named names h) glued on = λ e. cc
-  content_no_bracket (good.import h) glued on = λ e. cc
-  content_no_bracket (good.module_named named h) glued on = λ e. cc
   content_no_bracket (good.header {h = h} head) glued on = header_no_bracket h.quiet h.name glued (header_rest_marks h on)
-  content_no_bracket (good.setting named spelled formed h) glued on = λ e. cc
-  content_no_bracket (good.unexport named) glued on = λ e. cc
+  content_no_bracket _ glued on = λ e. cc
 
 -- ---- UTF-8
 

@@ -79,19 +79,12 @@ item_marks (Construct entries content) ts = entries_marks entries (content_marks
 
 -- the lines of the body of a recipe
 abbrev pub body_in : ShapeContent → List ShapeLine
-body_in (Alias parts) = []
-body_in (Assignment parts) = []
-body_in (Function parts) = []
-body_in (Import parts) = []
-body_in (Module parts) = []
 body_in (Recipe parts) = parts.body
-body_in (Setting parts) = []
-body_in (Unexport name) = []
+body_in _ = []
 
 abbrev pub body_of : ShapeItem → List ShapeLine
-body_of Newline = []
-body_of (Comment t) = []
 body_of (Construct entries content) = body_in content
+body_of _ = []
 
 -- after an item
 abbrev pub end_on : ShapeItem → Shape → List ℕ → List ℕ

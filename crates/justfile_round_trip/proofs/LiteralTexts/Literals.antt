@@ -131,11 +131,8 @@ scan k format = pieces_len (hides (raw_texts.Literal k format)) (ends (raw_texts
 pub delimiter_ends : (d : StringDelimiter) (i : Bool) (more : List ℕ) → scan (record { delimiter = d; indented = i }) false 0 (delimiter_of (record { delimiter = d; indented = i }) ++ more) ≡ 0
 unfolding pieces_len
 delimiter_ends delimiters.Backtick true more = refl
-delimiter_ends delimiters.Backtick false more = refl
-delimiter_ends delimiters.QuoteDouble true more = refl
-delimiter_ends delimiters.QuoteDouble false more = refl
-delimiter_ends delimiters.QuoteSingle true more = refl
-delimiter_ends delimiters.QuoteSingle false more = refl
+delimiter_ends _ true more = refl
+delimiter_ends _ _ more = refl
 
 -- whether a delimiter begins inside or at the end of the text is seen from the text and the delimiter after it
 pub same_delimiter : (d : StringDelimiter) (i : Bool) (x : ℕ) (xs a b : List ℕ) → is_delimiter (record { delimiter = d; indented = i }) (x ∷ xs ++ (delimiter_of (record { delimiter = d; indented = i }) ++ a)) ≡ is_delimiter (record { delimiter = d; indented = i }) (x ∷ xs ++ (delimiter_of (record { delimiter = d; indented = i }) ++ b))

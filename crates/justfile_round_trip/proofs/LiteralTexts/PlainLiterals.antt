@@ -4,7 +4,7 @@ use Rattle.std.specs.Prelude.{◌&&◌, ◌||◌}
 use Rattle.std.specs.Fmt.{decimal}
 use Rattle.std.specs.Str.{IsUtf8}
 use Rattle.std.specs.Str.Parse.{AllDigits}
-use Rattle.std.proofs.lemmas.Bool.{and_parts}
+use Rattle.std.proofs.lemmas.Bool.{and_parts, and_right}
 use Rattle.std.proofs.lemmas.Bool.Decides.{nat_tests}
 use Rattle.std.proofs.lemmas.Fmt.{decimal_is_IsNumeral}
 use Rattle.std.proofs.lemmas.Str.{IsUtf8-append, IsUtf8-from_ascii}
@@ -57,10 +57,6 @@ once d = record { delimiter = d; indented = false }
 
 abbrev pub quoted : StringDelimiter → List ℕ → List ℕ
 quoted d inner = quote_of d ∷ (inner ++ (quote_of d ∷ []))
-
-and_right : (a b : Bool) → b ≡ false → (a && b) ≡ false
-and_right true b e = e
-and_right false b e = refl
 
 plain_scan : (d : StringDelimiter) (inner more : List ℕ) → AllPlain inner → scan (once d) false 0 (inner ++ (quote_of d ∷ more)) ≡ length inner
 unfolding pieces_len

@@ -4,9 +4,11 @@ use Rattle.std.proofs.Common.{◌≡◌, ℕ, zero, suc, ◌+◌, ◌-◌, ◌<�
 use Rattle.std.specs.Prelude.{◌&&◌, ◌||◌, not, is_some, reverse}
 use Rattle.std.specs.Char.{is_ascii_alphabetic, is_ascii_digit}
 use Rattle.std.specs.Str.{bytes_eq}
-use Rattle.std.proofs.lemmas.Bool.{and_parts}
+use Rattle.std.proofs.lemmas.Bool.{and_parts, not-true}
 use Rattle.std.proofs.lemmas.Bool.Decides.{nat_tests}
 use Rattle.std.proofs.lemmas.List.{reverse-append, reverse-reverse}
+use Rattle.std.proofs.Math.Bool.{or-false}
+use Rattle.std.proofs.Math.Numerals.{one-add}
 use Rattle.justfile_vocabulary.specs.declared.byte_class.ByteClass.{ByteClass}
 use Rattle.justfile_vocabulary.specs.declared.byte_class.ByteClass.TheVariants as classes
 use Rattle.justfile_vocabulary.specs.declared.token_kind.TokenKind.{TokenKind}
@@ -26,7 +28,7 @@ use Rattle.justfile_round_trip.proofs.LiteralTexts.Inline.{Each, head_is}
 use Rattle.justfile_round_trip.proofs.RecipeBodies.Lines.{at_item, item_next}
 use Rattle.justfile_round_trip.proofs.RecipeBodies.BodyLines.{IsRaw, IsWhite, white_blanks, closes_over, no_feed, swapped}
 use Rattle.justfile_round_trip.proofs.LiteralTexts.RawTexts.{scan, NoFeed, text_no_feed, text_rest, raw_newline, raw_braces}
-use Rattle.justfile_round_trip.proofs.Values.TokenFacts.{Runs, runs_one, runs_from}
+use Rattle.justfile_round_trip.proofs.Values.TokenFacts.{Runs, runs_one, runs_from, whitespace_kind}
 use Rattle.justfile_round_trip.proofs.Good.{pale}
 use Rattle.justfile_round_trip.proofs.RecipeBodies.BodyTokens.{InBody, Clear, At, First, Start, Amid, front, past, Ready, Seen, Empty, NotFirst, Closing, AtEnd, AtBlankLine, AtLevel, TokenFact, token_fact, no_interpolation, in_body_there, stops_here, not_blank_past, past_line_end}
 
@@ -47,10 +49,7 @@ past_after (suc n) [] l = refl
 past_after (suc n) (x ∷ xs) l = go (blank (class_of x)) l (past_after n xs)
   where
     go : (t : Bool) → suc n ≤ cond t (1 + blank_len xs) 0 → (n ≤ blank_len xs → past (drop n xs) ≡ past xs) → past (drop n xs) ≡ drop (cond t (1 + blank_len xs) 0) (x ∷ xs)
-    go true l ih = ih (omega (arith, l)) ∙ ap (λ k. drop k (x ∷ xs)) (up (blank_len xs))
-      where
-        up : (k : ℕ) → suc k ≡ 1 + k
-        up k = omega arith
+    go true l ih = ih (omega (arith, l)) ∙ ap (λ k. drop k (x ∷ xs)) (sym (one-add (blank_len xs)))
     go false l ih = absurd (omega (arith, l))
 
 taken_some : (n : ℕ) (rest : List ℕ) → 0 < n → n ≤ blank_len rest → is_empty (take n rest) ≡ false
@@ -123,11 +122,7 @@ pale_white : (t : List ℕ) → pale t ≡ true → NoFeed t → IsWhite t
 pale_white [] p h = tt
 pale_white (x ∷ xs) p h =
     let parts = and_parts (white (class_of x)) (pale xs) p in
-    (parts.0, off (line_feed (class_of x)) h.0, pale_white xs parts.1 h.1)
-  where
-    off : (b : Bool) → not b ≡ true → b ≡ false
-    off true e = cc
-    off false e = refl
+    (parts.0, not-true (line_feed (class_of x)) h.0, pale_white xs parts.1 h.1)
 
 text_closes : (last : Bool) (t following : List ℕ) → 0 < length t → pale t ≡ true → NoFeed t → closes_levels last (t ++ following) ≡ closes_levels false following
 text_closes last [] following n p h = absurd (omega (arith, n))
@@ -183,21 +178,14 @@ all_blank : (t following : List ℕ) → is_empty (past t) ≡ true → past (t 
 all_blank [] following h = refl
 all_blank (x ∷ xs) following h = go (blank (class_of x)) h (all_blank xs following)
   where
-    up : (k : ℕ) → 1 + k ≡ suc k
-    up k = omega arith
-
     go : (b : Bool) → is_empty (drop (cond b (1 + blank_len xs) 0) (x ∷ xs)) ≡ true → (is_empty (past xs) ≡ true → past (xs ++ following) ≡ past following) → drop (cond b (1 + blank_len (xs ++ following)) 0) (x ∷ xs ++ following) ≡ past following
-    go true h ih = ap (λ n. drop n (x ∷ xs ++ following)) (up (blank_len (xs ++ following))) ∙ ih (sym (ap (λ n. is_empty (drop n (x ∷ xs))) (up (blank_len xs))) ∙ h)
+    go true h ih = ap (λ n. drop n (x ∷ xs ++ following)) (one-add (blank_len (xs ++ following))) ∙ ih (sym (ap (λ n. is_empty (drop n (x ∷ xs))) (one-add (blank_len xs))) ∙ h)
     go false h ih = cc
 
 -- after the text the line ends
 past_end : (following : List ℕ) → begins_blank_line following ≡ true → begins_blank_line (past following) ≡ true
 past_end [] h = refl
-past_end (x ∷ xs) h = ap begins_blank_line (past_line_end x xs (left (is_line_end (x ∷ xs)) h)) ∙ h
-  where
-    left : (b : Bool) → (b || false) ≡ true → b ≡ true
-    left true h = refl
-    left false h = h
+past_end (x ∷ xs) h = ap begins_blank_line (past_line_end x xs (sym (or-false (is_line_end (x ∷ xs))) ∙ h)) ∙ h
 
 on_line : (w : At) (t following : List ℕ) → begins_blank_line following ≡ true → Seen w (t ++ following) → OnLine w t
 on_line First t following h s = tt
@@ -342,11 +330,8 @@ no_blanks (l ∷ []) (y ∷ ys) n d h = let bad : true ≡ false = sym h ∙ ap 
 front_nothing : (x : ℕ) (xs : List ℕ) → front (x ∷ xs) ≡ [] → blank (class_of x) ≡ false
 front_nothing x xs h = by (blank (class_of x)) h
   where
-    up : (k : ℕ) → 1 + k ≡ suc k
-    up k = omega arith
-
     by : (b : Bool) → take (cond b (1 + blank_len xs) 0) (x ∷ xs) ≡ [] → b ≡ false
-    by true h = let bad : x ∷ take (blank_len xs) xs ≡ [] = sym (ap (λ n. take n (x ∷ xs)) (up (blank_len xs))) ∙ h in cc
+    by true h = let bad : x ∷ take (blank_len xs) xs ≡ [] = sym (ap (λ n. take n (x ∷ xs)) (one-add (blank_len xs))) ∙ h in cc
     by false h = refl
 
 module _ (m : Mode) (s : Tok) (k : TokenKind) (n : ℕ) (clear : Clear m) (b : InBody m) (one : length m.levels ≡ 1) where
@@ -483,10 +468,6 @@ BodySound s (t ∷ ts) = BodyToken s t.tok.kind t.tok.lexeme ts × BodySound (si
 next_is : (p : TokenKind → Type 0) → (p kinds.Whitespace → ⊥) → (g : Bool) (u : Tok) (us : List Tok) → p u.kind → NextIs p (significant_from g (u ∷ us))
 next_is p none g u us h = by (is_whitespace u.kind) refl
   where
-    whitespace_kind : (k : TokenKind) → is_whitespace k ≡ true → k ≡ kinds.Whitespace
-    whitespace_kind kinds.Whitespace h = refl
-    whitespace_kind _ h = cc
-
     by : (b : Bool) → is_whitespace u.kind ≡ b → NextIs p (cond b (significant_from false us) (record { tok = u; glued = g } ∷ significant_from true us))
     by true e = absurd (none (subst p (whitespace_kind u.kind e) h))
     by false e = h
@@ -540,10 +521,6 @@ body_sound (t ∷ ts) m rest s glued o r = by (is_whitespace t.kind) refl (λ s'
 
     moved : IsSituation (mode_after t.kind t m) following (situation_after t.kind t.lexeme s)
     moved = situation_step m t.lexeme following t.kind t s refl fact here
-
-    whitespace_kind : (k : TokenKind) → is_whitespace k ≡ true → k ≡ kinds.Whitespace
-    whitespace_kind kinds.Whitespace h = refl
-    whitespace_kind _ h = cc
 
     by : (w : Bool) → is_whitespace t.kind ≡ w → ((s' : Situation) (g' : Bool) → IsSituation (mode_after t.kind t m) following s' → BodySound s' (significant_from g' ts))
         → BodySound s (cond w (significant_from false ts) (record { tok = t; glued = glued } ∷ significant_from true ts))

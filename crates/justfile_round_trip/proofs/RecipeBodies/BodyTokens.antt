@@ -7,6 +7,7 @@ use Rattle.std.proofs.lemmas.Bool.{and_parts}
 use Rattle.std.proofs.lemmas.Bool.Decides.{nat_tests}
 use Rattle.std.proofs.lemmas.List.Sums.{prefix_len-le-length}
 use Rattle.std.proofs.lemmas.Slice.Eq.{bytes_eq-Decides}
+use Rattle.std.proofs.Math.Numerals.{one-add}
 use Rattle.justfile_vocabulary.specs.declared.byte_class.ByteClass.{ByteClass}
 use Rattle.justfile_vocabulary.specs.declared.byte_class.ByteClass.TheVariants as classes
 use Rattle.justfile_token.specs.declared.delimiter.Delimiter.{Delimiter}
@@ -326,10 +327,7 @@ past_blank [] = refl
 past_blank (x ∷ xs) = go (blank (class_of x)) refl (past_blank xs)
   where
     go : (t : Bool) → blank (class_of x) ≡ t → head_is blank (past xs) ≡ false → head_is blank (drop (cond t (1 + blank_len xs) 0) (x ∷ xs)) ≡ false
-    go true h ih = ap (λ n. head_is blank (drop n (x ∷ xs))) (one_and (blank_len xs)) ∙ ih
-      where
-        one_and : (n : ℕ) → 1 + n ≡ suc n
-        one_and n = omega arith
+    go true h ih = ap (λ n. head_is blank (drop n (x ∷ xs))) (one-add (blank_len xs)) ∙ ih
     go false h ih = h
 
 front_length : (rest : List ℕ) → length (front rest) ≡ blank_len rest

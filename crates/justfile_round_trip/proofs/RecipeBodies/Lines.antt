@@ -33,7 +33,7 @@ laid_after m ind line each none =
     let n : blank_len (ind ++ line) ≡ length ind = omega (arith, run_more ind line each, none_here line none) in
     (λ i. layout m (take (n i) (ind ++ line)) (drop (n i) (ind ++ line)) (ind ++ line)) ∙ (λ i. layout m (take_front ind line i) (drop_front ind line i) (ind ++ line))
 
-same_both : {A : Type 0} (b : Bool) (x : A) → cond b x x ≡ x
+pub same_both : {A : Type 0} (b : Bool) (x : A) → cond b x x ≡ x
 same_both true x = refl
 same_both false x = refl
 

@@ -64,11 +64,11 @@ past s t ts k e h = subst (λ x. Sound (around x t.tok.lexeme s) (is_comment x) 
 pub on : (s : Around) (c : Bool) (t : SignificantToken) (ts : Tokens) (k : TokenKind) → IsKind k t → ((l : List ℕ) → around k l s ≡ s) → is_comment k ≡ false → Sound s c (t ∷ ts) → Sound s false ts
 on s c t ts k e same no_comment h = subst (λ b. Sound s b ts) no_comment (subst (λ x. Sound x (is_comment k) ts) (same t.tok.lexeme) (past s t ts k e h.2))
 
-pub operator_around : (by : ConditionalOperator) (s : Around) (l : List ℕ) → around (operator_kind by) l s ≡ s
+operator_around : (by : ConditionalOperator) (s : Around) (l : List ℕ) → around (operator_kind by) l s ≡ s
 operator_around Equality s l = refl
 operator_around _ s l = refl
 
-pub operator_no_comment : (by : ConditionalOperator) → is_comment (operator_kind by) ≡ false
+operator_no_comment : (by : ConditionalOperator) → is_comment (operator_kind by) ≡ false
 operator_no_comment Equality = refl
 operator_no_comment _ = refl
 
