@@ -21,9 +21,9 @@ use Rattle.justfile_round_trip.proofs.Canon.{Shown, Value, ShapeContent, expr_on
 use Rattle.justfile_round_trip.proofs.Headers.CanonHeaders.{path_on, path_rest_on, path_marks, path_rest_marks, at_marks, header_rest_marks}
 use Rattle.justfile_round_trip.proofs.Items.CanonItems.{content_on, content_marks}
 use Rattle.justfile_round_trip.proofs.Items.CanonParts.{ShapeQuoted, ShapeSetting, question_on, other_names_on, names_on, file_path_on, optional_path_on, setting_value_on, other_names_marks, names_marks, file_path_marks, setting_value_marks}
-use Rattle.justfile_round_trip.proofs.Good.{GoodExpression, GoodName, closes, ends_value, significant}
+use Rattle.justfile_round_trip.proofs.Good.{GoodExpression, GoodName, closes, ends_value, significant, GoodNames, GoodPath}
 use Rattle.justfile_round_trip.proofs.Items.GoodContents as good
-use Rattle.justfile_round_trip.proofs.Items.GoodContents.{GoodContent, GoodFilePath, GoodNames, GoodOptionalPath, GoodPath, GoodSettingValue}
+use Rattle.justfile_round_trip.proofs.Items.GoodContents.{GoodContent, GoodFilePath, GoodOptionalPath, GoodSettingValue}
 use Rattle.justfile_round_trip.proofs.Values.WrittenValues.{plain}
 
 -- ---- the tokens that follow: the end of a line
@@ -152,7 +152,7 @@ path_rest_utf8 : (names : List (List ℕ)) (more : List ℕ) → GoodNames names
 path_rest_utf8 [] more h u = u
 path_rest_utf8 (n ∷ names) more h u = plain (codes "::") _ refl (IsUtf8-append n _ h.0.utf8 (path_rest_utf8 names more h.1 u))
 
-path_utf8 : (names : List (List ℕ)) (more : List ℕ) → GoodPath names → IsUtf8 more → IsUtf8 (path_on names more)
+pub path_utf8 : (names : List (List ℕ)) (more : List ℕ) → GoodPath names → IsUtf8 more → IsUtf8 (path_on names more)
 path_utf8 [] more h u = absurd h
 path_utf8 (n ∷ names) more h u = IsUtf8-append n _ h.0.utf8 (path_rest_utf8 names more h.1 u)
 

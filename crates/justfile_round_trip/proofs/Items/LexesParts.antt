@@ -16,10 +16,9 @@ use Rattle.justfile_round_trip.proofs.Canon.{Value, ShapeContent, expr_on, expr_
 use Rattle.justfile_round_trip.proofs.Headers.CanonHeaders.{path_on, path_marks}
 use Rattle.justfile_round_trip.proofs.Items.CanonItems.{content_on, content_marks}
 use Rattle.justfile_round_trip.proofs.Items.CanonParts.{ShapeQuoted, ShapeSetting, path_value, colon_equals, question_on, other_names_on, names_on, file_path_on, optional_path_on, setting_value_on, question_marks, other_names_marks, names_marks, file_path_marks, optional_path_marks, setting_value_marks}
-use Rattle.justfile_round_trip.proofs.Good.{GoodExpression, GoodName, GoodValue}
-use Rattle.justfile_round_trip.proofs.Headers.GoodHeaders.{AreNames, IsPath}
+use Rattle.justfile_round_trip.proofs.Good.{GoodExpression, GoodName, GoodValue, GoodNames, GoodPath}
 use Rattle.justfile_round_trip.proofs.Items.GoodContents as good
-use Rattle.justfile_round_trip.proofs.Items.GoodContents.{GoodContent, GoodFilePath, GoodNames, GoodOptionalPath, GoodPath, GoodSettingValue}
+use Rattle.justfile_round_trip.proofs.Items.GoodContents.{GoodContent, GoodFilePath, GoodOptionalPath, GoodSettingValue}
 use Rattle.justfile_round_trip.proofs.Headers.LexesHeaders.{lex_header, lex_path, path_no_blank}
 use Rattle.justfile_round_trip.proofs.Values.LexesValues.{name_no_blank, value_no_blank, lex_value, lex_values}
 
@@ -80,10 +79,6 @@ value_joins (tree.Truth true) more h = h
 value_joins (tree.Truth false) more h = refl
 value_joins _ more h = refl
 
-names_of : (names : List (List ℕ)) → GoodNames names → AreNames names
-names_of [] h = tt
-names_of (n ∷ names) h = (h.0.is_name, names_of names h.1)
-
 module _ (c : Bool) where
   -- ---- parts
 
@@ -127,10 +122,7 @@ module _ (c : Bool) where
   lex_target : (names : List (List ℕ)) {more : List ℕ} {ts : List Mark} → GoodPath names → head_is joins more ≡ false
       → ((f : Bool) → LexesTo (amid [] [] c None f) more ts)
       → LexesTo (amid [] [] c None false) (32 ∷ path_on names more) (space ∷ path_marks names ts)
-  lex_target [] h stop k = absurd h
-  lex_target (n ∷ names) h stop k =
-      let path : IsPath (n ∷ names) = (h.0.is_name, names_of names h.1) in
-      space_step (path_no_blank (n ∷ names) _ path) (lex_path c [] (n ∷ names) path stop k)
+  lex_target names h stop k = space_step (path_no_blank names _ h) (lex_path c [] names h stop k)
 
   module _ (limit : ℕ) where
     lex_setting_value : (form : SettingForm) (v : ShapeSetting) {more : List ℕ} {ts : List Mark} → GoodSettingValue limit form v → head_is joins more ≡ false

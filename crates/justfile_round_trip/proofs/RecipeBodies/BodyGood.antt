@@ -91,10 +91,10 @@ pub record Walked (P : Situation → Type 0) (ts : Tokens) : Type 0 where
   pub sound : BodySound situation ts
 
 module _ (P : Situation → Type 0) (keep : (k : TokenKind) (l : List ℕ) (s : Situation) → quiet k ≡ true → P s → P (situation_after k l s)) where
-  quiet_walk : (k : TokenKind) (t : SignificantToken) (rest : Tokens) → t.tok.kind ≡ k → quiet k ≡ true → Walked P (t ∷ rest) → Walked P rest
+  pub quiet_walk : (k : TokenKind) (t : SignificantToken) (rest : Tokens) → t.tok.kind ≡ k → quiet k ≡ true → Walked P (t ∷ rest) → Walked P rest
   quiet_walk k t rest e h w = record { situation = situation_after t.tok.kind t.tok.lexeme w.situation; is = keep t.tok.kind t.tok.lexeme w.situation (ap quiet e ∙ h) w.is; sound = w.sound.1 }
 
-  walk_past : (limit : ℕ) {condition : Bool} {depth : ℕ} {e : Value} {ns : Shown} {tokens rest : Tokens} → Expression lexeme nothing (BelowLimit limit) condition depth e ns tokens rest → Walked P tokens → Walked P rest
+  pub walk_past : (limit : ℕ) {condition : Bool} {depth : ℕ} {e : Value} {ns : Shown} {tokens rest : Tokens} → Expression lexeme nothing (BelowLimit limit) condition depth e ns tokens rest → Walked P tokens → Walked P rest
   walk_past limit = walk lexeme nothing (BelowLimit limit) (Walked P) quiet_walk
 
 pub quiet_stays : (k : TokenKind) → quiet k ≡ true → shifts k ≡ false
@@ -168,10 +168,6 @@ module _ (limit : ℕ) where
   walk_inside {rest} colon x s =
       let w = walk_past (λ o. o ≡ interpolating colon) (λ k l o h e. ap (situation_after k l) e ∙ quiet_keeps k l colon h) limit x (record { situation = interpolating colon; is = refl; sound = s }) in
       subst (λ o. BodySound o rest) w.is w.sound
-
-  -- outside bodies
-  pub walk_outside : {condition : Bool} {depth : ℕ} {e : Value} {ns : Shown} {tokens rest : Tokens} → Expression lexeme nothing (BelowLimit limit) condition depth e ns tokens rest → Walked IsOutside tokens → Walked IsOutside rest
-  walk_outside = walk_past IsOutside (λ k l s h o. outside_after k l s (quiet_stays k h) o) limit
 
   trimmed_good : (ls : List ShapeLine) → GoodLines limit ls → GoodLines limit (trimmed ls)
   trimmed_good [] g = tt
