@@ -138,10 +138,10 @@ no_bool e = cc
 -- ---- the first token
 
 pub next_head : {b : Bool} (kind : TokenKind) {ts us : Tokens} → SameHead b ts us → NotNext kind ts → NotNext kind us
-next_head kind (same_head e f g) h = λ x. h (e ∙ x)
+next_head kind (same_head e f g b) h = λ x. h (e ∙ x)
 
 pub word_head : {b : Bool} (w : List ℕ) {ts us : Tokens} → SameHead b ts us → NotWord w ts → NotWord w us
-word_head w (same_head e f g) h = λ i. h (record { is_name = e ∙ i.is_name; spelled = f i.is_name ∙ i.spelled })
+word_head w (same_head e f g b) h = λ i. h (record { is_name = e ∙ i.is_name; spelled = f i.is_name ∙ i.spelled })
 
 -- ---- conditionals
 
@@ -183,7 +183,7 @@ lower limit d d' a b le h = omega (arith, le, h)
 module _ (MayEnter MayEnter' : ℕ → Option SignificantToken → Type 0) (fewer : (d d' : ℕ) (a b : Option SignificantToken) → d' ≤ d → MayEnter d a → MayEnter' d' b) where
   -- from any tokens that it begins alike
   as_condition : {d : ℕ} {e : canon.Value} {fs : Shown} {b : Bool} {ts us rest : Tokens} → SameHead b ts us → Expression lexeme nothing MayEnter' true d e fs us rest → Condition lexeme nothing MayEnter' d e (fs ++ uncompared e tt) us rest
-  as_condition (same_head kind spelled glued) x = g.condition x
+  as_condition (same_head kind spelled glued b) x = g.condition x
 
   value_no_conditional : {d : ℕ} {e : canon.Value} {fs : Shown} {ts rest : Tokens} → Value lexeme nothing MayEnter d e fs ts rest → is_conditional e ≡ true → ⊥
   value_no_conditional (g.not kind v) e = cc

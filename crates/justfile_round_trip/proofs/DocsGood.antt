@@ -149,31 +149,5 @@ module _ (limit : ℕ) where
         subst (λ s. ItemRest limit (docs_written s)) (sym (trailing_kept t (documented sets_doc LineEnd items))) (good.trailing h (good.line_end (docs_good LineEnd more)))
     rest_good (good.bare (good.line_end more)) = good.bare (good.line_end (docs_good LineEnd more))
 
-  -- ---- good items, one by one
-
-  mutual
-    pub start_plain : {s : Shape} → AtStart limit s → AllByRecursion IsPlain s
-    start_plain good.end = tt
-    start_plain (good.newline more) = (tt, start_plain more)
-    start_plain (good.comment h (good.line_end more)) = (tt, (tt, start_plain more))
-    start_plain (good.on_line attributes h more) = (content_no_doc limit h, rest_plain more)
-    start_plain (good.recipe attributes h commented body (good.body_end follows last more)) = (refl, (tt, start_plain more))
-
-    rest_plain : {s : Shape} → ItemRest limit s → AllByRecursion IsPlain s
-    rest_plain (good.trailing h (good.line_end more)) = (tt, (tt, start_plain more))
-    rest_plain (good.bare (good.line_end more)) = (tt, start_plain more)
-
-  comment_utf8 : (t : List ℕ) → GoodComment t → Utf8Comment t
-  comment_utf8 t h = past_hash t h.comment.first h.utf8
-
-  mutual
-    pub start_comments : {s : Shape} → AtStart limit s → AllByRecursion (InComment Utf8Comment) s
-    start_comments good.end = tt
-    start_comments (good.newline more) = (tt, start_comments more)
-    start_comments (good.comment {t = t} h (good.line_end more)) = (comment_utf8 t h, (tt, start_comments more))
-    start_comments (good.on_line attributes h more) = (tt, rest_comments more)
-    start_comments (good.recipe attributes h commented body (good.body_end follows last more)) = (tt, (tt, start_comments more))
-
-    rest_comments : {s : Shape} → ItemRest limit s → AllByRecursion (InComment Utf8Comment) s
-    rest_comments (good.trailing {t = t} h (good.line_end more)) = (comment_utf8 t h, (tt, start_comments more))
-    rest_comments (good.bare (good.line_end more)) = (tt, start_comments more)
+  pub start_comments : {s : Shape} → AtStart limit s → AllByRecursion (InComment Utf8Comment) s
+  start_comments = good.start_has limit (InComment Utf8Comment) tt (λ t h. past_hash t h.comment.first h.utf8) (λ entries content e. tt)

@@ -28,7 +28,7 @@ use Rattle.justfile_model.specs.Printed.Printing.{fixed_text, quoted_argument, s
 use Rattle.justfile_model.specs.Trees.LeafView.{LeafView}
 use Rattle.justfile_model.specs.Trees.Tree as tree
 use Rattle.justfile_model.specs.Trees.Tree.{Quoted, Property, Bound, OptionName, ArgumentRules, Attribute}
-use Rattle.justfile_round_trip.proofs.LiteralTexts.Inline.{Each, IsName}
+use Rattle.justfile_round_trip.proofs.LiteralTexts.Inline.{is_word, word_name}
 use Rattle.justfile_round_trip.proofs.Canon.{Value}
 use Rattle.justfile_round_trip.proofs.Attributes.CanonAttributes.{Argument, Written, ShapeEntry}
 use Rattle.justfile_round_trip.proofs.Good.{GoodName, GoodExpression, GoodOptionalComment}
@@ -37,31 +37,6 @@ use Rattle.justfile_round_trip.proofs.LiteralTexts.PlainLiterals.{some_limit, nu
 use Rattle.justfile_round_trip.proofs.Values.WrittenValues.{all_ascii, plain}
 
 -- ---- names of kinds and of keys
-
-abbrev all_word : List ℕ → Bool
-all_word [] = true
-all_word (b ∷ bs) = in_word (class_of b) && all_word bs
-
-each_word : (bs : List ℕ) → all_word bs ≡ true → Each in_word bs
-each_word [] h = tt
-each_word (b ∷ bs) h = let p = and_parts (in_word (class_of b)) (all_word bs) h in (p.0, each_word bs p.1)
-
-abbrev starts : ByteClass → Bool
-starts classes.IdentifierStart = true
-starts _ = false
-
-starts_name : (c : ByteClass) → starts c ≡ true → c ≡ classes.IdentifierStart
-starts_name classes.IdentifierStart h = refl
-starts_name _ h = cc
-
--- a fixed word that is a name
-abbrev is_word : List ℕ → Bool
-is_word [] = false
-is_word (b ∷ bs) = starts (class_of b) && all_word bs
-
-word_name : (w : List ℕ) → is_word w ≡ true → IsName w
-word_name [] h = cc
-word_name (b ∷ bs) h = let p = and_parts (starts (class_of b)) (all_word bs) h in (starts_name (class_of b) p.0, each_word bs p.1)
 
 word_good : (w : List ℕ) → is_word w ≡ true → all_ascii w ≡ true → GoodName (fixed_text w)
 unfolding fixed_text

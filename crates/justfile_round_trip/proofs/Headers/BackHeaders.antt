@@ -19,7 +19,7 @@ use Rattle.justfile_round_trip.proofs.Headers.CanonHeaders.{ShapeParameter, Shap
 use Rattle.justfile_round_trip.proofs.Ends.{End, tail, EndsIn, ValueEndsIn, expression_head}
 use Rattle.justfile_round_trip.proofs.Good.{significant, ends_value}
 use Rattle.justfile_round_trip.proofs.Headers.GoodHeaders.{HeaderDerivesBack}
-use Rattle.justfile_round_trip.proofs.SideBySide.{apart, begins_too, ends_too, not_begun, expression_begins, expression_ends, stop_beside, value_ends, value_ends_too}
+use Rattle.justfile_round_trip.proofs.SideBySide.{apart, ends_too, not_begun, expression_ends, stop_beside, value_ends, value_ends_too}
 
 -- ---- the tokens that follow
 
@@ -206,9 +206,9 @@ module _ (limit : ℕ) where
         derives = g.plain (expression_back (BelowLimit limit) (BelowLimit limit) (lower limit) x 0 (omega arith) false _ (q.ends (expression_ends (BelowLimit limit) x)) q.stops) q.derives;
         ends = λ {x} h. ends_too x head h;
         value_ends = λ {x} h. value_ends_too x head h;
-        stops = stop_beside head (expression_begins (BelowLimit limit) x);
+        stops = stop_beside head;
         apart = apart head;
-        no_colons = λ c. not_begun kinds.ColonColon (begins_too head (expression_begins (BelowLimit limit) x)) refl;
+        no_colons = λ c. not_begun kinds.ColonColon head refl;
       }
   arguments_back (g.starred {e = e'} kind v r) on =
       let q = arguments_back r on in

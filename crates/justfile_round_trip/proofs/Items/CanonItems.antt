@@ -1,5 +1,7 @@
 -- The printer of items with a continuation: text before text, and tokens before tokens.
 use Rattle.std.proofs.Common.{◌≡◌, ℕ, List, [], ◌∷◌, ◌++◌, Option, None, refl, ap, ◌∙◌, append_assoc, codes}
+use Rattle.std.specs.List.{AllByRecursion}
+use Rattle.justfile_model.proofs.Printed.PlainFiles.{IsPlain}
 use Rattle.justfile_token.specs.Path.{path_text}
 use Rattle.justfile_vocabulary.specs.declared.token_kind.TokenKind.TheVariants as kinds
 use Rattle.justfile_model.specs.Grammars.Docs.{doc_of}
@@ -15,16 +17,6 @@ use Rattle.justfile_round_trip.proofs.Items.CanonParts.{colon_equals, word_on, q
 -- a recipe without a doc, after attributes
 abbrev pub recipe_item : List ShapeEntry → ShapeHeader → (comment : Option (List ℕ)) → List ShapeLine → ShapeItem
 recipe_item entries header comment body = Construct entries (Recipe (bare_recipe header comment body))
-
--- the item has no doc
-abbrev pub NoDoc : ShapeItem → Type 0
-NoDoc Newline = Unit {0}
-NoDoc (Comment t) = Unit {0}
-NoDoc (Construct entries content) = doc_of content ≡ None
-
-abbrev pub NoDocs : Shape → Type 0
-NoDocs [] = Unit {0}
-NoDocs (i ∷ items) = NoDoc i × NoDocs items
 
 abbrev pub alias_on : AliasParts (List ℕ) → List ℕ → List ℕ
 alias_on a more = codes "alias " ++ (a.name ++ (codes " := " ++ path_on a.target more))
@@ -173,7 +165,7 @@ content_is ind (Recipe parts) more =
 content_is ind (Setting parts) more = setting_is parts more
 content_is ind (Unexport name) more = unexport_is name more
 
-item_is : (ind : List ℕ) (i : ShapeItem) (more : List ℕ) → NoDoc i → item_text i ind ++ more ≡ item_on ind i more
+item_is : (ind : List ℕ) (i : ShapeItem) (more : List ℕ) → IsPlain i → item_text i ind ++ more ≡ item_on ind i more
 item_is ind Newline more h = refl
 item_is ind (Comment t) more h = refl
 item_is ind (Construct entries content) more h =
@@ -190,7 +182,7 @@ end_is (Construct entries content) [] more = refl
 end_is (Construct entries content) (Newline ∷ items) more = refl
 end_is (Construct entries content) (j ∷ items) more = refl
 
-pub text_is : (items : Shape) (indentation : List ℕ) → NoDocs items → text items indentation ≡ text_on indentation items
+pub text_is : (items : Shape) (indentation : List ℕ) → AllByRecursion IsPlain items → text items indentation ≡ text_on indentation items
 text_is [] indentation h = refl
 text_is (i ∷ items) indentation h =
     append_assoc (item_text i indentation) (item_end i items) (text items indentation)

@@ -5,6 +5,7 @@ use Rattle.std.specs.List.{prefix_len, count_by}
 use Rattle.std.proofs.lemmas.List.{append-nil}
 use Rattle.std.specs.Str.{bytes_eq}
 use Rattle.std.proofs.lemmas.Bool.Decides.{nat_tests}
+use Rattle.std.proofs.lemmas.Bool.{and_parts}
 use Rattle.justfile_vocabulary.specs.declared.byte_class.ByteClass.{ByteClass}
 use Rattle.justfile_vocabulary.specs.declared.byte_class.ByteClass.TheVariants as classes
 use Rattle.justfile_token.specs.declared.delimiter.Delimiter.TheVariants.{FormatString}
@@ -68,6 +69,33 @@ abbrev pub IsName : List ℕ → Type 0
 IsName [] = ⊥
 IsName (c ∷ cs) = (class_of c ≡ classes.IdentifierStart) × Each in_word cs
 
+-- ---- fixed words
+
+abbrev all_word : List ℕ → Bool
+all_word [] = true
+all_word (b ∷ bs) = in_word (class_of b) && all_word bs
+
+each_word : (bs : List ℕ) → all_word bs ≡ true → Each in_word bs
+each_word [] h = tt
+each_word (b ∷ bs) h = let p = and_parts (in_word (class_of b)) (all_word bs) h in (p.0, each_word bs p.1)
+
+abbrev starts : ByteClass → Bool
+starts classes.IdentifierStart = true
+starts _ = false
+
+starts_name : (c : ByteClass) → starts c ≡ true → c ≡ classes.IdentifierStart
+starts_name classes.IdentifierStart h = refl
+starts_name _ h = cc
+
+-- a fixed word that is a name
+abbrev pub is_word : List ℕ → Bool
+is_word [] = false
+is_word (b ∷ bs) = starts (class_of b) && all_word bs
+
+pub word_name : (w : List ℕ) → is_word w ≡ true → IsName w
+word_name [] h = cc
+word_name (b ∷ bs) h = let p = and_parts (starts (class_of b)) (all_word bs) h in (starts_name (class_of b) p.0, each_word bs p.1)
+
 starts_no_brace : (x : ℕ) → class_of x ≡ classes.IdentifierStart → eqb x 125 ≡ false
 unfolding class_of
 starts_no_brace x h = go (eqb x 125) refl
@@ -95,6 +123,9 @@ module _ {os : List OpenDelimiter} {ls : List (List ℕ)} {c : Bool} {i : Option
       ∙ ap (λ q. token_by_class (amid os ls c i f) q (x ∷ xs ++ more)) h.0
       ∙ ap (λ n. Ok (Identifier, n)) (run_each in_word (x ∷ xs) more word stop))
       (λ e. cc) (λ o n col. k)
+
+  pub word_step : (w : List ℕ) {more : List ℕ} {ts : List Mark} → is_word w ≡ true → head_is in_word more ≡ false → LexesTo (amid os ls c i (bytes_eq w (102 ∷ []))) more ts → LexesTo (amid os ls c i f) (w ++ more) (mark Identifier w ∷ ts)
+  word_step w h stop k = name_step w (word_name w h) stop k
 
   pub space_step : {more : List ℕ} {ts : List Mark} → head_is blank more ≡ false → LexesTo (amid os ls c i false) more ts → LexesTo (amid os ls c i f) (32 ∷ more) (mark Whitespace (32 ∷ []) ∷ ts)
   unfolding token_by_class class_of

@@ -16,9 +16,8 @@ use Rattle.justfile_round_trip.proofs.Items.GoodContents as good_content
 use Rattle.justfile_round_trip.proofs.Items.GoodContents.{GoodContent}
 use Rattle.justfile_round_trip.proofs.Items.GoodItems as good
 use Rattle.justfile_round_trip.proofs.Items.GoodItems.{AtStart, blank_only, follows_body}
-use Rattle.justfile_round_trip.proofs.LiteralTexts.Inline.{IsName}
+use Rattle.justfile_round_trip.proofs.LiteralTexts.Inline.{IsName, word_name}
 use Rattle.justfile_round_trip.proofs.RecipeBodies.BodyLines.{ends_body, ends_at_item, ends_at_blank_line}
-use Rattle.justfile_round_trip.proofs.Items.LexesParts.{alias_word, eager_word, export_word, import_word, module_word, set_word, unexport_word}
 
 -- the items of a normal shape after a line end, or at the front
 record Rest (items : Shape) : Type 0 where
@@ -76,8 +75,9 @@ header_begins false name more h = with_name name more h
 
 assignment_begins : (eager export : Bool) (name more : List ℕ) → IsName name
     → Begins (word_on eager (codes "eager") (word_on export (codes "export") (name ++ more)))
-assignment_begins true export name more h = with_name (codes "eager") _ eager_word
-assignment_begins false true name more h = with_name (codes "export") _ export_word
+unfolding class_of
+assignment_begins true export name more h = with_name (codes "eager") _ (word_name (codes "eager") refl)
+assignment_begins false true name more h = with_name (codes "export") _ (word_name (codes "export") refl)
 assignment_begins false false name more h = with_name name _ h
 
 -- a construct is not empty: it begins with a bracket, or with its content
@@ -97,14 +97,15 @@ construct_follows (e ∷ entries) h = ends_at_item 91 _ refl
 
 module _ (limit : ℕ) (ind : List ℕ) where
   content_begins : {content : ShapeContent} → GoodContent limit content → (more : List ℕ) → Begins (content_on ind content more)
-  content_begins (good_content.alias named path) more = with_name (codes "alias") _ alias_word
+  unfolding class_of
+  content_begins (good_content.alias named path) more = with_name (codes "alias") _ (word_name (codes "alias") refl)
   content_begins (good_content.assignment {eager = eager} {export = export} {name = name} one named h) more = assignment_begins eager export name _ named.is_name
   content_begins (good_content.function {name = name} named names h) more = with_name name _ named.is_name
-  content_begins (good_content.import path) more = with_name (codes "import") _ import_word
-  content_begins (good_content.module_named named path) more = with_name (codes "mod") _ module_word
+  content_begins (good_content.import path) more = with_name (codes "import") _ (word_name (codes "import") refl)
+  content_begins (good_content.module_named named path) more = with_name (codes "mod") _ (word_name (codes "mod") refl)
   content_begins (good_content.header {h = header} h) more = header_begins header.quiet header.name _ h.lexes.is_name
-  content_begins (good_content.setting named spelled formed h) more = with_name (codes "set") _ set_word
-  content_begins (good_content.unexport named) more = with_name (codes "unexport") _ unexport_word
+  content_begins (good_content.setting named spelled formed h) more = with_name (codes "set") _ (word_name (codes "set") refl)
+  content_begins (good_content.unexport named) more = with_name (codes "unexport") _ (word_name (codes "unexport") refl)
 
   -- the text of an item is not empty
   some_text : (j : ShapeItem) (items : Shape) → AtStart limit (j ∷ items) → is_empty (text_on ind (j ∷ items)) ≡ false

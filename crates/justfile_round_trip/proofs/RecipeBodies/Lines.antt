@@ -13,7 +13,7 @@ use Rattle.justfile_model.specs.Lexing.Tok.{Tok}
 use Rattle.justfile_model.specs.Lexing.Modes.{Mode, is_empty}
 use Rattle.justfile_model.specs.Lexing.Next.{token_by_class, token_within_line, layout, at_line_start, begins_blank_line, next}
 use Rattle.justfile_round_trip.proofs.LiteralTexts.LexedModes.{Mark, mark, LexesTo, step, take_front, drop_front}
-use Rattle.justfile_round_trip.proofs.LiteralTexts.Inline.{Each, head_is, amid, amid_next, IsName, run_each}
+use Rattle.justfile_round_trip.proofs.LiteralTexts.Inline.{Each, head_is, amid, amid_next, IsName, is_word, word_name, run_each}
 
 -- where an item begins
 abbrev pub at_item : Bool → Mode
@@ -52,6 +52,9 @@ item_name c (x ∷ xs) {more} {ts} h stop k =
     ∙ ap (λ q. token_by_class (at_item c) q (x ∷ xs ++ more)) h.0
     ∙ ap (λ n. Ok (Identifier, n)) (run_each in_word (x ∷ xs) more word stop))
     (λ e. cc) (λ o n col. k)
+
+pub item_word : (c : Bool) (w : List ℕ) {more : List ℕ} {ts : List Mark} → is_word w ≡ true → head_is in_word more ≡ false → LexesTo (amid [] [] c None (bytes_eq w (102 ∷ []))) more ts → LexesTo (at_item c) (w ++ more) (mark Identifier w ∷ ts)
+item_word c w h stop k = item_name c w (word_name w h) stop k
 
 pub blank_line : (c : Bool) {more : List ℕ} {ts : List Mark} → LexesTo (at_item c) more ts → LexesTo (at_item c) (10 ∷ more) (mark Eol (10 ∷ []) ∷ ts)
 unfolding next layout token_within_line token_by_class class_of
