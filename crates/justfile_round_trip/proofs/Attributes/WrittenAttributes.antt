@@ -1,5 +1,6 @@
 -- Attributes that any text derives are good.
 use Rattle.std.proofs.Common.{◌≡◌, ℕ, Bool, false, List, [], ◌∷◌, ◌++◌, Option, Some, None, refl, ap, ◌∙◌}
+use Rattle.justfile_model.proofs.Lists.AllParts.{both}
 use Rattle.justfile_vocabulary.specs.declared.token_kind.TokenKind.{TokenKind}
 use Rattle.justfile_vocabulary.specs.declared.token_kind.TokenKind.TheVariants as kinds
 use Rattle.justfile_model.specs.Grammars.AttributeLines as g
@@ -85,10 +86,6 @@ module _ (limit : ℕ) where
   good_commented None ws good h = h
   good_commented (Some c) ws good h = last_good c ws good h
 
-  good_joined : (ws others : List Written) → AllGoodAttributes limit ws → AllGoodAttributes limit others → AllGoodAttributes limit (ws ++ others)
-  good_joined [] others h k = k
-  good_joined (w ∷ ws) others h k = (h.0, good_joined ws others h.1 k)
-
   -- lines of attributes that any text derives, and the tokens after them
   pub attributes_good : {ws : List Written} {fs : Shown} {ts rest : Tokens} → AttributeLines lexeme nothing (BelowLimit limit) ws fs ts rest → {c : Bool} → Ahead outside c ts
       → Passed (AllGoodAttributes limit ws) rest
@@ -97,4 +94,4 @@ module _ (limit : ℕ) where
       let x = bracketed_at inside (past_token t ts kinds.BracketL kind refl h) in
       let e = end_at end x.following in
       let y = attributes_good after e.following in
-      record { good = good_joined (commented_line comment ws) others (good_commented comment ws e.good x.good) y.good; following = y.following }
+      record { good = both (GoodSourceAttribute limit) (commented_line comment ws) others (good_commented comment ws e.good x.good) y.good; following = y.following }

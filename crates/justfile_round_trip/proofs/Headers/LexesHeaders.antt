@@ -13,7 +13,7 @@ use Rattle.justfile_model.specs.Lexing.Next.{fixed_token, token_by_class}
 use Rattle.justfile_round_trip.proofs.LiteralTexts.LexedModes.{Mark, mark, LexesTo, step}
 use Rattle.justfile_round_trip.proofs.LiteralTexts.Inline.{head_is, joins, head_word, amid, IsName, name_step, space_step}
 use Rattle.justfile_round_trip.proofs.Fixed as fixed
-use Rattle.justfile_round_trip.proofs.Fixed.{close_paren_step, equals_before, open_paren_step, plus_before, token_step}
+use Rattle.justfile_round_trip.proofs.Fixed.{close_step, equals_before, open_step, plus_before, token_step}
 use Rattle.justfile_round_trip.proofs.RecipeBodies.Lines.{at_item, item_next, item_name}
 use Rattle.justfile_round_trip.proofs.RecipeBodies.BodyLines.{colon_step}
 use Rattle.justfile_round_trip.proofs.Canon.{Value, colon, expr_marks, expr_on, paren_right, word}
@@ -150,7 +150,7 @@ lex_star os (Some star) e h stop k = token_step fixed.asterisk (lex_value [] tru
 lex_arguments : (line : ℕ) (arguments : List ShapeArgument) {more : List ℕ} {ts : List Mark} → GoodDependencyArguments arguments
     → LexesTo (amid [] [] true None false) more ts
     → (f : Bool) → LexesTo (amid (opener Paren line ∷ []) [] true None f) (dependency_arguments_on arguments (41 ∷ more)) (dependency_arguments_marks arguments (paren_right ∷ ts))
-lex_arguments line [] h k f = close_paren_step k
+lex_arguments line [] h k f = close_step fixed.end_paren k
 lex_arguments line (a ∷ arguments) {more} h k f =
     space_step (argument_no_blank a.star a.value _ h.0)
     (lex_star (opener Paren line ∷ []) a.star a.value h.0 (arguments_join arguments more) (lex_arguments line arguments h.1 k))
@@ -159,7 +159,7 @@ lex_parenthesis : (path : List (List ℕ)) (arguments : List ShapeArgument) {mor
     → LexesTo (amid [] [] true None false) more ts
     → LexesTo (amid [] [] true None false) (40 ∷ path_on path (dependency_arguments_on arguments (41 ∷ more))) (mark kinds.ParenL (40 ∷ []) ∷ path_marks path (dependency_arguments_marks arguments (paren_right ∷ ts)))
 lex_parenthesis path arguments {more} p h k =
-    open_paren_step (λ line. lex_path true (opener Paren line ∷ []) path p (arguments_join arguments more) (lex_arguments line arguments h k))
+    open_step fixed.paren (λ line. lex_path true (opener Paren line ∷ []) path p (arguments_join arguments more) (lex_arguments line arguments h k))
 
 lex_parts : (star : Option (Unit {0})) (path : List (List ℕ)) (arguments : List ShapeArgument) {more : List ℕ} {ts : List Mark} → GoodPath path
     → GoodDependencyArguments arguments → head_is joins more ≡ false → ((f : Bool) → LexesTo (amid [] [] true None f) more ts)

@@ -10,7 +10,7 @@ use Rattle.justfile_model.specs.Trees.Tree.{assignment_of, bare_module}
 use Rattle.justfile_round_trip.proofs.LiteralTexts.LexedModes.{Mark, LexesTo}
 use Rattle.justfile_round_trip.proofs.LiteralTexts.Inline.{head_is, joins, head_word, amid, IsName, name_step, word_step, space_step}
 use Rattle.justfile_round_trip.proofs.Fixed as fixed
-use Rattle.justfile_round_trip.proofs.Fixed.{close_bracket_step, close_paren_step, open_bracket_step, open_paren_step, token_step}
+use Rattle.justfile_round_trip.proofs.Fixed.{close_step, open_step, token_step}
 use Rattle.justfile_round_trip.proofs.RecipeBodies.Lines.{at_item, item_name, item_word}
 use Rattle.justfile_round_trip.proofs.Canon.{Value, ShapeContent, expr_on, expr_marks, paren_right, space}
 use Rattle.justfile_round_trip.proofs.Headers.CanonHeaders.{path_on, path_marks}
@@ -56,13 +56,13 @@ module _ (c : Bool) where
   lex_other_names : (line : ℕ) (names : List (List ℕ)) {more : List ℕ} {ts : List Mark} → GoodNames names → LexesTo (amid [] [] c None false) more ts
       → (f : Bool)
       → LexesTo (amid (opener Paren line ∷ []) [] c None f) (other_names_on names (41 ∷ more)) (other_names_marks names (paren_right ∷ ts))
-  lex_other_names line [] h k f = close_paren_step k
+  lex_other_names line [] h k f = close_step fixed.end_paren k
   lex_other_names line (n ∷ names) {more} h k f =
       token_step fixed.comma (space_step (name_no_blank n _ h.0.is_name) (name_step n h.0.is_name (head_word _ (names_join names more)) (lex_other_names line names h.1 k _)))
 
   lex_names : (line : ℕ) (names : List (List ℕ)) {more : List ℕ} {ts : List Mark} → GoodNames names → LexesTo (amid [] [] c None false) more ts
       → LexesTo (amid (opener Paren line ∷ []) [] c None false) (names_on names (41 ∷ more)) (names_marks names (paren_right ∷ ts))
-  lex_names line [] h k = close_paren_step k
+  lex_names line [] h k = close_step fixed.end_paren k
   lex_names line (n ∷ names) {more} h k = name_step n h.0.is_name (head_word _ (names_join names more)) (lex_other_names line names h.1 k _)
 
   lex_file_path : (q : ShapeQuoted) {more : List ℕ} {ts : List Mark} → GoodFilePath q → head_is joins more ≡ false
@@ -101,8 +101,8 @@ module _ (c : Bool) where
     lex_setting_value ExpressionForm (tree.Value value) h stop k f = lex_assigned value h.lexes stop k f
     lex_setting_value PlainForm (tree.Value value) h stop k f = lex_assigned value h.lexes stop k f
     lex_setting_value InterpreterForm (tree.Interpreter command arguments) h stop k f =
-        space_step refl (token_step fixed.colon_equals (space_step refl (open_bracket_step
-        (λ line. lex_values [] c None (opener Bracket line ∷ []) (tree.more command arguments) h.lexes refl (λ f. close_bracket_step (k false))))))
+        space_step refl (token_step fixed.colon_equals (space_step refl (open_step fixed.bracket
+        (λ line. lex_values [] c None (opener Bracket line ∷ []) (tree.more command arguments) h.lexes refl (λ f. close_step fixed.end_bracket (k false))))))
     lex_setting_value form v h stop k f = absurd h
 
     -- a name and its value, at the start of a line or after a word
@@ -131,7 +131,7 @@ module _ (c : Bool) where
     lex_content (good.assignment {eager = eager} {export = export} {name = name} {value = value} one named h) ind x equals colons stop k =
         lex_assignment eager export name value one named h stop (k c)
     lex_content (good.function {name = name} {parameters = parameters} {body = body} named names h) ind x equals colons stop k =
-        item_name c name named.is_name refl (open_paren_step (λ line. lex_names line parameters names (lex_assigned body h.lexes stop (k c) false)))
+        item_name c name named.is_name refl (open_step fixed.paren (λ line. lex_names line parameters names (lex_assigned body h.lexes stop (k c) false)))
     lex_content (good.import {optional = optional} {path = path} h) ind x {more} equals colons stop k =
         item_word c (codes "import") refl (question_no_word optional _)
         (lex_question optional (λ f. space_step (value_no_blank (path_value path) (x ∷ more) h.is_string) (lex_file_path path h stop (k c))) _)

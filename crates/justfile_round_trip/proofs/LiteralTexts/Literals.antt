@@ -17,14 +17,16 @@ use Rattle.justfile_round_trip.proofs.LiteralTexts.Inline.{delimiter_of}
 
 -- ---- delimiters
 
-abbrev QuoteFact : ℕ → ByteClass → Type 0
-QuoteFact b classes.Quote = quote_of (delimiter_at b) ≡ b
-QuoteFact b _ = Unit {0}
+-- what the class of a byte says of it
+abbrev ClassFact : ℕ → ByteClass → Type 0
+ClassFact b classes.CarriageReturn = b ≡ 13
+ClassFact b classes.Quote = quote_of (delimiter_at b) ≡ b
+ClassFact b _ = Unit {0}
 
-record HasQuote (b : ℕ) (k : ByteClass) : Type 0 where
-  fact : QuoteFact b k
+record IsOfClass (b : ℕ) (k : ByteClass) : Type 0 where
+  fact : ClassFact b k
 
-either : (b : ℕ) (t : Bool) {x y : ByteClass} → (t ≡ true → HasQuote b x) → (t ≡ false → HasQuote b y) → HasQuote b (cond t x y)
+either : (b : ℕ) (t : Bool) {x y : ByteClass} → (t ≡ true → IsOfClass b x) → (t ≡ false → IsOfClass b y) → IsOfClass b (cond t x y)
 either b true f g = f refl
 either b false f g = g refl
 
@@ -36,12 +38,12 @@ quoted b h = by (eqb b 96) (eqb b 34) refl refl
     by false true e f = grind (arith, nat_tests)
     by false false e f = grind (arith, nat_tests)
 
-has_quote : (b : ℕ) → HasQuote b (class_of b)
+is_of_class : (b : ℕ) → IsOfClass b (class_of b)
 unfolding class_of
-has_quote b =
+is_of_class b =
     either b (eqb b 32 || eqb b 9) (λ h. record { fact = tt }) (λ _.
     either b (eqb b 10) (λ h. record { fact = tt }) (λ _.
-    either b (eqb b 13) (λ h. record { fact = tt }) (λ _.
+    either b (eqb b 13) (λ h. record { fact = grind (arith, nat_tests) }) (λ _.
     either b (is_ascii_alphabetic b || eqb b 95) (λ h. record { fact = tt }) (λ _.
     either b (is_ascii_digit b || eqb b 45) (λ h. record { fact = tt }) (λ _.
     either b (eqb b 39 || eqb b 34 || eqb b 96) (λ h. record { fact = quoted b h }) (λ _.
@@ -51,7 +53,10 @@ has_quote b =
     either b (ltb 193 b && ltb b 245) {x = classes.Lead} {y = classes.Other} (λ h. record { fact = tt }) (λ _. record { fact = tt }))))))))))
 
 pub quote_byte : (b : ℕ) → class_of b ≡ classes.Quote → quote_of (delimiter_at b) ≡ b
-quote_byte b e = (subst (HasQuote b) e (has_quote b)).fact
+quote_byte b e = (subst (IsOfClass b) e (is_of_class b)).fact
+
+pub return_byte : (b : ℕ) → class_of b ≡ classes.CarriageReturn → b ≡ 13
+return_byte b e = (subst (IsOfClass b) e (is_of_class b)).fact
 
 quote_positive : (d : StringDelimiter) → 0 < quote_of d
 quote_positive delimiters.Backtick = omega arith

@@ -9,6 +9,7 @@ use Rattle.std.proofs.lemmas.Bool.Decides.{nat_tests}
 use Rattle.std.proofs.lemmas.List.{reverse-append, reverse-reverse}
 use Rattle.std.proofs.Math.Bool.{or-false}
 use Rattle.std.proofs.Math.Numerals.{one-add}
+use Rattle.justfile_round_trip.proofs.LiteralTexts.Literals.{return_byte}
 use Rattle.justfile_vocabulary.specs.declared.byte_class.ByteClass.{ByteClass}
 use Rattle.justfile_vocabulary.specs.declared.byte_class.ByteClass.TheVariants as classes
 use Rattle.justfile_vocabulary.specs.declared.token_kind.TokenKind.{TokenKind}
@@ -248,30 +249,6 @@ text_known w m t following s k n clear f e = (subst (FollowsText w t) e (after_t
 
 -- ---- after a body whose last lines hold its level open
 
-record HasReturn (b : ℕ) (k : ByteClass) : Type 0 where
-  fact : k ≡ classes.CarriageReturn → b ≡ 13
-
-other_class : (b : ℕ) (k : ByteClass) → (k ≡ classes.CarriageReturn → ⊥) → HasReturn b k
-other_class b k f = record { fact = λ e. absurd (f e) }
-
-either : (b : ℕ) (t : Bool) {x y : ByteClass} → (t ≡ true → HasReturn b x) → HasReturn b y → HasReturn b (cond t x y)
-either b true f g = f refl
-either b false f g = g
-
-has_return : (b : ℕ) → HasReturn b (class_of b)
-unfolding class_of
-has_return b =
-    either b (eqb b 32 || eqb b 9) {x = classes.Blank} (λ _. other_class b _ (λ e. cc))
-    (either b (eqb b 10) {x = classes.LineFeed} (λ _. other_class b _ (λ e. cc))
-    (either b (eqb b 13) {x = classes.CarriageReturn} (λ h. record { fact = λ _. grind (arith, nat_tests) })
-    (either b (is_ascii_alphabetic b || eqb b 95) {x = classes.IdentifierStart} (λ _. other_class b _ (λ e. cc))
-    (either b (is_ascii_digit b || eqb b 45) {x = classes.IdentifierContinue} (λ _. other_class b _ (λ e. cc))
-    (either b (eqb b 39 || eqb b 34 || eqb b 96) {x = classes.Quote} (λ _. other_class b _ (λ e. cc))
-    (either b (eqb b 40 || eqb b 91 || eqb b 123) {x = classes.Opener} (λ _. other_class b _ (λ e. cc))
-    (either b (eqb b 41 || eqb b 93 || eqb b 125) {x = classes.Closer} (λ _. other_class b _ (λ e. cc))
-    (either b (begins_fixed b) {x = classes.Fixed} (λ _. other_class b _ (λ e. cc))
-    (either b (ltb 193 b && ltb b 245) {x = classes.Lead} {y = classes.Other} (λ _. other_class b _ (λ e. cc)) (other_class b _ (λ e. cc)))))))))))
-
 -- a white byte that isn't a blank and doesn't begin a line end doesn't begin a token
 white_refused : (x : ℕ) (xs : List ℕ) (k : TokenKind) (n : ℕ) → white (class_of x) ≡ true → blank (class_of x) ≡ false → begins_blank_line (x ∷ xs) ≡ false → next (at_item false) (x ∷ xs) ≡ Ok (k, n) → ⊥
 unfolding token_by_class
@@ -286,7 +263,7 @@ white_refused x xs k n w b seen found = by (class_of x) refl w b (sym (item_next
     by classes.CarriageReturn e w b f = go (eqb (get_or xs 0 0) 10) refl f
       where
         at : x ≡ 13
-        at = (subst (HasReturn x) e (has_return x)).fact refl
+        at = return_byte x e
 
         go : (t : Bool) → eqb (get_or xs 0 0) 10 ≡ t → cond {A = NextToken} t (Ok (kinds.Eol, 2)) (Err (Here UnpairedCarriageReturn 0 1)) ≡ Ok (k, n) → ⊥
         go true h f = let bad : true ≡ false = sym (λ i. (eqb (at i) 10 || (eqb (at i) 13 && h i)) || false) ∙ seen in cc

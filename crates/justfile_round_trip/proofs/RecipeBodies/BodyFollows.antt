@@ -1,6 +1,7 @@
 -- The text after a body in normal form: nothing, or an item, possibly after line ends.
 use Rattle.std.proofs.Common.{◌≡◌, ℕ, Bool, true, false, List, [], ◌∷◌, ◌++◌, refl, ap, arith, codes}
 use Rattle.std.specs.Prelude.{not}
+use Rattle.justfile_round_trip.proofs.RecipeBodies.Lines.{no_hash}
 use Rattle.justfile_vocabulary.specs.ByteClass.{class_of}
 use Rattle.justfile_model.specs.Lexing.Bytes.{white}
 use Rattle.justfile_model.specs.Lexing.Modes.{is_empty}
@@ -60,9 +61,6 @@ newline_follows items = by (normal_rest items) (rest_is items)
 hash_white : (x : ℕ) → x ≡ 35 → white (class_of x) ≡ false
 unfolding class_of
 hash_white x e = ap (λ y. white (class_of y)) e
-
-no_hash : ◌≡◌ {A = ℕ} 0 35 → ⊥
-no_hash e = omega (arith, e)
 
 -- how the content of a construct begins: with a name, or with `@`
 data Begins : List ℕ → Type 0 where
