@@ -70,22 +70,30 @@ pub none_but_closing : (kind : TokenKind) (ts : Tokens) → closes kind ≡ fals
 none_but_closing kind [] n h = tt
 none_but_closing kind (t ∷ ts) n h = other closes t ts kind h n
 
-pub stop_before : (t : SignificantToken) (ts : Tokens) → closes t.tok.kind ≡ true → StopE (t ∷ ts)
-stop_before t ts h = record {
-  or = other closes t ts kinds.BarBar h refl;
+-- a test that no operator passes which would continue an expression
+abbrev pub NoOperator : (TokenKind → Bool) → Type 0
+NoOperator f = (f kinds.BarBar ≡ false) × (f kinds.AmpersandAmpersand ≡ false) × (f kinds.EqualsEquals ≡ false) × (f kinds.BangEquals ≡ false) × (f kinds.EqualsTilde ≡ false) × (f kinds.BangTilde ≡ false)
+
+-- an expression stops before a token that passes such a test, if no name before it would mark it
+pub stop_at : (f : TokenKind → Bool) → NoOperator f → (t : SignificantToken) (ts : Tokens) → f t.tok.kind ≡ true → (is_string t.tok.kind && t.glued) ≡ false → StopE (t ∷ ts)
+stop_at f n t ts h apart = record {
+  or = other f t ts kinds.BarBar h n.0;
   disjunct = record {
-    and = other closes t ts kinds.AmpersandAmpersand h refl;
+    and = other f t ts kinds.AmpersandAmpersand h n.1;
     comparison = record {
       compared = record {
-        equality = other closes t ts kinds.EqualsEquals h refl;
-        inequality = other closes t ts kinds.BangEquals h refl;
-        regex_match = other closes t ts kinds.EqualsTilde h refl;
-        regex_mismatch = other closes t ts kinds.BangTilde h refl;
+        equality = other f t ts kinds.EqualsEquals h n.2;
+        inequality = other f t ts kinds.BangEquals h n.3;
+        regex_match = other f t ts kinds.EqualsTilde h n.4;
+        regex_mismatch = other f t ts kinds.BangTilde h n.5;
       };
-      conjunct = record { apart = ap (λ b. b && t.glued) (no_string t.tok.kind h) };
+      conjunct = record { apart = apart };
     };
   };
 }
+
+pub stop_before : (t : SignificantToken) (ts : Tokens) → closes t.tok.kind ≡ true → StopE (t ∷ ts)
+stop_before t ts h = stop_at closes (refl, refl, refl, refl, refl, refl) t ts h (ap (λ b. b && t.glued) (no_string t.tok.kind h))
 
 not_joined : (t : SignificantToken) (ts : Tokens) → ends_here t.tok.kind ≡ true → NotJoined (t ∷ ts)
 not_joined t ts h = record { join = other ends_here t ts kinds.Slash h refl; list_concatenation = other ends_here t ts kinds.PlusPlus h refl; concatenation = other ends_here t ts kinds.Plus h refl }

@@ -37,8 +37,7 @@ pub begun_comment : (before : Before) (t : List ℕ) (items : Shape) → Begun (
 begun_comment before t [] = comment
 begun_comment before t (Newline ∷ []) = comment
 begun_comment before t (Newline ∷ i ∷ items) = begun_taken t i items (doc_in before t)
-begun_comment before t (Comment u ∷ items) = comment
-begun_comment before t (Construct entries content ∷ items) = comment
+begun_comment before t _ = comment
 
 -- ---- a comment before a normal form
 
@@ -54,10 +53,8 @@ comment_apart : (before : Before) (t : List ℕ) (s : Shape) → taken sets_doc 
 comment_apart before t [] = refl
 comment_apart before t (Newline ∷ []) = refl
 comment_apart before t (Newline ∷ Newline ∷ s) = comment_kept before t s
-comment_apart before t (Newline ∷ Comment u ∷ s) = comment_kept before t (Comment u ∷ s)
-comment_apart before t (Newline ∷ Construct entries content ∷ s) = comment_kept before t (Construct entries content ∷ s)
-comment_apart before t (Comment u ∷ s) = comment_kept before t (Comment u ∷ s)
-comment_apart before t (Construct entries content ∷ s) = comment_kept before t (Construct entries content ∷ s)
+comment_apart before t (Newline ∷ i ∷ s) = comment_kept before t (i ∷ s)
+comment_apart before t (i ∷ s) = comment_kept before t (i ∷ s)
 
 wanted_normal : (b : Bool) (t : List ℕ) (entries : List ShapeEntry) (content other : ShapeContent) (s : Shape)
     → doc_or_comment sets_doc t (Construct entries content) (normal_rest s) (cond b (Some (Construct entries other)) None)

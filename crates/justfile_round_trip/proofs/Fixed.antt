@@ -12,7 +12,7 @@ use Rattle.justfile_model.specs.Lexing.Tok.{Tok}
 use Rattle.justfile_model.specs.Lexing.Modes.{is_empty, opener, mode_after}
 use Rattle.justfile_model.specs.Lexing.Next.{fixed_token, token_by_class}
 use Rattle.justfile_round_trip.proofs.LiteralTexts.LexedModes.{Mark, mark, LexesTo, step}
-use Rattle.justfile_round_trip.proofs.LiteralTexts.Inline.{amid, amid_next, and_false, and_no}
+use Rattle.justfile_round_trip.proofs.LiteralTexts.Inline.{amid, amid_next, and_false}
 
 -- These bytes are a token of this kind, whatever follows them.
 pub data IsFixed : TokenKind → List ℕ → Type 0 where

@@ -1,13 +1,14 @@
 -- Adjacent expressions: an expression ends in the printed text before the same tokens as in the source.
 use Rattle.std.proofs.Common.{◌≡◌, ℕ, Bool, true, false, cond, ◌∷◌, Option, refl, sym, subst, ap, ◌∙◌, codes}
 use Rattle.std.specs.Prelude.{◌&&◌}
+use Rattle.std.proofs.lemmas.Bool.{and_right}
 use Rattle.justfile_vocabulary.specs.declared.token_kind.TokenKind.{TokenKind}
 use Rattle.justfile_vocabulary.specs.declared.token_kind.TokenKind.TheVariants as kinds
 use Rattle.justfile_model.specs.Grammars.Expressions as g
 use Rattle.justfile_model.specs.Grammars.Expressions.{Tokens, NotNext, NotJoined, Expression, Disjunct, Compared, Conjunct, Conditional, Value, ends_open}
 use Rattle.justfile_model.specs.Lexing.SignificantTokens.{SignificantToken}
 use Rattle.justfile_model.specs.Trees.Tree.{lexeme, nothing}
-use Rattle.justfile_round_trip.proofs.Back.{StopE, glued_string, is_string, next_head, word_head}
+use Rattle.justfile_round_trip.proofs.Back.{StopE, glued_string, is_string, next_head, stop_at, word_head}
 use Rattle.justfile_round_trip.proofs.Canon as canon
 use Rattle.justfile_round_trip.proofs.Canon.{Shown}
 use Rattle.justfile_round_trip.proofs.Ends.{End, OfName, OfValue, OfOpen, OfClosed, tail, EndsIn, ValueEndsIn, SameHead, may_begin, same_head}
@@ -81,11 +82,7 @@ value_ends_too _ s h = record { is = tt }
 
 -- a first token that isn't glued doesn't mark the next one
 pub apart : {ts us : Tokens} → SameHead false ts us → glued_string us ≡ false
-apart (same_head {u = u} e f glued begins) = no_glue (is_string u.tok.kind) u.glued glued
-  where
-    no_glue : (s g : Bool) → g ≡ false → (s && g) ≡ false
-    no_glue true g e = e
-    no_glue false g e = refl
+apart (same_head {u = u} e f glued begins) = and_right (is_string u.tok.kind) u.glued glued
 
 -- tokens that begin an expression don't begin with a token that can't begin one, as an operator other than `/`
 pub not_begun : {b : Bool} (kind : TokenKind) {ts us : Tokens} → SameHead b ts us → may_begin kind ≡ false → NotNext kind us
@@ -93,18 +90,5 @@ not_begun kind (same_head e f glued begins) n = λ e. let bad : true ≡ false =
 
 -- an expression ends before another one that isn't glued to it
 pub stop_beside : {ts us : Tokens} → SameHead false ts us → StopE us
-stop_beside s = record {
-  or = not_begun kinds.BarBar s refl;
-  disjunct = record {
-    and = not_begun kinds.AmpersandAmpersand s refl;
-    comparison = record {
-      compared = record {
-        equality = not_begun kinds.EqualsEquals s refl;
-        inequality = not_begun kinds.BangEquals s refl;
-        regex_match = not_begun kinds.EqualsTilde s refl;
-        regex_mismatch = not_begun kinds.BangTilde s refl;
-      };
-      conjunct = record { apart = apart s };
-    };
-  };
-}
+stop_beside (same_head {u = u} {us = us} e f glued begins) =
+    stop_at may_begin (refl, refl, refl, refl, refl, refl) u us begins (and_right (is_string u.tok.kind) u.glued glued)

@@ -140,13 +140,11 @@ module _ (limit : ℕ) where
   -- ---- line ends of the normal shape
 
   start_after_newline : (r : Shape) → AtStart limit r → AtStart limit (after_newline r)
-  start_after_newline [] h = good.newline h
   start_after_newline (tree.Newline ∷ []) h = h
   start_after_newline (tree.Newline ∷ tree.Newline ∷ r) h = h
   start_after_newline _ h = good.newline h
 
   end_after_newline : (r : Shape) → AtStart limit r → AtEnd limit (after_newline r)
-  end_after_newline [] h = good.line_end h
   end_after_newline (tree.Newline ∷ []) h = good.line_end (past_newline limit h)
   end_after_newline (tree.Newline ∷ tree.Newline ∷ r) h = good.line_end (past_newline limit h)
   end_after_newline _ h = good.line_end h
@@ -160,11 +158,9 @@ module _ (limit : ℕ) where
   optional_body_newline body items last h = by (normal_rest items) (newline_follows items) (λ p. ap (λ i. following (after_newline (normal_rest i))) (last p)) h
     where
       by : (r : Shape) → follows_body (following (after_newline r)) ≡ true → (pale_after body ≡ true → following (after_newline r) ≡ []) → AtStart limit r → AfterBody limit body (after_newline r)
-      by [] f l h = good.body_end f l h
       by (tree.Newline ∷ []) f l h = good.body_end f l (past_newline limit h)
       by (tree.Newline ∷ tree.Newline ∷ r) f l h = good.body_end f l (past_newline limit h)
-      by (tree.Newline ∷ _ ∷ r) f l h = good.body_end f l h
-      by (_ ∷ r) f l h = good.body_end f l h
+      by _ f l h = good.body_end f l h
 
   start_block : (entries : List ShapeEntry) (h : ShapeHeader) (comment : Option (List ℕ)) (body : List ShapeLine) (items : Shape) → NotEmpty body
       → GoodEntries limit entries → GoodHeader limit h → GoodOptionalComment comment → EndedBody limit body → AfterBody limit body items

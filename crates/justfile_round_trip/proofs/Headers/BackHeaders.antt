@@ -2,6 +2,7 @@
 use Rattle.std.proofs.Common.{◌≡◌, ℕ, Bool, true, false, cond, List, [], ◌∷◌, ◌++◌, Option, Some, None, refl, sym, subst, ap, ◌∙◌, arith}
 use Rattle.std.specs.Prelude.{◌&&◌}
 use Rattle.std.specs.List.{flat_map}
+use Rattle.justfile_vocabulary.specs.declared.token_kind.TokenKind.{TokenKind}
 use Rattle.justfile_vocabulary.specs.declared.token_kind.TokenKind.TheVariants as kinds
 use Rattle.justfile_model.specs.declared.parameter_kind.ParameterKind.{ParameterKind}
 use Rattle.justfile_model.specs.declared.parameter_kind.ParameterKind.TheVariants.{Plus, Singular, Star}
@@ -13,7 +14,7 @@ use Rattle.justfile_model.specs.Lexing.SignificantTokens.{SignificantToken, is_w
 use Rattle.justfile_model.specs.Trees.Tree.{lexeme, nothing}
 use Rattle.justfile_model.proofs.Lists.Binds.{nothing_in}
 use Rattle.justfile_round_trip.proofs.LiteralTexts.LexedModes.{Mark, placed}
-use Rattle.justfile_round_trip.proofs.Back.{StopE, glued_string, is_string, lower, none_but_closing, stop_before, ends_before, value_before, expression_back, value_back}
+use Rattle.justfile_round_trip.proofs.Back.{StopE, glued_string, lower, none_but_closing, stop_at, stop_before, ends_before, value_before, expression_back, value_back}
 use Rattle.justfile_round_trip.proofs.Canon.{Shown, colon, word, paren_right, space}
 use Rattle.justfile_round_trip.proofs.Headers.CanonHeaders.{ShapeParameter, ShapeArgument, ShapeDependency, ShapeHeader, default_marks, dollar_marks, prefix_marks, parameters_marks, path_rest_marks, path_marks, dependency_arguments_marks, dependency_parts_marks, dependency_marks, dependencies_marks, subsequents_marks, header_rest_marks, header_marks, ampersands}
 use Rattle.justfile_round_trip.proofs.Ends.{End, tail, EndsIn, ValueEndsIn, expression_head}
@@ -36,10 +37,8 @@ parameters_parted (p ∷ ps) on = by p.kind p.export
   where
     by : (k : ParameterKind) (b : Bool)
         → Parted (significant true (space ∷ prefix_marks k (dollar_marks b (word p.name ∷ default_marks p.default (parameters_marks ps (colon ∷ on))))))
-    by Plus b = record { no_equals = λ e. cc; no_paren = λ e. cc; apart = refl }
     by Singular true = record { no_equals = λ e. cc; no_paren = λ e. cc; apart = refl }
-    by Singular false = record { no_equals = λ e. cc; no_paren = λ e. cc; apart = refl }
-    by Star b = record { no_equals = λ e. cc; no_paren = λ e. cc; apart = refl }
+    by _ _ = record { no_equals = λ e. cc; no_paren = λ e. cc; apart = refl }
 
 -- tokens that don't begin a dependency
 record Done (ts : Tokens) : Type 0 where
@@ -63,7 +62,7 @@ dependency_no_colons : (star : Option (Unit {0})) (path : List (List ℕ)) (argu
 dependency_no_colons star [] [] on b h = h
 dependency_no_colons star (n ∷ path) [] on b h = λ e. cc
 dependency_no_colons None path (a ∷ arguments) on b h = λ e. cc
-dependency_no_colons (Some s) path (a ∷ arguments) on b h = λ e. cc
+dependency_no_colons star path (a ∷ arguments) on b h = λ e. cc
 
 dependencies_no_colons : (ds : List ShapeDependency) (on : List Mark) (b : Bool) → ((c : Bool) → NotNext kinds.ColonColon (significant c on))
     → NotNext kinds.ColonColon (significant b (dependencies_marks ds on))
@@ -90,18 +89,9 @@ all_starred [] h = tt
 all_starred (d ∷ ds) h =
     let parts = nothing_in (dependency_broken d) (flat_map dependency_broken ds) h in (no_bare_star d.star d.arguments parts.0, all_starred ds parts.1)
 
--- before a star an expression stops
-star_stops : (t : SignificantToken) (ts : Tokens) → t.tok.kind ≡ kinds.Asterisk → StopE (t ∷ ts)
-star_stops t ts kind = record {
-  or = λ e. let bad : kinds.Asterisk ≡ kinds.BarBar = sym kind ∙ e in cc;
-  disjunct = record {
-    and = λ e. let bad : kinds.Asterisk ≡ kinds.AmpersandAmpersand = sym kind ∙ e in cc;
-    comparison = record {
-      compared = record { equality = λ e. let bad : kinds.Asterisk ≡ kinds.EqualsEquals = sym kind ∙ e in cc; inequality = λ e. let bad : kinds.Asterisk ≡ kinds.BangEquals = sym kind ∙ e in cc; regex_match = λ e. let bad : kinds.Asterisk ≡ kinds.EqualsTilde = sym kind ∙ e in cc; regex_mismatch = λ e. let bad : kinds.Asterisk ≡ kinds.BangTilde = sym kind ∙ e in cc };
-      conjunct = record { apart = ap (λ k. is_string k && t.glued) kind };
-    };
-  };
-}
+abbrev is_star : TokenKind → Bool
+is_star kinds.Asterisk = true
+is_star _ = false
 
 -- it makes no difference whether the next token is glued
 ends_either : (on : List Mark) → ends_value (significant true on) ≡ true → (c : Bool) → ends_value (significant c on) ≡ true
@@ -112,6 +102,11 @@ ends_either (m ∷ on) h c = by (is_whitespace m.kind) h
         → ends_value (cond w (significant false on) (record { tok = placed m 0 0 0; glued = c } ∷ significant true on)) ≡ true
     by true h = h
     by false h = h
+
+pub path_rest_back : (names : List (List ℕ)) (on : List Mark) → NotNext kinds.ColonColon (significant true on)
+    → PathRest lexeme names (significant true (path_rest_marks names on)) (significant true on)
+path_rest_back [] on h = g.last h
+path_rest_back (n ∷ names) on h = g.next refl refl (path_rest_back names on h)
 
 module _ (limit : ℕ) where
   -- ---- parameters
@@ -169,16 +164,10 @@ module _ (limit : ℕ) where
 
   -- ---- dependencies
 
-  path_rest_back : {names : List (List ℕ)} {ts rest : Tokens} → PathRest lexeme names ts rest → (b : Bool) (on : List Mark)
-      → ((c : Bool) → NotNext kinds.ColonColon (significant c on))
-      → PathRest lexeme names (significant true (path_rest_marks names on)) (significant true on)
-  path_rest_back (g.last next) b on h = g.last (h true)
-  path_rest_back (g.next kind kind2 r) b on h = g.next refl refl (path_rest_back r b on h)
-
   path_back : {names : List (List ℕ)} {ts rest : Tokens} → PathOf lexeme names ts rest → (b : Bool) (on : List Mark)
       → ((c : Bool) → NotNext kinds.ColonColon (significant c on))
       → PathOf lexeme names (significant b (path_marks names on)) (significant true on)
-  path_back (g.path kind r) b on h = g.path refl (path_rest_back r b on h)
+  path_back (g.path {names = names} kind r) b on h = g.path refl (path_rest_back names on (h true))
 
   -- an argument ends before the others, or before the closing parenthesis
   record ArgumentsBack (arguments : List ShapeArgument) (fs : Shown) (ts : Tokens) (on : List Mark) : Type 0 where
@@ -216,7 +205,7 @@ module _ (limit : ℕ) where
         derives = g.starred refl (value_back (BelowLimit limit) (BelowLimit limit) (lower limit) v 0 (omega arith) true _ (q.value_ends (value_ends (BelowLimit limit) v)) q.apart) q.derives;
         ends = λ {x} h. ends_before x _ _ refl;
         value_ends = λ {x} h. value_before x _ (λ e. cc);
-        stops = star_stops _ _ refl;
+        stops = stop_at is_star (refl, refl, refl, refl, refl, refl) _ _ refl refl;
         apart = refl;
         no_colons = λ c e. cc;
       }

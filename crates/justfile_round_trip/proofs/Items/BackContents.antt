@@ -2,6 +2,7 @@
 use Rattle.std.proofs.Common.{◌≡◌, ℕ, Bool, true, false, ◌&&◌, List, [], ◌∷◌, ◌++◌, Option, Some, None, refl, ap, codes}
 use Rattle.std.specs.Str.{IsUtf8}
 use Rattle.std.proofs.lemmas.Str.{IsUtf8-append}
+use Rattle.justfile_round_trip.proofs.Headers.BackHeaders.{path_rest_back}
 use Rattle.justfile_vocabulary.specs.declared.token_kind.TokenKind.TheVariants as kinds
 use Rattle.justfile_model.specs.Grammars.Expressions.{Tokens, NotNext, BelowLimit}
 use Rattle.justfile_model.specs.Grammars.Files.{to_lexemes}
@@ -45,11 +46,6 @@ line_no_path (t ∷ ts) h = record {
 }
 
 -- ---- parts
-
-path_rest_back : (names : List (List ℕ)) (on : List Mark) → NotNext kinds.ColonColon (significant true on)
-    → PathRest lexeme names (significant true (path_rest_marks names on)) (significant true on)
-path_rest_back [] on h = header.last h
-path_rest_back (n ∷ names) on h = header.next refl refl (path_rest_back names on h)
 
 path_back : (names : List (List ℕ)) (glued : Bool) (on : List Mark) → GoodPath names → NotNext kinds.ColonColon (significant true on)
     → PathOf lexeme names (significant glued (path_marks names on)) (significant true on)
@@ -136,9 +132,8 @@ module _ (limit : ℕ) where
 
   assignment_no_bracket : (eager export : Bool) (name : List ℕ) (value : Value) (glued : Bool) (on : List Mark)
       → NotNext kinds.BracketL (significant glued (content_marks (tree.Assignment (assignment_of eager export name value)) on))
-  assignment_no_bracket true export name value glued on = λ e. cc
   assignment_no_bracket false true name value glued on = λ e. cc
-  assignment_no_bracket false false name value glued on = λ e. cc
+  assignment_no_bracket _ _ name value glued on = λ e. cc
 
   pub content_no_bracket : {content : ShapeContent} → GoodContent limit content → (glued : Bool) (on : List Mark)
       → NotNext kinds.BracketL (significant glued (content_marks content on))

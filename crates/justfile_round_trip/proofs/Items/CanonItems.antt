@@ -175,12 +175,9 @@ item_is ind (Construct entries content) more h =
 end_is : (i : ShapeItem) (items : Shape) (more : List ℕ) → item_end i items ++ more ≡ end_on i items more
 unfolding fixed_text
 end_is Newline items more = refl
-end_is (Comment t) [] more = refl
-end_is (Comment t) (Newline ∷ items) more = refl
-end_is (Comment t) (j ∷ items) more = refl
-end_is (Construct entries content) [] more = refl
-end_is (Construct entries content) (Newline ∷ items) more = refl
-end_is (Construct entries content) (j ∷ items) more = refl
+end_is i [] more = refl
+end_is i (Newline ∷ items) more = refl
+end_is i (j ∷ items) more = refl
 
 pub text_is : (items : Shape) (indentation : List ℕ) → AllByRecursion IsPlain items → text items indentation ≡ text_on indentation items
 text_is [] indentation h = refl

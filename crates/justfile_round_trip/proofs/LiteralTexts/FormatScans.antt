@@ -48,14 +48,11 @@ not_both false r s = refl
 -- no brace is in a delimiter
 same_escape : (d : StringDelimiter) (i : Bool) (xs a b : List ℕ) → is_interpolation_escape (xs ++ (delimiter_of (record { delimiter = d; indented = i }) ++ a)) ≡ is_interpolation_escape (xs ++ (delimiter_of (record { delimiter = d; indented = i }) ++ b))
 same_escape delimiters.Backtick i [] a b = refl
-same_escape delimiters.QuoteDouble i [] a b = refl
-same_escape delimiters.QuoteSingle i [] a b = refl
+same_escape _ i [] a b = refl
 same_escape delimiters.Backtick i (x ∷ []) a b = not_both (eqb x 123) _ _
-same_escape delimiters.QuoteDouble i (x ∷ []) a b = not_both (eqb x 123) _ _
-same_escape delimiters.QuoteSingle i (x ∷ []) a b = not_both (eqb x 123) _ _
+same_escape _ i (x ∷ []) a b = not_both (eqb x 123) _ _
 same_escape delimiters.Backtick i (x ∷ y ∷ []) a b = refl
-same_escape delimiters.QuoteDouble i (x ∷ y ∷ []) a b = refl
-same_escape delimiters.QuoteSingle i (x ∷ y ∷ []) a b = refl
+same_escape _ i (x ∷ y ∷ []) a b = refl
 same_escape d i (x ∷ y ∷ z ∷ []) a b = refl
 same_escape d i (x ∷ y ∷ z ∷ w ∷ xs) a b = refl
 

@@ -6,6 +6,7 @@ use Rattle.std.proofs.lemmas.List.{append-nil}
 use Rattle.std.specs.Str.{bytes_eq}
 use Rattle.std.proofs.lemmas.Bool.Decides.{nat_tests}
 use Rattle.std.proofs.lemmas.Bool.{and_parts}
+use Rattle.std.proofs.Math.Bool.{and-false}
 use Rattle.justfile_vocabulary.specs.declared.byte_class.ByteClass.{ByteClass}
 use Rattle.justfile_vocabulary.specs.declared.byte_class.ByteClass.TheVariants as classes
 use Rattle.justfile_token.specs.declared.delimiter.Delimiter.TheVariants.{FormatString}
@@ -108,10 +109,6 @@ pub and_false : (a b c : Bool) → b ≡ false → (a && (b && c)) ≡ false
 and_false true b c e = rw e refl
 and_false false b c e = refl
 
-pub and_no : (a : Bool) → (a && false) ≡ false
-and_no true = refl
-and_no false = refl
-
 module _ {os : List OpenDelimiter} {ls : List (List ℕ)} {c : Bool} {i : Option Tok} {f : Bool} where
   pub name_step : (n : List ℕ) {more : List ℕ} {ts : List Mark} → IsName n → head_is in_word more ≡ false → LexesTo (amid os ls c i (bytes_eq n (102 ∷ []))) more ts → LexesTo (amid os ls c i f) (n ++ more) (mark Identifier n ∷ ts)
   unfolding token_by_class
@@ -131,7 +128,7 @@ module _ {os : List OpenDelimiter} {ls : List (List ℕ)} {c : Bool} {i : Option
   unfolding token_by_class class_of
   space_step {more} {ts} stop k =
       step (amid os ls c i f) Whitespace (32 ∷ []) more ts
-      (amid_next os ls c i f 32 more (and_no (is_empty os)) ∙ ap (λ n. Ok (Whitespace, n)) (run_each blank (32 ∷ []) more (refl, tt) stop))
+      (amid_next os ls c i f 32 more (and-false (is_empty os)) ∙ ap (λ n. Ok (Whitespace, n)) (run_each blank (32 ∷ []) more (refl, tt) stop))
       (λ e. cc) (λ o n col. k)
 
 -- Literals.

@@ -177,10 +177,8 @@ pub same_opening : (d : StringDelimiter) (i : Bool) (inner following more : List
     → kind_of (delimiter_of (record { delimiter = d; indented = i }) ++ (inner ++ (delimiter_of (record { delimiter = d; indented = i }) ++ following))) ≡ record { delimiter = d; indented = i }
     → kind_of (delimiter_of (record { delimiter = d; indented = i }) ++ (inner ++ (delimiter_of (record { delimiter = d; indented = i }) ++ more))) ≡ record { delimiter = d; indented = i }
 same_opening delimiters.Backtick true inner following more stop e = refl
-same_opening delimiters.QuoteDouble true inner following more stop e = refl
-same_opening delimiters.QuoteSingle true inner following more stop e = refl
+same_opening _ true inner following more stop e = refl
 same_opening delimiters.Backtick false [] following more stop e = ap (λ b. record { delimiter = delimiters.Backtick; indented = b }) (no_quote delimiters.Backtick (get_or more 0 0) stop)
-same_opening delimiters.QuoteDouble false [] following more stop e = ap (λ b. record { delimiter = delimiters.QuoteDouble; indented = b }) (no_quote delimiters.QuoteDouble (get_or more 0 0) stop)
-same_opening delimiters.QuoteSingle false [] following more stop e = ap (λ b. record { delimiter = delimiters.QuoteSingle; indented = b }) (no_quote delimiters.QuoteSingle (get_or more 0 0) stop)
+same_opening d false [] following more stop e = ap (λ b. record { delimiter = d; indented = b }) (no_quote d (get_or more 0 0) stop)
 same_opening d false (x ∷ []) following more stop e = e
 same_opening d false (x ∷ y ∷ ys) following more stop e = e

@@ -6,7 +6,7 @@ use Rattle.std.specs.Char.{is_ascii_alphabetic, is_ascii_digit}
 use Rattle.std.specs.Str.{bytes_eq}
 use Rattle.std.proofs.lemmas.Bool.{and_parts, not-true}
 use Rattle.std.proofs.lemmas.Bool.Decides.{nat_tests}
-use Rattle.std.proofs.lemmas.List.{reverse-append, reverse-reverse}
+use Rattle.std.proofs.lemmas.List.{reverse-append, reverse-reverse, nil_from_length}
 use Rattle.std.proofs.Math.Bool.{or-false}
 use Rattle.std.proofs.Math.Numerals.{one-add}
 use Rattle.justfile_round_trip.proofs.LiteralTexts.Literals.{return_byte}
@@ -459,10 +459,6 @@ not_first First rest e = e
 not_first Start rest e = tt
 not_first Amid rest e = tt
 
-no_bytes : (l : List ℕ) → length l ≡ 0 → l ≡ []
-no_bytes [] e = refl
-no_bytes (x ∷ xs) e = absurd (omega (arith, e))
-
 module _ (m : Mode) (l following : List ℕ) (t : Tok) (s : Situation) (g : Bool) (o : IsSituation m (l ++ following) s) where
   text_token : (ts : List Tok) → TokenFact s.at m (l ++ following) kinds.Text (length l) → Runs (mode_after kinds.Text t m) following ts → NextIs (TextKnown s.at l) (significant_from g ts)
   text_token [] f r = tt
@@ -471,7 +467,7 @@ module _ (m : Mode) (l following : List ℕ) (t : Tok) (s : Situation) (g : Bool
   dedent_token : (ts : List Tok) (f : TokenFact s.at m (l ++ following) kinds.Dedent (length l)) → InBody m → Runs (mode_after kinds.Dedent t m) following ts → s.held ≡ true → s.levels ≡ 1 → NextIs (λ k. k ≡ kinds.Eof) (significant_from g ts)
   dedent_token [] f b r held one = tt
   dedent_token (u ∷ us) f b r held one =
-      let same : l ++ following ≡ following = ap (λ v. v ++ following) (no_bytes l f.0) in
+      let same : l ++ following ≡ following = ap (λ v. v ++ following) (nil_from_length l f.0) in
       next_is (λ k. k ≡ kinds.Eof) (λ h. cc) g u us
       (only_end m t u.kind (length u.lexeme) o.clear b (o.levels ∙ one) following (subst (Closing m) same (f.2 b).0) (ap (closes_levels m.line_start) (sym same) ∙ o.held held b) r.2)
 

@@ -29,16 +29,12 @@ following [] = []
 following (i ∷ items) = items
 
 newline_rest : (items : Shape) → Rest items → Rest (after_newline items)
-newline_rest [] h = record { alone = λ e. refl }
-newline_rest (tree.Newline ∷ []) h = record { alone = λ e. refl }
 newline_rest (tree.Newline ∷ tree.Newline ∷ items) h = h
-newline_rest (tree.Newline ∷ _ ∷ items) h = record { alone = λ e. cc }
-newline_rest (_ ∷ items) h = record { alone = λ e. cc }
+newline_rest _ h = record { alone = λ e. cc }
 
 rest_is : (items : Shape) → Rest (normal_rest items)
-rest_is [] = record { alone = λ e. refl }
 rest_is (tree.Newline ∷ items) = newline_rest (normal_rest items) (rest_is items)
-rest_is (_ ∷ items) = record { alone = λ e. cc }
+rest_is _ = record { alone = λ e. cc }
 
 not_alone : (items : Shape) → Rest items → (items ≡ tree.Newline ∷ [] → ⊥) → not (blank_only items) ≡ true
 not_alone items h other = by (blank_only items) refl
@@ -52,11 +48,8 @@ pub newline_follows : (items : Shape) → follows_body (following (normal_rest (
 newline_follows items = by (normal_rest items) (rest_is items)
   where
     by : (r : Shape) → Rest r → follows_body (following (after_newline r)) ≡ true
-    by [] h = refl
-    by (tree.Newline ∷ []) h = refl
     by (tree.Newline ∷ tree.Newline ∷ r) h = not_alone (tree.Newline ∷ tree.Newline ∷ r) h (λ e. cc)
-    by (tree.Newline ∷ _ ∷ r) h = refl
-    by (_ ∷ r) h = refl
+    by _ h = refl
 
 hash_white : (x : ℕ) → x ≡ 35 → white (class_of x) ≡ false
 unfolding class_of

@@ -7,6 +7,7 @@ use Rattle.std.proofs.lemmas.Bool.{and_parts, not-true}
 use Rattle.std.proofs.lemmas.Bool.Decides.{nat_tests}
 use Rattle.std.proofs.lemmas.Slice.Eq.{bytes_eq-Decides}
 use Rattle.std.proofs.Math.Seq.{take-append-add, drop-append-add}
+use Rattle.std.proofs.Math.Bool.{and-false}
 use Rattle.justfile_vocabulary.specs.declared.byte_class.ByteClass.{ByteClass}
 use Rattle.justfile_vocabulary.specs.declared.byte_class.ByteClass.TheVariants as classes
 use Rattle.justfile_vocabulary.specs.declared.token_kind.TokenKind.TheVariants.{Colon, Dedent, Eol, Indent, InterpolationEnd, InterpolationStart, Text, Whitespace}
@@ -21,7 +22,7 @@ use Rattle.justfile_model.specs.Lexing.Tok.{Tok}
 use Rattle.justfile_model.specs.Lexing.Modes.{Mode, is_empty}
 use Rattle.justfile_model.specs.Lexing.Next.{fixed_token, token_by_class, token_within_line, body_token, text_or, layout, begins_blank_line, next}
 use Rattle.justfile_round_trip.proofs.LiteralTexts.LexedModes.{Mark, mark, LexesTo, step, take_front}
-use Rattle.justfile_round_trip.proofs.LiteralTexts.Inline.{Each, head_is, amid, amid_next, and_no}
+use Rattle.justfile_round_trip.proofs.LiteralTexts.Inline.{Each, head_is, amid, amid_next}
 use Rattle.justfile_round_trip.proofs.RecipeBodies.Lines.{at_item, run_more, laid_after, same_both}
 
 -- where a line of a body begins, and inside it
@@ -59,7 +60,7 @@ not_mixed x xs e = go (eqb x 32) refl
     not_tab h = grind (arith, nat_tests)
 
     go : (t : Bool) → eqb x 32 ≡ t → is_mixed xs ≡ false
-    go true h = ap (λ b. list_any (λ y. eqb y 32) xs && b) (no_other x 9 xs (not_tab h) e) ∙ and_no (list_any (λ y. eqb y 32) xs)
+    go true h = ap (λ b. list_any (λ y. eqb y 32) xs && b) (no_other x 9 xs (not_tab h) e) ∙ and-false (list_any (λ y. eqb y 32) xs)
     go false h = ap (λ b. b && list_any (λ y. eqb y 9) xs) (no_other x 32 xs h e)
 
 is_blank_class : (x : ℕ) → is_space_or_tab x ≡ true → blank (class_of x) ≡ true
@@ -81,7 +82,7 @@ pub colon_step : {os : List OpenDelimiter} {ls : List (List ℕ)} {c : Bool} {i 
 unfolding token_by_class class_of fixed_token
 colon_step {os} {ls} {c} {i} {f} x {more} {ts} equals colon k =
     step (amid os ls c i f) Colon (58 ∷ []) (x ∷ more) ts
-    (amid_next os ls c i f 58 (x ∷ more) (and_no (is_empty os)) ∙ rw equals (rw colon refl))
+    (amid_next os ls c i f 58 (x ∷ more) (and-false (is_empty os)) ∙ rw equals (rw colon refl))
     (λ e. cc) (λ o n col. k)
 
 -- ---- inside a line of a body

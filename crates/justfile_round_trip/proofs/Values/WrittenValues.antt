@@ -44,9 +44,7 @@ either false x y u v = v
 
 operator_utf8 : (by : ConditionalOperator) (more : List ℕ) → IsUtf8 more → IsUtf8 (32 ∷ (operator_codes by ++ (32 ∷ more)))
 operator_utf8 Equality more u = plain (codes " == ") more refl u
-operator_utf8 Inequality more u = plain (codes " != ") more refl u
-operator_utf8 RegexMatch more u = plain (codes " =~ ") more refl u
-operator_utf8 RegexMismatch more u = plain (codes " !~ ") more refl u
+operator_utf8 by more u = plain (32 ∷ (operator_codes by ++ (32 ∷ []))) more refl u
 
 others_utf8 : (es : Values) (more : List ℕ) → IsUtf8 more → IsUtf8 (exprs_on es more) → IsUtf8 (others_on es more)
 others_utf8 tree.none more u v = u
