@@ -248,8 +248,7 @@ module _ (MayEnter MayEnter' : ℕ → Option SignificantToken → Type 0) (fewe
   put_if : {d d' : ℕ} {w : SignificantToken} {e : canon.Value} {fs gs : Shown} {ts rest : Tokens} → Conditional lexeme nothing MayEnter d w e fs ts rest → (b : Bool) (on : List Mark)
       → Conditional lexeme nothing MayEnter' d' (if_token b) e gs (significant true (following (expr_marks e on))) (significant true on) → Conjunct lexeme nothing MayEnter' d' e gs (significant b (expr_marks e on)) (significant true on)
   put_if (g.if_only c x next) b on q = g.conditional (is_word (codes "if")) q
-  put_if (g.if_else c x w o next) b on q = g.conditional (is_word (codes "if")) q
-  put_if (g.else_if c x w i o) b on q = g.conditional (is_word (codes "if")) q
+  put_if _ b on q = g.conditional (is_word (codes "if")) q
 
   mutual
     pub expression_back : {condition : Bool} {d : ℕ} {e : canon.Value} {fs : Shown} {ts rest : Tokens} → Expression lexeme nothing MayEnter condition d e fs ts rest → (d' : ℕ) → d' ≤ d → (b : Bool) (on : List Mark) → EndsIn (tail e) (significant true on) → StopE (significant true on)

@@ -42,9 +42,7 @@ bare_written entries content items e = ap (λ o. after_doc o (Construct entries 
 -- if a recipe wants a doc, no attribute sets one, and the recipe has none yet
 unsaid : (takes says : Bool) (o : Option (List ℕ)) → (takes && not says && not (is_some o)) ≡ true → (says ≡ false) × (o ≡ None)
 unsaid true false None h = (refl, refl)
-unsaid true false (Some doc) h = cc
-unsaid true true o h = cc
-unsaid false says o h = cc
+unsaid _ _ _ h = cc
 
 doc_before : (doc : List ℕ) (content : ShapeContent) (entries : List ShapeEntry) (items : Shape) → can_take_doc sets_doc entries content ≡ true
     → after_doc (cond (sets_doc entries) None (Some doc)) (Construct entries (redocumented None content) ∷ items)
@@ -71,14 +69,13 @@ module _ (limit : ℕ) where
   taken_good : (before : Before) (t : List ℕ) (i : ShapeItem) (items : Shape) (o : Option (List ℕ)) → doc_in before t ≡ o → GoodComment t
       → AtStart limit (docs_written (i ∷ items)) → AtStart limit (docs_written (comment_taken sets_doc t i items o))
   taken_good before t i items None e h more = after_comment t _ h more
-  taken_good before t Newline items (Some doc) e h more = after_comment t _ h more
-  taken_good before t (Comment u) items (Some doc) e h more = after_comment t _ h more
   taken_good before t (Construct entries content) items (Some doc) e h more = by (can_take_doc sets_doc entries content) refl
     where
       by : (b : Bool) → can_take_doc sets_doc entries content ≡ b
           → AtStart limit (docs_written (doc_or_comment sets_doc t (Construct entries content) items (cond b (Some (Construct entries (redocumented (Some doc) content))) None)))
       by true w = subst (AtStart limit) (sym (doc_put doc content entries (docs_written items) w)) (after_comment (doc_comment doc) _ (good_doc before t doc h e) more)
       by false w = after_comment t _ h more
+  taken_good before t _ items (Some doc) e h more = after_comment t _ h more
 
   comment_good : (before : Before) (t : List ℕ) (items : Shape) → GoodComment t → AtStart limit (docs_written items)
       → AtStart limit (docs_written (taken sets_doc before (Comment t) (Newline ∷ items)))

@@ -41,8 +41,7 @@ module _ (MayEnter : ℕ → Option SignificantToken → Type 0) where
   conditional_tail : {d : ℕ} {w : SignificantToken} {e : canon.Value} {fs : Shown} {ts rest : Tokens} → Conditional lexeme nothing MayEnter d w e fs ts rest
       → cond (ends_open e) OfOpen OfClosed ≡ tail e
   conditional_tail (g.if_only c b next) = refl
-  conditional_tail (g.if_else c b w o next) = refl
-  conditional_tail (g.else_if c b w i o) = refl
+  conditional_tail _ = refl
 
   conjunct_ends : {d : ℕ} {e : canon.Value} {fs : Shown} {ts rest : Tokens} → Conjunct lexeme nothing MayEnter d e fs ts rest → EndsIn (tail e) rest
   conjunct_ends {rest = rest} (g.conditional i c) = subst (λ x. EndsIn x rest) (conditional_tail c) (conditional_ends c)

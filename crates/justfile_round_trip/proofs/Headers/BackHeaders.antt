@@ -127,22 +127,17 @@ module _ (limit : ℕ) where
   named_parts (g.required kind next) = (refl, refl)
   named_parts (g.optional kind kind2 v) = (refl, refl)
 
+  with_parts : (p : ShapeParameter) (fs : Shown) (b : Bool) (on : List Mark) {kind : ParameterKind} {export : Bool} → (p.kind ≡ kind) × (p.export ≡ export)
+      → ParameterOf lexeme nothing (BelowLimit limit) kind p fs (significant b (dollar_marks export (word p.name ∷ default_marks p.default on))) (significant true on) → ParameterBack kind p fs b on
+  with_parts p fs b on {kind} parts x = record {
+    derives = subst (λ e. ParameterOf lexeme nothing (BelowLimit limit) kind p fs (significant b (dollar_marks e (word p.name ∷ default_marks p.default on))) (significant true on)) (sym parts.1) x;
+    same_kind = parts.0;
+  }
+
   parameter_back : {kind : ParameterKind} {p : ShapeParameter} {fs : Shown} {ts rest : Tokens} → ParameterOf lexeme nothing (BelowLimit limit) kind p fs ts rest
       → (b : Bool) (on : List Mark) → Parted (significant true on) → ParameterBack kind p fs b on
-  parameter_back {p = p} {fs = fs} (g.exported {kind = k} kind n) b on h =
-      let parts = named_parts n in
-      record {
-        derives = subst (λ x. ParameterOf lexeme nothing (BelowLimit limit) k p fs (significant b (dollar_marks x (word p.name ∷ default_marks p.default on))) (significant true on)) (sym parts.1)
-            (g.exported refl (named_back n true on h));
-        same_kind = parts.0;
-      }
-  parameter_back {p = p} {fs = fs} (g.unexported {kind = k} n) b on h =
-      let parts = named_parts n in
-      record {
-        derives = subst (λ x. ParameterOf lexeme nothing (BelowLimit limit) k p fs (significant b (dollar_marks x (word p.name ∷ default_marks p.default on))) (significant true on)) (sym parts.1)
-            (g.unexported (named_back n b on h));
-        same_kind = parts.0;
-      }
+  parameter_back {p = p} {fs = fs} (g.exported kind n) b on h = with_parts p fs b on (named_parts n) (g.exported refl (named_back n true on h))
+  parameter_back {p = p} {fs = fs} (g.unexported n) b on h = with_parts p fs b on (named_parts n) (g.unexported (named_back n b on h))
 
   -- the parameters after the name of a recipe, and the colon
   parameters_back : {ps : List ShapeParameter} {fs : Shown} {ts rest : Tokens} → Parameters lexeme nothing (BelowLimit limit) ps fs ts rest → (b : Bool) (on : List Mark)
@@ -216,15 +211,9 @@ module _ (limit : ℕ) where
       → DependencyOf lexeme nothing nothing (BelowLimit limit) d fs (significant false (dependency_marks d on)) (significant true on)
   dependency_back (g.bare p) s on h = g.bare (path_back p false on h)
   dependency_back (g.plain kind p (g.none kind2)) s on h = g.bare (path_back p false on h)
-  dependency_back (g.plain kind p (g.plain x r)) s on h =
-      let q = arguments_back (g.plain x r) on in g.plain refl (path_back p true _ q.no_colons) q.derives
-  dependency_back (g.plain kind p (g.starred {mark = m} kind2 v r)) s on h =
-      let q = arguments_back (g.starred {mark = m} kind2 v r) on in g.plain refl (path_back p true _ q.no_colons) q.derives
+  dependency_back (g.plain kind p r) s on h = let q = arguments_back r on in g.plain refl (path_back p true _ q.no_colons) q.derives
   dependency_back (g.starred kind kind2 p (g.none kind3)) s on h = absurd s
-  dependency_back (g.starred kind kind2 p (g.plain x r)) s on h =
-      let q = arguments_back (g.plain x r) on in g.starred refl refl (path_back p true _ q.no_colons) q.derives
-  dependency_back (g.starred kind kind2 p (g.starred {mark = m} kind3 v r)) s on h =
-      let q = arguments_back (g.starred {mark = m} kind3 v r) on in g.starred refl refl (path_back p true _ q.no_colons) q.derives
+  dependency_back (g.starred kind kind2 p r) s on h = let q = arguments_back r on in g.starred refl refl (path_back p true _ q.no_colons) q.derives
 
   -- dependencies, each after a space, before tokens that don't begin another one
   dependencies_back : {ds : List ShapeDependency} {fs : Shown} {ts rest : Tokens} → Dependencies lexeme nothing nothing (BelowLimit limit) ds fs ts rest → AllStarred ds

@@ -4,6 +4,7 @@ use Rattle.std.specs.Prelude.{◌&&◌, ◌||◌}
 use Rattle.std.proofs.lemmas.Bool.{and_parts}
 use Rattle.std.proofs.lemmas.Bool.Decides.{nat_tests}
 use Rattle.std.specs.Char.{is_ascii_alphabetic, is_ascii_digit}
+use Rattle.std.proofs.lemmas.List.{get_or-drop, drop-drop}
 use Rattle.justfile_vocabulary.specs.declared.byte_class.ByteClass.{ByteClass}
 use Rattle.justfile_vocabulary.specs.declared.byte_class.ByteClass.TheVariants as classes
 use Rattle.justfile_token.specs.declared.string_kind.StringDelimiter.{StringDelimiter}
@@ -70,24 +71,6 @@ front_byte [] q p h = absurd (no_zero q p h)
     no_zero q p h = grind (arith, nat_tests)
 front_byte (x ∷ xs) q p h = let e : x ≡ q = grind (arith, nat_tests) in ap (λ y. y ∷ xs) e
 
-second_byte : (bs : List ℕ) → get_or (drop 1 bs) 0 0 ≡ get_or bs 1 0
-second_byte [] = refl
-second_byte (x ∷ xs) = refl
-
-third_byte : (bs : List ℕ) → get_or (drop 2 bs) 0 0 ≡ get_or bs 2 0
-third_byte [] = refl
-third_byte (x ∷ []) = refl
-third_byte (x ∷ y ∷ xs) = refl
-
-pub drop_two : (bs : List ℕ) → drop 1 (drop 1 bs) ≡ drop 2 bs
-drop_two [] = refl
-drop_two (x ∷ xs) = refl
-
-drop_three : (bs : List ℕ) → drop 1 (drop 2 bs) ≡ drop 3 bs
-drop_three [] = refl
-drop_three (x ∷ []) = refl
-drop_three (x ∷ y ∷ xs) = refl
-
 -- where a delimiter is at the front, its bytes are
 pub delimiter_front : (k : StringKind) (bs : List ℕ) → is_delimiter k bs ≡ true → bs ≡ delimiter_of k ++ drop (delimiter_len k) bs
 delimiter_front k bs h = go k.indented h
@@ -103,8 +86,8 @@ delimiter_front k bs h = go k.indented h
         let last = and_parts (eqb (get_or bs 0 0) q && eqb (get_or bs 1 0) q) _ h in
         let firsts = and_parts (eqb (get_or bs 0 0) q) _ last.0 in
         front_byte bs q some firsts.0
-        ∙ ap (λ l. q ∷ l) (front_byte (drop 1 bs) q some (ap (λ b. eqb b q) (second_byte bs) ∙ firsts.1) ∙ ap (λ l. q ∷ l) (drop_two bs))
-        ∙ ap (λ l. q ∷ q ∷ l) (front_byte (drop 2 bs) q some (ap (λ b. eqb b q) (third_byte bs) ∙ last.1) ∙ ap (λ l. q ∷ l) (drop_three bs))
+        ∙ ap (λ l. q ∷ l) (front_byte (drop 1 bs) q some (ap (λ b. eqb b q) (get_or-drop 1 bs 0 0) ∙ firsts.1) ∙ ap (λ l. q ∷ l) (drop-drop 1 1 bs))
+        ∙ ap (λ l. q ∷ q ∷ l) (front_byte (drop 2 bs) q some (ap (λ b. eqb b q) (get_or-drop 2 bs 0 0) ∙ last.1) ∙ ap (λ l. q ∷ l) (drop-drop 1 2 bs))
     go false h = front_byte bs q some h
 
 -- a text that begins with a quote begins with the delimiter of its kind

@@ -74,9 +74,7 @@ assignment_begins false false name more h = with_name name _ h
 -- a construct is not empty: it begins with a bracket, or with its content
 construct_text : (entries : List ShapeEntry) {text : List ℕ} → Begins text → is_empty (entries_on entries text) ≡ false
 construct_text [] (with_name [] more h) = absurd h
-construct_text [] (with_name (x ∷ xs) more h) = refl
-construct_text [] (with_at more) = refl
-construct_text (e ∷ entries) h = refl
+construct_text _ _ = refl
 
 -- a construct can follow a body
 construct_follows : (entries : List ShapeEntry) {text : List ℕ} → Begins text → ends_body (entries_on entries text) ≡ true
