@@ -10,7 +10,7 @@ use Rattle.justfile_model.specs.Printed.PrintedAttributes.{after_doc, doc_writte
 use Rattle.justfile_model.specs.Trees.Tree.{Comment, Construct, Module, Newline, Recipe, Shape, bare_recipe}
 use Rattle.justfile_model.proofs.Printed.DocComments.{doc_comment_ends, doc_comment_first}
 use Rattle.justfile_model.proofs.Printed.DocsText.{none_shown}
-use Rattle.justfile_model.proofs.Printed.PlainFiles.{InComment, IsPlain}
+use Rattle.justfile_model.proofs.Printed.PlainFiles.{InComment}
 use Rattle.justfile_model.proofs.Printed.PrintedDocs.{Utf8Comment}
 use Rattle.justfile_model.proofs.Printed.TrimLaws.{doc_comment_trimmed, doc_comment_utf8, doc_of_comment, past_hash}
 use Rattle.justfile_round_trip.proofs.Canon.{ShapeContent, ShapeItem}

@@ -10,8 +10,7 @@ use Rattle.justfile_model.specs.Trees.Tree as tree
 use Rattle.justfile_model.specs.Trees.Tree.{Construct, WrittenItem, WrittenShape, Shape, starless, starless_argument, starless_dependency}
 use Rattle.justfile_model.proofs.Lists.Binds.{some_back}
 use Rattle.justfile_model.proofs.Meanings.Ordered.{construct_meant, meanings_of}
-use Rattle.justfile_round_trip.proofs.Canon.{ShapeContent, ShapeItem}
-use Rattle.justfile_round_trip.proofs.Headers.CanonHeaders.{ShapeArgument, ShapeDependency}
+use Rattle.justfile_round_trip.proofs.Canon.{ShapeItem}
 use Rattle.justfile_round_trip.proofs.Attributes.CanonAttributes.{ShapeEntry}
 
 -- an item as it is written

@@ -1,6 +1,5 @@
 -- Adjacent expressions: an expression ends in the printed text before the same tokens as in the source.
-use Rattle.std.proofs.Common.{◌≡◌, ℕ, Bool, true, false, cond, ◌∷◌, Option, refl, sym, subst, ap, ◌∙◌, codes}
-use Rattle.std.specs.Prelude.{◌&&◌}
+use Rattle.std.proofs.Common.{◌≡◌, ℕ, Bool, true, false, cond, Option, refl, sym, subst, ap, ◌∙◌, codes}
 use Rattle.std.proofs.lemmas.Bool.{and_right}
 use Rattle.justfile_vocabulary.specs.declared.token_kind.TokenKind.{TokenKind}
 use Rattle.justfile_vocabulary.specs.declared.token_kind.TokenKind.TheVariants as kinds

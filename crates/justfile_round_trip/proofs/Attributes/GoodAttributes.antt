@@ -1,5 +1,5 @@
 -- Good attributes: each name has the properties of its token, and each value derives back.
-use Rattle.std.proofs.Common.{◌≡◌, ℕ, Bool, true, false, List, [], ◌∷◌}
+use Rattle.std.proofs.Common.{◌≡◌, ℕ, Bool, true, false, List}
 use Rattle.std.specs.List.{AllByRecursion}
 use Rattle.justfile_model.specs.Meanings.AttributeKinds.{name_takes_keys}
 use Rattle.justfile_model.specs.Printed.PrintedAttributes.{rewritten_entry, rewritten_entries}

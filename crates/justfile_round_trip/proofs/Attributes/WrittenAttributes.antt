@@ -1,22 +1,17 @@
 -- Attributes that any text derives are good.
-use Rattle.std.proofs.Common.{◌≡◌, ℕ, Bool, false, List, [], ◌∷◌, ◌++◌, Option, Some, None, refl, ap, ◌∙◌}
+use Rattle.std.proofs.Common.{ℕ, Bool, false, List, [], ◌∷◌, Option, Some, None, refl}
 use Rattle.justfile_model.proofs.Lists.AllParts.{both}
-use Rattle.justfile_vocabulary.specs.declared.token_kind.TokenKind.{TokenKind}
 use Rattle.justfile_vocabulary.specs.declared.token_kind.TokenKind.TheVariants as kinds
 use Rattle.justfile_model.specs.Grammars.AttributeLines as g
 use Rattle.justfile_model.specs.Grammars.AttributeLines.{IsKey, ArgumentOf, Arguments, AttributeOf, Bracketed, AttributesEnd, AttributeLines}
 use Rattle.justfile_model.specs.Grammars.Expressions.{Tokens, IsKind, BelowLimit}
-use Rattle.justfile_model.specs.Meanings.Meaning.{entries_of}
-use Rattle.justfile_model.specs.Trees.LeafView.{LeafView}
 use Rattle.justfile_model.specs.Lexing.SignificantTokens.{SignificantToken}
 use Rattle.justfile_model.specs.Trees.Tree.{at_last, commented_attribute, commented_line, lexeme, nothing}
 use Rattle.justfile_round_trip.proofs.Canon.{Shown}
-use Rattle.justfile_round_trip.proofs.Attributes.CanonAttributes.{Argument, Written, ShapeEntry}
+use Rattle.justfile_round_trip.proofs.Attributes.CanonAttributes.{Argument, Written}
 use Rattle.justfile_round_trip.proofs.Good.{GoodComment, GoodOptionalComment}
-use Rattle.justfile_round_trip.proofs.Attributes.GoodAttributes.{GoodEntries}
 use Rattle.justfile_round_trip.proofs.Attributes.MeantAttributes.{GoodSource, GoodSourceAttribute, AllGoodSource, AllGoodAttributes}
 use Rattle.justfile_round_trip.proofs.Values.TokenFacts.{Around, outside, Sound}
-use Rattle.justfile_round_trip.proofs.RecipeBodies.BodyFacts.{situation_after}
 use Rattle.justfile_round_trip.proofs.RecipeBodies.BodyGood.{IsOutside}
 use Rattle.justfile_round_trip.proofs.Ahead.{Ahead, Passed, PassedIn, lexed_comment, past_token, value_good}
 use Rattle.justfile_round_trip.proofs.Values.WrittenValues.{within}

@@ -19,7 +19,7 @@ use Rattle.justfile_model.specs.Trees.Tree.{assignment_of, bare_module, lexeme, 
 use Rattle.justfile_round_trip.proofs.LiteralTexts.LexedModes.{Mark}
 use Rattle.justfile_round_trip.proofs.Back.{none_but_closing, is_word}
 use Rattle.justfile_round_trip.proofs.Canon.{Shown, Value, ShapeContent, expr_on, paren_right, word}
-use Rattle.justfile_round_trip.proofs.Headers.CanonHeaders.{path_on, path_rest_on, path_marks, path_rest_marks, at_marks, header_rest_marks}
+use Rattle.justfile_round_trip.proofs.Headers.CanonHeaders.{path_on, path_rest_on, path_marks, at_marks, header_rest_marks}
 use Rattle.justfile_round_trip.proofs.Items.CanonItems.{content_on, content_marks}
 use Rattle.justfile_round_trip.proofs.Items.CanonParts.{ShapeQuoted, ShapeSetting, question_on, other_names_on, names_on, file_path_on, optional_path_on, setting_value_on, other_names_marks, names_marks, file_path_marks, setting_value_marks}
 use Rattle.justfile_round_trip.proofs.Good.{GoodExpression, GoodName, closes, ends_value, significant, GoodNames, GoodPath}

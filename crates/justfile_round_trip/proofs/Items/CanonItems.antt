@@ -1,10 +1,9 @@
 -- The printer of items with a continuation: text before text, and tokens before tokens.
-use Rattle.std.proofs.Common.{◌≡◌, ℕ, List, [], ◌∷◌, ◌++◌, Option, None, refl, ap, ◌∙◌, append_assoc, codes}
+use Rattle.std.proofs.Common.{◌≡◌, ℕ, List, [], ◌∷◌, ◌++◌, Option, refl, ap, ◌∙◌, append_assoc, codes}
 use Rattle.std.specs.List.{AllByRecursion}
 use Rattle.justfile_model.proofs.Printed.PlainFiles.{IsPlain}
 use Rattle.justfile_token.specs.Path.{path_text}
 use Rattle.justfile_vocabulary.specs.declared.token_kind.TokenKind.TheVariants as kinds
-use Rattle.justfile_model.specs.Grammars.Docs.{doc_of}
 use Rattle.justfile_model.specs.Trees.Tree.{AliasParts, AssignmentParts, FunctionParts, ImportParts, ModuleParts, SettingParts, Alias, Assignment, Function, Import, Module, Recipe, Setting, Unexport, Comment, Newline, Construct, Shape, bare_recipe}
 use Rattle.justfile_model.specs.Printed.Printing.{after_line_text, fixed_text, expr_text, body_text, doc_line, if_some, if_true, header_text, alias_text, assignment_text, function_text, import_text, module_text, setting_text, names_text, file_path_text, setting_value_text, entries_text, content_text, item_text, item_end, text}
 use Rattle.justfile_model.proofs.Printed.DocsText.{none_shown}

@@ -8,7 +8,7 @@ use Rattle.justfile_model.specs.Grammars.Settings.{ExpressionForm, InterpreterFo
 use Rattle.justfile_model.specs.Trees.Tree as tree
 use Rattle.justfile_model.specs.Trees.Tree.{assignment_of, bare_module}
 use Rattle.justfile_round_trip.proofs.LiteralTexts.LexedModes.{Mark, LexesTo}
-use Rattle.justfile_round_trip.proofs.LiteralTexts.Inline.{head_is, joins, head_word, amid, IsName, name_step, word_step, space_step}
+use Rattle.justfile_round_trip.proofs.LiteralTexts.Inline.{head_is, joins, head_word, amid, name_step, word_step, space_step}
 use Rattle.justfile_round_trip.proofs.Fixed as fixed
 use Rattle.justfile_round_trip.proofs.Fixed.{close_step, open_step, token_step}
 use Rattle.justfile_round_trip.proofs.RecipeBodies.Lines.{at_item, item_name, item_word}

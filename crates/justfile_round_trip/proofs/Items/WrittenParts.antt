@@ -1,26 +1,20 @@
 -- In any text the parts of items other than headers are good.
-use Rattle.std.proofs.Common.{ℕ, Bool, false, List, ◌∷◌, None, ◌≡◌, refl}
-use Rattle.std.specs.Str.{trim_end}
+use Rattle.std.proofs.Common.{ℕ, false, List, ◌∷◌, None, refl}
 use Rattle.justfile_round_trip.proofs.Ahead.{Ahead, Passed, keep_quiet, lexed_name, past_token, value_good}
-use Rattle.justfile_vocabulary.specs.declared.token_kind.TokenKind.{TokenKind}
 use Rattle.justfile_vocabulary.specs.declared.token_kind.TokenKind.TheVariants as kinds
-use Rattle.justfile_model.specs.Grammars.Expressions.{Tokens, IsKind, BelowLimit, Expression, Sequence}
-use Rattle.justfile_model.specs.Grammars.Headers as h
-use Rattle.justfile_model.specs.Grammars.Headers.{PathOf, PathRest}
+use Rattle.justfile_model.specs.Grammars.Expressions.{Tokens, BelowLimit, Sequence}
 use Rattle.justfile_model.specs.Grammars.ItemParts as g
 use Rattle.justfile_model.specs.Grammars.ItemParts.{FilePath, Names, ValueOf}
 use Rattle.justfile_model.specs.Grammars.Settings.{SettingForm}
-use Rattle.justfile_model.specs.Lexing.SignificantTokens.{SignificantToken}
 use Rattle.justfile_model.specs.Trees.Tree.{lexeme, nothing}
 use Rattle.justfile_round_trip.proofs.RecipeBodies.BodyGood.{IsOutside, Walked, outside_after, quiet_walk}
-use Rattle.justfile_round_trip.proofs.Canon.{Shown, Value, Values}
+use Rattle.justfile_round_trip.proofs.Canon.{Shown, Values}
 use Rattle.justfile_round_trip.proofs.Items.CanonParts.{ShapeQuoted, ShapeSetting}
-use Rattle.justfile_round_trip.proofs.Comments.{good_comment}
-use Rattle.justfile_round_trip.proofs.Good.{GoodComment, GoodExpression, GoodName, GoodNames}
+use Rattle.justfile_round_trip.proofs.Good.{GoodNames}
 use Rattle.justfile_round_trip.proofs.Items.GoodContents.{GoodFilePath, GoodSequence, GoodSettingValue}
-use Rattle.justfile_round_trip.proofs.Values.TokenFacts.{Around, Known, Sound, around, is_comment, outside}
+use Rattle.justfile_round_trip.proofs.Values.TokenFacts.{outside}
 use Rattle.justfile_round_trip.proofs.Walks.{walk_sequence}
-use Rattle.justfile_round_trip.proofs.Values.WrittenValues.{fact_as, good_expression, good_sequence, past, sequence_at, value_at, within}
+use Rattle.justfile_round_trip.proofs.Values.WrittenValues.{fact_as, good_sequence, sequence_at, within}
 
 pub file_path_good : {q : ShapeQuoted} {ts rest : Tokens} → FilePath lexeme q ts rest → Ahead outside false ts → Passed (GoodFilePath q) rest
 file_path_good (g.plain {token = t} {rest = rest} kind) a = record {

@@ -1,8 +1,7 @@
 -- In any text, each later part of a format string has the same delimiter as its first part.
-use Rattle.std.proofs.Common.{◌≡◌, ℕ, Bool, false, List, [], ◌∷◌, Option, Some, None, refl, sym, subst}
+use Rattle.std.proofs.Common.{◌≡◌, ℕ, Bool, false, List, [], ◌∷◌, Option, Some, refl, sym, subst}
 use Rattle.std.specs.Str.{IsUtf8}
 use Rattle.justfile_token.specs.declared.string_kind.StringKind.{StringKind}
-use Rattle.justfile_vocabulary.specs.declared.token_kind.TokenKind.{TokenKind}
 use Rattle.justfile_vocabulary.specs.declared.token_kind.TokenKind.TheVariants as kinds
 use Rattle.justfile_token.specs.StringKind.{delimiter_len, kind_of}
 use Rattle.justfile_model.specs.Lexing.Lexed.{Lexed}

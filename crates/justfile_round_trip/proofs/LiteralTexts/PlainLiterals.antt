@@ -11,7 +11,7 @@ use Rattle.std.proofs.lemmas.Str.{IsUtf8-append, IsUtf8-from_ascii}
 use Rattle.std.proofs.lemmas.Str.Parse.{digit_from_value}
 use Rattle.std.specs.List.{AllByRecursion}
 use Rattle.justfile_vocabulary.specs.declared.signal.Signal.{Signal}
-use Rattle.justfile_vocabulary.specs.declared.signal.Signal.TheVariants.{Hangup, Interrupt, Quit}
+use Rattle.justfile_vocabulary.specs.declared.signal.Signal.TheVariants.{Hangup}
 use Rattle.justfile_token.specs.declared.string_kind.StringDelimiter.{StringDelimiter}
 use Rattle.justfile_token.specs.declared.string_kind.StringDelimiter.TheVariants as delimiters
 use Rattle.justfile_token.specs.declared.string_kind.StringKind.{StringKind}

@@ -1,5 +1,5 @@
 -- The text after a body in normal form: nothing, or an item, possibly after line ends.
-use Rattle.std.proofs.Common.{◌≡◌, ℕ, Bool, true, false, List, [], ◌∷◌, ◌++◌, refl, ap, arith, codes}
+use Rattle.std.proofs.Common.{◌≡◌, ℕ, Bool, true, false, List, [], ◌∷◌, ◌++◌, refl, ap, codes}
 use Rattle.std.specs.Prelude.{not}
 use Rattle.justfile_round_trip.proofs.RecipeBodies.Lines.{no_hash}
 use Rattle.justfile_vocabulary.specs.ByteClass.{class_of}

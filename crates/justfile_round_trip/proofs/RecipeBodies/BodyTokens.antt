@@ -9,24 +9,15 @@ use Rattle.std.proofs.lemmas.List.Sums.{prefix_len-le-length}
 use Rattle.std.proofs.lemmas.Slice.Eq.{bytes_eq-Decides}
 use Rattle.std.proofs.Math.Numerals.{one-add}
 use Rattle.justfile_round_trip.proofs.Facts.{plain, Plain, outside_plain}
-use Rattle.justfile_vocabulary.specs.declared.byte_class.ByteClass.{ByteClass}
-use Rattle.justfile_vocabulary.specs.declared.byte_class.ByteClass.TheVariants as classes
-use Rattle.justfile_token.specs.declared.delimiter.Delimiter.{Delimiter}
-use Rattle.justfile_token.specs.declared.delimiter.Delimiter.TheVariants.{Brace, Bracket, Paren}
-use Rattle.justfile_token.specs.declared.string_kind.StringDelimiter.{StringDelimiter}
-use Rattle.justfile_token.specs.declared.string_kind.StringDelimiter.TheVariants as delimiters
-use Rattle.justfile_token.specs.declared.string_kind.StringKind.{StringKind}
 use Rattle.justfile_vocabulary.specs.declared.token_kind.TokenKind.{TokenKind}
 use Rattle.justfile_vocabulary.specs.declared.token_kind.TokenKind.TheVariants as kinds
 use Rattle.justfile_vocabulary.specs.ByteClass.{class_of}
-use Rattle.justfile_token.specs.StringKind.{kind_of, token_kind_of}
 use Rattle.justfile_model.specs.declared.open_delimiter.OpenDelimiter.{OpenDelimiter}
 use Rattle.justfile_model.specs.declared.raw_text.RawText.TheVariants as raw_texts
-use Rattle.justfile_model.specs.Lexing.Bytes.{blank, is_blank, blank_len, is_line_end, is_interpolation_start, is_interpolation_end, is_mixed, closes_levels, first_char}
-use Rattle.justfile_model.specs.Lexing.LexicalFault.{LexicalError}
-use Rattle.justfile_model.specs.Lexing.LiteralText.{raw_len, ends, pieces_len}
+use Rattle.justfile_model.specs.Lexing.Bytes.{blank, is_blank, blank_len, is_line_end, is_interpolation_start, is_interpolation_end, is_mixed, closes_levels}
+use Rattle.justfile_model.specs.Lexing.LiteralText.{ends, pieces_len}
 use Rattle.justfile_model.specs.Lexing.Modes.{Mode, is_empty, innermost, nested}
-use Rattle.justfile_model.specs.Lexing.Next.{NextToken, doubled_token, fixed_token, literal_part, literal_token, is_same, closing_delimiter, brace_by, token_by_class, token_outside_text, text_or, body_token, at_end_by, Region, InText, InInterpolation, OutsideText, region_by, token_in_region, token_within_line, blanks_or, tested_blanks, is_level, layout, begins_blank_line, next_by, next}
+use Rattle.justfile_model.specs.Lexing.Next.{NextToken, token_outside_text, text_or, body_token, at_end_by, Region, InText, InInterpolation, OutsideText, region_by, token_in_region, token_within_line, blanks_or, tested_blanks, is_level, layout, begins_blank_line, next_by, next}
 use Rattle.justfile_model.specs.Lexing.Tok.{Tok}
 use Rattle.justfile_round_trip.proofs.LiteralTexts.Inline.{head_is}
 use Rattle.justfile_round_trip.proofs.RecipeBodies.Lines.{none_here}
