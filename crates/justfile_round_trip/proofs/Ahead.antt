@@ -53,7 +53,11 @@ module _ {P : Situation → Type 0} (keep : Stays P) where
       let w = a.bodies in
       record {
         facts = past s t ts k e a.facts.2;
-        bodies = record { situation = situation_after t.tok.kind t.tok.lexeme w.situation; is = keep t.tok.kind t.tok.lexeme w.situation (ap shifts e ∙ stays) w.is; sound = w.sound.1 };
+        bodies = record {
+          situation = situation_after t.tok.kind t.tok.lexeme w.situation;
+          is = keep t.tok.kind t.tok.lexeme w.situation (ap shifts e ∙ stays) w.is;
+          sound = w.sound.1;
+        };
       }
 
   pub keep_quiet : (k : TokenKind) (l : List ℕ) (s : Situation) → quiet k ≡ true → P s → P (situation_after k l s)
@@ -64,14 +68,14 @@ module _ {P : Situation → Type 0} (keep : Stays P) where
     pub at : ValueAt s v rest
     pub following : AheadOf P s false rest
 
-  pub value_ahead : (limit : ℕ) {condition : Bool} {d : ℕ} {v : Value} {fs : Shown} {s : Around} {c : Bool} {ts rest : Tokens} → Expression lexeme nothing (BelowLimit limit) condition d v fs ts rest
-      → AheadOf P s c ts → ValueAhead s v rest
+  pub value_ahead : (limit : ℕ) {condition : Bool} {d : ℕ} {v : Value} {fs : Shown} {s : Around} {c : Bool} {ts rest : Tokens}
+      → Expression lexeme nothing (BelowLimit limit) condition d v fs ts rest → AheadOf P s c ts → ValueAhead s v rest
   value_ahead limit {s = s} {c} x a =
       let v = value_at (BelowLimit limit) x s c a.facts in
       record { at = v; following = record { facts = v.following; bodies = walk_past P keep_quiet limit x a.bodies } }
 
-  pub one_ahead : (limit : ℕ) {d : ℕ} {v : Value} {fs : Shown} {s : Around} {c : Bool} {ts rest : Tokens} → e.Value lexeme nothing (BelowLimit limit) d v fs ts rest → AheadOf P s c ts
-      → ValueAhead s v rest
+  pub one_ahead : (limit : ℕ) {d : ℕ} {v : Value} {fs : Shown} {s : Around} {c : Bool} {ts rest : Tokens}
+      → e.Value lexeme nothing (BelowLimit limit) d v fs ts rest → AheadOf P s c ts → ValueAhead s v rest
   one_ahead limit {s = s} {c} x a =
       let v = one_at (BelowLimit limit) x s c a.facts in
       record { at = v; following = record { facts = v.following; bodies = walk_value lexeme nothing (BelowLimit limit) (Walked P) (quiet_walk P keep_quiet) x a.bodies } }

@@ -72,7 +72,8 @@ none_but_closing kind (t ∷ ts) n h = other closes t ts kind h n
 
 -- a test that no operator passes which would continue an expression
 abbrev pub NoOperator : (TokenKind → Bool) → Type 0
-NoOperator f = (f kinds.BarBar ≡ false) × (f kinds.AmpersandAmpersand ≡ false) × (f kinds.EqualsEquals ≡ false) × (f kinds.BangEquals ≡ false) × (f kinds.EqualsTilde ≡ false) × (f kinds.BangTilde ≡ false)
+NoOperator f =
+    (f kinds.BarBar ≡ false) × (f kinds.AmpersandAmpersand ≡ false) × (f kinds.EqualsEquals ≡ false) × (f kinds.BangEquals ≡ false) × (f kinds.EqualsTilde ≡ false) × (f kinds.BangTilde ≡ false)
 
 -- an expression stops before a token that passes such a test, if no name before it would mark it
 pub stop_at : (f : TokenKind → Bool) → NoOperator f → (t : SignificantToken) (ts : Tokens) → f t.tok.kind ≡ true → (is_string t.tok.kind && t.glued) ≡ false → StopE (t ∷ ts)

@@ -61,7 +61,8 @@ may_begin _ = false
 
 -- The first tokens are of one kind, and one word; the second has this mark, and may begin an expression.
 pub data SameHead (glued : Bool) : Tokens → Tokens → Type 0 where
-  same_head : {t u : SignificantToken} {ts us : Tokens} → t.tok.kind ≡ u.tok.kind → (u.tok.kind ≡ kinds.Identifier → t.tok.lexeme ≡ u.tok.lexeme) → u.glued ≡ glued → may_begin u.tok.kind ≡ true → SameHead glued (t ∷ ts) (u ∷ us)
+  same_head : {t u : SignificantToken} {ts us : Tokens} → t.tok.kind ≡ u.tok.kind → (u.tok.kind ≡ kinds.Identifier → t.tok.lexeme ≡ u.tok.lexeme)
+      → u.glued ≡ glued → may_begin u.tok.kind ≡ true → SameHead glued (t ∷ ts) (u ∷ us)
 
 module _ (MayEnter : ℕ → Option SignificantToken → Type 0) where
   pub value_head : {d : ℕ} {e : canon.Value} {fs : Shown} {ts rest : Tokens} → Value lexeme nothing MayEnter d e fs ts rest → (b : Bool) (on : List Mark) → SameHead b ts (significant b (expr_marks e on))

@@ -197,12 +197,15 @@ module _ (outside : Bool) (m : Mode) (rest : List ℕ) where
   unfolding fixed_token
   fixed_finds b =
       let c = get_or rest 1 0 in
-      if_finds (eqb b 33) (λ _. if_finds (eqb c 61) (λ _. any _ _ (λ l i. tt) refl) (λ _. if_finds (eqb c 126) (λ _. any _ _ (λ l i. tt) refl) (λ _. any _ _ (λ l i. tt) refl))) (λ _.
+      if_finds (eqb b 33)
+      (λ _. if_finds (eqb c 61) (λ _. any _ _ (λ l i. tt) refl) (λ _. if_finds (eqb c 126) (λ _. any _ _ (λ l i. tt) refl) (λ _. any _ _ (λ l i. tt) refl))) (λ _.
       if_finds (eqb b 38) (λ _. twice_finds 38 _ (λ l i. tt) refl) (λ _.
       if_finds (eqb b 124) (λ _. twice_finds 124 _ (λ l i. tt) refl) (λ _.
       if_finds (eqb b 43) (λ _. if_finds (eqb c 43) (λ _. any _ _ (λ l i. tt) refl) (λ _. any _ _ (λ l i. tt) refl)) (λ _.
-      if_finds (eqb b 61) (λ _. if_finds (eqb c 61) (λ _. any _ _ (λ l i. tt) refl) (λ _. if_finds (eqb c 126) (λ _. any _ _ (λ l i. tt) refl) (λ _. any _ _ (λ l i. tt) refl))) (λ _.
-      if_finds (eqb b 58) (λ _. if_finds (eqb c 61) (λ _. any _ _ (λ l i. tt) refl) (λ _. if_finds (eqb c 58) (λ _. any _ _ (λ l i. tt) refl) (λ _. any _ _ (λ l i. tt) refl))) (λ _.
+      if_finds (eqb b 61)
+      (λ _. if_finds (eqb c 61) (λ _. any _ _ (λ l i. tt) refl) (λ _. if_finds (eqb c 126) (λ _. any _ _ (λ l i. tt) refl) (λ _. any _ _ (λ l i. tt) refl))) (λ _.
+      if_finds (eqb b 58)
+      (λ _. if_finds (eqb c 61) (λ _. any _ _ (λ l i. tt) refl) (λ _. if_finds (eqb c 58) (λ _. any _ _ (λ l i. tt) refl) (λ _. any _ _ (λ l i. tt) refl))) (λ _.
       if_finds (eqb b 36) (λ _. any _ _ (λ l i. tt) refl) (λ _.
       if_finds (eqb b 42) (λ _. any _ _ (λ l i. tt) refl) (λ _.
       if_finds (eqb b 44) (λ _. any _ _ (λ l i. tt) refl) (λ _.
@@ -265,7 +268,8 @@ module _ (outside : Bool) (m : Mode) (rest : List ℕ) where
       whole delimiters.QuoteDouble i l following f = (f.delimited, λ g. record { string = f.delimited; ends = f.whole (ap (λ b. b && true) g) })
       whole delimiters.QuoteSingle i l following f = (f.delimited, λ g. record { string = f.delimited; ends = f.whole (ap (λ b. b && true) g) })
 
-  close_finds : (o : Option OpenDelimiter) (d : Delimiter) (k : TokenKind) → ((l following : List ℕ) → Fact m k l following) → plain k ≡ true → Finds outside m rest (closing_delimiter o d k)
+  close_finds : (o : Option OpenDelimiter) (d : Delimiter) (k : TokenKind) → ((l following : List ℕ) → Fact m k l following) → plain k ≡ true
+      → Finds outside m rest (closing_delimiter o d k)
   close_finds None d k f p = refused
   close_finds (Some o) d k f p = if_finds (is_same o.delimiter d) (λ _. any k 1 f p) (λ _. refused)
 
@@ -338,7 +342,9 @@ module _ (outside : Bool) (m : Mode) (rest : List ℕ) where
   body_finds inside = by (raw_len raw_texts.Body rest)
     where
       by : (n : ℕ) → Finds outside m rest (text_or n (get_or rest 0 0))
-      by zero = if_finds (eqb (get_or rest 0 0) 10) (λ _. other inside _ _ (λ l i. tt)) (λ _. if_finds (eqb (get_or rest 0 0) 13) (λ _. other inside _ _ (λ l i. tt)) (λ _. other inside _ _ (λ l i. tt)))
+      by zero =
+          if_finds (eqb (get_or rest 0 0) 10) (λ _. other inside _ _ (λ l i. tt))
+          (λ _. if_finds (eqb (get_or rest 0 0) 13) (λ _. other inside _ _ (λ l i. tt)) (λ _. other inside _ _ (λ l i. tt)))
       by (suc n) = other inside _ _ (λ l i. tt)
 
   inside_finds : outside ≡ false → Finds outside m rest (token_within_line m rest)
@@ -358,7 +364,8 @@ module _ (outside : Bool) (m : Mode) (rest : List ℕ) where
   unfolding layout
   layout_finds inside found following =
       if_finds (nested m) (λ _. blanks_finds inside _) (λ _.
-      if_finds (begins_blank_line following) (λ _. if_finds (not (is_empty m.levels) && closes_levels false rest) (λ _. other inside _ _ (λ l i. tt)) (λ _. blanks_finds inside _)) (λ _.
+      if_finds (begins_blank_line following)
+      (λ _. if_finds (not (is_empty m.levels) && closes_levels false rest) (λ _. other inside _ _ (λ l i. tt)) (λ _. blanks_finds inside _)) (λ _.
       if_finds (bytes_eq found (innermost m)) (λ _. blanks_finds inside _) (λ _.
       if_finds (is_level m.levels found) (λ _. other inside _ _ (λ l i. tt)) (λ _.
       if_finds (m.in_body && starts_with nat_eq found (innermost m)) (λ _. blanks_finds inside _) (λ _.

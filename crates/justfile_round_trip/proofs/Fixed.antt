@@ -77,12 +77,16 @@ module _ {os : List OpenDelimiter} {ls : List (List ℕ)} {c : Bool} {i : Option
   unfolding class_of fixed_token
   bang_step more equals tilde k = fixed_step Bang 33 [] refl refl (λ j. cond (equals j) (Ok (BangEquals, 2)) (cond (tilde j) (Ok (BangTilde, 2)) (Ok (Bang, 1)))) (λ e. cc) (λ t. refl) k
 
-  pub open_step : {d : Delimiter} {k : TokenKind} {b : ℕ} {more : List ℕ} {ts : List Mark} → Opens d k b → ((line : ℕ) → LexesTo (amid (opener d line ∷ os) ls c i false) more ts) → LexesTo (amid os ls c i f) (b ∷ more) (mark k (b ∷ []) ∷ ts)
+  pub open_step : {d : Delimiter} {k : TokenKind} {b : ℕ} {more : List ℕ} {ts : List Mark} → Opens d k b
+      → ((line : ℕ) → LexesTo (amid (opener d line ∷ os) ls c i false) more ts) → LexesTo (amid os ls c i f) (b ∷ more) (mark k (b ∷ []) ∷ ts)
   unfolding token_by_class class_of
   open_step {b = b} {more} {ts} paren r = step (amid os ls c i f) _ (b ∷ []) more ts (amid_next os ls c i f b more (and-false (is_empty os))) (λ e. cc) (λ o n col. r n)
   open_step {b = b} {more} {ts} _ r = step (amid os ls c i f) _ (b ∷ []) more ts (amid_next os ls c i f b more (and-false (is_empty os))) (λ e. cc) (λ o n col. r n)
 
-  pub close_step : {d : Delimiter} {k : TokenKind} {b line : ℕ} {more : List ℕ} {ts : List Mark} → Closes d k b → LexesTo (amid os ls c i false) more ts → LexesTo (amid (opener d line ∷ os) ls c i f) (b ∷ more) (mark k (b ∷ []) ∷ ts)
+  pub close_step : {d : Delimiter} {k : TokenKind} {b line : ℕ} {more : List ℕ} {ts : List Mark} → Closes d k b
+      → LexesTo (amid os ls c i false) more ts → LexesTo (amid (opener d line ∷ os) ls c i f) (b ∷ more) (mark k (b ∷ []) ∷ ts)
   unfolding token_by_class class_of
-  close_step {d} {b = b} {line} {more} {ts} end_paren r = step (amid (opener d line ∷ os) ls c i f) _ (b ∷ []) more ts (amid_next (opener d line ∷ os) ls c i f b more refl) (λ e. cc) (λ o n col. r)
-  close_step {d} {b = b} {line} {more} {ts} _ r = step (amid (opener d line ∷ os) ls c i f) _ (b ∷ []) more ts (amid_next (opener d line ∷ os) ls c i f b more refl) (λ e. cc) (λ o n col. r)
+  close_step {d} {b = b} {line} {more} {ts} end_paren r =
+      step (amid (opener d line ∷ os) ls c i f) _ (b ∷ []) more ts (amid_next (opener d line ∷ os) ls c i f b more refl) (λ e. cc) (λ o n col. r)
+  close_step {d} {b = b} {line} {more} {ts} _ r =
+      step (amid (opener d line ∷ os) ls c i f) _ (b ∷ []) more ts (amid_next (opener d line ∷ os) ls c i f b more refl) (λ e. cc) (λ o n col. r)

@@ -127,9 +127,11 @@ module _ (limit : ℕ) where
   named_parts (g.optional kind kind2 v) = (refl, refl)
 
   with_parts : (p : ShapeParameter) (fs : Shown) (b : Bool) (on : List Mark) {kind : ParameterKind} {export : Bool} → (p.kind ≡ kind) × (p.export ≡ export)
-      → ParameterOf lexeme nothing (BelowLimit limit) kind p fs (significant b (dollar_marks export (word p.name ∷ default_marks p.default on))) (significant true on) → ParameterBack kind p fs b on
+      → ParameterOf lexeme nothing (BelowLimit limit) kind p fs (significant b (dollar_marks export (word p.name ∷ default_marks p.default on))) (significant true on)
+      → ParameterBack kind p fs b on
   with_parts p fs b on {kind} parts x = record {
-    derives = subst (λ e. ParameterOf lexeme nothing (BelowLimit limit) kind p fs (significant b (dollar_marks e (word p.name ∷ default_marks p.default on))) (significant true on)) (sym parts.1) x;
+    derives = subst (λ e. ParameterOf lexeme nothing (BelowLimit limit) kind p fs (significant b (dollar_marks e (word p.name ∷ default_marks p.default on))) (significant true on))
+        (sym parts.1) x;
     same_kind = parts.0;
   }
 

@@ -172,16 +172,16 @@ module _ (limit : ℕ) where
   dependency_at {d = d} (g.starred {mark = q} {opener = t} {tokens = ts} kind kind2 p r) a =
       called_at d.star p r (past_ahead header_after t ts kinds.ParenL kind2 refl (past_ahead header_after q (t ∷ ts) kinds.Asterisk kind refl a))
 
-  dependencies_at : {ds : List ShapeDependency} {fs : Shown} {ts rest : Tokens} → Dependencies lexeme nothing nothing (BelowLimit limit) ds fs ts rest → AheadOf IsHeader outside false ts
-      → Found IsHeader (GoodDependencies ds) (dependencies_on ds) rest
+  dependencies_at : {ds : List ShapeDependency} {fs : Shown} {ts rest : Tokens} → Dependencies lexeme nothing nothing (BelowLimit limit) ds fs ts rest
+      → AheadOf IsHeader outside false ts → Found IsHeader (GoodDependencies ds) (dependencies_on ds) rest
   dependencies_at (g.none a b c) h = record { good = tt; utf8 = λ more u. u; following = h }
   dependencies_at (g.more d r) h =
       let x = dependency_at d h in
       let y = dependencies_at r x.following in
       record { good = (x.good.0, x.good.1, y.good); utf8 = λ more u. plain (32 ∷ []) _ refl (x.utf8 _ (y.utf8 more u)); following = y.following }
 
-  all_at : {ds ss : List ShapeDependency} {fs : Shown} {ts rest : Tokens} → AllDependencies lexeme nothing nothing (BelowLimit limit) ds ss fs ts rest → AheadOf IsHeader outside false ts
-      → Found IsHeader (GoodDependencies ds × GoodDependencies ss) (λ more. dependencies_on ds (subsequents_on ss more)) rest
+  all_at : {ds ss : List ShapeDependency} {fs : Shown} {ts rest : Tokens} → AllDependencies lexeme nothing nothing (BelowLimit limit) ds ss fs ts rest
+      → AheadOf IsHeader outside false ts → Found IsHeader (GoodDependencies ds × GoodDependencies ss) (λ more. dependencies_on ds (subsequents_on ss more)) rest
   all_at (g.priors x next) h =
       let y = dependencies_at x h in record { good = (y.good, tt); utf8 = y.utf8; following = y.following }
   all_at (g.both {d = d} {others = others} {operator = t} {next = ts} x kind z) h =

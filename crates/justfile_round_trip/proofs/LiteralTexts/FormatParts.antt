@@ -17,10 +17,11 @@ use Rattle.justfile_round_trip.proofs.Values.WrittenValues.{fact_as, past, value
 use Rattle.justfile_round_trip.proofs.LiteralTexts.Quoted.{IsFramed, continue_framed, end_framed}
 
 -- after an expression the same is open as before it
-following : {A B : Type 0} (leaf : Tok → A) (position : Tok → B) (MayEnter : ℕ → Option SignificantToken → Type 0) {condition : Bool} {d : ℕ} {e : Expr A B} {fs : List (Noted B)} {ts rest : Tokens}
-    → Expression leaf position MayEnter condition d e fs ts rest → (s : Around) (c : Bool) → Sound s c ts → Sound s false rest
+following : {A B : Type 0} (leaf : Tok → A) (position : Tok → B) (MayEnter : ℕ → Option SignificantToken → Type 0) {condition : Bool} {d : ℕ} {e : Expr A B}
+    {fs : List (Noted B)} {ts rest : Tokens} → Expression leaf position MayEnter condition d e fs ts rest → (s : Around) (c : Bool) → Sound s c ts → Sound s false rest
 following leaf position MayEnter {ts = ts} x s c h =
-    let shape = carry.expression {C = Unit {0}} {D = Unit {0}} leaf position MayEnter (λ t u. t ≡ u) equal_same lexeme nothing MayEnter (λ a. tt) (λ b. tt) (λ a. tt) (λ b. tt) (λ t u e. refl) (λ t u e. refl)
+    let shape = carry.expression {C = Unit {0}} {D = Unit {0}} leaf position MayEnter (λ t u. t ≡ u) equal_same lexeme nothing MayEnter
+    (λ a. tt) (λ b. tt) (λ a. tt) (λ b. tt) (λ t u e. refl) (λ t u e. refl)
     (λ d ts us same o. subst (λ x. MayEnter d (front x)) (pairs_equal same) o) x ts (equal_pairs ts) in
     subst (Sound s false) (sym (pairs_equal shape.same)) (value_at MayEnter shape.derives s c h).following
 

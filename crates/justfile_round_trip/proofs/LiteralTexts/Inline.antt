@@ -121,7 +121,8 @@ module _ {os : List OpenDelimiter} {ls : List (List ℕ)} {c : Bool} {i : Option
       ∙ ap (λ n. Ok (Identifier, n)) (run_each in_word (x ∷ xs) more word stop))
       (λ e. cc) (λ o n col. k)
 
-  pub word_step : (w : List ℕ) {more : List ℕ} {ts : List Mark} → is_word w ≡ true → head_is in_word more ≡ false → LexesTo (amid os ls c i (bytes_eq w (102 ∷ []))) more ts → LexesTo (amid os ls c i f) (w ++ more) (mark Identifier w ∷ ts)
+  pub word_step : (w : List ℕ) {more : List ℕ} {ts : List Mark} → is_word w ≡ true → head_is in_word more ≡ false
+      → LexesTo (amid os ls c i (bytes_eq w (102 ∷ []))) more ts → LexesTo (amid os ls c i f) (w ++ more) (mark Identifier w ∷ ts)
   word_step w h stop k = name_step w (word_name w h) stop k
 
   pub space_step : {more : List ℕ} {ts : List Mark} → head_is blank more ≡ false → LexesTo (amid os ls c i false) more ts → LexesTo (amid os ls c i f) (32 ∷ more) (mark Whitespace (32 ∷ []) ∷ ts)

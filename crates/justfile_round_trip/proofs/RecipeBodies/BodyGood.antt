@@ -215,8 +215,10 @@ module _ (limit : ℕ) where
       by (g.interpolation e' reads e'' r) known = let k = subst (TextKnown w l) e' known in ((k.0, u, good), begins w k)
 
   line_good : {ns : Shown} (w : At) (held colon : Bool) {fs : List Fragment} {tokens rest : Tokens} → InLine w fs → LineOf fs ns tokens rest → BodySound (inner w held colon) tokens → PartsGood fs → printable_fragments fs ≡ true → LineGood w held colon fs rest
-  line_good Amid held colon i (g.line_ends {token = t} {rest} e) s v p = record { good = tt; begins = tt; place = Start; stands = inl refl; sound = subst (λ h. BodySound (inner Start h colon) rest) (sym (and-true held)) (sound_after (inner Amid held colon) kinds.Eol t rest e s) }
-  line_good Amid held colon i (g.body_ends {token = t} {rest} e) s v p = record { good = tt; begins = tt; place = Amid; stands = inr (tt, e); sound = subst (λ h. BodySound (inner Amid h colon) (t ∷ rest)) (sym (and-true held)) s }
+  line_good Amid held colon i (g.line_ends {token = t} {rest} e) s v p =
+      record { good = tt; begins = tt; place = Start; stands = inl refl; sound = subst (λ h. BodySound (inner Start h colon) rest) (sym (and-true held)) (sound_after (inner Amid held colon) kinds.Eol t rest e s) }
+  line_good Amid held colon i (g.body_ends {token = t} {rest} e) s v p =
+      record { good = tt; begins = tt; place = Amid; stands = inr (tt, e); sound = subst (λ h. BodySound (inner Amid h colon) (t ∷ rest)) (sym (and-true held)) s }
   line_good _ held colon i (g.line_ends e) s v p = absurd i
   line_good _ held colon i (g.body_ends e) s v p = absurd i
   line_good w held colon {fs} {tokens} {rest} i (g.text {token = t} {tokens = mid} e r) s v p = following r v p (line_good Amid (held && pale t.tok.lexeme) colon tt r (sound_after (inner w held colon) kinds.Text t mid e s))

@@ -255,7 +255,8 @@ dedent_found ind [] i h = refl
 dedent_found [] (x ∷ xs) i h = let e = i.some in cc
 dedent_found (y ∷ ys) (x ∷ xs) i h =
     let parts = and_parts (closes_levels true (x ∷ xs)) (not (blank (class_of x))) h in
-    laid_after (at_line (y ∷ ys)) [] (x ∷ xs) tt (not-true (blank (class_of x)) parts.1) ∙ dedent_chosen y ys (x ∷ xs) (begins_blank_line (x ∷ xs)) refl (λ seen. closes_alike x xs (end_white x xs seen) parts.0)
+    laid_after (at_line (y ∷ ys)) [] (x ∷ xs) tt (not-true (blank (class_of x)) parts.1)
+    ∙ dedent_chosen y ys (x ∷ xs) (begins_blank_line (x ∷ xs)) refl (λ seen. closes_alike x xs (end_white x xs seen) parts.0)
 
 pub dedent_step : (ind more : List ℕ) (ts : List Mark) → IsLevel ind → ends_body more ≡ true → LexesTo (at_item false) more ts → LexesTo (at_line ind) more (mark Dedent [] ∷ ts)
 dedent_step ind more ts i h k = step (at_line ind) Dedent [] more ts (dedent_found ind more i h) (λ e. cc) (λ o n c. k)

@@ -52,7 +52,8 @@ item_name c (x ∷ xs) {more} {ts} h stop k =
     ∙ ap (λ n. Ok (Identifier, n)) (run_each in_word (x ∷ xs) more word stop))
     (λ e. cc) (λ o n col. k)
 
-pub item_word : (c : Bool) (w : List ℕ) {more : List ℕ} {ts : List Mark} → is_word w ≡ true → head_is in_word more ≡ false → LexesTo (amid [] [] c None (bytes_eq w (102 ∷ []))) more ts → LexesTo (at_item c) (w ++ more) (mark Identifier w ∷ ts)
+pub item_word : (c : Bool) (w : List ℕ) {more : List ℕ} {ts : List Mark} → is_word w ≡ true → head_is in_word more ≡ false
+    → LexesTo (amid [] [] c None (bytes_eq w (102 ∷ []))) more ts → LexesTo (at_item c) (w ++ more) (mark Identifier w ∷ ts)
 item_word c w h stop k = item_name c w (word_name w h) stop k
 
 pub blank_line : (c : Bool) {more : List ℕ} {ts : List Mark} → LexesTo (at_item c) more ts → LexesTo (at_item c) (10 ∷ more) (mark Eol (10 ∷ []) ∷ ts)
