@@ -4,7 +4,7 @@ use Rattle.std.proofs.Common.{◌≡◌, ℕ, ◌+◌, ◌≤◌, Bool, true, fa
 use Rattle.std.proofs.lemmas.List.{append-nil}
 use Rattle.justfile_vocabulary.specs.declared.token_kind.TokenKind.{TokenKind}
 use Rattle.justfile_vocabulary.specs.declared.token_kind.TokenKind.TheVariants as kinds
-use Rattle.justfile_model.specs.declared.conditional_operator.ConditionalOperator.TheVariants.{Equality, Inequality, RegexMatch, RegexMismatch}
+use Rattle.justfile_model.specs.declared.conditional_operator.ConditionalOperator.TheVariants.{Equality}
 use Rattle.justfile_model.specs.Lexing.Tok.{Tok}
 use Rattle.justfile_model.specs.Lexing.SignificantTokens.{SignificantToken}
 use Rattle.justfile_model.specs.Trees.Tree as tree
@@ -56,16 +56,11 @@ ends_here _ = true
 
 no_string : (kind : TokenKind) → closes kind ≡ true → is_string kind ≡ false
 no_string kinds.StringToken h = cc
-no_string kinds.FormatStringStart h = cc
-no_string _ h = refl
+no_string _ h = cc
 
 pub here_too : (kind : TokenKind) → closes kind ≡ true → ends_here kind ≡ true
 here_too kinds.ParenL h = cc
-here_too kinds.Slash h = cc
-here_too kinds.PlusPlus h = cc
-here_too kinds.Plus h = cc
-here_too kinds.Identifier h = cc
-here_too _ h = refl
+here_too _ h = cc
 
 other : (f : TokenKind → Bool) (t : SignificantToken) (ts : Tokens) (kind : TokenKind) → f t.tok.kind ≡ true → f kind ≡ false → NotNext kind (t ∷ ts)
 other f t ts kind h n = λ e. let c : true ≡ false = sym h ∙ ap f e ∙ n in cc
@@ -75,22 +70,31 @@ pub none_but_closing : (kind : TokenKind) (ts : Tokens) → closes kind ≡ fals
 none_but_closing kind [] n h = tt
 none_but_closing kind (t ∷ ts) n h = other closes t ts kind h n
 
-pub stop_before : (t : SignificantToken) (ts : Tokens) → closes t.tok.kind ≡ true → StopE (t ∷ ts)
-stop_before t ts h = record {
-  or = other closes t ts kinds.BarBar h refl;
+-- a test that no operator passes which would continue an expression
+abbrev pub NoOperator : (TokenKind → Bool) → Type 0
+NoOperator f =
+    (f kinds.BarBar ≡ false) × (f kinds.AmpersandAmpersand ≡ false) × (f kinds.EqualsEquals ≡ false) × (f kinds.BangEquals ≡ false) × (f kinds.EqualsTilde ≡ false) × (f kinds.BangTilde ≡ false)
+
+-- an expression stops before a token that passes such a test, if no name before it would mark it
+pub stop_at : (f : TokenKind → Bool) → NoOperator f → (t : SignificantToken) (ts : Tokens) → f t.tok.kind ≡ true → (is_string t.tok.kind && t.glued) ≡ false → StopE (t ∷ ts)
+stop_at f n t ts h apart = record {
+  or = other f t ts kinds.BarBar h n.0;
   disjunct = record {
-    and = other closes t ts kinds.AmpersandAmpersand h refl;
+    and = other f t ts kinds.AmpersandAmpersand h n.1;
     comparison = record {
       compared = record {
-        equality = other closes t ts kinds.EqualsEquals h refl;
-        inequality = other closes t ts kinds.BangEquals h refl;
-        regex_match = other closes t ts kinds.EqualsTilde h refl;
-        regex_mismatch = other closes t ts kinds.BangTilde h refl;
+        equality = other f t ts kinds.EqualsEquals h n.2;
+        inequality = other f t ts kinds.BangEquals h n.3;
+        regex_match = other f t ts kinds.EqualsTilde h n.4;
+        regex_mismatch = other f t ts kinds.BangTilde h n.5;
       };
-      conjunct = record { apart = ap (λ b. b && t.glued) (no_string t.tok.kind h) };
+      conjunct = record { apart = apart };
     };
   };
 }
+
+pub stop_before : (t : SignificantToken) (ts : Tokens) → closes t.tok.kind ≡ true → StopE (t ∷ ts)
+stop_before t ts h = stop_at closes (refl, refl, refl, refl, refl, refl) t ts h (ap (λ b. b && t.glued) (no_string t.tok.kind h))
 
 not_joined : (t : SignificantToken) (ts : Tokens) → ends_here t.tok.kind ≡ true → NotJoined (t ∷ ts)
 not_joined t ts h = record { join = other ends_here t ts kinds.Slash h refl; list_concatenation = other ends_here t ts kinds.PlusPlus h refl; concatenation = other ends_here t ts kinds.Plus h refl }
@@ -143,10 +147,10 @@ no_bool e = cc
 -- ---- the first token
 
 pub next_head : {b : Bool} (kind : TokenKind) {ts us : Tokens} → SameHead b ts us → NotNext kind ts → NotNext kind us
-next_head kind (same_head e f g) h = λ x. h (e ∙ x)
+next_head kind (same_head e f g b) h = λ x. h (e ∙ x)
 
 pub word_head : {b : Bool} (w : List ℕ) {ts us : Tokens} → SameHead b ts us → NotWord w ts → NotWord w us
-word_head w (same_head e f g) h = λ i. h (record { is_name = e ∙ i.is_name; spelled = f i.is_name ∙ i.spelled })
+word_head w (same_head e f g b) h = λ i. h (record { is_name = e ∙ i.is_name; spelled = f i.is_name ∙ i.spelled })
 
 -- ---- conditionals
 
@@ -188,21 +192,11 @@ lower limit d d' a b le h = omega (arith, le, h)
 module _ (MayEnter MayEnter' : ℕ → Option SignificantToken → Type 0) (fewer : (d d' : ℕ) (a b : Option SignificantToken) → d' ≤ d → MayEnter d a → MayEnter' d' b) where
   -- from any tokens that it begins alike
   as_condition : {d : ℕ} {e : canon.Value} {fs : Shown} {b : Bool} {ts us rest : Tokens} → SameHead b ts us → Expression lexeme nothing MayEnter' true d e fs us rest → Condition lexeme nothing MayEnter' d e (fs ++ uncompared e tt) us rest
-  as_condition (same_head kind spelled glued) x = g.condition x
+  as_condition (same_head kind spelled glued b) x = g.condition x
 
   value_no_conditional : {d : ℕ} {e : canon.Value} {fs : Shown} {ts rest : Tokens} → Value lexeme nothing MayEnter d e fs ts rest → is_conditional e ≡ true → ⊥
-  value_no_conditional (g.not kind v) = λ e. cc
-  value_no_conditional (g.literal kind) = λ e. cc
-  value_no_conditional (g.expanded m) = λ e. cc
-  value_no_conditional (g.format_literal m) = λ e. cc
-  value_no_conditional (g.format_string m e ps) = λ e. cc
-  value_no_conditional (g.backtick kind) = λ e. cc
-  value_no_conditional (g.assert w kind c kind2) = λ e. cc
-  value_no_conditional (g.assert_message w kind c kind2 m kind3) = λ e. cc
-  value_no_conditional (g.variable kind no_assert unmarked next) = λ e. cc
-  value_no_conditional (g.call kind no_assert kind2 s) = λ e. cc
-  value_no_conditional (g.group kind e kind2) = λ e. cc
-  value_no_conditional (g.list kind s) = λ e. cc
+  value_no_conditional (g.not kind v) e = cc
+  value_no_conditional _ e = cc
 
   conditional_yes : {d : ℕ} {w : SignificantToken} {e : canon.Value} {fs : Shown} {ts rest : Tokens} → Conditional lexeme nothing MayEnter d w e fs ts rest → is_conditional e ≡ true
   conditional_yes (g.if_only c b next) = refl
@@ -255,8 +249,7 @@ module _ (MayEnter MayEnter' : ℕ → Option SignificantToken → Type 0) (fewe
   put_if : {d d' : ℕ} {w : SignificantToken} {e : canon.Value} {fs gs : Shown} {ts rest : Tokens} → Conditional lexeme nothing MayEnter d w e fs ts rest → (b : Bool) (on : List Mark)
       → Conditional lexeme nothing MayEnter' d' (if_token b) e gs (significant true (following (expr_marks e on))) (significant true on) → Conjunct lexeme nothing MayEnter' d' e gs (significant b (expr_marks e on)) (significant true on)
   put_if (g.if_only c x next) b on q = g.conditional (is_word (codes "if")) q
-  put_if (g.if_else c x w o next) b on q = g.conditional (is_word (codes "if")) q
-  put_if (g.else_if c x w i o) b on q = g.conditional (is_word (codes "if")) q
+  put_if _ b on q = g.conditional (is_word (codes "if")) q
 
   mutual
     pub expression_back : {condition : Bool} {d : ℕ} {e : canon.Value} {fs : Shown} {ts rest : Tokens} → Expression lexeme nothing MayEnter condition d e fs ts rest → (d' : ℕ) → d' ≤ d → (b : Bool) (on : List Mark) → EndsIn (tail e) (significant true on) → StopE (significant true on)
@@ -276,12 +269,8 @@ module _ (MayEnter MayEnter' : ℕ → Option SignificantToken → Type 0) (fewe
         → Compared lexeme nothing MayEnter' condition d' e fs (significant b (expr_marks e on)) (significant true on)
     compared_back (g.compare Equality l kind r) d' le b on ends stop =
         g.compare Equality (conjunct_back l d' le b _ (ends_before _ _ _ refl) (record { apart = refl })) refl (conjunct_back r d' le false on ends stop.conjunct)
-    compared_back (g.compare Inequality l kind r) d' le b on ends stop =
-        g.compare Inequality (conjunct_back l d' le b _ (ends_before _ _ _ refl) (record { apart = refl })) refl (conjunct_back r d' le false on ends stop.conjunct)
-    compared_back (g.compare RegexMatch l kind r) d' le b on ends stop =
-        g.compare RegexMatch (conjunct_back l d' le b _ (ends_before _ _ _ refl) (record { apart = refl })) refl (conjunct_back r d' le false on ends stop.conjunct)
-    compared_back (g.compare RegexMismatch l kind r) d' le b on ends stop =
-        g.compare RegexMismatch (conjunct_back l d' le b _ (ends_before _ _ _ refl) (record { apart = refl })) refl (conjunct_back r d' le false on ends stop.conjunct)
+    compared_back (g.compare by l kind r) d' le b on ends stop =
+        g.compare by (conjunct_back l d' le b _ (ends_before _ _ _ refl) (record { apart = refl })) refl (conjunct_back r d' le false on ends stop.conjunct)
     compared_back (g.conjunct l next) d' le b on ends stop = g.conjunct (conjunct_back l d' le b on ends stop.conjunct) stop.compared
 
     conjunct_back : {d : ℕ} {e : canon.Value} {fs : Shown} {ts rest : Tokens} → Conjunct lexeme nothing MayEnter d e fs ts rest → (d' : ℕ) → d' ≤ d → (b : Bool) (on : List Mark) → EndsIn (tail e) (significant true on) → StopC (significant true on)
@@ -341,11 +330,8 @@ module _ (MayEnter MayEnter' : ℕ → Option SignificantToken → Type 0) (fewe
     conjunct_conditional : {d : ℕ} {e : canon.Value} {fs : Shown} {ts rest : Tokens} → Conjunct lexeme nothing MayEnter d e fs ts rest → is_conditional e ≡ true → (d' : ℕ) → d' ≤ d → (on : List Mark) → EndsIn (tail e) (significant true on)
         → Conditional lexeme nothing MayEnter' d' (if_token false) e fs (significant true (following (expr_marks e on))) (significant true on)
     conjunct_conditional (g.conditional i c) is d' le on ends = conditional_back c (if_token false) d' le on ends
-    conjunct_conditional (g.root kind r) is d' le on ends = absurd (no_bool (sym is))
-    conjunct_conditional (g.join next l kind r) is d' le on ends = absurd (no_bool (sym is))
-    conjunct_conditional (g.list_concatenation next l kind r) is d' le on ends = absurd (no_bool (sym is))
-    conjunct_conditional (g.concatenation next l kind r) is d' le on ends = absurd (no_bool (sym is))
     conjunct_conditional (g.value next v unjoined) is d' le on ends = absurd (value_no_conditional v is)
+    conjunct_conditional _ is d' le on ends = absurd (no_bool (sym is))
 
     pub value_back : {d : ℕ} {e : canon.Value} {fs : Shown} {ts rest : Tokens} → Value lexeme nothing MayEnter d e fs ts rest → (d' : ℕ) → d' ≤ d → (b : Bool) (on : List Mark) → ValueEndsIn (tail e) (significant true on) → glued_string (significant true on) ≡ false
         → Value lexeme nothing MayEnter' d' e fs (significant b (expr_marks e on)) (significant true on)

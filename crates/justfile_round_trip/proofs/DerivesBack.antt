@@ -134,12 +134,9 @@ space_utf8 = (32 ∷ [], (refl, refl))
 
 end_utf8 : (i : ShapeItem) (items : Shape) (more : List ℕ) → IsUtf8 more → IsUtf8 (end_on i items more)
 end_utf8 tree.Newline items more u = IsUtf8-append (10 ∷ []) more newline_utf8 u
-end_utf8 (tree.Comment t) [] more u = u
-end_utf8 (tree.Comment t) (tree.Newline ∷ items) more u = u
-end_utf8 (tree.Comment t) (_ ∷ items) more u = IsUtf8-append (32 ∷ []) more space_utf8 u
-end_utf8 (Construct entries content) [] more u = u
-end_utf8 (Construct entries content) (tree.Newline ∷ items) more u = u
-end_utf8 (Construct entries content) (_ ∷ items) more u = IsUtf8-append (32 ∷ []) more space_utf8 u
+end_utf8 i [] more u = u
+end_utf8 i (tree.Newline ∷ items) more u = u
+end_utf8 i (j ∷ items) more u = IsUtf8-append (32 ∷ []) more space_utf8 u
 
 module _ (limit : ℕ) (ind : List ℕ) (level : IsLevel ind) where
   mutual

@@ -52,13 +52,8 @@ module _ (MayEnter : ℕ → Option SignificantToken → Type 0) where
 
   conjunct_condition : {d : ℕ} {v : canon.Value} {fs : Shown} {ts rest : Tokens} → Conjunct lexeme nothing MayEnter d v fs ts rest → (condition : Bool) → value_features condition v ≡ value_features false v
   conjunct_condition (e.conditional i (e.if_only x b next)) c = refl
-  conjunct_condition (e.conditional i (e.if_else x b is o next)) c = refl
-  conjunct_condition (e.conditional i (e.else_if x b is again o)) c = refl
-  conjunct_condition (e.root kind r) c = refl
-  conjunct_condition (e.join next l kind r) c = refl
-  conjunct_condition (e.list_concatenation next l kind r) c = refl
-  conjunct_condition (e.concatenation next l kind r) c = refl
   conjunct_condition (e.value next v unjoined) c = one_condition v c
+  conjunct_condition _ c = refl
 
   mutual
     pub of_expression : {condition : Bool} {d : ℕ} {v : canon.Value} {fs : Shown} {ts rest : Tokens} → Expression lexeme nothing MayEnter condition d v fs ts rest → fs ≡ value_features condition v

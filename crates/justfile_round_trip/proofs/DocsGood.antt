@@ -10,7 +10,7 @@ use Rattle.justfile_model.specs.Printed.PrintedAttributes.{after_doc, doc_writte
 use Rattle.justfile_model.specs.Trees.Tree.{Comment, Construct, Module, Newline, Recipe, Shape, bare_recipe}
 use Rattle.justfile_model.proofs.Printed.DocComments.{doc_comment_ends, doc_comment_first}
 use Rattle.justfile_model.proofs.Printed.DocsText.{none_shown}
-use Rattle.justfile_model.proofs.Printed.PlainFiles.{InComment, IsPlain}
+use Rattle.justfile_model.proofs.Printed.PlainFiles.{InComment}
 use Rattle.justfile_model.proofs.Printed.PrintedDocs.{Utf8Comment}
 use Rattle.justfile_model.proofs.Printed.TrimLaws.{doc_comment_trimmed, doc_comment_utf8, doc_of_comment, past_hash}
 use Rattle.justfile_round_trip.proofs.Canon.{ShapeContent, ShapeItem}
@@ -42,9 +42,7 @@ bare_written entries content items e = ap (λ o. after_doc o (Construct entries 
 -- if a recipe wants a doc, no attribute sets one, and the recipe has none yet
 unsaid : (takes says : Bool) (o : Option (List ℕ)) → (takes && not says && not (is_some o)) ≡ true → (says ≡ false) × (o ≡ None)
 unsaid true false None h = (refl, refl)
-unsaid true false (Some doc) h = cc
-unsaid true true o h = cc
-unsaid false says o h = cc
+unsaid _ _ _ h = cc
 
 doc_before : (doc : List ℕ) (content : ShapeContent) (entries : List ShapeEntry) (items : Shape) → can_take_doc sets_doc entries content ≡ true
     → after_doc (cond (sets_doc entries) None (Some doc)) (Construct entries (redocumented None content) ∷ items)
@@ -71,14 +69,13 @@ module _ (limit : ℕ) where
   taken_good : (before : Before) (t : List ℕ) (i : ShapeItem) (items : Shape) (o : Option (List ℕ)) → doc_in before t ≡ o → GoodComment t
       → AtStart limit (docs_written (i ∷ items)) → AtStart limit (docs_written (comment_taken sets_doc t i items o))
   taken_good before t i items None e h more = after_comment t _ h more
-  taken_good before t Newline items (Some doc) e h more = after_comment t _ h more
-  taken_good before t (Comment u) items (Some doc) e h more = after_comment t _ h more
   taken_good before t (Construct entries content) items (Some doc) e h more = by (can_take_doc sets_doc entries content) refl
     where
       by : (b : Bool) → can_take_doc sets_doc entries content ≡ b
           → AtStart limit (docs_written (doc_or_comment sets_doc t (Construct entries content) items (cond b (Some (Construct entries (redocumented (Some doc) content))) None)))
       by true w = subst (AtStart limit) (sym (doc_put doc content entries (docs_written items) w)) (after_comment (doc_comment doc) _ (good_doc before t doc h e) more)
       by false w = after_comment t _ h more
+  taken_good before t _ items (Some doc) e h more = after_comment t _ h more
 
   comment_good : (before : Before) (t : List ℕ) (items : Shape) → GoodComment t → AtStart limit (docs_written items)
       → AtStart limit (docs_written (taken sets_doc before (Comment t) (Newline ∷ items)))
@@ -149,31 +146,5 @@ module _ (limit : ℕ) where
         subst (λ s. ItemRest limit (docs_written s)) (sym (trailing_kept t (documented sets_doc LineEnd items))) (good.trailing h (good.line_end (docs_good LineEnd more)))
     rest_good (good.bare (good.line_end more)) = good.bare (good.line_end (docs_good LineEnd more))
 
-  -- ---- good items, one by one
-
-  mutual
-    pub start_plain : {s : Shape} → AtStart limit s → AllByRecursion IsPlain s
-    start_plain good.end = tt
-    start_plain (good.newline more) = (tt, start_plain more)
-    start_plain (good.comment h (good.line_end more)) = (tt, (tt, start_plain more))
-    start_plain (good.on_line attributes h more) = (content_no_doc limit h, rest_plain more)
-    start_plain (good.recipe attributes h commented body (good.body_end follows last more)) = (refl, (tt, start_plain more))
-
-    rest_plain : {s : Shape} → ItemRest limit s → AllByRecursion IsPlain s
-    rest_plain (good.trailing h (good.line_end more)) = (tt, (tt, start_plain more))
-    rest_plain (good.bare (good.line_end more)) = (tt, start_plain more)
-
-  comment_utf8 : (t : List ℕ) → GoodComment t → Utf8Comment t
-  comment_utf8 t h = past_hash t h.comment.first h.utf8
-
-  mutual
-    pub start_comments : {s : Shape} → AtStart limit s → AllByRecursion (InComment Utf8Comment) s
-    start_comments good.end = tt
-    start_comments (good.newline more) = (tt, start_comments more)
-    start_comments (good.comment {t = t} h (good.line_end more)) = (comment_utf8 t h, (tt, start_comments more))
-    start_comments (good.on_line attributes h more) = (tt, rest_comments more)
-    start_comments (good.recipe attributes h commented body (good.body_end follows last more)) = (tt, (tt, start_comments more))
-
-    rest_comments : {s : Shape} → ItemRest limit s → AllByRecursion (InComment Utf8Comment) s
-    rest_comments (good.trailing {t = t} h (good.line_end more)) = (comment_utf8 t h, (tt, start_comments more))
-    rest_comments (good.bare (good.line_end more)) = (tt, start_comments more)
+  pub start_comments : {s : Shape} → AtStart limit s → AllByRecursion (InComment Utf8Comment) s
+  start_comments = good.start_has limit (InComment Utf8Comment) tt (λ t h. past_hash t h.comment.first h.utf8) (λ entries content e. tt)

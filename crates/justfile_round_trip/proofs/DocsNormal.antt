@@ -28,17 +28,15 @@ begun_wanted false t entries content other items = comment
 
 begun_taken : (t : List ℕ) (i : ShapeItem) (items : Shape) (o : Option (List ℕ)) → Begun (comment_taken sets_doc t i items o)
 begun_taken t i items None = comment
-begun_taken t Newline items (Some doc) = comment
-begun_taken t (Comment u) items (Some doc) = comment
 begun_taken t (Construct entries content) items (Some doc) =
     begun_wanted (can_take_doc sets_doc entries content) t entries content (redocumented (Some doc) content) items
+begun_taken t _ items (Some doc) = comment
 
 pub begun_comment : (before : Before) (t : List ℕ) (items : Shape) → Begun (taken sets_doc before (Comment t) items)
 begun_comment before t [] = comment
 begun_comment before t (Newline ∷ []) = comment
 begun_comment before t (Newline ∷ i ∷ items) = begun_taken t i items (doc_in before t)
-begun_comment before t (Comment u ∷ items) = comment
-begun_comment before t (Construct entries content ∷ items) = comment
+begun_comment before t _ = comment
 
 -- ---- a comment before a normal form
 
@@ -54,10 +52,8 @@ comment_apart : (before : Before) (t : List ℕ) (s : Shape) → taken sets_doc 
 comment_apart before t [] = refl
 comment_apart before t (Newline ∷ []) = refl
 comment_apart before t (Newline ∷ Newline ∷ s) = comment_kept before t s
-comment_apart before t (Newline ∷ Comment u ∷ s) = comment_kept before t (Comment u ∷ s)
-comment_apart before t (Newline ∷ Construct entries content ∷ s) = comment_kept before t (Construct entries content ∷ s)
-comment_apart before t (Comment u ∷ s) = comment_kept before t (Comment u ∷ s)
-comment_apart before t (Construct entries content ∷ s) = comment_kept before t (Construct entries content ∷ s)
+comment_apart before t (Newline ∷ i ∷ s) = comment_kept before t (i ∷ s)
+comment_apart before t (i ∷ s) = comment_kept before t (i ∷ s)
 
 wanted_normal : (b : Bool) (t : List ℕ) (entries : List ShapeEntry) (content other : ShapeContent) (s : Shape)
     → doc_or_comment sets_doc t (Construct entries content) (normal_rest s) (cond b (Some (Construct entries other)) None)
@@ -66,8 +62,6 @@ wanted_normal true t entries content other s = refl
 wanted_normal false t entries content other s = refl
 
 comment_normal : (before : Before) (t : List ℕ) (s : Shape) → taken sets_doc before (Comment t) (normal_rest s) ≡ normal_rest (taken sets_doc before (Comment t) s)
-comment_normal before t [] = refl
-comment_normal before t (Newline ∷ []) = refl
 comment_normal before t (Newline ∷ Newline ∷ s) = comment_apart before t (normal_rest s) ∙ ap normal_rest (sym (comment_kept before t s))
 comment_normal before t (Newline ∷ Comment u ∷ s) = by (doc_in before t)
   where
@@ -80,19 +74,14 @@ comment_normal before t (Newline ∷ Construct entries content ∷ s) = by (doc_
         → comment_taken sets_doc t (Construct entries content) (normal_rest s) o ≡ normal_rest (comment_taken sets_doc t (Construct entries content) s o)
     by None = refl
     by (Some doc) = wanted_normal (can_take_doc sets_doc entries content) t entries content (redocumented (Some doc) content) s
-comment_normal before t (Comment u ∷ s) = refl
-comment_normal before t (Construct entries content ∷ s) = refl
+comment_normal before t _ = refl
 
 -- ---- a line end before a normal form
 
 newline_documented : (before : Before) (s : Shape) → documented sets_doc before (after_newline s) ≡ after_newline (documented sets_doc LineEnd s)
-newline_documented before [] = refl
-newline_documented before (Newline ∷ []) = refl
-newline_documented before (Newline ∷ Newline ∷ s) = refl
 newline_documented before (Newline ∷ Comment t ∷ s) = sym (begun_newlines (begun_comment LineEnd t (documented sets_doc Other s)))
-newline_documented before (Newline ∷ Construct entries content ∷ s) = refl
 newline_documented before (Comment t ∷ s) = sym (begun_newline (begun_comment LineEnd t (documented sets_doc Other s)))
-newline_documented before (Construct entries content ∷ s) = refl
+newline_documented before _ = refl
 
 rest_documented : (before : Before) (s : Shape) → documented sets_doc before (normal_rest s) ≡ normal_rest (documented sets_doc before s)
 rest_documented before [] = refl

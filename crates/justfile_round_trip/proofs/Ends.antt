@@ -1,5 +1,6 @@
 -- The end and the beginning of an expression, which determine what can follow it.
-use Rattle.std.proofs.Common.{◌≡◌, ℕ, Bool, cond, List, ◌∷◌, Option, refl, codes}
+use Rattle.std.proofs.Common.{◌≡◌, ℕ, Bool, true, false, cond, List, ◌∷◌, Option, refl, codes}
+use Rattle.justfile_vocabulary.specs.declared.token_kind.TokenKind.{TokenKind}
 use Rattle.justfile_vocabulary.specs.declared.token_kind.TokenKind.TheVariants as kinds
 use Rattle.justfile_model.specs.Lexing.SignificantTokens.{SignificantToken}
 use Rattle.justfile_model.specs.Trees.Tree as tree
@@ -47,32 +48,44 @@ pub record EndsIn (x : End) (ts : Tokens) : Type 0 where
 pub record ValueEndsIn (x : End) (ts : Tokens) : Type 0 where
   pub is : EndsValue x ts
 
--- the first tokens are of one kind, and one word; the second has this mark
+-- a token that an expression may begin with
+abbrev pub may_begin : TokenKind → Bool
+may_begin kinds.Identifier = true
+may_begin kinds.StringToken = true
+may_begin kinds.Backtick = true
+may_begin kinds.Bang = true
+may_begin kinds.ParenL = true
+may_begin kinds.BracketL = true
+may_begin kinds.Slash = true
+may_begin _ = false
+
+-- The first tokens are of one kind, and one word; the second has this mark, and may begin an expression.
 pub data SameHead (glued : Bool) : Tokens → Tokens → Type 0 where
-  same_head : {t u : SignificantToken} {ts us : Tokens} → t.tok.kind ≡ u.tok.kind → (u.tok.kind ≡ kinds.Identifier → t.tok.lexeme ≡ u.tok.lexeme) → u.glued ≡ glued → SameHead glued (t ∷ ts) (u ∷ us)
+  same_head : {t u : SignificantToken} {ts us : Tokens} → t.tok.kind ≡ u.tok.kind → (u.tok.kind ≡ kinds.Identifier → t.tok.lexeme ≡ u.tok.lexeme)
+      → u.glued ≡ glued → may_begin u.tok.kind ≡ true → SameHead glued (t ∷ ts) (u ∷ us)
 
 module _ (MayEnter : ℕ → Option SignificantToken → Type 0) where
   pub value_head : {d : ℕ} {e : canon.Value} {fs : Shown} {ts rest : Tokens} → Value lexeme nothing MayEnter d e fs ts rest → (b : Bool) (on : List Mark) → SameHead b ts (significant b (expr_marks e on))
-  value_head (g.not kind v) b on = same_head kind (λ e. cc) refl
-  value_head (g.literal kind) b on = same_head kind (λ e. cc) refl
-  value_head (g.expanded m) b on = same_head m.marks.is_name (λ _. m.marks.spelled) refl
-  value_head (g.format_literal m) b on = same_head m.marks.is_name (λ _. m.marks.spelled) refl
-  value_head (g.format_string m e ps) b on = same_head m.marks.is_name (λ _. m.marks.spelled) refl
-  value_head (g.backtick kind) b on = same_head kind (λ e. cc) refl
-  value_head (g.assert w kind c kind2) b on = same_head w.is_name (λ _. w.spelled) refl
-  value_head (g.assert_message w kind c kind2 m kind3) b on = same_head w.is_name (λ _. w.spelled) refl
-  value_head (g.variable kind no_assert unmarked next) b on = same_head kind (λ _. refl) refl
-  value_head (g.call kind no_assert kind2 s) b on = same_head kind (λ _. refl) refl
-  value_head (g.group kind e kind2) b on = same_head kind (λ e. cc) refl
-  value_head (g.list kind s) b on = same_head kind (λ e. cc) refl
+  value_head (g.not kind v) b on = same_head kind (λ e. cc) refl refl
+  value_head (g.literal kind) b on = same_head kind (λ e. cc) refl refl
+  value_head (g.expanded m) b on = same_head m.marks.is_name (λ _. m.marks.spelled) refl refl
+  value_head (g.format_literal m) b on = same_head m.marks.is_name (λ _. m.marks.spelled) refl refl
+  value_head (g.format_string m e ps) b on = same_head m.marks.is_name (λ _. m.marks.spelled) refl refl
+  value_head (g.backtick kind) b on = same_head kind (λ e. cc) refl refl
+  value_head (g.assert w kind c kind2) b on = same_head w.is_name (λ _. w.spelled) refl refl
+  value_head (g.assert_message w kind c kind2 m kind3) b on = same_head w.is_name (λ _. w.spelled) refl refl
+  value_head (g.variable kind no_assert unmarked next) b on = same_head kind (λ _. refl) refl refl
+  value_head (g.call kind no_assert kind2 s) b on = same_head kind (λ _. refl) refl refl
+  value_head (g.group kind e kind2) b on = same_head kind (λ e. cc) refl refl
+  value_head (g.list kind s) b on = same_head kind (λ e. cc) refl refl
 
   conditional_head : {d : ℕ} {e : canon.Value} {fs : Shown} {i : SignificantToken} {ts rest : Tokens} → IsWord (codes "if") i → Conditional lexeme nothing MayEnter d i e fs ts rest → (b : Bool) (on : List Mark) → SameHead b (i ∷ ts) (significant b (expr_marks e on))
-  conditional_head i (g.if_only c x next) b on = same_head i.is_name (λ _. i.spelled) refl
-  conditional_head i _ b on = same_head i.is_name (λ _. i.spelled) refl
+  conditional_head i (g.if_only c x next) b on = same_head i.is_name (λ _. i.spelled) refl refl
+  conditional_head i _ b on = same_head i.is_name (λ _. i.spelled) refl refl
 
   pub conjunct_head : {d : ℕ} {e : canon.Value} {fs : Shown} {ts rest : Tokens} → Conjunct lexeme nothing MayEnter d e fs ts rest → (b : Bool) (on : List Mark) → SameHead b ts (significant b (expr_marks e on))
   conjunct_head (g.conditional i c) b on = conditional_head i c b on
-  conjunct_head (g.root kind r) b on = same_head kind (λ e. cc) refl
+  conjunct_head (g.root kind r) b on = same_head kind (λ e. cc) refl refl
   conjunct_head (g.join next l kind r) b on = value_head l b _
   conjunct_head (g.list_concatenation next l kind r) b on = value_head l b _
   conjunct_head (g.concatenation next l kind r) b on = value_head l b _

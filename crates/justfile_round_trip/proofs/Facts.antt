@@ -3,7 +3,7 @@ use Rattle.std.proofs.Common.{◌≡◌, ℕ, zero, suc, ◌+◌, ◌<◌, Bool,
 use Rattle.std.specs.Prelude.{◌&&◌, ◌||◌, not, nat_eq}
 use Rattle.std.specs.Str.{bytes_eq}
 use Rattle.std.specs.List.{prefix_len, starts_with}
-use Rattle.std.proofs.lemmas.Bool.{and_parts}
+use Rattle.std.proofs.lemmas.Bool.{and_parts, not-true}
 use Rattle.std.proofs.lemmas.Bool.Decides.{nat_tests}
 use Rattle.std.proofs.lemmas.List.{append-nil}
 use Rattle.justfile_vocabulary.specs.declared.byte_class.ByteClass.{ByteClass}
@@ -54,8 +54,27 @@ abbrev FactBy : Mode → List ℕ → NextToken → Type 0
 FactBy m rest (Ok x) = (l following : List ℕ) → rest ≡ l ++ following → x.1 ≡ length l → Fact m x.0 l following
 FactBy m rest (Err r) = Unit {0}
 
-record Finds (m : Mode) (rest : List ℕ) (found : NextToken) : Type 0 where
+-- tokens other than indents, dedents, the end, and those of bodies alone
+abbrev pub plain : TokenKind → Bool
+plain kinds.Text = false
+plain kinds.Indent = false
+plain kinds.Dedent = false
+plain kinds.Eof = false
+plain kinds.InterpolationStart = false
+plain kinds.InterpolationEnd = false
+plain _ = true
+
+abbrev PlainBy : NextToken → Type 0
+PlainBy (Ok x) = plain x.0 ≡ true
+PlainBy (Err r) = Unit {0}
+
+pub record Plain (found : NextToken) : Type 0 where
+  pub by : PlainBy found
+
+-- a token with its property, which is a plain one if it is found outside the text of bodies
+record Finds (outside : Bool) (m : Mode) (rest : List ℕ) (found : NextToken) : Type 0 where
   fact : FactBy m rest found
+  plain : outside ≡ true → PlainBy found
 
 -- ---- names
 
@@ -155,56 +174,63 @@ module _ (k : StringKind) (format : Bool) (rest : List ℕ) where
 
 -- ---- the token that is found, by the class of the first byte and by the region
 
-module _ (m : Mode) (rest : List ℕ) where
-  if_finds : (b : Bool) {x y : NextToken} → (b ≡ true → Finds m rest x) → (b ≡ false → Finds m rest y) → Finds m rest (cond b x y)
+module _ (outside : Bool) (m : Mode) (rest : List ℕ) where
+  if_finds : (b : Bool) {x y : NextToken} → (b ≡ true → Finds outside m rest x) → (b ≡ false → Finds outside m rest y) → Finds outside m rest (cond b x y)
   if_finds true f g = f refl
   if_finds false f g = g refl
 
-  -- a token of which nothing is to be known
-  any : (k : TokenKind) (n : ℕ) → ((l following : List ℕ) → Fact m k l following) → Finds m rest (Ok (k, n))
-  any k n f = record { fact = λ l following e len. f l following }
+  -- a token of which nothing more is to be known
+  any : (k : TokenKind) (n : ℕ) → ((l following : List ℕ) → Fact m k l following) → plain k ≡ true → Finds outside m rest (Ok (k, n))
+  any k n f p = record { fact = λ l following e len. f l following; plain = λ _. p }
 
-  refused : {r : LexicalError} → Finds m rest (Err r)
-  refused = record { fact = tt }
+  -- in a body or at the start of a line
+  other : outside ≡ false → (k : TokenKind) (n : ℕ) → ((l following : List ℕ) → Fact m k l following) → Finds outside m rest (Ok (k, n))
+  other inside k n f = record { fact = λ l following e len. f l following; plain = λ o. let bad : true ≡ false = sym o ∙ inside in cc }
 
-  twice_finds : (b : ℕ) (k : TokenKind) → ((l following : List ℕ) → Fact m k l following) → Finds m rest (doubled_token b k rest)
-  twice_finds b k f = if_finds (eqb (get_or rest 1 0) b) (λ _. any k 2 f) (λ _. if_finds (eqb (length (drop 1 rest)) 0) (λ _. refused) (λ _. refused))
+  refused : {r : LexicalError} → Finds outside m rest (Err r)
+  refused = record { fact = tt; plain = λ _. tt }
 
-  fixed_finds : (b : ℕ) → Finds m rest (fixed_token b rest)
+  twice_finds : (b : ℕ) (k : TokenKind) → ((l following : List ℕ) → Fact m k l following) → plain k ≡ true → Finds outside m rest (doubled_token b k rest)
+  twice_finds b k f p = if_finds (eqb (get_or rest 1 0) b) (λ _. any k 2 f p) (λ _. if_finds (eqb (length (drop 1 rest)) 0) (λ _. refused) (λ _. refused))
+
+  fixed_finds : (b : ℕ) → Finds outside m rest (fixed_token b rest)
   unfolding fixed_token
   fixed_finds b =
       let c = get_or rest 1 0 in
-      if_finds (eqb b 33) (λ _. if_finds (eqb c 61) (λ _. any _ _ (λ l i. tt)) (λ _. if_finds (eqb c 126) (λ _. any _ _ (λ l i. tt)) (λ _. any _ _ (λ l i. tt)))) (λ _.
-      if_finds (eqb b 38) (λ _. twice_finds 38 _ (λ l i. tt)) (λ _.
-      if_finds (eqb b 124) (λ _. twice_finds 124 _ (λ l i. tt)) (λ _.
-      if_finds (eqb b 43) (λ _. if_finds (eqb c 43) (λ _. any _ _ (λ l i. tt)) (λ _. any _ _ (λ l i. tt))) (λ _.
-      if_finds (eqb b 61) (λ _. if_finds (eqb c 61) (λ _. any _ _ (λ l i. tt)) (λ _. if_finds (eqb c 126) (λ _. any _ _ (λ l i. tt)) (λ _. any _ _ (λ l i. tt)))) (λ _.
-      if_finds (eqb b 58) (λ _. if_finds (eqb c 61) (λ _. any _ _ (λ l i. tt)) (λ _. if_finds (eqb c 58) (λ _. any _ _ (λ l i. tt)) (λ _. any _ _ (λ l i. tt)))) (λ _.
-      if_finds (eqb b 36) (λ _. any _ _ (λ l i. tt)) (λ _.
-      if_finds (eqb b 42) (λ _. any _ _ (λ l i. tt)) (λ _.
-      if_finds (eqb b 44) (λ _. any _ _ (λ l i. tt)) (λ _.
-      if_finds (eqb b 47) (λ _. any _ _ (λ l i. tt)) (λ _.
-      if_finds (eqb b 63) (λ _. any _ _ (λ l i. tt)) (λ _.
-      if_finds (eqb b 64) (λ _. any _ _ (λ l i. tt)) (λ _. refused))))))))))))
+      if_finds (eqb b 33)
+      (λ _. if_finds (eqb c 61) (λ _. any _ _ (λ l i. tt) refl) (λ _. if_finds (eqb c 126) (λ _. any _ _ (λ l i. tt) refl) (λ _. any _ _ (λ l i. tt) refl))) (λ _.
+      if_finds (eqb b 38) (λ _. twice_finds 38 _ (λ l i. tt) refl) (λ _.
+      if_finds (eqb b 124) (λ _. twice_finds 124 _ (λ l i. tt) refl) (λ _.
+      if_finds (eqb b 43) (λ _. if_finds (eqb c 43) (λ _. any _ _ (λ l i. tt) refl) (λ _. any _ _ (λ l i. tt) refl)) (λ _.
+      if_finds (eqb b 61)
+      (λ _. if_finds (eqb c 61) (λ _. any _ _ (λ l i. tt) refl) (λ _. if_finds (eqb c 126) (λ _. any _ _ (λ l i. tt) refl) (λ _. any _ _ (λ l i. tt) refl))) (λ _.
+      if_finds (eqb b 58)
+      (λ _. if_finds (eqb c 61) (λ _. any _ _ (λ l i. tt) refl) (λ _. if_finds (eqb c 58) (λ _. any _ _ (λ l i. tt) refl) (λ _. any _ _ (λ l i. tt) refl))) (λ _.
+      if_finds (eqb b 36) (λ _. any _ _ (λ l i. tt) refl) (λ _.
+      if_finds (eqb b 42) (λ _. any _ _ (λ l i. tt) refl) (λ _.
+      if_finds (eqb b 44) (λ _. any _ _ (λ l i. tt) refl) (λ _.
+      if_finds (eqb b 47) (λ _. any _ _ (λ l i. tt) refl) (λ _.
+      if_finds (eqb b 63) (λ _. any _ _ (λ l i. tt) refl) (λ _.
+      if_finds (eqb b 64) (λ _. any _ _ (λ l i. tt) refl) (λ _. refused))))))))))))
 
-  opening_finds : (b : ℕ) → Finds m rest (opening b rest)
+  opening_finds : (b : ℕ) → Finds outside m rest (opening b rest)
   opening_finds b =
-      if_finds (eqb b 40) (λ _. any _ _ (λ l i. tt)) (λ _.
-      if_finds (eqb b 91) (λ _. any _ _ (λ l i. tt)) (λ _.
-      if_finds (eqb b 123) (λ _. any _ _ (λ l i. tt)) (λ _. refused)))
+      if_finds (eqb b 40) (λ _. any _ _ (λ l i. tt) refl) (λ _.
+      if_finds (eqb b 91) (λ _. any _ _ (λ l i. tt) refl) (λ _.
+      if_finds (eqb b 123) (λ _. any _ _ (λ l i. tt) refl) (λ _. refused)))
 
   -- a literal or a part of one, of which the first bytes are known
-  part_finds : (k : StringKind) (format : Bool) (opener : ℕ) (more whole : TokenKind)
+  part_finds : (k : StringKind) (format : Bool) (opener : ℕ) (more whole : TokenKind) → plain more ≡ true → plain whole ≡ true
       → ((format && is_interpolation_start (drop (raw_len (raw_texts.Literal k format) (drop opener rest)) (drop opener rest))) ≡ true
       → (l following : List ℕ) → rest ≡ l ++ following → opener + raw_len (raw_texts.Literal k format) (drop opener rest) + 2 ≡ length l → Fact m more l following)
       → (eqb (raw_len (raw_texts.Literal k format) (drop opener rest)) (length (drop opener rest)) ≡ false
       → (format && is_interpolation_start (drop (raw_len (raw_texts.Literal k format) (drop opener rest)) (drop opener rest))) ≡ false
       → (l following : List ℕ) → rest ≡ l ++ following → opener + raw_len (raw_texts.Literal k format) (drop opener rest) + delimiter_len k ≡ length l → Fact m whole l following)
-      → Finds m rest (literal_part k format opener more whole rest)
+      → Finds outside m rest (literal_part k format opener more whole rest)
   unfolding literal_part
-  part_finds k format opener more whole f g =
+  part_finds k format opener more whole p q f g =
       if_finds (eqb (raw_len (raw_texts.Literal k format) (drop opener rest)) (length (drop opener rest))) (λ _. refused) (λ unfinished.
-      if_finds (format && is_interpolation_start (drop (raw_len (raw_texts.Literal k format) (drop opener rest)) (drop opener rest))) (λ start. record { fact = f start }) (λ no_start. record { fact = g unfinished no_start }))
+      if_finds (format && is_interpolation_start (drop (raw_len (raw_texts.Literal k format) (drop opener rest)) (drop opener rest))) (λ start. record { fact = f start; plain = λ _. p }) (λ no_start. record { fact = g unfinished no_start; plain = λ _. q }))
 
   -- the start of a format string
   start_fact : (k : StringKind) (format : Bool) → kind_of rest ≡ k → is_delimiter k rest ≡ true → is_backtick k.delimiter ≡ false → format ≡ true → is_interpolation_start (drop (raw_len (raw_texts.Literal k format) (drop (delimiter_len k) rest)) (drop (delimiter_len k) rest)) ≡ true
@@ -222,29 +248,30 @@ module _ (m : Mode) (rest : List ℕ) where
         opens = λ more. start_opens k l more [] part ∙ ap kind_of (append-nil l);
       }
 
-  literal_finds : class_of (get_or rest 0 0) ≡ classes.Quote → Finds m rest (literal_token m rest)
+  literal_plain : (d : StringDelimiter) → plain (token_kind_of d) ≡ true
+  literal_plain delimiters.Backtick = refl
+  literal_plain _ = refl
+
+  literal_finds : class_of (get_or rest 0 0) ≡ classes.Quote → Finds outside m rest (literal_token m rest)
   unfolding after within
   literal_finds e =
       let k = kind_of rest in
       let format : Bool = m.after_f && not (is_backtick k.delimiter) in
-      part_finds k format (delimiter_len k) kinds.FormatStringStart (token_kind_of k.delimiter)
+      part_finds k format (delimiter_len k) kinds.FormatStringStart (token_kind_of k.delimiter) refl (literal_plain k.delimiter)
       (λ start l following split len.
       let parts = and_parts format _ start in
-      start_fact k format refl (delimiter_there rest e) (no_backtick (is_backtick k.delimiter) (and_parts m.after_f _ parts.0).1) parts.0 parts.1 l following split len)
+      start_fact k format refl (delimiter_there rest e) (not-true (is_backtick k.delimiter) (and_parts m.after_f _ parts.0).1) parts.0 parts.1 l following split len)
       (λ unfinished no_start l following split len. whole k.delimiter k.indented l following (literal_fact k format rest refl (delimiter_there rest e) unfinished no_start l following split len))
     where
-      no_backtick : (b : Bool) → not b ≡ true → b ≡ false
-      no_backtick true h = cc
-      no_backtick false h = refl
-
       whole : (d : StringDelimiter) (i : Bool) (l following : List ℕ) → IsDelimitedBy (record { delimiter = d; indented = i }) (m.after_f && not (is_backtick d)) l → Fact m (token_kind_of d) l following
       whole delimiters.Backtick i l following f = f.delimited
       whole delimiters.QuoteDouble i l following f = (f.delimited, λ g. record { string = f.delimited; ends = f.whole (ap (λ b. b && true) g) })
       whole delimiters.QuoteSingle i l following f = (f.delimited, λ g. record { string = f.delimited; ends = f.whole (ap (λ b. b && true) g) })
 
-  close_finds : (o : Option OpenDelimiter) (d : Delimiter) (k : TokenKind) → ((l following : List ℕ) → Fact m k l following) → Finds m rest (closing_delimiter o d k)
-  close_finds None d k f = refused
-  close_finds (Some o) d k f = if_finds (is_same o.delimiter d) (λ _. any k 1 f) (λ _. refused)
+  close_finds : (o : Option OpenDelimiter) (d : Delimiter) (k : TokenKind) → ((l following : List ℕ) → Fact m k l following) → plain k ≡ true
+      → Finds outside m rest (closing_delimiter o d k)
+  close_finds None d k f p = refused
+  close_finds (Some o) d k f p = if_finds (is_same o.delimiter d) (λ _. any k 1 f p) (λ _. refused)
 
   -- a later part of the format string that is open
   later_fact : (k : StringKind) → is_interpolation_end rest ≡ true → is_interpolation_start (drop (raw_len (raw_texts.Literal k true) (drop 2 rest)) (drop 2 rest)) ≡ true
@@ -263,107 +290,114 @@ module _ (m : Mode) (rest : List ℕ) where
       part_cut k true (125 ∷ 125 ∷ []) after_front _ (delimiter_front k (drop n after_front) stop) l following (sym (closers_front rest closed) ∙ split)
       (ap (λ d. 2 + n + d) (sym (delimiter_length k)) ∙ len)
 
-  brace_finds : (f : Option StringKind) (o : Option OpenDelimiter) → f ≡ format_kind (head_of m.openers) → Finds m rest (brace_by f o rest)
-  brace_finds None o same = close_finds o Brace kinds.BraceR (λ l i. tt)
+  brace_finds : (f : Option StringKind) (o : Option OpenDelimiter) → f ≡ format_kind (head_of m.openers) → Finds outside m rest (brace_by f o rest)
+  brace_finds None o same = close_finds o Brace kinds.BraceR (λ l i. tt) refl
   brace_finds (Some k) o same =
       if_finds (is_interpolation_end rest)
-      (λ closed. part_finds k true 2 kinds.FormatStringContinue kinds.FormatStringEnd
+      (λ closed. part_finds k true 2 kinds.FormatStringContinue kinds.FormatStringEnd refl refl
       (λ start l following split len. subst (λ f. IsPartOfOpen f false l) same (later_fact k closed start l following split len))
       (λ unfinished no_start l following split len. subst (λ f. IsPartOfOpen f true l) same (last_fact k closed unfinished no_start l following split len)))
-      (λ _. close_finds o Brace kinds.BraceR (λ l i. tt))
+      (λ _. close_finds o Brace kinds.BraceR (λ l i. tt) refl)
 
-  closing_finds : (b : ℕ) → Finds m rest (closing (head_of m.openers) b rest)
+  closing_finds : (b : ℕ) → Finds outside m rest (closing (head_of m.openers) b rest)
   closing_finds b =
-      if_finds (eqb b 41) (λ _. close_finds (head_of m.openers) Paren kinds.ParenR (λ l i. tt)) (λ _.
-      if_finds (eqb b 93) (λ _. close_finds (head_of m.openers) Bracket kinds.BracketR (λ l i. tt)) (λ _.
+      if_finds (eqb b 41) (λ _. close_finds (head_of m.openers) Paren kinds.ParenR (λ l i. tt) refl) (λ _.
+      if_finds (eqb b 93) (λ _. close_finds (head_of m.openers) Bracket kinds.BracketR (λ l i. tt) refl) (λ _.
       if_finds (eqb b 125) (λ _. brace_finds _ (head_of m.openers) refl) (λ _. refused)))
 
-  line_end_finds : (n : ℕ) → Finds m rest (line_end_token m n)
-  line_end_finds n = if_finds (nested m) (λ _. any kinds.Whitespace n (λ l i. tt)) (λ _. any kinds.Eol n (λ l i. tt))
+  line_end_finds : (n : ℕ) → Finds outside m rest (line_end_token m n)
+  line_end_finds n = if_finds (nested m) (λ _. any kinds.Whitespace n (λ l i. tt) refl) (λ _. any kinds.Eol n (λ l i. tt) refl)
 
-  escape_finds : Finds m rest (escaped_line_end rest)
+  escape_finds : Finds outside m rest (escaped_line_end rest)
   escape_finds =
-      if_finds (eqb (get_or rest 1 0) 10) (λ _. any _ _ (λ l i. tt)) (λ _.
-      if_finds (eqb (get_or rest 1 0) 13) (λ _. if_finds (eqb (get_or rest 2 0) 10) (λ _. any _ _ (λ l i. tt)) (λ _. refused)) (λ _.
+      if_finds (eqb (get_or rest 1 0) 10) (λ _. any _ _ (λ l i. tt) refl) (λ _.
+      if_finds (eqb (get_or rest 1 0) 13) (λ _. if_finds (eqb (get_or rest 2 0) 10) (λ _. any _ _ (λ l i. tt) refl) (λ _. refused)) (λ _.
       if_finds (eqb (length (drop 1 rest)) 0) (λ _. refused) (λ _. refused)))
 
-  comment_finds : eqb (get_or rest 0 0) 35 ≡ true → Finds m rest (Ok (kinds.Comment, raw_len raw_texts.Comment rest))
-  comment_finds h = record { fact = λ l following e len. comment_fact l following (subst (λ r. eqb (get_or r 0 0) 35 ≡ true) e h) (subst (λ r. raw_len raw_texts.Comment r ≡ length l) e len) }
+  comment_finds : eqb (get_or rest 0 0) 35 ≡ true → Finds outside m rest (Ok (kinds.Comment, raw_len raw_texts.Comment rest))
+  comment_finds h = record { fact = λ l following e len. comment_fact l following (subst (λ r. eqb (get_or r 0 0) 35 ≡ true) e h) (subst (λ r. raw_len raw_texts.Comment r ≡ length l) e len); plain = λ _. refl }
 
-  inline_finds : (k : ByteClass) → class_of (get_or rest 0 0) ≡ k → Finds m rest (token_by_class m k rest)
+  inline_finds : (k : ByteClass) → class_of (get_or rest 0 0) ≡ k → Finds outside m rest (token_by_class m k rest)
   unfolding token_by_class
-  inline_finds classes.Blank e = any _ _ (λ l i. tt)
+  inline_finds classes.Blank e = any _ _ (λ l i. tt) refl
   inline_finds classes.LineFeed e = line_end_finds 1
   inline_finds classes.CarriageReturn e = if_finds (eqb (get_or rest 1 0) 10) (λ _. line_end_finds 2) (λ _. refused)
   inline_finds classes.IdentifierStart e =
-      record { fact = λ l following is len. name_fact l following (subst (λ r. class_of (get_or r 0 0) ≡ classes.IdentifierStart) is e) (subst (λ r. word_len r ≡ length l) is len) }
+      record { fact = λ l following is len. name_fact l following (subst (λ r. class_of (get_or r 0 0) ≡ classes.IdentifierStart) is e) (subst (λ r. word_len r ≡ length l) is len); plain = λ _. refl }
   inline_finds classes.IdentifierContinue e = refused
   inline_finds classes.Quote e = literal_finds e
   inline_finds classes.Opener e = opening_finds (get_or rest 0 0)
   inline_finds classes.Closer e = closing_finds (get_or rest 0 0)
   inline_finds classes.Fixed e = fixed_finds (get_or rest 0 0)
-  inline_finds classes.Lead e = if_finds (eqb (first_char rest) 65279) (λ _. any _ _ (λ l i. tt)) (λ _. refused)
+  inline_finds classes.Lead e = if_finds (eqb (first_char rest) 65279) (λ _. any _ _ (λ l i. tt) refl) (λ _. refused)
   inline_finds classes.Other e =
       if_finds (eqb (get_or rest 0 0) 35) comment_finds (λ _.
       if_finds (eqb (get_or rest 0 0) 92) (λ _. escape_finds) (λ _. refused))
 
-  normal_finds : Finds m rest (token_outside_text m rest)
+  normal_finds : Finds outside m rest (token_outside_text m rest)
   normal_finds = inline_finds _ refl
 
-  body_finds : Finds m rest (body_token rest)
+  body_finds : outside ≡ false → Finds outside m rest (body_token rest)
   unfolding body_token
-  body_finds = by (raw_len raw_texts.Body rest)
+  body_finds inside = by (raw_len raw_texts.Body rest)
     where
-      by : (n : ℕ) → Finds m rest (text_or n (get_or rest 0 0))
-      by zero = if_finds (eqb (get_or rest 0 0) 10) (λ _. any _ _ (λ l i. tt)) (λ _. if_finds (eqb (get_or rest 0 0) 13) (λ _. any _ _ (λ l i. tt)) (λ _. any _ _ (λ l i. tt)))
-      by (suc n) = any _ _ (λ l i. tt)
+      by : (n : ℕ) → Finds outside m rest (text_or n (get_or rest 0 0))
+      by zero =
+          if_finds (eqb (get_or rest 0 0) 10) (λ _. other inside _ _ (λ l i. tt))
+          (λ _. if_finds (eqb (get_or rest 0 0) 13) (λ _. other inside _ _ (λ l i. tt)) (λ _. other inside _ _ (λ l i. tt)))
+      by (suc n) = other inside _ _ (λ l i. tt)
 
-  inside_finds : Finds m rest (token_within_line m rest)
+  inside_finds : outside ≡ false → Finds outside m rest (token_within_line m rest)
   unfolding token_within_line
-  inside_finds = by _
+  inside_finds inside = by _
     where
-      by : (p : Region) → Finds m rest (token_in_region p m rest)
-      by InText = body_finds
-      by InInterpolation = if_finds (is_empty m.openers && is_interpolation_end rest) (λ _. any _ _ (λ l i. tt)) (λ _. normal_finds)
+      by : (p : Region) → Finds outside m rest (token_in_region p m rest)
+      by InText = body_finds inside
+      by InInterpolation = if_finds (is_empty m.openers && is_interpolation_end rest) (λ _. other inside _ _ (λ l i. tt)) (λ _. normal_finds)
       by OutsideText = normal_finds
 
-  blanks_finds : (n : ℕ) → Finds m rest (blanks_or n m rest)
-  blanks_finds zero = inside_finds
-  blanks_finds (suc n) = any _ _ (λ l i. tt)
+  blanks_finds : outside ≡ false → (n : ℕ) → Finds outside m rest (blanks_or n m rest)
+  blanks_finds inside zero = inside_finds inside
+  blanks_finds inside (suc n) = other inside _ _ (λ l i. tt)
 
-  layout_finds : (found following : List ℕ) → Finds m rest (layout m found following rest)
+  layout_finds : outside ≡ false → (found following : List ℕ) → Finds outside m rest (layout m found following rest)
   unfolding layout
-  layout_finds found following =
-      if_finds (nested m) (λ _. blanks_finds _) (λ _.
-      if_finds (begins_blank_line following) (λ _. if_finds (not (is_empty m.levels) && closes_levels false rest) (λ _. any _ _ (λ l i. tt)) (λ _. blanks_finds _)) (λ _.
-      if_finds (bytes_eq found (innermost m)) (λ _. blanks_finds _) (λ _.
-      if_finds (is_level m.levels found) (λ _. any _ _ (λ l i. tt)) (λ _.
-      if_finds (m.in_body && starts_with nat_eq found (innermost m)) (λ _. blanks_finds _) (λ _.
+  layout_finds inside found following =
+      if_finds (nested m) (λ _. blanks_finds inside _) (λ _.
+      if_finds (begins_blank_line following)
+      (λ _. if_finds (not (is_empty m.levels) && closes_levels false rest) (λ _. other inside _ _ (λ l i. tt)) (λ _. blanks_finds inside _)) (λ _.
+      if_finds (bytes_eq found (innermost m)) (λ _. blanks_finds inside _) (λ _.
+      if_finds (is_level m.levels found) (λ _. other inside _ _ (λ l i. tt)) (λ _.
+      if_finds (m.in_body && starts_with nat_eq found (innermost m)) (λ _. blanks_finds inside _) (λ _.
       if_finds (is_mixed (tested_blanks m found)) (λ _. refused) (λ _.
-      if_finds (not (starts_with nat_eq found (innermost m))) (λ _. refused) (λ _. any _ _ (λ l i. tt))))))))
+      if_finds (not (starts_with nat_eq found (innermost m))) (λ _. refused) (λ _. other inside _ _ (λ l i. tt))))))))
 
-  next_by_finds : (b : Bool) → Finds m rest (next_by b m rest)
-  next_by_finds true = layout_finds _ _
-  next_by_finds false = inside_finds
+  next_by_finds : outside ≡ false → (b : Bool) → Finds outside m rest (next_by b m rest)
+  next_by_finds inside true = layout_finds inside _ _
+  next_by_finds inside false = inside_finds inside
 
-at_end_finds : (m : Mode) (o : Option Tok) (ls : List (List ℕ)) → Finds m [] (at_end_by o ls)
-at_end_finds m (Some t) ls = record { fact = tt }
-at_end_finds m None [] = record { fact = λ l following e len. tt }
-at_end_finds m None (l ∷ ls) = record { fact = λ l following e len. tt }
+at_end_finds : (m : Mode) (o : Option Tok) (ls : List (List ℕ)) → Finds false m [] (at_end_by o ls)
+at_end_finds m (Some t) ls = record { fact = tt; plain = λ _. tt }
+at_end_finds m None [] = record { fact = λ l following e len. tt; plain = λ e. cc }
+at_end_finds m None (l ∷ ls) = record { fact = λ l following e len. tt; plain = λ e. cc }
 
-next_finds : (m : Mode) (rest : List ℕ) → Finds m rest (next m rest)
+next_finds : (m : Mode) (rest : List ℕ) → Finds false m rest (next m rest)
 unfolding next
 next_finds m [] = at_end_finds m m.interpolation m.levels
-next_finds m (b ∷ bs) = next_by_finds m (b ∷ bs) m.line_start
+next_finds m (b ∷ bs) = next_by_finds false m (b ∷ bs) refl m.line_start
+
+-- outside the text of bodies a plain token is found
+pub outside_plain : (m : Mode) (rest : List ℕ) → Plain (token_outside_text m rest)
+outside_plain m rest = record { by = (normal_finds true m rest).plain refl }
 
 -- the next token's lexeme has its fact
 pub fact_of : (m : Mode) (k : TokenKind) (l following : List ℕ) → next m (l ++ following) ≡ Ok (k, length l) → Fact m k l following
-fact_of m k l following e = (subst (Finds m (l ++ following)) e (next_finds m (l ++ following))).fact l following refl refl
+fact_of m k l following e = (subst (Finds false m (l ++ following)) e (next_finds m (l ++ following))).fact l following refl refl
 
 -- a string is found again where no `f` comes before it and no quote after it
 pub string_again : (m n : Mode) (l following more : List ℕ) → is_quote (get_or l 0 0) ≡ true → literal_token m (l ++ following) ≡ Ok (kinds.StringToken, length l) → n.after_f ≡ false → is_quote (get_or more 0 0) ≡ false → literal_token n (l ++ more) ≡ Ok (kinds.StringToken, length l)
 string_again m n [] following more quoted found no_f stop = cc
 string_again m n (x ∷ xs) following more quoted found no_f stop =
     let l : List ℕ = x ∷ xs in
-    let s : IsString l = ((subst (Finds m (l ++ following)) found (literal_finds m (l ++ following) (quote_is x quoted))).fact l following refl refl).0 in
+    let s : IsString l = ((subst (Finds false m (l ++ following)) found (literal_finds false m (l ++ following) (quote_is x quoted))).fact l following refl refl).0 in
     literal_again n s.kind l more no_f s.literal stop ∙ ap (λ k. Ok (k, length l)) s.is_token

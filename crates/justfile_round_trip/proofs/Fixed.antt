@@ -1,5 +1,7 @@
 -- Tokens of fixed text inside a line lex to the printer's tokens.
 use Rattle.std.proofs.Common.{◌≡◌, ◌≢◌, ℕ, Bool, false, cond, eqb, List, [], ◌∷◌, ◌++◌, length, get_or, Option, Ok, refl, sym, ap, ◌∙◌, subst}
+use Rattle.std.proofs.Math.Bool.{and-false}
+use Rattle.justfile_token.specs.declared.delimiter.Delimiter.{Delimiter}
 use Rattle.justfile_vocabulary.specs.declared.byte_class.ByteClass.TheVariants as classes
 use Rattle.justfile_token.specs.declared.delimiter.Delimiter.TheVariants.{Brace, Bracket, Paren}
 use Rattle.justfile_vocabulary.specs.declared.token_kind.TokenKind.{TokenKind}
@@ -10,7 +12,7 @@ use Rattle.justfile_model.specs.Lexing.Tok.{Tok}
 use Rattle.justfile_model.specs.Lexing.Modes.{is_empty, opener, mode_after}
 use Rattle.justfile_model.specs.Lexing.Next.{fixed_token, token_by_class}
 use Rattle.justfile_round_trip.proofs.LiteralTexts.LexedModes.{Mark, mark, LexesTo, step}
-use Rattle.justfile_round_trip.proofs.LiteralTexts.Inline.{amid, amid_next, and_false, and_no}
+use Rattle.justfile_round_trip.proofs.LiteralTexts.Inline.{amid, amid_next, and_false}
 
 -- These bytes are a token of this kind, whatever follows them.
 pub data IsFixed : TokenKind → List ℕ → Type 0 where
@@ -29,6 +31,17 @@ pub data IsFixed : TokenKind → List ℕ → Type 0 where
   colon_equals : IsFixed ColonEquals (58 ∷ 61 ∷ [])
   colon_colon : IsFixed ColonColon (58 ∷ 58 ∷ [])
 
+-- this byte opens the delimiter, or closes it
+pub data Opens : Delimiter → TokenKind → ℕ → Type 0 where
+  paren : Opens Paren ParenL 40
+  bracket : Opens Bracket BracketL 91
+  brace : Opens Brace BraceL 123
+
+pub data Closes : Delimiter → TokenKind → ℕ → Type 0 where
+  end_paren : Closes Paren ParenR 41
+  end_bracket : Closes Bracket BracketR 93
+  end_brace : Closes Brace BraceR 125
+
 module _ {os : List OpenDelimiter} {ls : List (List ℕ)} {c : Bool} {i : Option Tok} {f : Bool} where
   -- a token that keeps the mode, before a byte that doesn't lengthen it
   fixed_step : (k : TokenKind) (b : ℕ) (bs : List ℕ) {more : List ℕ} {ts : List Mark} → class_of b ≡ classes.Fixed → eqb b 125 ≡ false → fixed_token b (b ∷ bs ++ more) ≡ Ok (k, length (b ∷ bs)) → k ≢ Eof
@@ -44,20 +57,8 @@ module _ {os : List OpenDelimiter} {ls : List (List ℕ)} {c : Bool} {i : Option
 
   pub token_step : {k : TokenKind} {bs more : List ℕ} {ts : List Mark} → IsFixed k bs → LexesTo (amid os ls c i false) more ts → LexesTo (amid os ls c i f) (bs ++ more) (mark k bs ∷ ts)
   unfolding class_of fixed_token
-  token_step dollar k = fixed_step Dollar 36 [] refl refl refl (λ e. cc) (λ t. refl) k
-  token_step asterisk k = fixed_step Asterisk 42 [] refl refl refl (λ e. cc) (λ t. refl) k
-  token_step comma k = fixed_step Comma 44 [] refl refl refl (λ e. cc) (λ t. refl) k
-  token_step slash k = fixed_step Slash 47 [] refl refl refl (λ e. cc) (λ t. refl) k
-  token_step question_mark k = fixed_step QuestionMark 63 [] refl refl refl (λ e. cc) (λ t. refl) k
-  token_step and k = fixed_step AmpersandAmpersand 38 (38 ∷ []) refl refl refl (λ e. cc) (λ t. refl) k
-  token_step or k = fixed_step BarBar 124 (124 ∷ []) refl refl refl (λ e. cc) (λ t. refl) k
-  token_step plus_plus k = fixed_step PlusPlus 43 (43 ∷ []) refl refl refl (λ e. cc) (λ t. refl) k
-  token_step equals_equals k = fixed_step EqualsEquals 61 (61 ∷ []) refl refl refl (λ e. cc) (λ t. refl) k
-  token_step equals_tilde k = fixed_step EqualsTilde 61 (126 ∷ []) refl refl refl (λ e. cc) (λ t. refl) k
-  token_step bang_equals k = fixed_step BangEquals 33 (61 ∷ []) refl refl refl (λ e. cc) (λ t. refl) k
-  token_step bang_tilde k = fixed_step BangTilde 33 (126 ∷ []) refl refl refl (λ e. cc) (λ t. refl) k
-  token_step colon_equals k = fixed_step ColonEquals 58 (61 ∷ []) refl refl refl (λ e. cc) (λ t. refl) k
-  token_step colon_colon k = fixed_step ColonColon 58 (58 ∷ []) refl refl refl (λ e. cc) (λ t. refl) k
+  token_step dollar r = fixed_step _ _ _ refl refl refl (λ e. cc) (λ t. refl) r
+  token_step _ r = fixed_step _ _ _ refl refl refl (λ e. cc) (λ t. refl) r
 
   pub plus_step : {more : List ℕ} {ts : List Mark} → LexesTo (amid os ls c i false) (32 ∷ more) ts → LexesTo (amid os ls c i f) (43 ∷ 32 ∷ more) (mark Plus (43 ∷ []) ∷ ts)
   unfolding class_of fixed_token
@@ -76,26 +77,16 @@ module _ {os : List OpenDelimiter} {ls : List (List ℕ)} {c : Bool} {i : Option
   unfolding class_of fixed_token
   bang_step more equals tilde k = fixed_step Bang 33 [] refl refl (λ j. cond (equals j) (Ok (BangEquals, 2)) (cond (tilde j) (Ok (BangTilde, 2)) (Ok (Bang, 1)))) (λ e. cc) (λ t. refl) k
 
-  pub open_paren_step : {more : List ℕ} {ts : List Mark} → ((line : ℕ) → LexesTo (amid (opener Paren line ∷ os) ls c i false) more ts) → LexesTo (amid os ls c i f) (40 ∷ more) (mark ParenL (40 ∷ []) ∷ ts)
+  pub open_step : {d : Delimiter} {k : TokenKind} {b : ℕ} {more : List ℕ} {ts : List Mark} → Opens d k b
+      → ((line : ℕ) → LexesTo (amid (opener d line ∷ os) ls c i false) more ts) → LexesTo (amid os ls c i f) (b ∷ more) (mark k (b ∷ []) ∷ ts)
   unfolding token_by_class class_of
-  open_paren_step {more} {ts} k = step (amid os ls c i f) ParenL (40 ∷ []) more ts (amid_next os ls c i f 40 more (and_no (is_empty os))) (λ e. cc) (λ o n col. k n)
+  open_step {b = b} {more} {ts} paren r = step (amid os ls c i f) _ (b ∷ []) more ts (amid_next os ls c i f b more (and-false (is_empty os))) (λ e. cc) (λ o n col. r n)
+  open_step {b = b} {more} {ts} _ r = step (amid os ls c i f) _ (b ∷ []) more ts (amid_next os ls c i f b more (and-false (is_empty os))) (λ e. cc) (λ o n col. r n)
 
-  pub close_paren_step : {line : ℕ} {more : List ℕ} {ts : List Mark} → LexesTo (amid os ls c i false) more ts → LexesTo (amid (opener Paren line ∷ os) ls c i f) (41 ∷ more) (mark ParenR (41 ∷ []) ∷ ts)
+  pub close_step : {d : Delimiter} {k : TokenKind} {b line : ℕ} {more : List ℕ} {ts : List Mark} → Closes d k b
+      → LexesTo (amid os ls c i false) more ts → LexesTo (amid (opener d line ∷ os) ls c i f) (b ∷ more) (mark k (b ∷ []) ∷ ts)
   unfolding token_by_class class_of
-  close_paren_step {line} {more} {ts} k = step (amid (opener Paren line ∷ os) ls c i f) ParenR (41 ∷ []) more ts (amid_next (opener Paren line ∷ os) ls c i f 41 more refl) (λ e. cc) (λ o n col. k)
-
-  pub open_bracket_step : {more : List ℕ} {ts : List Mark} → ((line : ℕ) → LexesTo (amid (opener Bracket line ∷ os) ls c i false) more ts) → LexesTo (amid os ls c i f) (91 ∷ more) (mark BracketL (91 ∷ []) ∷ ts)
-  unfolding token_by_class class_of
-  open_bracket_step {more} {ts} k = step (amid os ls c i f) BracketL (91 ∷ []) more ts (amid_next os ls c i f 91 more (and_no (is_empty os))) (λ e. cc) (λ o n col. k n)
-
-  pub close_bracket_step : {line : ℕ} {more : List ℕ} {ts : List Mark} → LexesTo (amid os ls c i false) more ts → LexesTo (amid (opener Bracket line ∷ os) ls c i f) (93 ∷ more) (mark BracketR (93 ∷ []) ∷ ts)
-  unfolding token_by_class class_of
-  close_bracket_step {line} {more} {ts} k = step (amid (opener Bracket line ∷ os) ls c i f) BracketR (93 ∷ []) more ts (amid_next (opener Bracket line ∷ os) ls c i f 93 more refl) (λ e. cc) (λ o n col. k)
-
-  pub open_brace_step : {more : List ℕ} {ts : List Mark} → ((line : ℕ) → LexesTo (amid (opener Brace line ∷ os) ls c i false) more ts) → LexesTo (amid os ls c i f) (123 ∷ more) (mark BraceL (123 ∷ []) ∷ ts)
-  unfolding token_by_class class_of
-  open_brace_step {more} {ts} k = step (amid os ls c i f) BraceL (123 ∷ []) more ts (amid_next os ls c i f 123 more (and_no (is_empty os))) (λ e. cc) (λ o n col. k n)
-
-  pub close_brace_step : {line : ℕ} {more : List ℕ} {ts : List Mark} → LexesTo (amid os ls c i false) more ts → LexesTo (amid (opener Brace line ∷ os) ls c i f) (125 ∷ more) (mark BraceR (125 ∷ []) ∷ ts)
-  unfolding token_by_class class_of
-  close_brace_step {line} {more} {ts} k = step (amid (opener Brace line ∷ os) ls c i f) BraceR (125 ∷ []) more ts (amid_next (opener Brace line ∷ os) ls c i f 125 more refl) (λ e. cc) (λ o n col. k)
+  close_step {d} {b = b} {line} {more} {ts} end_paren r =
+      step (amid (opener d line ∷ os) ls c i f) _ (b ∷ []) more ts (amid_next (opener d line ∷ os) ls c i f b more refl) (λ e. cc) (λ o n col. r)
+  close_step {d} {b = b} {line} {more} {ts} _ r =
+      step (amid (opener d line ∷ os) ls c i f) _ (b ∷ []) more ts (amid_next (opener d line ∷ os) ls c i f b more refl) (λ e. cc) (λ o n col. r)

@@ -3,6 +3,7 @@
 use Rattle.std.proofs.Common.{◌≡◌, ℕ, Bool, true, false, List, [], ◌∷◌, ◌++◌, length, drop, Option, Some, None}
 use Rattle.std.specs.Prelude.{◌&&◌, ◌||◌}
 use Rattle.std.specs.Str.{IsUtf8, trim_end}
+use Rattle.std.specs.List.{AllByRecursion}
 use Rattle.justfile_token.specs.declared.string_kind.StringKind.{StringKind}
 use Rattle.justfile_vocabulary.specs.declared.token_kind.TokenKind.{TokenKind}
 use Rattle.justfile_vocabulary.specs.declared.token_kind.TokenKind.TheVariants as kinds
@@ -155,6 +156,14 @@ pale_after (Line number (f ∷ fs) ∷ ls) = pale_after ls
 pub record GoodName (name : List ℕ) : Type 0 where
   pub is_name : IsName name
   pub utf8 : IsUtf8 name
+
+abbrev pub GoodNames : List (List ℕ) → Type 0
+GoodNames = AllByRecursion GoodName
+
+-- a path has a name at least
+abbrev pub GoodPath : List (List ℕ) → Type 0
+GoodPath [] = ⊥
+GoodPath (name ∷ names) = GoodName name × GoodNames names
 
 pub record GoodComment (t : List ℕ) : Type 0 where
   pub comment : IsComment t

@@ -3,5 +3,4 @@ pub mod BackHeaders
 pub mod CanonHeaders
 pub mod GoodHeaders
 pub mod LexesHeaders
-pub mod WalksHeaders
 pub mod WrittenHeaders

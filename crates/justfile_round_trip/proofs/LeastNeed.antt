@@ -1,15 +1,14 @@
 -- Of all texts with the same normal shape, the printed one has the least need.
 use Rattle.std.proofs.Common.{◌≡◌, ℕ, ◌≤◌, true, List, sym, ap, subst, ◌∙◌}
 use Rattle.justfile_vocabulary.specs.Indentation.{IsIndentation}
-use Rattle.justfile_model.specs.Grammars.Conditions.{Conditions, with_limit}
+use Rattle.justfile_model.specs.Grammars.Conditions.{Conditions}
 use Rattle.justfile_model.specs.Grammars.Features.{Noted}
 use Rattle.justfile_model.specs.Grammars.Files.{FileDerives}
-use Rattle.justfile_model.specs.Grammars.Need.{DerivesUnder}
 use Rattle.justfile_model.specs.Printed.NormalShape.{normal}
 use Rattle.justfile_model.specs.Printed.Printing.{printable}
 use Rattle.justfile_model.specs.Lexing.SignificantTokens.{significant_tokens}
 use Rattle.justfile_model.specs.Lexing.Tok.{Tok}
-use Rattle.justfile_model.specs.Trees.Tree.{Shape, Tree, shape_of}
+use Rattle.justfile_model.specs.Trees.Tree.{Tree, shape_of}
 use Rattle.justfile_model.proofs.Lexing.LexedLaws.{one_list}
 use Rattle.justfile_model.proofs.Derivations.Needs.{need_of, relimited}
 use Rattle.justfile_model.proofs.Printed.Normal.{normal_printable}

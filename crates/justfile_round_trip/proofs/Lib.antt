@@ -1,3 +1,4 @@
+pub mod Ahead
 pub mod Attributes
 pub mod Back
 pub mod Canon

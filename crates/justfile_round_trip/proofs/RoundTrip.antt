@@ -42,10 +42,10 @@ use Rattle.justfile_model.proofs.Lexing.Spelled.{lexed_spelled}
 use Rattle.justfile_round_trip.proofs.Canon.{Shown}
 use Rattle.justfile_round_trip.proofs.Items.CanonItems.{text_on, marks, text_is}
 use Rattle.justfile_round_trip.proofs.Items.CountedItems.{documented_weight, normal_weight, shape_weight, undocumented_times, written_docs_weight}
-use Rattle.justfile_round_trip.proofs.DocsGood.{docs_good, start_comments, start_plain}
+use Rattle.justfile_round_trip.proofs.DocsGood.{docs_good, start_comments}
 use Rattle.justfile_round_trip.proofs.DocsNormal.{normal_documented}
 use Rattle.justfile_round_trip.proofs.Good.{unplaced, significant}
-use Rattle.justfile_round_trip.proofs.Items.GoodItems.{AtStart, start_no_doc}
+use Rattle.justfile_round_trip.proofs.Items.GoodItems.{AtStart, start_plain}
 use Rattle.justfile_round_trip.proofs.Means.{docs_meant, meant}
 use Rattle.justfile_round_trip.proofs.LexesBack.{lex_start}
 use Rattle.justfile_round_trip.proofs.Values.TokenFacts.{lexed_sound}
@@ -74,7 +74,7 @@ back_tokens s indentation = toks (text s indentation) 0 (marks indentation (docs
 
 -- the printed text is that of the items with their docs as comments
 printed_text : (limit : ℕ) (s : Shape) (indentation : List ℕ) → AtStart limit (docs_written s) → text s indentation ≡ text_on indentation (docs_written s)
-printed_text limit s indentation h = text_written indentation s ∙ text_is (docs_written s) indentation (start_no_doc limit h)
+printed_text limit s indentation h = text_written indentation s ∙ text_is (docs_written s) indentation (start_plain limit h)
 
 good_lexed : (limit : ℕ) (s : Shape) (indentation : List ℕ) → IsLevel indentation → AtStart limit (docs_written s) → Lexed (text s indentation) (back_tokens s indentation)
 unfolding back_tokens

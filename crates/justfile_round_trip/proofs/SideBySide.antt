@@ -1,77 +1,20 @@
 -- Adjacent expressions: an expression ends in the printed text before the same tokens as in the source.
-use Rattle.std.proofs.Common.{◌≡◌, ℕ, Bool, true, false, cond, ◌∷◌, Option, refl, sym, subst, ap, ◌∙◌, codes}
-use Rattle.std.specs.Prelude.{◌&&◌}
+use Rattle.std.proofs.Common.{◌≡◌, ℕ, Bool, true, false, cond, Option, refl, sym, subst, ap, ◌∙◌, codes}
+use Rattle.std.proofs.lemmas.Bool.{and_right}
 use Rattle.justfile_vocabulary.specs.declared.token_kind.TokenKind.{TokenKind}
 use Rattle.justfile_vocabulary.specs.declared.token_kind.TokenKind.TheVariants as kinds
 use Rattle.justfile_model.specs.Grammars.Expressions as g
 use Rattle.justfile_model.specs.Grammars.Expressions.{Tokens, NotNext, NotJoined, Expression, Disjunct, Compared, Conjunct, Conditional, Value, ends_open}
 use Rattle.justfile_model.specs.Lexing.SignificantTokens.{SignificantToken}
 use Rattle.justfile_model.specs.Trees.Tree.{lexeme, nothing}
-use Rattle.justfile_round_trip.proofs.Back.{StopE, glued_string, is_string, next_head, word_head}
+use Rattle.justfile_round_trip.proofs.Back.{StopE, glued_string, is_string, next_head, stop_at, word_head}
 use Rattle.justfile_round_trip.proofs.Canon as canon
 use Rattle.justfile_round_trip.proofs.Canon.{Shown}
-use Rattle.justfile_round_trip.proofs.Ends.{End, OfName, OfValue, OfOpen, OfClosed, tail, EndsIn, ValueEndsIn, SameHead, same_head}
+use Rattle.justfile_round_trip.proofs.Ends.{End, OfName, OfValue, OfOpen, OfClosed, tail, EndsIn, ValueEndsIn, SameHead, may_begin, same_head}
 
--- ---- how an expression begins
-
--- a token that an expression may begin with
-abbrev may_begin : TokenKind → Bool
-may_begin kinds.Identifier = true
-may_begin kinds.StringToken = true
-may_begin kinds.Backtick = true
-may_begin kinds.Bang = true
-may_begin kinds.ParenL = true
-may_begin kinds.BracketL = true
-may_begin kinds.Slash = true
-may_begin _ = false
-
-pub data Begins : Tokens → Type 0 where
-  begins : {t : SignificantToken} {ts : Tokens} → may_begin t.tok.kind ≡ true → Begins (t ∷ ts)
-
-begins_with : {kind : TokenKind} {t : SignificantToken} {ts : Tokens} → t.tok.kind ≡ kind → may_begin kind ≡ true → Begins (t ∷ ts)
-begins_with e h = begins (ap may_begin e ∙ h)
-
--- tokens that begin an expression don't begin with a token that can't begin one, as an operator other than `/`
-pub not_begun : (kind : TokenKind) {ts : Tokens} → Begins ts → may_begin kind ≡ false → NotNext kind ts
-not_begun kind (begins h) n = λ e. let bad : true ≡ false = sym h ∙ ap may_begin e ∙ n in cc
+-- ---- how an expression ends
 
 module _ (MayEnter : ℕ → Option SignificantToken → Type 0) where
-  value_begins : {d : ℕ} {e : canon.Value} {fs : Shown} {ts rest : Tokens} → Value lexeme nothing MayEnter d e fs ts rest → Begins ts
-  value_begins (g.not kind v) = begins_with kind refl
-  value_begins (g.literal kind) = begins_with kind refl
-  value_begins (g.expanded m) = begins_with m.marks.is_name refl
-  value_begins (g.format_literal m) = begins_with m.marks.is_name refl
-  value_begins (g.format_string m e ps) = begins_with m.marks.is_name refl
-  value_begins (g.backtick kind) = begins_with kind refl
-  value_begins (g.assert w kind c kind2) = begins_with w.is_name refl
-  value_begins (g.assert_message w kind c kind2 m kind3) = begins_with w.is_name refl
-  value_begins (g.variable kind no_assert unmarked next) = begins_with kind refl
-  value_begins (g.call kind no_assert kind2 s) = begins_with kind refl
-  value_begins (g.group kind e kind2) = begins_with kind refl
-  value_begins (g.list kind s) = begins_with kind refl
-
-  conjunct_begins : {d : ℕ} {e : canon.Value} {fs : Shown} {ts rest : Tokens} → Conjunct lexeme nothing MayEnter d e fs ts rest → Begins ts
-  conjunct_begins (g.conditional i c) = begins_with i.is_name refl
-  conjunct_begins (g.root kind r) = begins_with kind refl
-  conjunct_begins (g.join next l kind r) = value_begins l
-  conjunct_begins (g.list_concatenation next l kind r) = value_begins l
-  conjunct_begins (g.concatenation next l kind r) = value_begins l
-  conjunct_begins (g.value next v joined) = value_begins v
-
-  compared_begins : {condition : Bool} {d : ℕ} {e : canon.Value} {fs : Shown} {ts rest : Tokens} → Compared lexeme nothing MayEnter condition d e fs ts rest → Begins ts
-  compared_begins (g.compare by l kind r) = conjunct_begins l
-  compared_begins (g.conjunct l next) = conjunct_begins l
-
-  disjunct_begins : {condition : Bool} {d : ℕ} {e : canon.Value} {fs : Shown} {ts rest : Tokens} → Disjunct lexeme nothing MayEnter condition d e fs ts rest → Begins ts
-  disjunct_begins (g.and l kind r) = compared_begins l
-  disjunct_begins (g.comparison l next) = compared_begins l
-
-  pub expression_begins : {condition : Bool} {d : ℕ} {e : canon.Value} {fs : Shown} {ts rest : Tokens} → Expression lexeme nothing MayEnter condition d e fs ts rest → Begins ts
-  expression_begins (g.or o l kind r) = disjunct_begins l
-  expression_begins (g.disjunct o l next) = disjunct_begins l
-
-  -- ---- how it ends
-
   pub value_ends : {d : ℕ} {e : canon.Value} {fs : Shown} {ts rest : Tokens} → Value lexeme nothing MayEnter d e fs ts rest → ValueEndsIn (tail e) rest
   value_ends (g.not kind v) = value_ends v
   value_ends (g.literal kind) = record { is = tt }
@@ -97,8 +40,7 @@ module _ (MayEnter : ℕ → Option SignificantToken → Type 0) where
   conditional_tail : {d : ℕ} {w : SignificantToken} {e : canon.Value} {fs : Shown} {ts rest : Tokens} → Conditional lexeme nothing MayEnter d w e fs ts rest
       → cond (ends_open e) OfOpen OfClosed ≡ tail e
   conditional_tail (g.if_only c b next) = refl
-  conditional_tail (g.if_else c b w o next) = refl
-  conditional_tail (g.else_if c b w i o) = refl
+  conditional_tail _ = refl
 
   conjunct_ends : {d : ℕ} {e : canon.Value} {fs : Shown} {ts rest : Tokens} → Conjunct lexeme nothing MayEnter d e fs ts rest → EndsIn (tail e) rest
   conjunct_ends {rest = rest} (g.conditional i c) = subst (λ x. EndsIn x rest) (conditional_tail c) (conditional_ends c)
@@ -138,31 +80,13 @@ value_ends_too _ s h = record { is = tt }
 
 -- a first token that isn't glued doesn't mark the next one
 pub apart : {ts us : Tokens} → SameHead false ts us → glued_string us ≡ false
-apart (same_head {u = u} e f glued) = no_glue (is_string u.tok.kind) u.glued glued
-  where
-    no_glue : (s g : Bool) → g ≡ false → (s && g) ≡ false
-    no_glue true g e = e
-    no_glue false g e = refl
+apart (same_head {u = u} e f glued begins) = and_right (is_string u.tok.kind) u.glued glued
 
-pub begins_too : {b : Bool} {ts us : Tokens} → SameHead b ts us → Begins ts → Begins us
-begins_too (same_head e f glued) (begins h) = begins (ap may_begin (sym e) ∙ h)
+-- tokens that begin an expression don't begin with a token that can't begin one, as an operator other than `/`
+pub not_begun : {b : Bool} (kind : TokenKind) {ts us : Tokens} → SameHead b ts us → may_begin kind ≡ false → NotNext kind us
+not_begun kind (same_head e f glued begins) n = λ e. let bad : true ≡ false = sym begins ∙ ap may_begin e ∙ n in cc
 
 -- an expression ends before another one that isn't glued to it
-pub stop_beside : {ts us : Tokens} → SameHead false ts us → Begins ts → StopE us
-stop_beside s h =
-    let q = begins_too s h in
-    record {
-      or = not_begun kinds.BarBar q refl;
-      disjunct = record {
-        and = not_begun kinds.AmpersandAmpersand q refl;
-        comparison = record {
-          compared = record {
-            equality = not_begun kinds.EqualsEquals q refl;
-            inequality = not_begun kinds.BangEquals q refl;
-            regex_match = not_begun kinds.EqualsTilde q refl;
-            regex_mismatch = not_begun kinds.BangTilde q refl;
-          };
-          conjunct = record { apart = apart s };
-        };
-      };
-    }
+pub stop_beside : {ts us : Tokens} → SameHead false ts us → StopE us
+stop_beside (same_head {u = u} {us = us} e f glued begins) =
+    stop_at may_begin (refl, refl, refl, refl, refl, refl) u us begins (and_right (is_string u.tok.kind) u.glued glued)

@@ -41,9 +41,11 @@ use Rattle.justfile_round_trip.proofs.Values.TokenFacts.{Around, around, outside
 use Rattle.justfile_round_trip.proofs.RecipeBodies.BodyTokens.{First}
 use Rattle.justfile_round_trip.proofs.RecipeBodies.BodyFacts.{situation_after, no_body, NextIs, BodySound}
 use Rattle.justfile_round_trip.proofs.RecipeBodies.BodyGood.{LineOf, LinesOf, PartsGood, AllPartsGood, inner, outside_first, indent_leads, Walked, body_read}
-use Rattle.justfile_round_trip.proofs.Headers.WalksHeaders.{IsHeader, header_after, outside_header, past_walked, walk_header}
-use Rattle.justfile_round_trip.proofs.Headers.WrittenHeaders.{header_at}
-use Rattle.justfile_round_trip.proofs.Items.WrittenParts.{Ahead, Passed, file_path_good, lexed_comment, lexed_name, names_good, past_token, path_good, setting_value_good, value_good}
+use Rattle.justfile_round_trip.proofs.Headers.WrittenHeaders.{IsHeader, header_after, header_at, outside_header}
+use Rattle.justfile_round_trip.proofs.Items.WrittenParts.{file_path_good, names_good, setting_value_good}
+use Rattle.justfile_round_trip.proofs.Ahead.{Ahead, AheadOf, Passed, lexed_comment, lexed_name, past_ahead, past_token, path_good, value_good}
+use Rattle.justfile_round_trip.proofs.Attributes.MeantAttributes.{entries_good}
+use Rattle.justfile_round_trip.proofs.RecipeBodies.BodyGood.{outside_after}
 use Rattle.justfile_round_trip.proofs.RecipeBodies.Trimmed.{trimmed_twice, trimmed_printable}
 use Rattle.justfile_round_trip.proofs.RecipeBodies.BodyFollows.{following, newline_follows}
 use Rattle.justfile_round_trip.proofs.Values.WrittenValues.{past, value_at, good_expression}
@@ -61,18 +63,13 @@ record InBody (text : Option (List ℕ)) (ts : List SignificantToken) : Type 0 w
   facts : Sound outside false ts
   body : BodySound (inner First false true) ts
 
-before_body : {text : Option (List ℕ)} {ts rest : List SignificantToken} → BeforeBody text ts rest → Sound outside false ts → Walked IsHeader ts → InBody text rest
-before_body (g.at_once {newline} {indent} {rest} kind kind2) h w = record {
-  comment = tt;
-  facts = past outside indent rest kinds.Indent kind2 (past outside newline (indent ∷ rest) kinds.Eol kind h.2).2;
-  body = past_indent indent rest kind2 (past_walked IsHeader header_after newline (indent ∷ rest) kinds.Eol kind refl w);
-}
-before_body (g.commented {comment} {newline} {indent} {rest} kind kind2 kind3) h w = record {
-  comment = lexed_comment comment kind h.0;
-  facts = past outside indent rest kinds.Indent kind3 (past outside newline (indent ∷ rest) kinds.Eol kind2 (past outside comment (newline ∷ indent ∷ rest) kinds.Comment kind h.2).2).2;
-  body = past_indent indent rest kind3
-      (past_walked IsHeader header_after newline (indent ∷ rest) kinds.Eol kind2 refl (past_walked IsHeader header_after comment (newline ∷ indent ∷ rest) kinds.Comment kind refl w));
-}
+before_body : {text : Option (List ℕ)} {ts rest : List SignificantToken} → BeforeBody text ts rest → AheadOf IsHeader outside false ts → InBody text rest
+before_body (g.at_once {newline} {indent} {rest} kind kind2) a =
+    let b = past_ahead header_after newline (indent ∷ rest) kinds.Eol kind refl a in
+    record { comment = tt; facts = past outside indent rest kinds.Indent kind2 b.facts.2; body = past_indent indent rest kind2 b.bodies }
+before_body (g.commented {comment} {newline} {indent} {rest} kind kind2 kind3) a =
+    let b = past_ahead header_after newline (indent ∷ rest) kinds.Eol kind2 refl (past_ahead header_after comment (newline ∷ indent ∷ rest) kinds.Comment kind refl a) in
+    record { comment = lexed_comment comment kind a.facts.0; facts = past outside indent rest kinds.Indent kind3 b.facts.2; body = past_indent indent rest kind3 b.bodies }
 
 module _ (limit : ℕ) where
   record PartsAt (fs : List Fragment) (rest : List SignificantToken) : Type 0 where
@@ -119,8 +116,8 @@ module _ (limit : ℕ) where
       → NotEmpty (trimmed lines)
       → (c : Bool) → Ahead outside c tokens → printable_body (trimmed lines) ≡ true → BlockGood h comment (trimmed lines) rest
   block_good {lines = lines} head unbroken before read some c h p =
-      let named = header_at limit head unbroken c h.facts in
-      let start = before_body before named.following (walk_header limit head h.bodies) in
+      let named = header_at limit head unbroken h in
+      let start = before_body before named.following in
       let parts = all_parts_good read start.facts in
       let body = body_read limit true read start.body parts.parts (sym (trimmed_printable lines) ∙ p) in
       record {
@@ -143,13 +140,11 @@ module _ (limit : ℕ) where
   -- ---- line ends of the normal shape
 
   start_after_newline : (r : Shape) → AtStart limit r → AtStart limit (after_newline r)
-  start_after_newline [] h = good.newline h
   start_after_newline (tree.Newline ∷ []) h = h
   start_after_newline (tree.Newline ∷ tree.Newline ∷ r) h = h
   start_after_newline _ h = good.newline h
 
   end_after_newline : (r : Shape) → AtStart limit r → AtEnd limit (after_newline r)
-  end_after_newline [] h = good.line_end h
   end_after_newline (tree.Newline ∷ []) h = good.line_end (past_newline limit h)
   end_after_newline (tree.Newline ∷ tree.Newline ∷ r) h = good.line_end (past_newline limit h)
   end_after_newline _ h = good.line_end h
@@ -163,11 +158,9 @@ module _ (limit : ℕ) where
   optional_body_newline body items last h = by (normal_rest items) (newline_follows items) (λ p. ap (λ i. following (after_newline (normal_rest i))) (last p)) h
     where
       by : (r : Shape) → follows_body (following (after_newline r)) ≡ true → (pale_after body ≡ true → following (after_newline r) ≡ []) → AtStart limit r → AfterBody limit body (after_newline r)
-      by [] f l h = good.body_end f l h
       by (tree.Newline ∷ []) f l h = good.body_end f l (past_newline limit h)
       by (tree.Newline ∷ tree.Newline ∷ r) f l h = good.body_end f l (past_newline limit h)
-      by (tree.Newline ∷ _ ∷ r) f l h = good.body_end f l h
-      by (_ ∷ r) f l h = good.body_end f l h
+      by _ f l h = good.body_end f l h
 
   start_block : (entries : List ShapeEntry) (h : ShapeHeader) (comment : Option (List ℕ)) (body : List ShapeLine) (items : Shape) → NotEmpty body
       → GoodEntries limit entries → GoodHeader limit h → GoodOptionalComment comment → EndedBody limit body → AfterBody limit body items
@@ -226,7 +219,7 @@ module _ (limit : ℕ) where
         → form_broken current view content ≡ [] → Ahead outside false ts → Passed (GoodContent limit content) rest
     content_good (g.alias {word = word} {name = name} {operator = operator} {tokens = ts} is kind kind2 to) u h =
         let named = past_token word (name ∷ operator ∷ ts) kinds.Identifier is.is_name refl h in
-        let x = path_good to (past_token operator ts kinds.ColonEquals kind2 refl (past_token name (operator ∷ ts) kinds.Identifier kind refl named)) in
+        let x = path_good outside_after to (past_token operator ts kinds.ColonEquals kind2 refl (past_token name (operator ∷ ts) kinds.Identifier kind refl named)) in
         record { good = contents.alias (lexed_name name kind named.facts.0) x.good; following = x.following }
     content_good (g.assignment {name = name} {operator = operator} {tokens = ts} kind kind2 x) u h = assigned false false refl name operator ts kind kind2 x h
     content_good (g.eager {word = word} {name = name} {operator = operator} {tokens = ts} is kind kind2 x) u h =
@@ -265,8 +258,7 @@ module _ (limit : ℕ) where
         let named = past_token word (name ∷ rest) kinds.Identifier is.is_name refl h in
         record { good = contents.unexport (lexed_name name kind named.facts.0); following = past_token name rest kinds.Identifier kind refl named }
     content_good (g.header head) u h =
-        let found = header_at limit head u false h.facts in
-        record { good = contents.header found.good; following = record { facts = found.following; bodies = outside_header (walk_header limit head h.bodies) } }
+        let found = header_at limit head u h in record { good = contents.header found.good; following = outside_header found.following }
 
     -- attributes before a construct, and the properties of the tokens after them
     record AttributesAhead (ws : List Written) (rest : List SignificantToken) : Type 0 where
@@ -276,8 +268,8 @@ module _ (limit : ℕ) where
     attributes_ahead : {ws : List Written} {ns : Shown} {ts rest : List SignificantToken} → AttributeLines lexeme nothing (BelowLimit limit) ws ns ts rest
         → (c : Bool) → Ahead outside c ts → AttributesAhead ws rest
     attributes_ahead {ws} a c h =
-        let x = attributes_good limit view a c h.facts h.bodies in
-        record { entries = by x.entries (entries_of view ws) refl; following = record { facts = x.facts; bodies = x.bodies } }
+        let x = attributes_good limit a h in
+        record { entries = by (λ es e. entries_good limit view ws es e x.good) (entries_of view ws) refl; following = x.following }
       where
         by : ((es : List ShapeEntry) → entries_of view ws ≡ Some es → GoodEntries limit es) → (o : Option (List ShapeEntry)) → entries_of view ws ≡ o
             → GoodEntries limit (entries_or_none o)

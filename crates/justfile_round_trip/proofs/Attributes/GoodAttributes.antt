@@ -1,5 +1,6 @@
 -- Good attributes: each name has the properties of its token, and each value derives back.
-use Rattle.std.proofs.Common.{◌≡◌, ℕ, Bool, true, false, List, [], ◌∷◌}
+use Rattle.std.proofs.Common.{◌≡◌, ℕ, Bool, true, false, List}
+use Rattle.std.specs.List.{AllByRecursion}
 use Rattle.justfile_model.specs.Meanings.AttributeKinds.{name_takes_keys}
 use Rattle.justfile_model.specs.Printed.PrintedAttributes.{rewritten_entry, rewritten_entries}
 use Rattle.justfile_model.specs.Trees.Tree.{StringLiteral, Positional, Bare, Keyed}
@@ -20,8 +21,7 @@ module _ (limit : ℕ) where
   GoodArgument keys (Keyed key value) = GoodName key × (keys ≡ true) × GoodExpression limit value
 
   abbrev pub GoodArguments : (keys : Bool) → List Argument → Type 0
-  GoodArguments keys [] = Unit {0}
-  GoodArguments keys (a ∷ arguments) = GoodArgument keys a × GoodArguments keys arguments
+  GoodArguments keys = AllByRecursion (GoodArgument keys)
 
   -- an attribute as it is written where it is printed
   pub record GoodWritten (w : Written) : Type 0 where
@@ -30,8 +30,7 @@ module _ (limit : ℕ) where
     pub comment : GoodOptionalComment w.comment
 
   abbrev pub AllGoodWritten : List Written → Type 0
-  AllGoodWritten [] = Unit {0}
-  AllGoodWritten (w ∷ ws) = GoodWritten w × AllGoodWritten ws
+  AllGoodWritten = AllByRecursion GoodWritten
 
   -- attributes by their meaning: their printed form is good
   abbrev pub GoodEntry : ShapeEntry → Type 0

@@ -12,7 +12,7 @@ use Rattle.justfile_model.specs.Trees.Tree.{Positional, Bare, Keyed}
 use Rattle.justfile_round_trip.proofs.LiteralTexts.LexedModes.{Mark, mark, LexesTo, step}
 use Rattle.justfile_round_trip.proofs.LiteralTexts.Inline.{head_is, joins, head_word, amid, name_step, space_step}
 use Rattle.justfile_round_trip.proofs.Fixed as fixed
-use Rattle.justfile_round_trip.proofs.Fixed.{close_bracket_step, close_paren_step, equals_before, open_paren_step, token_step}
+use Rattle.justfile_round_trip.proofs.Fixed.{close_step, equals_before, open_step, token_step}
 use Rattle.justfile_round_trip.proofs.RecipeBodies.Lines.{at_item, comment_no_blank, comment_step, item_next, line_end}
 use Rattle.justfile_round_trip.proofs.Canon.{newline, paren_right, space}
 use Rattle.justfile_round_trip.proofs.Attributes.CanonAttributes.{Argument, Written, ShapeEntry, bracket_right, argument_on, other_arguments_on, parenthesized_on, comment_on, written_on, attributes_on, entries_on, argument_marks, other_arguments_marks, parenthesized_marks, comment_marks, written_marks, attributes_marks, entries_marks}
@@ -63,7 +63,7 @@ module _ (limit : ℕ) where
         → GoodArguments limit keys arguments → LexesTo (amid os ls c i false) more ts
         → (f : Bool)
         → LexesTo (amid (opener Paren line ∷ os) ls c i f) (other_arguments_on arguments (41 ∷ more)) (other_arguments_marks arguments (paren_right ∷ ts))
-    lex_others keys os line [] h k f = close_paren_step k
+    lex_others keys os line [] h k f = close_step fixed.end_paren k
     lex_others keys os line (a ∷ arguments) {more} h k f =
         token_step fixed.comma
         (space_step (argument_no_blank keys a _ h.0)
@@ -74,11 +74,11 @@ module _ (limit : ℕ) where
         → GoodArguments limit keys arguments → LexesTo (amid os ls c i false) more ts
         → (f : Bool)
         → LexesTo (amid (opener Bracket line ∷ os) ls c i f) (parenthesized_on arguments (93 ∷ more)) (parenthesized_marks arguments (bracket_right ∷ ts))
-    lex_parenthesized keys os line [] h k f = close_bracket_step k
+    lex_parenthesized keys os line [] h k f = close_step fixed.end_bracket k
     lex_parenthesized keys os line (a ∷ arguments) {more} h k f =
-        open_paren_step
+        open_step fixed.paren
         (λ inner. lex_argument keys (opener Paren inner ∷ opener Bracket line ∷ os) a h.0 (others_join arguments (93 ∷ more))
-        (lex_others keys (opener Bracket line ∷ os) inner arguments h.1 (close_bracket_step k)))
+        (lex_others keys (opener Bracket line ∷ os) inner arguments h.1 (close_step fixed.end_bracket k)))
 
   parenthesized_no_word : (arguments : List Argument) (more : List ℕ) → head_is joins (parenthesized_on arguments (93 ∷ more)) ≡ false
   unfolding class_of

@@ -1,25 +1,24 @@
 -- The printed form of attributes is good, if their values are.
-use Rattle.std.proofs.Common.{◌≡◌, ℕ, ◌<◌, ◌^◌, Bool, true, false, cond, ltb, List, [], ◌∷◌, ◌++◌, map, Option, Some, None, refl, sym, ap, ◌∙◌, subst, arith, codes}
+use Rattle.std.proofs.Common.{◌≡◌, ℕ, ◌<◌, ◌^◌, Bool, true, false, cond, ltb, List, [], ◌∷◌, map, Option, Some, None, refl, sym, ap, ◌∙◌, subst, arith, codes}
 use Rattle.std.specs.Prelude.{◌&&◌}
-use Rattle.std.specs.List.{find}
+use Rattle.std.specs.List.{find, AllByRecursion}
 use Rattle.std.specs.Ordering.{is_gt}
 use Rattle.std.specs.declared.cmp.Ordering.{Ordering}
 use Rattle.std.specs.Str.{IsUtf8}
 use Rattle.std.specs.Str.Parse.{digits_value}
-use Rattle.std.proofs.lemmas.Bool.{and_parts}
 use Rattle.std.proofs.lemmas.Bool.Decides.{nat_tests}
 use Rattle.std.proofs.lemmas.Str.{IsUtf8-nil}
 use Rattle.std.proofs.lemmas.List.{append-nil}
+use Rattle.justfile_model.proofs.Meanings.MeaningParts.{arg_meaning}
+use Rattle.justfile_model.proofs.Lists.AllParts.{both}
+use Rattle.justfile_model.proofs.Lists.Binds.{bind_back, never_some, of_some_is}
 use Rattle.justfile_vocabulary.specs.ByteClass.{class_of}
 use Rattle.justfile_vocabulary.specs.AttributeKind.{attribute_name, kind_named, takes_keys}
 use Rattle.justfile_vocabulary.specs.declared.attribute_kind.AttributeKind.{AttributeKind}
 use Rattle.justfile_vocabulary.specs.declared.attribute_kind.AttributeKind.TheVariants as attributes
-use Rattle.justfile_vocabulary.specs.declared.byte_class.ByteClass.{ByteClass}
-use Rattle.justfile_vocabulary.specs.declared.byte_class.ByteClass.TheVariants as classes
 use Rattle.justfile_vocabulary.specs.declared.signal.Signal.{Signal}
 use Rattle.justfile_vocabulary.proofs.AttributeKindLaws.{named}
 use Rattle.justfile_model.specs.Meanings.AttributeKinds.{named_takes_keys, name_takes_keys, takes_expressions}
-use Rattle.justfile_model.specs.Lexing.Bytes.{in_word}
 use Rattle.justfile_model.specs.Trees.ContentKeys.{kind_of_attribute, entry_cmp}
 use Rattle.justfile_model.specs.Meanings.Meaning as meaning
 use Rattle.justfile_model.specs.Meanings.Meaning.{◌>>=◌, all_of, of_given, first_of, quoted, PositionalArgument, KeyArgument, by_position, by_key, count_of, signal_set, text_of, at_key, property_of, value_of, bare_of, option_named, option_at, bound_of, rules_of, single_of, texts_of, env_of, signal_of, of_expressions, of_literals, by_takes, attribute_of, entry_of, entries_of}
@@ -28,40 +27,15 @@ use Rattle.justfile_model.specs.Printed.Printing.{fixed_text, quoted_argument, s
 use Rattle.justfile_model.specs.Trees.LeafView.{LeafView}
 use Rattle.justfile_model.specs.Trees.Tree as tree
 use Rattle.justfile_model.specs.Trees.Tree.{Quoted, Property, Bound, OptionName, ArgumentRules, Attribute}
-use Rattle.justfile_round_trip.proofs.LiteralTexts.Inline.{Each, IsName}
+use Rattle.justfile_round_trip.proofs.LiteralTexts.Inline.{is_word, word_name}
 use Rattle.justfile_round_trip.proofs.Canon.{Value}
 use Rattle.justfile_round_trip.proofs.Attributes.CanonAttributes.{Argument, Written, ShapeEntry}
 use Rattle.justfile_round_trip.proofs.Good.{GoodName, GoodExpression, GoodOptionalComment}
-use Rattle.justfile_round_trip.proofs.Attributes.GoodAttributes.{GoodArguments, GoodEntry, GoodEntries}
+use Rattle.justfile_round_trip.proofs.Attributes.GoodAttributes.{GoodArguments, GoodEntry, GoodEntries, GoodArgument}
 use Rattle.justfile_round_trip.proofs.LiteralTexts.PlainLiterals.{some_limit, number_good, signal_good}
 use Rattle.justfile_round_trip.proofs.Values.WrittenValues.{all_ascii, plain}
 
 -- ---- names of kinds and of keys
-
-abbrev all_word : List ℕ → Bool
-all_word [] = true
-all_word (b ∷ bs) = in_word (class_of b) && all_word bs
-
-each_word : (bs : List ℕ) → all_word bs ≡ true → Each in_word bs
-each_word [] h = tt
-each_word (b ∷ bs) h = let p = and_parts (in_word (class_of b)) (all_word bs) h in (p.0, each_word bs p.1)
-
-abbrev starts : ByteClass → Bool
-starts classes.IdentifierStart = true
-starts _ = false
-
-starts_name : (c : ByteClass) → starts c ≡ true → c ≡ classes.IdentifierStart
-starts_name classes.IdentifierStart h = refl
-starts_name _ h = cc
-
--- a fixed word that is a name
-abbrev is_word : List ℕ → Bool
-is_word [] = false
-is_word (b ∷ bs) = starts (class_of b) && all_word bs
-
-word_name : (w : List ℕ) → is_word w ≡ true → IsName w
-word_name [] h = cc
-word_name (b ∷ bs) h = let p = and_parts (starts (class_of b)) (all_word bs) h in (starts_name (class_of b) p.0, each_word bs p.1)
 
 word_good : (w : List ℕ) → is_word w ≡ true → all_ascii w ≡ true → GoodName (fixed_text w)
 unfolding fixed_text
@@ -80,20 +54,7 @@ keys_of_name k = ap named_takes_keys (named k)
 
 -- ---- results of optional steps
 
--- if two steps in a row have a result, so has each of them
-pub bind_some : {X Y : Type 0} (o : Option X) (f : X → Option Y) (y : Y) → (o >>= f) ≡ Some y → (x : X) × (o ≡ Some x) × (f x ≡ Some y)
-bind_some None f y e = cc
-bind_some (Some x) f y e = (x, refl, e)
-
--- the same, by the results of the two steps
-pub binding : {X Y R : Type 0} (o : Option X) (f : X → Option Y) (y : Y) → (o >>= f) ≡ Some y → ((x : X) → o ≡ Some x → f x ≡ Some y → R) → R
-binding None f y e step = cc
-binding (Some x) f y e step = step x refl e
-
-some_same : {X : Type 0} {x y : X} → Some x ≡ Some y → x ≡ y
-some_same e = cc e
-
-abbrev pub IfGiven : {X : Type 0} (P : X → Type 0) → Option X → Type 0
+abbrev IfGiven : {X : Type 0} (P : X → Type 0) → Option X → Type 0
 IfGiven P None = Unit {0}
 IfGiven P (Some x) = P x
 
@@ -101,7 +62,7 @@ count_small : (text : List ℕ) (n : ℕ) → count_of text ≡ Some n → n < 2
 count_small text n e = by (meaning.is_count text) (ltb (digits_value 10 text) (2 ^ 64)) refl e
   where
     by : (a b : Bool) → ltb (digits_value 10 text) (2 ^ 64) ≡ b → cond (a && b) (Some (digits_value 10 text)) None ≡ Some n → n < 2 ^ 64
-    by true true small e = subst (λ v. v < 2 ^ 64) (some_same e) (grind (arith, nat_tests, small))
+    by true true small e = of_some_is (λ v. v < 2 ^ 64) _ n e (grind (arith, nat_tests, small))
     by true false small e = cc
     by false b small e = cc
 
@@ -114,8 +75,7 @@ module _ (limit : ℕ) where
   GoodSource (tree.Keyed key value) = GoodExpression limit value
 
   abbrev pub AllGoodSource : List Argument → Type 0
-  AllGoodSource [] = Unit {0}
-  AllGoodSource (a ∷ arguments) = GoodSource a × AllGoodSource arguments
+  AllGoodSource = AllByRecursion GoodSource
 
   -- an attribute as it is written in a source, and its comment
   pub record GoodSourceAttribute (w : Written) : Type 0 where
@@ -123,26 +83,22 @@ module _ (limit : ℕ) where
     pub comment : GoodOptionalComment w.comment
 
   abbrev pub AllGoodAttributes : List Written → Type 0
-  AllGoodAttributes [] = Unit {0}
-  AllGoodAttributes (w ∷ ws) = GoodSourceAttribute w × AllGoodAttributes ws
+  AllGoodAttributes = AllByRecursion GoodSourceAttribute
 
   abbrev AllValues : List Value → Type 0
-  AllValues [] = Unit {0}
-  AllValues (v ∷ vs) = GoodExpression limit v × AllValues vs
+  AllValues = AllByRecursion (GoodExpression limit)
 
   abbrev GoodKey : KeyArgument (List ℕ) (Unit {0}) → Type 0
   GoodKey k = IfGiven (GoodExpression limit) k.value
 
   abbrev AllKeys : List (KeyArgument (List ℕ) (Unit {0})) → Type 0
-  AllKeys [] = Unit {0}
-  AllKeys (k ∷ ks) = GoodKey k × AllKeys ks
+  AllKeys = AllByRecursion GoodKey
 
   abbrev GoodQuoted : Quoted (List ℕ) → Type 0
   GoodQuoted q = GoodExpression limit (tree.StringLiteral q.expanded q.token)
 
   abbrev AllQuoted : List (Quoted (List ℕ)) → Type 0
-  AllQuoted [] = Unit {0}
-  AllQuoted (q ∷ qs) = GoodQuoted q × AllQuoted qs
+  AllQuoted = AllByRecursion GoodQuoted
 
   source_values : (arguments : List Argument) → AllGoodSource arguments → AllValues (map (λ (p : PositionalArgument (List ℕ) (Unit {0})). p.value) (by_position arguments))
   source_values [] h = tt
@@ -165,15 +121,15 @@ module _ (limit : ℕ) where
       by false more = more
 
   quoted_is : (v : Value) (q : Quoted (List ℕ)) → quoted v ≡ Some q → GoodExpression limit v → GoodQuoted q
-  quoted_is (tree.StringLiteral expanded token) q e h = subst GoodQuoted (some_same e) h
+  quoted_is (tree.StringLiteral expanded token) q e h = of_some_is GoodQuoted _ _ e h
   quoted_is _ q e h = cc
 
   all_quoted : (values : List Value) (texts : List (Quoted (List ℕ))) → all_of quoted values ≡ Some texts → AllValues values → AllQuoted texts
-  all_quoted [] texts e h = subst AllQuoted (some_same e) tt
+  all_quoted [] texts e h = of_some_is AllQuoted _ _ e tt
   all_quoted (v ∷ vs) texts e h =
-      let first = bind_some (quoted v) _ texts e in
-      let others = bind_some (all_of quoted vs) _ texts first.2 in
-      subst AllQuoted (some_same others.2) (quoted_is v first.0 first.1 h.0, all_quoted vs others.0 others.1 h.1)
+      let first = bind_back (quoted v) _ texts e in
+      let others = bind_back (all_of quoted vs) _ texts first.gives in
+      of_some_is AllQuoted _ _ others.gives (quoted_is v first.first first.is h.0, all_quoted vs others.first others.is h.1)
 
   -- ---- what attributes of each form are printed with
 
@@ -187,10 +143,6 @@ module _ (limit : ℕ) where
   signal_arguments : (ss : List Signal) → 0 < limit → GoodArguments limit false (map signal_argument ss)
   signal_arguments [] some = tt
   signal_arguments (s ∷ ss) some = ((signal_good limit s some, λ k. refl), signal_arguments ss some)
-
-  arguments_joined : (keys : Bool) (a b : List Argument) → GoodArguments limit keys a → GoodArguments limit keys b → GoodArguments limit keys (a ++ b)
-  arguments_joined keys [] b h k = k
-  arguments_joined keys (x ∷ a) b h k = (h.0, arguments_joined keys a b h.1 k)
 
   keyed_good : {X : Type 0} (word : List ℕ) (f : X → Value) (P : X → Type 0) → GoodName (fixed_text word) → ((x : X) → P x → GoodExpression limit (f x))
       → (o : Option X) → IfGiven P o
@@ -234,7 +186,7 @@ module _ (limit : ℕ) where
   rules_good a h =
       let some = some_limit h.name in
       let number : (b : Bound (Unit {0})) → GoodBound b → GoodExpression limit (number_literal b.number) = λ b small. number_good limit b.number some small in
-      let join = arguments_joined true in (
+      let join = both (GoodArgument limit true) in (
         (h.name, λ k. refl),
         join _ _ (join _ _ (join _ _ (join _ _ (join _ _ (join _ _ (join _ _ (join _ _
             (option_good (codes "long") (word_good (codes "long") refl refl) a.long h.long)
@@ -254,66 +206,54 @@ module _ (limit : ℕ) where
     given_good : {Y : Type 0} (P : Y → Type 0) (f : KeyArgument (List ℕ) (Unit {0}) → Option Y)
         → ((k : KeyArgument (List ℕ) (Unit {0})) (y : Y) → f k ≡ Some y → GoodKey k → P y)
         → (o : Option (KeyArgument (List ℕ) (Unit {0}))) (r : Option Y) → of_given f o ≡ Some r → IfGiven GoodKey o → IfGiven P r
-    given_good P f step None r e h = subst (IfGiven P) (some_same e) tt
+    given_good P f step None r e h = of_some_is (IfGiven P) _ _ e tt
     given_good P f step (Some k) r e h =
-        let b = bind_some (f k) (λ y. Some (Some y)) r e in
-        subst (IfGiven P) (some_same b.2) (step k b.0 b.1 h)
+        let b = bind_back (f k) (λ y. Some (Some y)) r e in
+        of_some_is (IfGiven P) _ _ b.gives (step k b.first b.is h)
 
     property_good : (k : KeyArgument (List ℕ) (Unit {0})) (p : Property (List ℕ) (Unit {0})) → property_of view k ≡ Some p → GoodKey k → GoodProperty p
     property_good k p e h =
-        let b = bind_some k.value _ p e in
-        subst GoodProperty (some_same b.2) (subst (IfGiven (GoodExpression limit)) b.1 h)
+        let b = bind_back k.value _ p e in
+        of_some_is GoodProperty _ _ b.gives (subst (IfGiven (GoodExpression limit)) b.is h)
 
     value_good : (k : KeyArgument (List ℕ) (Unit {0})) (v : Value) → k.value ≡ Some v → GoodKey k → GoodExpression limit v
     value_good k v e h = subst (IfGiven (GoodExpression limit)) e h
 
     bound_good : (k : KeyArgument (List ℕ) (Unit {0})) (b : Bound (Unit {0})) → bound_of view k ≡ Some b → GoodKey k → GoodBound b
     bound_good k b e h =
-        let value = bind_some k.value _ b e in
-        let literal = bind_some (quoted value.0) _ b value.2 in
-        let number = bind_some (count_of (text_of view literal.0)) _ b literal.2 in
-        subst GoodBound (some_same number.2) (count_small (text_of view literal.0) number.0 number.1)
+        let value = bind_back k.value _ b e in
+        let literal = bind_back (quoted value.first) _ b value.gives in
+        let number = bind_back (count_of (text_of view literal.first)) _ b literal.gives in
+        of_some_is GoodBound _ _ number.gives (count_small (text_of view literal.first) number.first number.is)
 
     named_good : (key : List ℕ) (value : Option Value) (o : OptionName (List ℕ) (Unit {0})) → option_named view key value ≡ Some o
         → IfGiven (GoodExpression limit) value → GoodOption o
-    named_good key None o e h = subst GoodOption (some_same e) tt
+    named_good key None o e h = of_some_is GoodOption _ _ e tt
     named_good key (Some value) o e h =
-        let b = bind_some (quoted value) _ o e in
-        subst GoodOption (some_same b.2) (quoted_is value b.0 b.1 h)
+        let b = bind_back (quoted value) _ o e in
+        of_some_is GoodOption _ _ b.gives (quoted_is value b.first b.is h)
 
     option_at_good : (k : Option (KeyArgument (List ℕ) (Unit {0}))) (o : OptionName (List ℕ) (Unit {0})) → option_at view k ≡ Some o → IfGiven GoodKey k
         → GoodOption o
-    option_at_good None o e h = subst GoodOption (some_same e) tt
+    option_at_good None o e h = of_some_is GoodOption _ _ e tt
     option_at_good (Some k) o e h = named_good k.key k.value o e h
-
-    first_good : (texts : List (Quoted (List ℕ))) (q : Quoted (List ℕ)) → first_of texts ≡ Some q → AllQuoted texts → GoodQuoted q
-    first_good [] q e h = cc
-    first_good (t ∷ ts) q e h = subst GoodQuoted (some_same e) h.0
 
     meant_rules : (texts : List (Quoted (List ℕ))) (keys : List (KeyArgument (List ℕ) (Unit {0}))) (a : ArgumentRules (List ℕ) (Unit {0}))
         → rules_of view texts keys ≡ Some a → AllQuoted texts → AllKeys keys → GoodRules a
-    meant_rules texts keys a e h ks =
+    meant_rules [] keys a e h ks = never_some a e
+    meant_rules (q ∷ texts) keys a e h ks =
         let at : (word : List ℕ) → IfGiven GoodKey (at_key view word keys) = λ word. found_good (meaning.is_key view word) keys ks in
-        binding (first_of texts) _ _ e (λ name name_is e.
-        binding (of_given (bare_of view) (at_key view (codes "flag") keys)) _ _ e (λ flag flag_is e.
-        binding (of_given (property_of view) (at_key view (codes "help") keys)) _ _ e (λ help help_is e.
-        binding (option_at view (at_key view (codes "long") keys)) _ _ e (λ long long_is e.
-        binding (of_given (bound_of view) (at_key view (codes "max") keys)) _ _ e (λ max max_is e.
-        binding (of_given (bound_of view) (at_key view (codes "min") keys)) _ _ e (λ min min_is e.
-        binding (of_given (bare_of view) (at_key view (codes "multiple") keys)) _ _ e (λ multiple multiple_is e.
-        binding (of_given (property_of view) (at_key view (codes "pattern") keys)) _ _ e (λ pattern pattern_is e.
-        binding (option_at view (at_key view (codes "short") keys)) _ _ e (λ short short_is e.
-        binding (of_given (value_of view) (at_key view (codes "value") keys)) _ _ e (λ value value_is e.
-        subst GoodRules (some_same e) (record {
-          name = first_good texts name name_is h;
-          long = option_at_good _ long long_is (at (codes "long"));
-          short = option_at_good _ short short_is (at (codes "short"));
-          pattern = given_good GoodProperty (property_of view) property_good _ pattern pattern_is (at (codes "pattern"));
-          value = given_good (GoodExpression limit) (value_of view) value_good _ value value_is (at (codes "value"));
-          min = given_good GoodBound (bound_of view) bound_good _ min min_is (at (codes "min"));
-          max = given_good GoodBound (bound_of view) bound_good _ max max_is (at (codes "max"));
-          help = given_good GoodProperty (property_of view) property_good _ help help_is (at (codes "help"));
-        })))))))))))
+        let m = arg_meaning view q keys a e in
+        record {
+          name = subst GoodQuoted m.name h.0;
+          long = option_at_good _ a.long m.long (at (codes "long"));
+          short = option_at_good _ a.short m.short (at (codes "short"));
+          pattern = given_good GoodProperty (property_of view) property_good _ a.pattern m.pattern (at (codes "pattern"));
+          value = given_good (GoodExpression limit) (value_of view) value_good _ a.value m.value (at (codes "value"));
+          min = given_good GoodBound (bound_of view) bound_good _ a.min m.min (at (codes "min"));
+          max = given_good GoodBound (bound_of view) bound_good _ a.max m.max (at (codes "max"));
+          help = given_good GoodProperty (property_of view) property_good _ a.help m.help (at (codes "help"));
+        }
 
     cache_good : (keys : List (KeyArgument (List ℕ) (Unit {0}))) (a : Attribute (List ℕ) (Unit {0})) → of_literals view attributes.Cache [] keys ≡ Some a
         → AllKeys keys → GoodAttribute a
@@ -321,22 +261,22 @@ module _ (limit : ℕ) where
     cache_good keys a e ks =
         let at : (word : List ℕ) → IfGiven GoodKey (at_key view word keys) = λ word. found_good (meaning.is_key view word) keys ks in
         let value : (v : Value) → GoodExpression limit v → GoodExpression limit v = λ v h. h in
-        let extra = bind_some (of_given (value_of view) (at_key view (codes "extra") keys)) _ a e in
-        let inputs = bind_some (of_given (value_of view) (at_key view (codes "inputs") keys)) _ a extra.2 in
-        let outputs = bind_some (of_given (value_of view) (at_key view (codes "outputs") keys)) _ a inputs.2 in
-        let join = arguments_joined true in
-        subst GoodAttribute (some_same outputs.2)
+        let extra = bind_back (of_given (value_of view) (at_key view (codes "extra") keys)) _ a e in
+        let inputs = bind_back (of_given (value_of view) (at_key view (codes "inputs") keys)) _ a extra.gives in
+        let outputs = bind_back (of_given (value_of view) (at_key view (codes "outputs") keys)) _ a inputs.gives in
+        let join = both (GoodArgument limit true) in
+        of_some_is GoodAttribute _ _ outputs.gives
         (join _ _ (join _ _
-        (keyed_good (codes "extra") (λ e. e) (GoodExpression limit) (word_good (codes "extra") refl refl) value extra.0
-        (given_good (GoodExpression limit) (value_of view) value_good _ extra.0 extra.1 (at (codes "extra"))))
-        (keyed_good (codes "inputs") (λ e. e) (GoodExpression limit) (word_good (codes "inputs") refl refl) value inputs.0
-        (given_good (GoodExpression limit) (value_of view) value_good _ inputs.0 inputs.1 (at (codes "inputs")))))
-        (keyed_good (codes "outputs") (λ e. e) (GoodExpression limit) (word_good (codes "outputs") refl refl) value outputs.0
-        (given_good (GoodExpression limit) (value_of view) value_good _ outputs.0 outputs.1 (at (codes "outputs")))))
+        (keyed_good (codes "extra") (λ e. e) (GoodExpression limit) (word_good (codes "extra") refl refl) value extra.first
+        (given_good (GoodExpression limit) (value_of view) value_good _ extra.first extra.is (at (codes "extra"))))
+        (keyed_good (codes "inputs") (λ e. e) (GoodExpression limit) (word_good (codes "inputs") refl refl) value inputs.first
+        (given_good (GoodExpression limit) (value_of view) value_good _ inputs.first inputs.is (at (codes "inputs")))))
+        (keyed_good (codes "outputs") (λ e. e) (GoodExpression limit) (word_good (codes "outputs") refl refl) value outputs.first
+        (given_good (GoodExpression limit) (value_of view) value_good _ outputs.first outputs.is (at (codes "outputs")))))
 
     signals_good : (texts : List (Quoted (List ℕ))) (given : List Signal) → all_of (signal_of view) texts ≡ Some given → AllQuoted texts
         → GoodArguments limit false (map signal_argument (signal_set given))
-    signals_good [] given e h = subst (λ (g : List Signal). GoodArguments limit false (map signal_argument (signal_set g))) (some_same e) tt
+    signals_good [] given e h = of_some_is (λ (g : List Signal). GoodArguments limit false (map signal_argument (signal_set g))) _ _ e tt
     signals_good (q ∷ qs) given e h = signal_arguments (signal_set given) (some_limit h.0)
 
     single_good : (kind : AttributeKind) (values : List Value) → takes_keys kind ≡ false → AllValues values → GoodAttribute (single_of view kind values)
@@ -350,56 +290,56 @@ module _ (limit : ℕ) where
     env_good : (values : List Value) (a : Attribute (List ℕ) (Unit {0})) → env_of view values ≡ Some a → AllValues values → GoodAttribute a
     env_good [] a e h = cc
     env_good (key ∷ []) a e h = cc
-    env_good (key ∷ value ∷ values) a e h = subst GoodAttribute (some_same e) ((h.0, λ k. cc), ((h.1.0, λ k. cc), tt))
+    env_good (key ∷ value ∷ values) a e h = of_some_is GoodAttribute _ _ e ((h.0, λ k. cc), ((h.1.0, λ k. cc), tt))
 
     expressions_good : (kind : AttributeKind) (values : List Value) (a : Attribute (List ℕ) (Unit {0})) → takes_expressions kind ≡ true
         → of_expressions view kind values ≡ Some a → AllValues values → GoodAttribute a
     expressions_good attributes.Env values a takes e h = env_good values a e h
-    expressions_good attributes.Confirm values a takes e h = subst GoodAttribute (some_same e) (single_good attributes.Confirm values refl h)
-    expressions_good attributes.Doc values a takes e h = subst GoodAttribute (some_same e) (single_good attributes.Doc values refl h)
-    expressions_good attributes.Timestamp values a takes e h = subst GoodAttribute (some_same e) (single_good attributes.Timestamp values refl h)
-    expressions_good attributes.WorkingDirectory values a takes e h = subst GoodAttribute (some_same e) (single_good attributes.WorkingDirectory values refl h)
+    expressions_good attributes.Confirm values a takes e h = of_some_is GoodAttribute _ _ e (single_good attributes.Confirm values refl h)
+    expressions_good attributes.Doc values a takes e h = of_some_is GoodAttribute _ _ e (single_good attributes.Doc values refl h)
+    expressions_good attributes.Timestamp values a takes e h = of_some_is GoodAttribute _ _ e (single_good attributes.Timestamp values refl h)
+    expressions_good attributes.WorkingDirectory values a takes e h = of_some_is GoodAttribute _ _ e (single_good attributes.WorkingDirectory values refl h)
     expressions_good _ values a takes e h = cc
 
     literals_good : (kind : AttributeKind) (texts : List (Quoted (List ℕ))) (keys : List (KeyArgument (List ℕ) (Unit {0}))) (a : Attribute (List ℕ) (Unit {0}))
         → of_literals view kind texts keys ≡ Some a → AllQuoted texts → AllKeys keys → GoodAttribute a
     literals_good attributes.Arg texts keys a e h ks =
-        let b = bind_some (rules_of view texts keys) _ a e in
-        subst GoodAttribute (some_same b.2) (rules_good b.0 (meant_rules texts keys b.0 b.1 h ks))
+        let b = bind_back (rules_of view texts keys) _ a e in
+        of_some_is GoodAttribute _ _ b.gives (rules_good b.first (meant_rules texts keys b.first b.is h ks))
     literals_good attributes.Cache texts keys a e h ks = cache_good keys a e ks
     literals_good attributes.Continue texts keys a e h ks =
-        let b = bind_some (all_of (signal_of view) texts) _ a e in
-        subst GoodAttribute (some_same b.2) (signals_good texts b.0 b.1 h)
-    literals_good kind texts keys a e h ks = subst GoodAttribute (some_same e) (texts_good kind texts h)
+        let b = bind_back (all_of (signal_of view) texts) _ a e in
+        of_some_is GoodAttribute _ _ b.gives (signals_good texts b.first b.is h)
+    literals_good kind texts keys a e h ks = of_some_is GoodAttribute _ _ e (texts_good kind texts h)
 
     meant_by : (takes : Bool) (kind : AttributeKind) (values : List Value) (keys : List (KeyArgument (List ℕ) (Unit {0}))) (a : Attribute (List ℕ) (Unit {0}))
         → takes_expressions kind ≡ takes → by_takes view takes kind values keys ≡ Some a → AllValues values → AllKeys keys
         → GoodAttribute a
     meant_by true kind values keys a takes e h ks = expressions_good kind values a takes e h
     meant_by false kind values keys a takes e h ks =
-        let b = bind_some (all_of quoted values) _ a e in
-        literals_good kind b.0 keys a b.2 (all_quoted values b.0 b.1 h) ks
+        let b = bind_back (all_of quoted values) _ a e in
+        literals_good kind b.first keys a b.gives (all_quoted values b.first b.is h) ks
 
     -- an attribute whose values are good means one that is
     pub entry_good : (w : Written) (e : ShapeEntry) → entry_of view w ≡ Some e → GoodSourceAttribute w → GoodEntry limit e
     entry_good w e is h =
-        let kind = bind_some (kind_named (view.bytes w.name)) _ e is in
-        let attribute = bind_some (attribute_of view kind.0 (by_position w.arguments) (by_key w.arguments)) _ e kind.2 in
-        let good = meant_by (takes_expressions kind.0) kind.0 _ (by_key w.arguments) attribute.0 refl attribute.1 (source_values w.arguments h.arguments)
+        let kind = bind_back (kind_named (view.bytes w.name)) _ e is in
+        let attribute = bind_back (attribute_of view kind.first (by_position w.arguments) (by_key w.arguments)) _ e kind.gives in
+        let good = meant_by (takes_expressions kind.first) kind.first _ (by_key w.arguments) attribute.first refl attribute.is (source_values w.arguments h.arguments)
         (source_keys w.arguments h.arguments) in
-        subst (GoodEntry limit) (some_same attribute.2) (record {
-          named = kind_good (kind_of_attribute attribute.0);
-          arguments = subst (λ k. GoodArguments limit k (attribute_arguments attribute.0)) (sym (keys_of_name (kind_of_attribute attribute.0))) good;
+        of_some_is (GoodEntry limit) _ _ attribute.gives (record {
+          named = kind_good (kind_of_attribute attribute.first);
+          arguments = subst (λ k. GoodArguments limit k (attribute_arguments attribute.first)) (sym (keys_of_name (kind_of_attribute attribute.first))) good;
           comment = h.comment;
         })
 
     all_entries_good : (ws : List Written) (entries : List ShapeEntry) → all_of (entry_of view) ws ≡ Some entries → AllGoodAttributes ws
         → GoodEntries limit entries
-    all_entries_good [] entries e h = subst (GoodEntries limit) (some_same e) tt
+    all_entries_good [] entries e h = of_some_is (GoodEntries limit) _ _ e tt
     all_entries_good (w ∷ ws) entries e h =
-        let first = bind_some (entry_of view w) _ entries e in
-        let others = bind_some (all_of (entry_of view) ws) _ entries first.2 in
-        subst (GoodEntries limit) (some_same others.2) (entry_good w first.0 first.1 h.0, all_entries_good ws others.0 others.1 h.1)
+        let first = bind_back (entry_of view w) _ entries e in
+        let others = bind_back (all_of (entry_of view) ws) _ entries first.gives in
+        of_some_is (GoodEntries limit) _ _ others.gives (entry_good w first.first first.is h.0, all_entries_good ws others.first others.is h.1)
 
     placed_good : (cmp : ShapeEntry → ShapeEntry → Ordering) (x : ShapeEntry) (ys : List ShapeEntry) → GoodEntry limit x → GoodEntries limit ys
         → GoodEntries limit (placed cmp x ys)
@@ -417,5 +357,5 @@ module _ (limit : ℕ) where
     -- attributes whose values are good mean entries that are
     pub entries_good : (ws : List Written) (entries : List ShapeEntry) → entries_of view ws ≡ Some entries → AllGoodAttributes ws → GoodEntries limit entries
     entries_good ws entries e h =
-        let b = bind_some (all_of (entry_of view) ws) _ entries e in
-        subst (GoodEntries limit) (some_same b.2) (in_order_good (entry_cmp view) b.0 (all_entries_good ws b.0 b.1 h))
+        let b = bind_back (all_of (entry_of view) ws) _ entries e in
+        of_some_is (GoodEntries limit) _ _ b.gives (in_order_good (entry_cmp view) b.first (all_entries_good ws b.first b.is h))

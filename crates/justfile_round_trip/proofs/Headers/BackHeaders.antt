@@ -1,25 +1,25 @@
 -- If tokens derive a header, the printer's tokens for it do, too, with the same features.
-use Rattle.std.proofs.Common.{◌≡◌, ℕ, Bool, true, false, cond, List, [], ◌∷◌, ◌++◌, Option, Some, None, refl, sym, subst, ap, ◌∙◌, arith}
-use Rattle.std.specs.Prelude.{◌&&◌}
+use Rattle.std.proofs.Common.{◌≡◌, ℕ, Bool, true, false, cond, List, [], ◌∷◌, ◌++◌, Option, Some, None, refl, sym, subst, arith}
 use Rattle.std.specs.List.{flat_map}
+use Rattle.justfile_vocabulary.specs.declared.token_kind.TokenKind.{TokenKind}
 use Rattle.justfile_vocabulary.specs.declared.token_kind.TokenKind.TheVariants as kinds
 use Rattle.justfile_model.specs.declared.parameter_kind.ParameterKind.{ParameterKind}
-use Rattle.justfile_model.specs.declared.parameter_kind.ParameterKind.TheVariants.{Plus, Singular, Star}
+use Rattle.justfile_model.specs.declared.parameter_kind.ParameterKind.TheVariants.{Singular}
 use Rattle.justfile_model.specs.Grammars.Expressions.{Tokens, NotNext, BelowLimit}
 use Rattle.justfile_model.specs.Grammars.Headers as g
 use Rattle.justfile_model.specs.Grammars.Headers.{PathRest, PathOf, NamedParameter, ParameterOf, Parameters, DependencyArguments, DependencyOf, Dependencies, AllDependencies, NamedHeader, HeaderOf}
 use Rattle.justfile_model.specs.Meanings.RecipeRules.{dependency_broken, header_broken, misplaced_broken, second_broken, stars}
-use Rattle.justfile_model.specs.Lexing.SignificantTokens.{SignificantToken, is_whitespace}
+use Rattle.justfile_model.specs.Lexing.SignificantTokens.{is_whitespace}
 use Rattle.justfile_model.specs.Trees.Tree.{lexeme, nothing}
 use Rattle.justfile_model.proofs.Lists.Binds.{nothing_in}
 use Rattle.justfile_round_trip.proofs.LiteralTexts.LexedModes.{Mark, placed}
-use Rattle.justfile_round_trip.proofs.Back.{StopE, glued_string, is_string, lower, none_but_closing, stop_before, ends_before, value_before, expression_back, value_back}
+use Rattle.justfile_round_trip.proofs.Back.{StopE, glued_string, lower, none_but_closing, stop_at, stop_before, ends_before, value_before, expression_back, value_back}
 use Rattle.justfile_round_trip.proofs.Canon.{Shown, colon, word, paren_right, space}
 use Rattle.justfile_round_trip.proofs.Headers.CanonHeaders.{ShapeParameter, ShapeArgument, ShapeDependency, ShapeHeader, default_marks, dollar_marks, prefix_marks, parameters_marks, path_rest_marks, path_marks, dependency_arguments_marks, dependency_parts_marks, dependency_marks, dependencies_marks, subsequents_marks, header_rest_marks, header_marks, ampersands}
 use Rattle.justfile_round_trip.proofs.Ends.{End, tail, EndsIn, ValueEndsIn, expression_head}
 use Rattle.justfile_round_trip.proofs.Good.{significant, ends_value}
 use Rattle.justfile_round_trip.proofs.Headers.GoodHeaders.{HeaderDerivesBack}
-use Rattle.justfile_round_trip.proofs.SideBySide.{apart, begins_too, ends_too, not_begun, expression_begins, expression_ends, stop_beside, value_ends, value_ends_too}
+use Rattle.justfile_round_trip.proofs.SideBySide.{apart, ends_too, not_begun, expression_ends, stop_beside, value_ends, value_ends_too}
 
 -- ---- the tokens that follow
 
@@ -36,10 +36,8 @@ parameters_parted (p ∷ ps) on = by p.kind p.export
   where
     by : (k : ParameterKind) (b : Bool)
         → Parted (significant true (space ∷ prefix_marks k (dollar_marks b (word p.name ∷ default_marks p.default (parameters_marks ps (colon ∷ on))))))
-    by Plus b = record { no_equals = λ e. cc; no_paren = λ e. cc; apart = refl }
     by Singular true = record { no_equals = λ e. cc; no_paren = λ e. cc; apart = refl }
-    by Singular false = record { no_equals = λ e. cc; no_paren = λ e. cc; apart = refl }
-    by Star b = record { no_equals = λ e. cc; no_paren = λ e. cc; apart = refl }
+    by _ _ = record { no_equals = λ e. cc; no_paren = λ e. cc; apart = refl }
 
 -- tokens that don't begin a dependency
 record Done (ts : Tokens) : Type 0 where
@@ -63,7 +61,7 @@ dependency_no_colons : (star : Option (Unit {0})) (path : List (List ℕ)) (argu
 dependency_no_colons star [] [] on b h = h
 dependency_no_colons star (n ∷ path) [] on b h = λ e. cc
 dependency_no_colons None path (a ∷ arguments) on b h = λ e. cc
-dependency_no_colons (Some s) path (a ∷ arguments) on b h = λ e. cc
+dependency_no_colons star path (a ∷ arguments) on b h = λ e. cc
 
 dependencies_no_colons : (ds : List ShapeDependency) (on : List Mark) (b : Bool) → ((c : Bool) → NotNext kinds.ColonColon (significant c on))
     → NotNext kinds.ColonColon (significant b (dependencies_marks ds on))
@@ -90,18 +88,9 @@ all_starred [] h = tt
 all_starred (d ∷ ds) h =
     let parts = nothing_in (dependency_broken d) (flat_map dependency_broken ds) h in (no_bare_star d.star d.arguments parts.0, all_starred ds parts.1)
 
--- before a star an expression stops
-star_stops : (t : SignificantToken) (ts : Tokens) → t.tok.kind ≡ kinds.Asterisk → StopE (t ∷ ts)
-star_stops t ts kind = record {
-  or = λ e. let bad : kinds.Asterisk ≡ kinds.BarBar = sym kind ∙ e in cc;
-  disjunct = record {
-    and = λ e. let bad : kinds.Asterisk ≡ kinds.AmpersandAmpersand = sym kind ∙ e in cc;
-    comparison = record {
-      compared = record { equality = λ e. let bad : kinds.Asterisk ≡ kinds.EqualsEquals = sym kind ∙ e in cc; inequality = λ e. let bad : kinds.Asterisk ≡ kinds.BangEquals = sym kind ∙ e in cc; regex_match = λ e. let bad : kinds.Asterisk ≡ kinds.EqualsTilde = sym kind ∙ e in cc; regex_mismatch = λ e. let bad : kinds.Asterisk ≡ kinds.BangTilde = sym kind ∙ e in cc };
-      conjunct = record { apart = ap (λ k. is_string k && t.glued) kind };
-    };
-  };
-}
+abbrev is_star : TokenKind → Bool
+is_star kinds.Asterisk = true
+is_star _ = false
 
 -- it makes no difference whether the next token is glued
 ends_either : (on : List Mark) → ends_value (significant true on) ≡ true → (c : Bool) → ends_value (significant c on) ≡ true
@@ -112,6 +101,11 @@ ends_either (m ∷ on) h c = by (is_whitespace m.kind) h
         → ends_value (cond w (significant false on) (record { tok = placed m 0 0 0; glued = c } ∷ significant true on)) ≡ true
     by true h = h
     by false h = h
+
+pub path_rest_back : (names : List (List ℕ)) (on : List Mark) → NotNext kinds.ColonColon (significant true on)
+    → PathRest lexeme names (significant true (path_rest_marks names on)) (significant true on)
+path_rest_back [] on h = g.last h
+path_rest_back (n ∷ names) on h = g.next refl refl (path_rest_back names on h)
 
 module _ (limit : ℕ) where
   -- ---- parameters
@@ -132,22 +126,19 @@ module _ (limit : ℕ) where
   named_parts (g.required kind next) = (refl, refl)
   named_parts (g.optional kind kind2 v) = (refl, refl)
 
+  with_parts : (p : ShapeParameter) (fs : Shown) (b : Bool) (on : List Mark) {kind : ParameterKind} {export : Bool} → (p.kind ≡ kind) × (p.export ≡ export)
+      → ParameterOf lexeme nothing (BelowLimit limit) kind p fs (significant b (dollar_marks export (word p.name ∷ default_marks p.default on))) (significant true on)
+      → ParameterBack kind p fs b on
+  with_parts p fs b on {kind} parts x = record {
+    derives = subst (λ e. ParameterOf lexeme nothing (BelowLimit limit) kind p fs (significant b (dollar_marks e (word p.name ∷ default_marks p.default on))) (significant true on))
+        (sym parts.1) x;
+    same_kind = parts.0;
+  }
+
   parameter_back : {kind : ParameterKind} {p : ShapeParameter} {fs : Shown} {ts rest : Tokens} → ParameterOf lexeme nothing (BelowLimit limit) kind p fs ts rest
       → (b : Bool) (on : List Mark) → Parted (significant true on) → ParameterBack kind p fs b on
-  parameter_back {p = p} {fs = fs} (g.exported {kind = k} kind n) b on h =
-      let parts = named_parts n in
-      record {
-        derives = subst (λ x. ParameterOf lexeme nothing (BelowLimit limit) k p fs (significant b (dollar_marks x (word p.name ∷ default_marks p.default on))) (significant true on)) (sym parts.1)
-            (g.exported refl (named_back n true on h));
-        same_kind = parts.0;
-      }
-  parameter_back {p = p} {fs = fs} (g.unexported {kind = k} n) b on h =
-      let parts = named_parts n in
-      record {
-        derives = subst (λ x. ParameterOf lexeme nothing (BelowLimit limit) k p fs (significant b (dollar_marks x (word p.name ∷ default_marks p.default on))) (significant true on)) (sym parts.1)
-            (g.unexported (named_back n b on h));
-        same_kind = parts.0;
-      }
+  parameter_back {p = p} {fs = fs} (g.exported kind n) b on h = with_parts p fs b on (named_parts n) (g.exported refl (named_back n true on h))
+  parameter_back {p = p} {fs = fs} (g.unexported n) b on h = with_parts p fs b on (named_parts n) (g.unexported (named_back n b on h))
 
   -- the parameters after the name of a recipe, and the colon
   parameters_back : {ps : List ShapeParameter} {fs : Shown} {ts rest : Tokens} → Parameters lexeme nothing (BelowLimit limit) ps fs ts rest → (b : Bool) (on : List Mark)
@@ -169,16 +160,10 @@ module _ (limit : ℕ) where
 
   -- ---- dependencies
 
-  path_rest_back : {names : List (List ℕ)} {ts rest : Tokens} → PathRest lexeme names ts rest → (b : Bool) (on : List Mark)
-      → ((c : Bool) → NotNext kinds.ColonColon (significant c on))
-      → PathRest lexeme names (significant true (path_rest_marks names on)) (significant true on)
-  path_rest_back (g.last next) b on h = g.last (h true)
-  path_rest_back (g.next kind kind2 r) b on h = g.next refl refl (path_rest_back r b on h)
-
   path_back : {names : List (List ℕ)} {ts rest : Tokens} → PathOf lexeme names ts rest → (b : Bool) (on : List Mark)
       → ((c : Bool) → NotNext kinds.ColonColon (significant c on))
       → PathOf lexeme names (significant b (path_marks names on)) (significant true on)
-  path_back (g.path kind r) b on h = g.path refl (path_rest_back r b on h)
+  path_back (g.path {names = names} kind r) b on h = g.path refl (path_rest_back names on (h true))
 
   -- an argument ends before the others, or before the closing parenthesis
   record ArgumentsBack (arguments : List ShapeArgument) (fs : Shown) (ts : Tokens) (on : List Mark) : Type 0 where
@@ -206,9 +191,9 @@ module _ (limit : ℕ) where
         derives = g.plain (expression_back (BelowLimit limit) (BelowLimit limit) (lower limit) x 0 (omega arith) false _ (q.ends (expression_ends (BelowLimit limit) x)) q.stops) q.derives;
         ends = λ {x} h. ends_too x head h;
         value_ends = λ {x} h. value_ends_too x head h;
-        stops = stop_beside head (expression_begins (BelowLimit limit) x);
+        stops = stop_beside head;
         apart = apart head;
-        no_colons = λ c. not_begun kinds.ColonColon (begins_too head (expression_begins (BelowLimit limit) x)) refl;
+        no_colons = λ c. not_begun kinds.ColonColon head refl;
       }
   arguments_back (g.starred {e = e'} kind v r) on =
       let q = arguments_back r on in
@@ -216,7 +201,7 @@ module _ (limit : ℕ) where
         derives = g.starred refl (value_back (BelowLimit limit) (BelowLimit limit) (lower limit) v 0 (omega arith) true _ (q.value_ends (value_ends (BelowLimit limit) v)) q.apart) q.derives;
         ends = λ {x} h. ends_before x _ _ refl;
         value_ends = λ {x} h. value_before x _ (λ e. cc);
-        stops = star_stops _ _ refl;
+        stops = stop_at is_star (refl, refl, refl, refl, refl, refl) _ _ refl refl;
         apart = refl;
         no_colons = λ c e. cc;
       }
@@ -227,15 +212,9 @@ module _ (limit : ℕ) where
       → DependencyOf lexeme nothing nothing (BelowLimit limit) d fs (significant false (dependency_marks d on)) (significant true on)
   dependency_back (g.bare p) s on h = g.bare (path_back p false on h)
   dependency_back (g.plain kind p (g.none kind2)) s on h = g.bare (path_back p false on h)
-  dependency_back (g.plain kind p (g.plain x r)) s on h =
-      let q = arguments_back (g.plain x r) on in g.plain refl (path_back p true _ q.no_colons) q.derives
-  dependency_back (g.plain kind p (g.starred {mark = m} kind2 v r)) s on h =
-      let q = arguments_back (g.starred {mark = m} kind2 v r) on in g.plain refl (path_back p true _ q.no_colons) q.derives
+  dependency_back (g.plain kind p r) s on h = let q = arguments_back r on in g.plain refl (path_back p true _ q.no_colons) q.derives
   dependency_back (g.starred kind kind2 p (g.none kind3)) s on h = absurd s
-  dependency_back (g.starred kind kind2 p (g.plain x r)) s on h =
-      let q = arguments_back (g.plain x r) on in g.starred refl refl (path_back p true _ q.no_colons) q.derives
-  dependency_back (g.starred kind kind2 p (g.starred {mark = m} kind3 v r)) s on h =
-      let q = arguments_back (g.starred {mark = m} kind3 v r) on in g.starred refl refl (path_back p true _ q.no_colons) q.derives
+  dependency_back (g.starred kind kind2 p r) s on h = let q = arguments_back r on in g.starred refl refl (path_back p true _ q.no_colons) q.derives
 
   -- dependencies, each after a space, before tokens that don't begin another one
   dependencies_back : {ds : List ShapeDependency} {fs : Shown} {ts rest : Tokens} → Dependencies lexeme nothing nothing (BelowLimit limit) ds fs ts rest → AllStarred ds

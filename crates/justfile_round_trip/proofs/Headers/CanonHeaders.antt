@@ -217,18 +217,6 @@ unfolding fixed_text
 star_is None more = refl
 star_is (Some star) more = refl
 
-open_is : (more : List ℕ) → fixed_text (codes "(") ++ more ≡ 40 ∷ more
-unfolding fixed_text
-open_is more = refl
-
-close_is : (more : List ℕ) → fixed_text (codes ")") ++ more ≡ 41 ∷ more
-unfolding fixed_text
-close_is more = refl
-
-colon_is : (more : List ℕ) → fixed_text (codes ":") ++ more ≡ 58 ∷ more
-unfolding fixed_text
-colon_is more = refl
-
 dependency_argument_is : (a : ShapeArgument) (more : List ℕ) → dependency_argument_text a ++ more ≡ 32 ∷ star_on a.star (expr_on a.value more)
 unfolding fixed_text
 dependency_argument_is a more =
@@ -242,14 +230,15 @@ dependency_arguments_is (a ∷ arguments) more =
 
 dependency_parts_is : (star : Option (Unit {0})) (path : List (List ℕ)) (arguments : List ShapeArgument) (more : List ℕ)
     → parenthesized star (path_text path) arguments ++ more ≡ dependency_parts_on star path arguments more
+unfolding fixed_text
 dependency_parts_is star path [] more = path_is path more
 dependency_parts_is star path (a ∷ arguments) more =
-    let stars = if_some (λ s. fixed_text (codes "*")) star in
+    let stars = if_some (λ s. codes "*") star in
     let inside = flat_map dependency_argument_text (a ∷ arguments) in
-    then (((stars ++ fixed_text (codes "(")) ++ path_text path) ++ inside) (fixed_text (codes ")")) more (close_is more)
-    (then ((stars ++ fixed_text (codes "(")) ++ path_text path) inside (41 ∷ more) (dependency_arguments_is (a ∷ arguments) (41 ∷ more))
-    (then (stars ++ fixed_text (codes "(")) (path_text path) _ (path_is path _)
-    (then stars (fixed_text (codes "(")) _ (open_is _) (star_is star _))))
+    then (((stars ++ codes "(") ++ path_text path) ++ inside) (codes ")") more refl
+    (then ((stars ++ codes "(") ++ path_text path) inside (41 ∷ more) (dependency_arguments_is (a ∷ arguments) (41 ∷ more))
+    (then (stars ++ codes "(") (path_text path) _ (path_is path _)
+    (then stars (codes "(") _ refl (star_is star _))))
 
 dependency_is : (d : ShapeDependency) (more : List ℕ) → dependency_text d ++ more ≡ dependency_on d more
 dependency_is d more = dependency_parts_is d.star d.path d.arguments more
@@ -271,12 +260,13 @@ at_is true more = refl
 at_is false more = refl
 
 pub header_is : (h : ShapeHeader) (more : List ℕ) → header_text h ++ more ≡ header_on h more
+unfolding fixed_text
 header_is h more =
-    let at = if_true h.quiet (fixed_text (codes "@")) in
-    let parameters = flat_map (λ p. fixed_text (codes " ") ++ parameter_text p) h.parameters in
-    let priors = flat_map (λ d. fixed_text (codes " ") ++ dependency_text d) h.priors in
+    let at = if_true h.quiet (codes "@") in
+    let parameters = flat_map (λ p. codes " " ++ parameter_text p) h.parameters in
+    let priors = flat_map (λ d. codes " " ++ dependency_text d) h.priors in
     let named = at ++ h.name in
-    then (((named ++ parameters) ++ fixed_text (codes ":")) ++ priors) (subsequents_text h.subsequents) more (subsequents_is h.subsequents more)
-    (then ((named ++ parameters) ++ fixed_text (codes ":")) priors _ (dependencies_is h.priors _)
-    (then (named ++ parameters) (fixed_text (codes ":")) _ (colon_is _)
+    then (((named ++ parameters) ++ codes ":") ++ priors) (subsequents_text h.subsequents) more (subsequents_is h.subsequents more)
+    (then ((named ++ parameters) ++ codes ":") priors _ (dependencies_is h.priors _)
+    (then (named ++ parameters) (codes ":") _ refl
     (then named parameters _ (parameters_is h.parameters _) (then at h.name _ refl (at_is h.quiet _)))))

@@ -7,7 +7,7 @@ use Rattle.justfile_model.specs.Trees.Tree.{lexeme, nothing}
 use Rattle.justfile_round_trip.proofs.LiteralTexts.LexedModes.{Mark}
 use Rattle.justfile_round_trip.proofs.Canon.{Shown, Value}
 use Rattle.justfile_round_trip.proofs.Headers.CanonHeaders.{ShapeParameter, ShapeArgument, ShapeDependency, ShapeHeader, header_on, header_marks}
-use Rattle.justfile_round_trip.proofs.Good.{GoodValue, ends_value, significant}
+use Rattle.justfile_round_trip.proofs.Good.{GoodValue, ends_value, significant, GoodPath}
 use Rattle.justfile_round_trip.proofs.LiteralTexts.Inline.{IsName}
 
 abbrev pub GoodDefault : Option Value → Type 0
@@ -18,22 +18,13 @@ abbrev pub GoodParameters : List ShapeParameter → Type 0
 GoodParameters [] = Unit {0}
 GoodParameters (p ∷ ps) = IsName p.name × GoodDefault p.default × GoodParameters ps
 
-abbrev pub AreNames : List (List ℕ) → Type 0
-AreNames [] = Unit {0}
-AreNames (name ∷ names) = IsName name × AreNames names
-
--- a path has a name at least
-abbrev pub IsPath : List (List ℕ) → Type 0
-IsPath [] = ⊥
-IsPath (name ∷ names) = IsName name × AreNames names
-
 abbrev pub GoodDependencyArguments : List ShapeArgument → Type 0
 GoodDependencyArguments [] = Unit {0}
 GoodDependencyArguments (a ∷ arguments) = GoodValue a.value × GoodDependencyArguments arguments
 
 abbrev pub GoodDependencies : List ShapeDependency → Type 0
 GoodDependencies [] = Unit {0}
-GoodDependencies (d ∷ ds) = IsPath d.path × GoodDependencyArguments d.arguments × GoodDependencies ds
+GoodDependencies (d ∷ ds) = GoodPath d.path × GoodDependencyArguments d.arguments × GoodDependencies ds
 
 -- the lexemes of a header have their facts
 pub record LexesHeader (h : ShapeHeader) : Type 0 where

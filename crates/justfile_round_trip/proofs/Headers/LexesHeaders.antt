@@ -13,13 +13,13 @@ use Rattle.justfile_model.specs.Lexing.Next.{fixed_token, token_by_class}
 use Rattle.justfile_round_trip.proofs.LiteralTexts.LexedModes.{Mark, mark, LexesTo, step}
 use Rattle.justfile_round_trip.proofs.LiteralTexts.Inline.{head_is, joins, head_word, amid, IsName, name_step, space_step}
 use Rattle.justfile_round_trip.proofs.Fixed as fixed
-use Rattle.justfile_round_trip.proofs.Fixed.{close_paren_step, equals_before, open_paren_step, plus_before, token_step}
+use Rattle.justfile_round_trip.proofs.Fixed.{close_step, equals_before, open_step, plus_before, token_step}
 use Rattle.justfile_round_trip.proofs.RecipeBodies.Lines.{at_item, item_next, item_name}
 use Rattle.justfile_round_trip.proofs.RecipeBodies.BodyLines.{colon_step}
 use Rattle.justfile_round_trip.proofs.Canon.{Value, colon, expr_marks, expr_on, paren_right, word}
 use Rattle.justfile_round_trip.proofs.Headers.CanonHeaders.{ShapeParameter, ShapeArgument, ShapeDependency, ShapeHeader, at_sign, prefix_on, dollar_on, default_on, parameters_on, path_rest_on, path_on, star_on, dependency_arguments_on, dependency_parts_on, dependencies_on, subsequents_on, header_rest_on, header_on, at_on, at_marks, prefix_marks, dollar_marks, default_marks, parameters_marks, path_rest_marks, path_marks, star_marks, dependency_arguments_marks, dependency_parts_marks, dependencies_marks, subsequents_marks, header_rest_marks, header_marks}
-use Rattle.justfile_round_trip.proofs.Good.{GoodValue}
-use Rattle.justfile_round_trip.proofs.Headers.GoodHeaders.{GoodDefault, GoodParameters, AreNames, IsPath, GoodDependencyArguments, GoodDependencies, LexesHeader}
+use Rattle.justfile_round_trip.proofs.Good.{GoodValue, GoodNames, GoodPath}
+use Rattle.justfile_round_trip.proofs.Headers.GoodHeaders.{GoodDefault, GoodParameters, GoodDependencyArguments, GoodDependencies, LexesHeader}
 use Rattle.justfile_round_trip.proofs.Values.LexesValues.{start_no, name_no_blank, value_begins, value_no_blank, lex_value}
 
 -- ---- how parts begin
@@ -62,9 +62,9 @@ unfolding class_of
 path_rest_joins [] more h = h
 path_rest_joins (n ∷ names) more h = refl
 
-pub path_no_blank : (names : List (List ℕ)) (more : List ℕ) → IsPath names → head_is blank (path_on names more) ≡ false
+pub path_no_blank : (names : List (List ℕ)) (more : List ℕ) → GoodPath names → head_is blank (path_on names more) ≡ false
 path_no_blank [] more h = absurd h
-path_no_blank (n ∷ names) more h = name_no_blank n _ h.0
+path_no_blank (n ∷ names) more h = name_no_blank n _ h.0.is_name
 
 arguments_join : (arguments : List ShapeArgument) (more : List ℕ) → head_is joins (dependency_arguments_on arguments (41 ∷ more)) ≡ false
 unfolding class_of
@@ -76,7 +76,7 @@ unfolding class_of
 argument_no_blank None e more h = value_no_blank e more h
 argument_no_blank (Some star) e more h = refl
 
-parts_no_blank : (star : Option (Unit {0})) (path : List (List ℕ)) (arguments : List ShapeArgument) (more : List ℕ) → IsPath path
+parts_no_blank : (star : Option (Unit {0})) (path : List (List ℕ)) (arguments : List ShapeArgument) (more : List ℕ) → GoodPath path
     → head_is blank (dependency_parts_on star path arguments more) ≡ false
 unfolding class_of
 parts_no_blank star path [] more h = path_no_blank path more h
@@ -128,18 +128,18 @@ module _ (c : Bool) where
 
 -- ---- dependencies
 
-lex_path_rest : (c : Bool) (os : List OpenDelimiter) (names : List (List ℕ)) {more : List ℕ} {ts : List Mark} → AreNames names → head_is joins more ≡ false
+lex_path_rest : (c : Bool) (os : List OpenDelimiter) (names : List (List ℕ)) {more : List ℕ} {ts : List Mark} → GoodNames names → head_is joins more ≡ false
     → ((f : Bool) → LexesTo (amid os [] c None f) more ts)
     → (f : Bool) → LexesTo (amid os [] c None f) (path_rest_on names more) (path_rest_marks names ts)
 lex_path_rest c os [] h stop k f = k f
 lex_path_rest c os (n ∷ names) {more} h stop k f =
-    token_step fixed.colon_colon (name_step n h.0 (head_word _ (path_rest_joins names more stop)) (lex_path_rest c os names h.1 stop k _))
+    token_step fixed.colon_colon (name_step n h.0.is_name (head_word _ (path_rest_joins names more stop)) (lex_path_rest c os names h.1 stop k _))
 
-pub lex_path : (c : Bool) (os : List OpenDelimiter) (names : List (List ℕ)) {more : List ℕ} {ts : List Mark} → IsPath names → head_is joins more ≡ false
+pub lex_path : (c : Bool) (os : List OpenDelimiter) (names : List (List ℕ)) {more : List ℕ} {ts : List Mark} → GoodPath names → head_is joins more ≡ false
     → ((f : Bool) → LexesTo (amid os [] c None f) more ts)
     → LexesTo (amid os [] c None false) (path_on names more) (path_marks names ts)
 lex_path c os [] h stop k = absurd h
-lex_path c os (n ∷ names) {more} h stop k = name_step n h.0 (head_word _ (path_rest_joins names more stop)) (lex_path_rest c os names h.1 stop k _)
+lex_path c os (n ∷ names) {more} h stop k = name_step n h.0.is_name (head_word _ (path_rest_joins names more stop)) (lex_path_rest c os names h.1 stop k _)
 
 lex_star : (os : List OpenDelimiter) (star : Option (Unit {0})) (e : Value) {more : List ℕ} {ts : List Mark} → GoodValue e → head_is joins more ≡ false
     → ((f : Bool) → LexesTo (amid os [] true None f) more ts)
@@ -150,18 +150,18 @@ lex_star os (Some star) e h stop k = token_step fixed.asterisk (lex_value [] tru
 lex_arguments : (line : ℕ) (arguments : List ShapeArgument) {more : List ℕ} {ts : List Mark} → GoodDependencyArguments arguments
     → LexesTo (amid [] [] true None false) more ts
     → (f : Bool) → LexesTo (amid (opener Paren line ∷ []) [] true None f) (dependency_arguments_on arguments (41 ∷ more)) (dependency_arguments_marks arguments (paren_right ∷ ts))
-lex_arguments line [] h k f = close_paren_step k
+lex_arguments line [] h k f = close_step fixed.end_paren k
 lex_arguments line (a ∷ arguments) {more} h k f =
     space_step (argument_no_blank a.star a.value _ h.0)
     (lex_star (opener Paren line ∷ []) a.star a.value h.0 (arguments_join arguments more) (lex_arguments line arguments h.1 k))
 
-lex_parenthesis : (path : List (List ℕ)) (arguments : List ShapeArgument) {more : List ℕ} {ts : List Mark} → IsPath path → GoodDependencyArguments arguments
+lex_parenthesis : (path : List (List ℕ)) (arguments : List ShapeArgument) {more : List ℕ} {ts : List Mark} → GoodPath path → GoodDependencyArguments arguments
     → LexesTo (amid [] [] true None false) more ts
     → LexesTo (amid [] [] true None false) (40 ∷ path_on path (dependency_arguments_on arguments (41 ∷ more))) (mark kinds.ParenL (40 ∷ []) ∷ path_marks path (dependency_arguments_marks arguments (paren_right ∷ ts)))
 lex_parenthesis path arguments {more} p h k =
-    open_paren_step (λ line. lex_path true (opener Paren line ∷ []) path p (arguments_join arguments more) (lex_arguments line arguments h k))
+    open_step fixed.paren (λ line. lex_path true (opener Paren line ∷ []) path p (arguments_join arguments more) (lex_arguments line arguments h k))
 
-lex_parts : (star : Option (Unit {0})) (path : List (List ℕ)) (arguments : List ShapeArgument) {more : List ℕ} {ts : List Mark} → IsPath path
+lex_parts : (star : Option (Unit {0})) (path : List (List ℕ)) (arguments : List ShapeArgument) {more : List ℕ} {ts : List Mark} → GoodPath path
     → GoodDependencyArguments arguments → head_is joins more ≡ false → ((f : Bool) → LexesTo (amid [] [] true None f) more ts)
     → LexesTo (amid [] [] true None false) (dependency_parts_on star path arguments more) (dependency_parts_marks star path arguments ts)
 lex_parts star path [] p h stop k = lex_path true [] path p stop k

@@ -1,27 +1,34 @@
 -- A header that any text derives is good.
-use Rattle.std.proofs.Common.{◌≡◌, ℕ, Bool, true, false, List, [], ◌∷◌, ◌++◌, Option, Some, None, refl}
+use Rattle.std.proofs.Common.{◌≡◌, ℕ, Bool, true, false, List, [], ◌∷◌, ◌++◌, Option, Some, None, refl, ap}
 use Rattle.std.specs.Str.{IsUtf8}
 use Rattle.std.proofs.lemmas.Str.{IsUtf8-append}
+use Rattle.justfile_vocabulary.specs.declared.token_kind.TokenKind.{TokenKind}
 use Rattle.justfile_vocabulary.specs.declared.token_kind.TokenKind.TheVariants as kinds
 use Rattle.justfile_model.specs.declared.parameter_kind.ParameterKind.{ParameterKind}
 use Rattle.justfile_model.specs.declared.parameter_kind.ParameterKind.TheVariants.{Plus, Singular, Star}
-use Rattle.justfile_model.specs.Grammars.Expressions.{Tokens, BelowLimit}
+use Rattle.justfile_model.specs.Grammars.Expressions.{Tokens, IsKind, BelowLimit}
 use Rattle.justfile_model.specs.Grammars.Headers as g
-use Rattle.justfile_model.specs.Grammars.Headers.{PathRest, PathOf, NamedParameter, ParameterOf, Parameters, DependencyArguments, DependencyOf, Dependencies, AllDependencies, NamedHeader, HeaderOf}
+use Rattle.justfile_model.specs.Grammars.Headers.{PathOf, NamedParameter, ParameterOf, Parameters, DependencyArguments, DependencyOf, Dependencies, AllDependencies, NamedHeader, HeaderOf}
 use Rattle.justfile_model.specs.Meanings.RecipeRules.{header_broken}
 use Rattle.justfile_model.specs.Trees.Tree.{lexeme, nothing}
+use Rattle.justfile_model.specs.Lexing.SignificantTokens.{SignificantToken}
+use Rattle.justfile_round_trip.proofs.RecipeBodies.BodyFacts.{Situation, colon_after, situation_after}
+use Rattle.justfile_round_trip.proofs.RecipeBodies.BodyGood.{IsOutside, outside_after, shifts}
+use Rattle.justfile_round_trip.proofs.Ahead.{Ahead, AheadOf, PassedIn, Stays, one_ahead, past_ahead, past_token, path_good, value_ahead}
+use Rattle.justfile_round_trip.proofs.Good.{GoodPath}
 use Rattle.justfile_round_trip.proofs.Headers.BackHeaders.{header_back}
+use Rattle.justfile_round_trip.proofs.Items.BackContents.{path_utf8}
 use Rattle.justfile_round_trip.proofs.Canon.{Shown}
-use Rattle.justfile_round_trip.proofs.Headers.CanonHeaders.{ShapeParameter, ShapeArgument, ShapeDependency, ShapeHeader, prefix_on, dollar_on, default_on, parameter_on, parameters_on, path_rest_on, path_on, star_on, dependency_arguments_on, dependency_parts_on, dependency_on, dependencies_on, subsequents_on, at_on, header_rest_on, header_on}
-use Rattle.justfile_round_trip.proofs.Headers.GoodHeaders.{GoodDefault, GoodParameters, AreNames, IsPath, GoodDependencyArguments, GoodDependencies, LexesHeader, GoodHeader}
+use Rattle.justfile_round_trip.proofs.Headers.CanonHeaders.{ShapeParameter, ShapeArgument, ShapeDependency, ShapeHeader, prefix_on, dollar_on, default_on, parameter_on, parameters_on, star_on, dependency_arguments_on, dependency_parts_on, dependency_on, dependencies_on, subsequents_on, at_on, header_rest_on, header_on}
+use Rattle.justfile_round_trip.proofs.Headers.GoodHeaders.{GoodDefault, GoodParameters, GoodDependencyArguments, GoodDependencies, LexesHeader, GoodHeader}
 use Rattle.justfile_round_trip.proofs.LiteralTexts.Inline.{IsName}
-use Rattle.justfile_round_trip.proofs.Values.TokenFacts.{Around, outside, Sound}
-use Rattle.justfile_round_trip.proofs.Values.WrittenValues.{fact_as, on, one_at, past, plain, value_at, within}
+use Rattle.justfile_round_trip.proofs.Values.TokenFacts.{Around, outside}
+use Rattle.justfile_round_trip.proofs.Values.WrittenValues.{fact_as, past, plain, within}
 
 -- ---- UTF-8
 
 -- a text before others that are UTF-8 is UTF-8
-abbrev pub Keeps : (List ℕ → List ℕ) → Type 0
+abbrev Keeps : (List ℕ → List ℕ) → Type 0
 Keeps f = (more : List ℕ) → IsUtf8 more → IsUtf8 (f more)
 
 prefix_utf8 : (k : ParameterKind) → Keeps (prefix_on k)
@@ -41,160 +48,170 @@ at_utf8 : (b : Bool) → Keeps (at_on b)
 at_utf8 true more u = plain (64 ∷ []) more refl u
 at_utf8 false more u = u
 
-dependency_utf8 : (star : Option (Unit {0})) (path : List (List ℕ)) (arguments : List ShapeArgument) → Keeps (path_on path) → Keeps (dependency_arguments_on arguments)
+dependency_utf8 : (star : Option (Unit {0})) (path : List (List ℕ)) (arguments : List ShapeArgument) → GoodPath path → Keeps (dependency_arguments_on arguments)
     → Keeps (dependency_parts_on star path arguments)
-dependency_utf8 star path [] p a more u = p more u
-dependency_utf8 star path (x ∷ arguments) p a more u = star_utf8 star _ (plain (40 ∷ []) _ refl (p _ (a _ (plain (41 ∷ []) more refl u))))
+dependency_utf8 star path [] p a more u = path_utf8 path more p u
+dependency_utf8 star path (x ∷ arguments) p a more u = star_utf8 star _ (plain (40 ∷ []) _ refl (path_utf8 path _ p (a _ (plain (41 ∷ []) more refl u))))
 
 subsequents_utf8 : (ds : List ShapeDependency) → Keeps (dependencies_on ds) → Keeps (subsequents_on ds)
 subsequents_utf8 [] k more u = u
 subsequents_utf8 (d ∷ ds) k more u = plain (32 ∷ 38 ∷ 38 ∷ []) _ refl (k more u)
 
+-- ---- after the colon of a recipe
+
+pub record IsHeader (s : Situation) : Type 0 where
+  pub is_outside : IsOutside s
+  pub colon : s.colon ≡ true
+
+colon_stays : (k : TokenKind) (b : Bool) → shifts k ≡ false → b ≡ true → colon_after k b ≡ true
+colon_stays kinds.Colon b stays e = refl
+colon_stays kinds.Dedent b stays e = cc
+colon_stays _ b stays e = e
+
+pub header_after : Stays IsHeader
+header_after k l s stays h = record { is_outside = outside_after k l s stays h.is_outside; colon = colon_stays k s.colon stays h.colon }
+
+past_colon : {c : Bool} (t : SignificantToken) (ts : Tokens) → IsKind kinds.Colon t → Ahead outside c (t ∷ ts) → AheadOf IsHeader outside false ts
+past_colon t ts e a =
+    let w = a.bodies in
+    record {
+      facts = past outside t ts kinds.Colon e a.facts.2;
+      bodies = record {
+        situation = situation_after t.tok.kind t.tok.lexeme w.situation;
+        is = record { is_outside = outside_after t.tok.kind t.tok.lexeme w.situation (ap shifts e) w.is; colon = ap (λ k. colon_after k w.situation.colon) e };
+        sound = w.sound.1;
+      };
+    }
+
+-- after a header, no delimiter is open either
+pub outside_header : {s : Around} {c : Bool} {ts : Tokens} → AheadOf IsHeader s c ts → Ahead s c ts
+outside_header a = record { facts = a.facts; bodies = record { situation = a.bodies.situation; is = a.bodies.is.is_outside; sound = a.bodies.sound } }
+
 -- ---- along a derivation
 
 -- a part of a header: its lexemes are good, its text is UTF-8, and no delimiter stays open
-pub record Found (s : Around) (Good : Type 0) (text : List ℕ → List ℕ) (rest : Tokens) : Type 0 where
-  pub good : Good
-  pub utf8 : Keeps text
-  pub following : Sound s false rest
+record Found (P : Situation → Type 0) (Good : Type 0) (text : List ℕ → List ℕ) (rest : Tokens) : Type 0 where
+  good : Good
+  utf8 : Keeps text
+  following : AheadOf P outside false rest
 
 module _ (limit : ℕ) where
+  abbrev GoodParameter : ShapeParameter → Type 0
+  GoodParameter p = IsName p.name × GoodDefault p.default
+
   named_at : {kind : ParameterKind} {export : Bool} {p : ShapeParameter} {fs : Shown} {ts rest : Tokens}
-      → NamedParameter lexeme nothing (BelowLimit limit) kind export p fs ts rest → (c : Bool) → Sound outside c ts
-      → Found outside (IsName p.name × GoodDefault p.default) (λ more. p.name ++ default_on p.default more) rest
-  named_at (g.required {name = t} {rest = rest} kind next) c h = record {
-    good = (fact_as t kinds.Identifier kind h.0, tt);
-    utf8 = λ more u. IsUtf8-append t.tok.lexeme more h.0.utf8 u;
-    following = on outside c t rest kinds.Identifier kind (λ l. refl) refl h;
+      → NamedParameter lexeme nothing (BelowLimit limit) kind export p fs ts rest → {c : Bool} → Ahead outside c ts
+      → Found IsOutside (GoodParameter p) (λ more. p.name ++ default_on p.default more) rest
+  named_at (g.required {name = t} {rest = rest} kind next) a = record {
+    good = (fact_as t kinds.Identifier kind a.facts.0, tt);
+    utf8 = λ more u. IsUtf8-append t.tok.lexeme more a.facts.0.utf8 u;
+    following = past_token t rest kinds.Identifier kind refl a;
   }
-  named_at (g.optional {name = t} {equals = q} {tokens = ts} kind kind2 v) c h =
-      let x = one_at (BelowLimit limit) v outside false (on outside false q ts kinds.Equals kind2 (λ l. refl) refl (on outside c t (q ∷ ts) kinds.Identifier kind (λ l. refl) refl h)) in
+  named_at (g.optional {name = t} {equals = q} {tokens = ts} kind kind2 v) a =
+      let x = one_ahead outside_after limit v (past_token q ts kinds.Equals kind2 refl (past_token t (q ∷ ts) kinds.Identifier kind refl a)) in
       record {
-        good = (fact_as t kinds.Identifier kind h.0, x.lexes);
-        utf8 = λ more u. IsUtf8-append t.tok.lexeme _ h.0.utf8 (plain (61 ∷ []) _ refl (x.utf8 more u));
+        good = (fact_as t kinds.Identifier kind a.facts.0, x.at.lexes);
+        utf8 = λ more u. IsUtf8-append t.tok.lexeme _ a.facts.0.utf8 (plain (61 ∷ []) _ refl (x.at.utf8 more u));
         following = x.following;
       }
+
+  -- with the signs before its name
+  prefixed : (p : ShapeParameter) {rest : Tokens} → Found IsOutside (GoodParameter p) (λ more. p.name ++ default_on p.default more) rest
+      → Found IsOutside (GoodParameter p) (parameter_on p) rest
+  prefixed p x = record { good = x.good; utf8 = λ more u. prefix_utf8 p.kind _ (dollar_utf8 p.export _ (x.utf8 more u)); following = x.following }
 
   parameter_at : {kind : ParameterKind} {p : ShapeParameter} {fs : Shown} {ts rest : Tokens} → ParameterOf lexeme nothing (BelowLimit limit) kind p fs ts rest
-      → (c : Bool) → Sound outside c ts → Found outside (IsName p.name × GoodDefault p.default) (parameter_on p) rest
-  parameter_at {p = p} (g.exported {dollar = t} {tokens = ts} kind n) c h =
-      let x = named_at n false (on outside c t ts kinds.Dollar kind (λ l. refl) refl h) in
-      record { good = x.good; utf8 = λ more u. prefix_utf8 p.kind _ (dollar_utf8 p.export _ (x.utf8 more u)); following = x.following }
-  parameter_at {p = p} (g.unexported n) c h =
-      let x = named_at n c h in
-      record { good = x.good; utf8 = λ more u. prefix_utf8 p.kind _ (dollar_utf8 p.export _ (x.utf8 more u)); following = x.following }
+      → {c : Bool} → Ahead outside c ts → Found IsOutside (GoodParameter p) (parameter_on p) rest
+  parameter_at {p = p} (g.exported {dollar = t} {tokens = ts} kind n) a = prefixed p (named_at n (past_token t ts kinds.Dollar kind refl a))
+  parameter_at {p = p} (g.unexported n) a = prefixed p (named_at n a)
+
+  -- the last parameter and the colon
+  last_at : (p : ShapeParameter) (q : SignificantToken) (rest : Tokens) → IsKind kinds.Colon q → Found IsOutside (GoodParameter p) (parameter_on p) (q ∷ rest)
+      → Found IsHeader (GoodParameters (p ∷ [])) (parameters_on (p ∷ [])) rest
+  last_at p q rest kind x =
+      record { good = (x.good.0, x.good.1, tt); utf8 = λ more u. plain (32 ∷ []) _ refl (x.utf8 more u); following = past_colon q rest kind x.following }
 
   -- up to the colon and with it
-  parameters_at : {ps : List ShapeParameter} {fs : Shown} {ts rest : Tokens} → Parameters lexeme nothing (BelowLimit limit) ps fs ts rest → (c : Bool) → Sound outside c ts
-      → Found outside (GoodParameters ps) (parameters_on ps) rest
-  parameters_at (g.none {colon = t} {rest = rest} kind) c h =
-      record { good = tt; utf8 = λ more u. u; following = on outside c t rest kinds.Colon kind (λ l. refl) refl h }
-  parameters_at (g.more p r) c h =
-      let x = parameter_at p c h in
-      let y = parameters_at r false x.following in
+  parameters_at : {ps : List ShapeParameter} {fs : Shown} {ts rest : Tokens} → Parameters lexeme nothing (BelowLimit limit) ps fs ts rest → {c : Bool} → Ahead outside c ts
+      → Found IsHeader (GoodParameters ps) (parameters_on ps) rest
+  parameters_at (g.none {colon = t} {rest = rest} kind) a = record { good = tt; utf8 = λ more u. u; following = past_colon t rest kind a }
+  parameters_at (g.more p r) a =
+      let x = parameter_at p a in
+      let y = parameters_at r x.following in
       record { good = (x.good.0, x.good.1, y.good); utf8 = λ more u. plain (32 ∷ []) _ refl (x.utf8 _ (y.utf8 more u)); following = y.following }
-  parameters_at (g.plus {prefix = t} {colon = q} {tokens = ts} {rest = rest} kind p kind2) c h =
-      let x = parameter_at p false (on outside c t ts kinds.Plus kind (λ l. refl) refl h) in
-      record {
-        good = (x.good.0, x.good.1, tt);
-        utf8 = λ more u. plain (32 ∷ []) _ refl (x.utf8 more u);
-        following = on outside false q rest kinds.Colon kind2 (λ l. refl) refl x.following;
-      }
-  parameters_at (g.star {prefix = t} {colon = q} {tokens = ts} {rest = rest} kind p kind2) c h =
-      let x = parameter_at p false (on outside c t ts kinds.Asterisk kind (λ l. refl) refl h) in
-      record {
-        good = (x.good.0, x.good.1, tt);
-        utf8 = λ more u. plain (32 ∷ []) _ refl (x.utf8 more u);
-        following = on outside false q rest kinds.Colon kind2 (λ l. refl) refl x.following;
-      }
-
-  path_rest_at : {names : List (List ℕ)} {ts rest : Tokens} → PathRest lexeme names ts rest → (s : Around) → Sound s false ts
-      → Found s (AreNames names) (path_rest_on names) rest
-  path_rest_at (g.last next) s h = record { good = tt; utf8 = λ more u. u; following = h }
-  path_rest_at (g.next {colons = t} {name = q} {tokens = ts} kind kind2 r) s h =
-      let k = on s false t (q ∷ ts) kinds.ColonColon kind (λ l. refl) refl h in
-      let x = path_rest_at r s (on s false q ts kinds.Identifier kind2 (λ l. refl) refl k) in
-      record {
-        good = (fact_as q kinds.Identifier kind2 k.0, x.good);
-        utf8 = λ more u. plain (58 ∷ 58 ∷ []) _ refl (IsUtf8-append q.tok.lexeme _ k.0.utf8 (x.utf8 more u));
-        following = x.following;
-      }
-
-  pub path_at : {names : List (List ℕ)} {ts rest : Tokens} → PathOf lexeme names ts rest → (s : Around) → Sound s false ts → Found s (IsPath names) (path_on names) rest
-  path_at (g.path {name = t} {tokens = ts} kind r) s h =
-      let x = path_rest_at r s (on s false t ts kinds.Identifier kind (λ l. refl) refl h) in
-      record { good = (fact_as t kinds.Identifier kind h.0, x.good); utf8 = λ more u. IsUtf8-append t.tok.lexeme _ h.0.utf8 (x.utf8 more u); following = x.following }
+  parameters_at (g.plus {prefix = t} {colon = q} {tokens = ts} {rest = rest} kind p kind2) a = last_at _ q rest kind2 (parameter_at p (past_token t ts kinds.Plus kind refl a))
+  parameters_at (g.star {prefix = t} {colon = q} {tokens = ts} {rest = rest} kind p kind2) a = last_at _ q rest kind2 (parameter_at p (past_token t ts kinds.Asterisk kind refl a))
 
   -- inside parentheses, and past the closing one
   arguments_at : {arguments : List ShapeArgument} {fs : Shown} {ts rest : Tokens} → DependencyArguments lexeme nothing nothing (BelowLimit limit) arguments fs ts rest
-      → Sound (within outside None) false ts → Found outside (GoodDependencyArguments arguments) (dependency_arguments_on arguments) rest
-  arguments_at (g.none {closer = t} {rest = rest} kind) h =
-      record { good = tt; utf8 = λ more u. u; following = past (within outside None) t rest kinds.ParenR kind h.2 }
-  arguments_at (g.plain x r) h =
-      let v = value_at (BelowLimit limit) x (within outside None) false h in
+      → AheadOf IsHeader (within outside None) false ts → Found IsHeader (GoodDependencyArguments arguments) (dependency_arguments_on arguments) rest
+  arguments_at (g.none {closer = t} {rest = rest} kind) a = record { good = tt; utf8 = λ more u. u; following = past_ahead header_after t rest kinds.ParenR kind refl a }
+  arguments_at (g.plain x r) a =
+      let v = value_ahead header_after limit x a in
       let y = arguments_at r v.following in
-      record { good = (v.lexes, y.good); utf8 = λ more u. plain (32 ∷ []) _ refl (v.utf8 _ (y.utf8 more u)); following = y.following }
-  arguments_at (g.starred {mark = t} {tokens = ts} kind x r) h =
-      let v = one_at (BelowLimit limit) x (within outside None) false (on (within outside None) false t ts kinds.Asterisk kind (λ l. refl) refl h) in
+      record { good = (v.at.lexes, y.good); utf8 = λ more u. plain (32 ∷ []) _ refl (v.at.utf8 _ (y.utf8 more u)); following = y.following }
+  arguments_at (g.starred {mark = t} {tokens = ts} kind x r) a =
+      let v = one_ahead header_after limit x (past_ahead header_after t ts kinds.Asterisk kind refl a) in
       let y = arguments_at r v.following in
-      record { good = (v.lexes, y.good); utf8 = λ more u. plain (32 ∷ 42 ∷ []) _ refl (v.utf8 _ (y.utf8 more u)); following = y.following }
+      record { good = (v.at.lexes, y.good); utf8 = λ more u. plain (32 ∷ 42 ∷ []) _ refl (v.at.utf8 _ (y.utf8 more u)); following = y.following }
 
-  dependency_at : {d : ShapeDependency} {fs : Shown} {ts rest : Tokens} → DependencyOf lexeme nothing nothing (BelowLimit limit) d fs ts rest → Sound outside false ts
-      → Found outside (IsPath d.path × GoodDependencyArguments d.arguments) (dependency_on d) rest
-  dependency_at (g.bare p) h = let x = path_at p outside h in record { good = (x.good, tt); utf8 = x.utf8; following = x.following }
-  dependency_at {d = d} (g.plain {opener = t} {tokens = ts} kind p r) h =
-      let x = path_at p (within outside None) (past outside t ts kinds.ParenL kind h.2) in
+  -- a path and arguments in parentheses, past the opening one
+  called_at : (star : Option (Unit {0})) {path : List (List ℕ)} {arguments : List ShapeArgument} {fs : Shown} {ts between rest : Tokens} → PathOf lexeme path ts between
+      → DependencyArguments lexeme nothing nothing (BelowLimit limit) arguments fs between rest → AheadOf IsHeader (within outside None) false ts
+      → Found IsHeader (GoodPath path × GoodDependencyArguments arguments) (dependency_parts_on star path arguments) rest
+  called_at star {path} {arguments} p r a =
+      let x = path_good header_after p a in
       let y = arguments_at r x.following in
-      record { good = (x.good, y.good); utf8 = dependency_utf8 d.star d.path d.arguments x.utf8 y.utf8; following = y.following }
-  dependency_at {d = d} (g.starred {mark = q} {opener = t} {tokens = ts} kind kind2 p r) h =
-      let x = path_at p (within outside None) (past outside t ts kinds.ParenL kind2 (on outside false q (t ∷ ts) kinds.Asterisk kind (λ l. refl) refl h).2) in
-      let y = arguments_at r x.following in
-      record { good = (x.good, y.good); utf8 = dependency_utf8 d.star d.path d.arguments x.utf8 y.utf8; following = y.following }
+      record { good = (x.good, y.good); utf8 = dependency_utf8 star path arguments x.good y.utf8; following = y.following }
 
-  dependencies_at : {ds : List ShapeDependency} {fs : Shown} {ts rest : Tokens} → Dependencies lexeme nothing nothing (BelowLimit limit) ds fs ts rest → Sound outside false ts
-      → Found outside (GoodDependencies ds) (dependencies_on ds) rest
+  dependency_at : {d : ShapeDependency} {fs : Shown} {ts rest : Tokens} → DependencyOf lexeme nothing nothing (BelowLimit limit) d fs ts rest → AheadOf IsHeader outside false ts
+      → Found IsHeader (GoodPath d.path × GoodDependencyArguments d.arguments) (dependency_on d) rest
+  dependency_at {d = d} (g.bare p) a =
+      let x = path_good header_after p a in record { good = (x.good, tt); utf8 = λ more u. path_utf8 d.path more x.good u; following = x.following }
+  dependency_at {d = d} (g.plain {opener = t} {tokens = ts} kind p r) a = called_at d.star p r (past_ahead header_after t ts kinds.ParenL kind refl a)
+  dependency_at {d = d} (g.starred {mark = q} {opener = t} {tokens = ts} kind kind2 p r) a =
+      called_at d.star p r (past_ahead header_after t ts kinds.ParenL kind2 refl (past_ahead header_after q (t ∷ ts) kinds.Asterisk kind refl a))
+
+  dependencies_at : {ds : List ShapeDependency} {fs : Shown} {ts rest : Tokens} → Dependencies lexeme nothing nothing (BelowLimit limit) ds fs ts rest
+      → AheadOf IsHeader outside false ts → Found IsHeader (GoodDependencies ds) (dependencies_on ds) rest
   dependencies_at (g.none a b c) h = record { good = tt; utf8 = λ more u. u; following = h }
   dependencies_at (g.more d r) h =
       let x = dependency_at d h in
       let y = dependencies_at r x.following in
       record { good = (x.good.0, x.good.1, y.good); utf8 = λ more u. plain (32 ∷ []) _ refl (x.utf8 _ (y.utf8 more u)); following = y.following }
 
-  all_at : {ds ss : List ShapeDependency} {fs : Shown} {ts rest : Tokens} → AllDependencies lexeme nothing nothing (BelowLimit limit) ds ss fs ts rest → Sound outside false ts
-      → Found outside (GoodDependencies ds × GoodDependencies ss) (λ more. dependencies_on ds (subsequents_on ss more)) rest
+  all_at : {ds ss : List ShapeDependency} {fs : Shown} {ts rest : Tokens} → AllDependencies lexeme nothing nothing (BelowLimit limit) ds ss fs ts rest
+      → AheadOf IsHeader outside false ts → Found IsHeader (GoodDependencies ds × GoodDependencies ss) (λ more. dependencies_on ds (subsequents_on ss more)) rest
   all_at (g.priors x next) h =
       let y = dependencies_at x h in record { good = (y.good, tt); utf8 = y.utf8; following = y.following }
   all_at (g.both {d = d} {others = others} {operator = t} {next = ts} x kind z) h =
       let y = dependencies_at x h in
-      let w = dependencies_at z (on outside false t ts kinds.AmpersandAmpersand kind (λ l. refl) refl y.following) in
+      let w = dependencies_at z (past_ahead header_after t ts kinds.AmpersandAmpersand kind refl y.following) in
       record { good = (y.good, w.good); utf8 = λ more u. y.utf8 _ (subsequents_utf8 (d ∷ others) w.utf8 more u); following = w.following }
 
   named_header_at : {quiet : Bool} {h : ShapeHeader} {fs : Shown} {ts rest : Tokens} → NamedHeader lexeme nothing nothing (BelowLimit limit) quiet h fs ts rest
-      → (c : Bool) → Sound outside c ts → Found outside (LexesHeader h) (λ more. h.name ++ header_rest_on h more) rest
-  named_header_at (g.header {name = t} {tokens = ts} kind ps all) c s =
-      let x = parameters_at ps false (on outside c t ts kinds.Identifier kind (λ l. refl) refl s) in
+      → {c : Bool} → Ahead outside c ts → Found IsHeader (LexesHeader h) (λ more. h.name ++ header_rest_on h more) rest
+  named_header_at (g.header {name = t} {tokens = ts} kind ps all) a =
+      let x = parameters_at ps (past_token t ts kinds.Identifier kind refl a) in
       let y = all_at all x.following in
       record {
-        good = record { is_name = fact_as t kinds.Identifier kind s.0; parameters = x.good; priors = y.good.0; subsequents = y.good.1 };
-        utf8 = λ more u. IsUtf8-append t.tok.lexeme _ s.0.utf8 (x.utf8 _ (plain (58 ∷ []) _ refl (y.utf8 more u)));
+        good = record { is_name = fact_as t kinds.Identifier kind a.facts.0; parameters = x.good; priors = y.good.0; subsequents = y.good.1 };
+        utf8 = λ more u. IsUtf8-append t.tok.lexeme _ a.facts.0.utf8 (x.utf8 _ (plain (58 ∷ []) _ refl (y.utf8 more u)));
         following = y.following;
       }
 
-  header_found : {h : ShapeHeader} {fs : Shown} {ts rest : Tokens} → HeaderOf lexeme nothing nothing (BelowLimit limit) h fs ts rest → (c : Bool) → Sound outside c ts
-      → Found outside (LexesHeader h) (header_on h) rest
-  header_found {h} (g.quiet {at = t} {tokens = ts} kind n) c s =
-      let x = named_header_at n false (on outside c t ts kinds.At kind (λ l. refl) refl s) in
+  header_found : {h : ShapeHeader} {fs : Shown} {ts rest : Tokens} → HeaderOf lexeme nothing nothing (BelowLimit limit) h fs ts rest → {c : Bool} → Ahead outside c ts
+      → Found IsHeader (LexesHeader h) (header_on h) rest
+  header_found {h} (g.quiet {at = t} {tokens = ts} kind n) a =
+      let x = named_header_at n (past_token t ts kinds.At kind refl a) in
       record { good = x.good; utf8 = λ more u. at_utf8 h.quiet _ (x.utf8 more u); following = x.following }
-  header_found {h} (g.loud n) c s =
-      let x = named_header_at n c s in
+  header_found {h} (g.loud n) a =
+      let x = named_header_at n a in
       record { good = x.good; utf8 = λ more u. at_utf8 h.quiet _ (x.utf8 more u); following = x.following }
 
   -- a header that any text derives, with its stars at allowed places, and the tokens after it
-  pub record HeaderAt (h : ShapeHeader) (rest : Tokens) : Type 0 where
-    pub good : GoodHeader limit h
-    pub following : Sound outside false rest
-
-  pub header_at : {h : ShapeHeader} {fs : Shown} {ts rest : Tokens} → HeaderOf lexeme nothing nothing (BelowLimit limit) h fs ts rest → header_broken h ≡ [] → (c : Bool)
-      → Sound outside c ts → HeaderAt h rest
-  header_at {fs = fs} x unbroken c s =
-      let found = header_found x c s in
+  pub header_at : {h : ShapeHeader} {fs : Shown} {ts rest : Tokens} → HeaderOf lexeme nothing nothing (BelowLimit limit) h fs ts rest → header_broken h ≡ [] → {c : Bool}
+      → Ahead outside c ts → PassedIn IsHeader outside (GoodHeader limit h) rest
+  header_at {fs = fs} x unbroken a =
+      let found = header_found x a in
       record { good = record { lexes = found.good; features = fs; derives = header_back limit x unbroken; utf8 = found.utf8 }; following = found.following }

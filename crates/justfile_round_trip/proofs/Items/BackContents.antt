@@ -2,6 +2,7 @@
 use Rattle.std.proofs.Common.{◌≡◌, ℕ, Bool, true, false, ◌&&◌, List, [], ◌∷◌, ◌++◌, Option, Some, None, refl, ap, codes}
 use Rattle.std.specs.Str.{IsUtf8}
 use Rattle.std.proofs.lemmas.Str.{IsUtf8-append}
+use Rattle.justfile_round_trip.proofs.Headers.BackHeaders.{path_rest_back}
 use Rattle.justfile_vocabulary.specs.declared.token_kind.TokenKind.TheVariants as kinds
 use Rattle.justfile_model.specs.Grammars.Expressions.{Tokens, NotNext, BelowLimit}
 use Rattle.justfile_model.specs.Grammars.Files.{to_lexemes}
@@ -18,12 +19,12 @@ use Rattle.justfile_model.specs.Trees.Tree.{assignment_of, bare_module, lexeme, 
 use Rattle.justfile_round_trip.proofs.LiteralTexts.LexedModes.{Mark}
 use Rattle.justfile_round_trip.proofs.Back.{none_but_closing, is_word}
 use Rattle.justfile_round_trip.proofs.Canon.{Shown, Value, ShapeContent, expr_on, paren_right, word}
-use Rattle.justfile_round_trip.proofs.Headers.CanonHeaders.{path_on, path_rest_on, path_marks, path_rest_marks, at_marks, header_rest_marks}
+use Rattle.justfile_round_trip.proofs.Headers.CanonHeaders.{path_on, path_rest_on, path_marks, at_marks, header_rest_marks}
 use Rattle.justfile_round_trip.proofs.Items.CanonItems.{content_on, content_marks}
 use Rattle.justfile_round_trip.proofs.Items.CanonParts.{ShapeQuoted, ShapeSetting, question_on, other_names_on, names_on, file_path_on, optional_path_on, setting_value_on, other_names_marks, names_marks, file_path_marks, setting_value_marks}
-use Rattle.justfile_round_trip.proofs.Good.{GoodExpression, GoodName, closes, ends_value, significant}
+use Rattle.justfile_round_trip.proofs.Good.{GoodExpression, GoodName, closes, ends_value, significant, GoodNames, GoodPath}
 use Rattle.justfile_round_trip.proofs.Items.GoodContents as good
-use Rattle.justfile_round_trip.proofs.Items.GoodContents.{GoodContent, GoodFilePath, GoodNames, GoodOptionalPath, GoodPath, GoodSettingValue}
+use Rattle.justfile_round_trip.proofs.Items.GoodContents.{GoodContent, GoodFilePath, GoodOptionalPath, GoodSettingValue}
 use Rattle.justfile_round_trip.proofs.Values.WrittenValues.{plain}
 
 -- ---- the tokens that follow: the end of a line
@@ -45,11 +46,6 @@ line_no_path (t ∷ ts) h = record {
 }
 
 -- ---- parts
-
-path_rest_back : (names : List (List ℕ)) (on : List Mark) → NotNext kinds.ColonColon (significant true on)
-    → PathRest lexeme names (significant true (path_rest_marks names on)) (significant true on)
-path_rest_back [] on h = header.last h
-path_rest_back (n ∷ names) on h = header.next refl refl (path_rest_back names on h)
 
 path_back : (names : List (List ℕ)) (glued : Bool) (on : List Mark) → GoodPath names → NotNext kinds.ColonColon (significant true on)
     → PathOf lexeme names (significant glued (path_marks names on)) (significant true on)
@@ -136,20 +132,14 @@ module _ (limit : ℕ) where
 
   assignment_no_bracket : (eager export : Bool) (name : List ℕ) (value : Value) (glued : Bool) (on : List Mark)
       → NotNext kinds.BracketL (significant glued (content_marks (tree.Assignment (assignment_of eager export name value)) on))
-  assignment_no_bracket true export name value glued on = λ e. cc
   assignment_no_bracket false true name value glued on = λ e. cc
-  assignment_no_bracket false false name value glued on = λ e. cc
+  assignment_no_bracket _ _ name value glued on = λ e. cc
 
   pub content_no_bracket : {content : ShapeContent} → GoodContent limit content → (glued : Bool) (on : List Mark)
       → NotNext kinds.BracketL (significant glued (content_marks content on))
-  content_no_bracket (good.alias named path) glued on = λ e. cc
   content_no_bracket (good.assignment {eager = eager} {export = export} {name = name} {value = value} one named h) glued on = assignment_no_bracket eager export name value glued on
-  content_no_bracket (good.function named names h) glued on = λ e. cc
-  content_no_bracket (good.import h) glued on = λ e. cc
-  content_no_bracket (good.module_named named h) glued on = λ e. cc
   content_no_bracket (good.header {h = h} head) glued on = header_no_bracket h.quiet h.name glued (header_rest_marks h on)
-  content_no_bracket (good.setting named spelled formed h) glued on = λ e. cc
-  content_no_bracket (good.unexport named) glued on = λ e. cc
+  content_no_bracket _ glued on = λ e. cc
 
 -- ---- UTF-8
 
@@ -157,7 +147,7 @@ path_rest_utf8 : (names : List (List ℕ)) (more : List ℕ) → GoodNames names
 path_rest_utf8 [] more h u = u
 path_rest_utf8 (n ∷ names) more h u = plain (codes "::") _ refl (IsUtf8-append n _ h.0.utf8 (path_rest_utf8 names more h.1 u))
 
-path_utf8 : (names : List (List ℕ)) (more : List ℕ) → GoodPath names → IsUtf8 more → IsUtf8 (path_on names more)
+pub path_utf8 : (names : List (List ℕ)) (more : List ℕ) → GoodPath names → IsUtf8 more → IsUtf8 (path_on names more)
 path_utf8 [] more h u = absurd h
 path_utf8 (n ∷ names) more h u = IsUtf8-append n _ h.0.utf8 (path_rest_utf8 names more h.1 u)
 

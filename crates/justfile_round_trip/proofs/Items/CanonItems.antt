@@ -1,8 +1,9 @@
 -- The printer of items with a continuation: text before text, and tokens before tokens.
-use Rattle.std.proofs.Common.{◌≡◌, ℕ, List, [], ◌∷◌, ◌++◌, Option, None, refl, ap, ◌∙◌, append_assoc, codes}
+use Rattle.std.proofs.Common.{◌≡◌, ℕ, List, [], ◌∷◌, ◌++◌, Option, refl, ap, ◌∙◌, append_assoc, codes}
+use Rattle.std.specs.List.{AllByRecursion}
+use Rattle.justfile_model.proofs.Printed.PlainFiles.{IsPlain}
 use Rattle.justfile_token.specs.Path.{path_text}
 use Rattle.justfile_vocabulary.specs.declared.token_kind.TokenKind.TheVariants as kinds
-use Rattle.justfile_model.specs.Grammars.Docs.{doc_of}
 use Rattle.justfile_model.specs.Trees.Tree.{AliasParts, AssignmentParts, FunctionParts, ImportParts, ModuleParts, SettingParts, Alias, Assignment, Function, Import, Module, Recipe, Setting, Unexport, Comment, Newline, Construct, Shape, bare_recipe}
 use Rattle.justfile_model.specs.Printed.Printing.{after_line_text, fixed_text, expr_text, body_text, doc_line, if_some, if_true, header_text, alias_text, assignment_text, function_text, import_text, module_text, setting_text, names_text, file_path_text, setting_value_text, entries_text, content_text, item_text, item_end, text}
 use Rattle.justfile_model.proofs.Printed.DocsText.{none_shown}
@@ -15,16 +16,6 @@ use Rattle.justfile_round_trip.proofs.Items.CanonParts.{colon_equals, word_on, q
 -- a recipe without a doc, after attributes
 abbrev pub recipe_item : List ShapeEntry → ShapeHeader → (comment : Option (List ℕ)) → List ShapeLine → ShapeItem
 recipe_item entries header comment body = Construct entries (Recipe (bare_recipe header comment body))
-
--- the item has no doc
-abbrev pub NoDoc : ShapeItem → Type 0
-NoDoc Newline = Unit {0}
-NoDoc (Comment t) = Unit {0}
-NoDoc (Construct entries content) = doc_of content ≡ None
-
-abbrev pub NoDocs : Shape → Type 0
-NoDocs [] = Unit {0}
-NoDocs (i ∷ items) = NoDoc i × NoDocs items
 
 abbrev pub alias_on : AliasParts (List ℕ) → List ℕ → List ℕ
 alias_on a more = codes "alias " ++ (a.name ++ (codes " := " ++ path_on a.target more))
@@ -79,19 +70,12 @@ item_marks (Construct entries content) ts = entries_marks entries (content_marks
 
 -- the lines of the body of a recipe
 abbrev pub body_in : ShapeContent → List ShapeLine
-body_in (Alias parts) = []
-body_in (Assignment parts) = []
-body_in (Function parts) = []
-body_in (Import parts) = []
-body_in (Module parts) = []
 body_in (Recipe parts) = parts.body
-body_in (Setting parts) = []
-body_in (Unexport name) = []
+body_in _ = []
 
 abbrev pub body_of : ShapeItem → List ShapeLine
-body_of Newline = []
-body_of (Comment t) = []
 body_of (Construct entries content) = body_in content
+body_of _ = []
 
 -- after an item
 abbrev pub end_on : ShapeItem → Shape → List ℕ → List ℕ
@@ -180,7 +164,7 @@ content_is ind (Recipe parts) more =
 content_is ind (Setting parts) more = setting_is parts more
 content_is ind (Unexport name) more = unexport_is name more
 
-item_is : (ind : List ℕ) (i : ShapeItem) (more : List ℕ) → NoDoc i → item_text i ind ++ more ≡ item_on ind i more
+item_is : (ind : List ℕ) (i : ShapeItem) (more : List ℕ) → IsPlain i → item_text i ind ++ more ≡ item_on ind i more
 item_is ind Newline more h = refl
 item_is ind (Comment t) more h = refl
 item_is ind (Construct entries content) more h =
@@ -190,14 +174,11 @@ item_is ind (Construct entries content) more h =
 end_is : (i : ShapeItem) (items : Shape) (more : List ℕ) → item_end i items ++ more ≡ end_on i items more
 unfolding fixed_text
 end_is Newline items more = refl
-end_is (Comment t) [] more = refl
-end_is (Comment t) (Newline ∷ items) more = refl
-end_is (Comment t) (j ∷ items) more = refl
-end_is (Construct entries content) [] more = refl
-end_is (Construct entries content) (Newline ∷ items) more = refl
-end_is (Construct entries content) (j ∷ items) more = refl
+end_is i [] more = refl
+end_is i (Newline ∷ items) more = refl
+end_is i (j ∷ items) more = refl
 
-pub text_is : (items : Shape) (indentation : List ℕ) → NoDocs items → text items indentation ≡ text_on indentation items
+pub text_is : (items : Shape) (indentation : List ℕ) → AllByRecursion IsPlain items → text items indentation ≡ text_on indentation items
 text_is [] indentation h = refl
 text_is (i ∷ items) indentation h =
     append_assoc (item_text i indentation) (item_end i items) (text items indentation)

@@ -142,13 +142,8 @@ module _ (feature : ListFeature) where
     written_docs_weight = docs_written_counts shape_weight weight_counts
 
     newline_weight : (s : Shape) → shape_weight (after_newline s) ≡ shape_weight s
-    newline_weight [] = refl
-    newline_weight (tree.Newline ∷ []) = refl
     newline_weight (tree.Newline ∷ tree.Newline ∷ s) = refl
-    newline_weight (tree.Newline ∷ tree.Comment t ∷ s) = refl
-    newline_weight (tree.Newline ∷ Construct entries content ∷ s) = refl
-    newline_weight (tree.Comment t ∷ s) = refl
-    newline_weight (Construct entries content ∷ s) = refl
+    newline_weight _ = refl
 
     rest_weight : (s : Shape) → shape_weight (normal_rest s) ≡ shape_weight s
     rest_weight [] = refl

@@ -14,17 +14,8 @@ use Rattle.justfile_round_trip.proofs.Canon.{Shown, Value, Values, ShapeContent,
 use Rattle.justfile_round_trip.proofs.Headers.CanonHeaders.{ShapeHeader}
 use Rattle.justfile_round_trip.proofs.Items.CanonItems.{body_in}
 use Rattle.justfile_round_trip.proofs.Items.CanonParts.{ShapeQuoted, ShapeSetting}
-use Rattle.justfile_round_trip.proofs.Good.{GoodExpression, GoodName, GoodValues, IsString, significant}
+use Rattle.justfile_round_trip.proofs.Good.{GoodExpression, GoodName, GoodValues, IsString, significant, GoodNames, GoodPath}
 use Rattle.justfile_round_trip.proofs.Headers.GoodHeaders.{GoodHeader}
-
-abbrev pub GoodNames : List (List ℕ) → Type 0
-GoodNames [] = Unit {0}
-GoodNames (name ∷ names) = GoodName name × GoodNames names
-
--- a path has a name at least
-abbrev pub GoodPath : List (List ℕ) → Type 0
-GoodPath [] = ⊥
-GoodPath (name ∷ names) = GoodName name × GoodNames names
 
 pub record GoodFilePath (q : ShapeQuoted) : Type 0 where
   pub is_string : IsString q.token

@@ -1,13 +1,16 @@
 -- Good items of shapes: they are arranged in lines, and their attributes and contents are good.
-use Rattle.std.proofs.Common.{◌≡◌, ℕ, Bool, true, false, List, [], ◌∷◌, Option, refl}
+use Rattle.std.proofs.Common.{◌≡◌, ℕ, Bool, true, false, List, [], ◌∷◌, Option, None, refl}
 use Rattle.std.specs.Prelude.{◌||◌, not}
+use Rattle.std.specs.List.{AllByRecursion}
+use Rattle.justfile_model.specs.Grammars.Docs.{doc_of}
+use Rattle.justfile_model.proofs.Printed.PlainFiles.{IsPlain}
 use Rattle.justfile_model.specs.Lexing.Modes.{is_empty}
 use Rattle.justfile_model.specs.Trees.Tree as tree
 use Rattle.justfile_model.specs.Trees.Tree.{Shape}
-use Rattle.justfile_round_trip.proofs.Canon.{ShapeLine, ShapeContent}
+use Rattle.justfile_round_trip.proofs.Canon.{ShapeLine, ShapeContent, ShapeItem}
 use Rattle.justfile_round_trip.proofs.Attributes.CanonAttributes.{ShapeEntry}
 use Rattle.justfile_round_trip.proofs.Headers.CanonHeaders.{ShapeHeader}
-use Rattle.justfile_round_trip.proofs.Items.CanonItems.{NoDocs, recipe_item}
+use Rattle.justfile_round_trip.proofs.Items.CanonItems.{recipe_item}
 use Rattle.justfile_round_trip.proofs.Good.{GoodComment, GoodOptionalComment, EndedBody, pale_after}
 use Rattle.justfile_round_trip.proofs.Attributes.GoodAttributes.{GoodEntries}
 use Rattle.justfile_round_trip.proofs.Items.GoodContents.{GoodContent, content_no_doc}
@@ -55,21 +58,27 @@ module _ (limit : ℕ) where
   After true items = AtEnd items
   After false items = ItemRest items
 
-  mutual
-    -- they have no docs: what they are printed with are comments
-    pub start_no_doc : {items : Shape} → AtStart items → NoDocs items
-    start_no_doc end = tt
-    start_no_doc (newline more) = (tt, start_no_doc more)
-    start_no_doc (comment c more) = (tt, end_no_doc more)
-    start_no_doc (on_line attributes h more) = (content_no_doc limit h, rest_no_doc more)
-    start_no_doc (recipe attributes h c body (body_end follows last more)) = (refl, (tt, start_no_doc more))
+  -- what line ends, good comments and constructs without a doc have, each of the items has
+  module _ (P : ShapeItem → Type 0) (of_newline : P tree.Newline) (of_comment : (t : List ℕ) → GoodComment t → P (tree.Comment t))
+      (of_construct : (entries : List ShapeEntry) (content : ShapeContent) → doc_of content ≡ None → P (tree.Construct entries content)) where
+    mutual
+      pub start_has : {items : Shape} → AtStart items → AllByRecursion P items
+      start_has end = tt
+      start_has (newline more) = (of_newline, start_has more)
+      start_has (comment {t} c more) = (of_comment t c, end_has more)
+      start_has (on_line {entries} {content} attributes h more) = (of_construct entries content (content_no_doc limit h), rest_has more)
+      start_has (recipe attributes h c body (body_end follows last more)) = (of_construct _ _ refl, (of_newline, start_has more))
 
-    rest_no_doc : {items : Shape} → ItemRest items → NoDocs items
-    rest_no_doc (trailing c more) = (tt, end_no_doc more)
-    rest_no_doc (bare more) = end_no_doc more
+      rest_has : {items : Shape} → ItemRest items → AllByRecursion P items
+      rest_has (trailing {t} c more) = (of_comment t c, end_has more)
+      rest_has (bare more) = end_has more
 
-    end_no_doc : {items : Shape} → AtEnd items → NoDocs items
-    end_no_doc (line_end more) = (tt, start_no_doc more)
+      end_has : {items : Shape} → AtEnd items → AllByRecursion P items
+      end_has (line_end more) = (of_newline, start_has more)
+
+  -- they have no docs: what they are printed with are comments
+  pub start_plain : {items : Shape} → AtStart items → AllByRecursion IsPlain items
+  start_plain = start_has IsPlain tt (λ t c. tt) (λ entries content e. e)
 
   pub past_newline : {items : Shape} → AtStart (tree.Newline ∷ items) → AtStart items
   past_newline (newline h) = h

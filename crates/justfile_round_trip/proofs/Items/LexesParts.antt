@@ -8,54 +8,19 @@ use Rattle.justfile_model.specs.Grammars.Settings.{ExpressionForm, InterpreterFo
 use Rattle.justfile_model.specs.Trees.Tree as tree
 use Rattle.justfile_model.specs.Trees.Tree.{assignment_of, bare_module}
 use Rattle.justfile_round_trip.proofs.LiteralTexts.LexedModes.{Mark, LexesTo}
-use Rattle.justfile_round_trip.proofs.LiteralTexts.Inline.{head_is, joins, head_word, amid, IsName, name_step, space_step}
+use Rattle.justfile_round_trip.proofs.LiteralTexts.Inline.{head_is, joins, head_word, amid, name_step, word_step, space_step}
 use Rattle.justfile_round_trip.proofs.Fixed as fixed
-use Rattle.justfile_round_trip.proofs.Fixed.{close_bracket_step, close_paren_step, open_bracket_step, open_paren_step, token_step}
-use Rattle.justfile_round_trip.proofs.RecipeBodies.Lines.{at_item, item_name}
+use Rattle.justfile_round_trip.proofs.Fixed.{close_step, open_step, token_step}
+use Rattle.justfile_round_trip.proofs.RecipeBodies.Lines.{at_item, item_name, item_word}
 use Rattle.justfile_round_trip.proofs.Canon.{Value, ShapeContent, expr_on, expr_marks, paren_right, space}
 use Rattle.justfile_round_trip.proofs.Headers.CanonHeaders.{path_on, path_marks}
 use Rattle.justfile_round_trip.proofs.Items.CanonItems.{content_on, content_marks}
 use Rattle.justfile_round_trip.proofs.Items.CanonParts.{ShapeQuoted, ShapeSetting, path_value, colon_equals, question_on, other_names_on, names_on, file_path_on, optional_path_on, setting_value_on, question_marks, other_names_marks, names_marks, file_path_marks, optional_path_marks, setting_value_marks}
-use Rattle.justfile_round_trip.proofs.Good.{GoodExpression, GoodName, GoodValue}
-use Rattle.justfile_round_trip.proofs.Headers.GoodHeaders.{AreNames, IsPath}
+use Rattle.justfile_round_trip.proofs.Good.{GoodExpression, GoodName, GoodValue, GoodNames, GoodPath}
 use Rattle.justfile_round_trip.proofs.Items.GoodContents as good
-use Rattle.justfile_round_trip.proofs.Items.GoodContents.{GoodContent, GoodFilePath, GoodNames, GoodOptionalPath, GoodPath, GoodSettingValue}
+use Rattle.justfile_round_trip.proofs.Items.GoodContents.{GoodContent, GoodFilePath, GoodOptionalPath, GoodSettingValue}
 use Rattle.justfile_round_trip.proofs.Headers.LexesHeaders.{lex_header, lex_path, path_no_blank}
 use Rattle.justfile_round_trip.proofs.Values.LexesValues.{name_no_blank, value_no_blank, lex_value, lex_values}
-
--- ---- the words
-
-pub alias_word : IsName (codes "alias")
-unfolding class_of
-alias_word = (refl, (refl, (refl, (refl, (refl, tt)))))
-
-pub eager_word : IsName (codes "eager")
-unfolding class_of
-eager_word = (refl, (refl, (refl, (refl, (refl, tt)))))
-
-pub export_word : IsName (codes "export")
-unfolding class_of
-export_word = (refl, (refl, (refl, (refl, (refl, (refl, tt))))))
-
-false_word : IsName (codes "false")
-unfolding class_of
-false_word = (refl, (refl, (refl, (refl, (refl, tt)))))
-
-pub import_word : IsName (codes "import")
-unfolding class_of
-import_word = (refl, (refl, (refl, (refl, (refl, (refl, tt))))))
-
-pub module_word : IsName (codes "mod")
-unfolding class_of
-module_word = (refl, (refl, (refl, tt)))
-
-pub set_word : IsName (codes "set")
-unfolding class_of
-set_word = (refl, (refl, (refl, tt)))
-
-pub unexport_word : IsName (codes "unexport")
-unfolding class_of
-unexport_word = (refl, (refl, (refl, (refl, (refl, (refl, (refl, (refl, tt))))))))
 
 -- ---- how parts begin
 
@@ -80,10 +45,6 @@ value_joins (tree.Truth true) more h = h
 value_joins (tree.Truth false) more h = refl
 value_joins _ more h = refl
 
-names_of : (names : List (List ℕ)) → GoodNames names → AreNames names
-names_of [] h = tt
-names_of (n ∷ names) h = (h.0.is_name, names_of names h.1)
-
 module _ (c : Bool) where
   -- ---- parts
 
@@ -95,13 +56,13 @@ module _ (c : Bool) where
   lex_other_names : (line : ℕ) (names : List (List ℕ)) {more : List ℕ} {ts : List Mark} → GoodNames names → LexesTo (amid [] [] c None false) more ts
       → (f : Bool)
       → LexesTo (amid (opener Paren line ∷ []) [] c None f) (other_names_on names (41 ∷ more)) (other_names_marks names (paren_right ∷ ts))
-  lex_other_names line [] h k f = close_paren_step k
+  lex_other_names line [] h k f = close_step fixed.end_paren k
   lex_other_names line (n ∷ names) {more} h k f =
       token_step fixed.comma (space_step (name_no_blank n _ h.0.is_name) (name_step n h.0.is_name (head_word _ (names_join names more)) (lex_other_names line names h.1 k _)))
 
   lex_names : (line : ℕ) (names : List (List ℕ)) {more : List ℕ} {ts : List Mark} → GoodNames names → LexesTo (amid [] [] c None false) more ts
       → LexesTo (amid (opener Paren line ∷ []) [] c None false) (names_on names (41 ∷ more)) (names_marks names (paren_right ∷ ts))
-  lex_names line [] h k = close_paren_step k
+  lex_names line [] h k = close_step fixed.end_paren k
   lex_names line (n ∷ names) {more} h k = name_step n h.0.is_name (head_word _ (names_join names more)) (lex_other_names line names h.1 k _)
 
   lex_file_path : (q : ShapeQuoted) {more : List ℕ} {ts : List Mark} → GoodFilePath q → head_is joins more ≡ false
@@ -127,10 +88,7 @@ module _ (c : Bool) where
   lex_target : (names : List (List ℕ)) {more : List ℕ} {ts : List Mark} → GoodPath names → head_is joins more ≡ false
       → ((f : Bool) → LexesTo (amid [] [] c None f) more ts)
       → LexesTo (amid [] [] c None false) (32 ∷ path_on names more) (space ∷ path_marks names ts)
-  lex_target [] h stop k = absurd h
-  lex_target (n ∷ names) h stop k =
-      let path : IsPath (n ∷ names) = (h.0.is_name, names_of names h.1) in
-      space_step (path_no_blank (n ∷ names) _ path) (lex_path c [] (n ∷ names) path stop k)
+  lex_target names h stop k = space_step (path_no_blank names _ h) (lex_path c [] names h stop k)
 
   module _ (limit : ℕ) where
     lex_setting_value : (form : SettingForm) (v : ShapeSetting) {more : List ℕ} {ts : List Mark} → GoodSettingValue limit form v → head_is joins more ≡ false
@@ -139,12 +97,12 @@ module _ (c : Bool) where
     unfolding class_of
     lex_setting_value TruthForm (tree.Truth true) h stop k f = k f
     lex_setting_value TruthForm (tree.Truth false) {more} h stop k f =
-        space_step refl (token_step fixed.colon_equals (space_step refl (name_step (codes "false") false_word (head_word more stop) (k _))))
+        space_step refl (token_step fixed.colon_equals (space_step refl (word_step (codes "false") refl (head_word more stop) (k _))))
     lex_setting_value ExpressionForm (tree.Value value) h stop k f = lex_assigned value h.lexes stop k f
     lex_setting_value PlainForm (tree.Value value) h stop k f = lex_assigned value h.lexes stop k f
     lex_setting_value InterpreterForm (tree.Interpreter command arguments) h stop k f =
-        space_step refl (token_step fixed.colon_equals (space_step refl (open_bracket_step
-        (λ line. lex_values [] c None (opener Bracket line ∷ []) (tree.more command arguments) h.lexes refl (λ f. close_bracket_step (k false))))))
+        space_step refl (token_step fixed.colon_equals (space_step refl (open_step fixed.bracket
+        (λ line. lex_values [] c None (opener Bracket line ∷ []) (tree.more command arguments) h.lexes refl (λ f. close_step fixed.end_bracket (k false))))))
     lex_setting_value form v h stop k f = absurd h
 
     -- a name and its value, at the start of a line or after a word
@@ -154,10 +112,10 @@ module _ (c : Bool) where
     unfolding class_of
     lex_assignment false false name value one named h stop k = item_name c name named.is_name refl (lex_assigned value h.lexes stop k _)
     lex_assignment true false name value one named h stop k =
-        item_name c (codes "eager") eager_word refl
+        item_word c (codes "eager") refl refl
         (space_step (name_no_blank name _ named.is_name) (name_step name named.is_name refl (lex_assigned value h.lexes stop k _)))
     lex_assignment false true name value one named h stop k =
-        item_name c (codes "export") export_word refl
+        item_word c (codes "export") refl refl
         (space_step (name_no_blank name _ named.is_name) (name_step name named.is_name refl (lex_assigned value h.lexes stop k _)))
     lex_assignment true true name value one named h stop k = cc
 
@@ -167,26 +125,26 @@ module _ (c : Bool) where
         → LexesTo (at_item c) (content_on ind content (x ∷ more)) (content_marks content ts)
     unfolding class_of
     lex_content (good.alias {name = name} {target = target} named path) ind x equals colons stop k =
-        item_name c (codes "alias") alias_word refl
+        item_word c (codes "alias") refl refl
         (space_step (name_no_blank name _ named.is_name) (name_step name named.is_name refl
         (space_step refl (token_step fixed.colon_equals (lex_target target path stop (k c))))))
     lex_content (good.assignment {eager = eager} {export = export} {name = name} {value = value} one named h) ind x equals colons stop k =
         lex_assignment eager export name value one named h stop (k c)
     lex_content (good.function {name = name} {parameters = parameters} {body = body} named names h) ind x equals colons stop k =
-        item_name c name named.is_name refl (open_paren_step (λ line. lex_names line parameters names (lex_assigned body h.lexes stop (k c) false)))
+        item_name c name named.is_name refl (open_step fixed.paren (λ line. lex_names line parameters names (lex_assigned body h.lexes stop (k c) false)))
     lex_content (good.import {optional = optional} {path = path} h) ind x {more} equals colons stop k =
-        item_name c (codes "import") import_word (question_no_word optional _)
+        item_word c (codes "import") refl (question_no_word optional _)
         (lex_question optional (λ f. space_step (value_no_blank (path_value path) (x ∷ more) h.is_string) (lex_file_path path h stop (k c))) _)
     lex_content (good.module_named {optional = optional} {name = name} {path = path} named h) ind x {more} equals colons stop k =
-        item_name c (codes "mod") module_word (question_no_word optional _)
+        item_word c (codes "mod") refl (question_no_word optional _)
         (lex_question optional
         (λ f. space_step (name_no_blank name _ named.is_name)
         (name_step name named.is_name (head_word (optional_path_on path (x ∷ more)) (path_joins path (x ∷ more) stop)) (lex_optional_path path h stop (k c) _))) _)
     lex_content (good.header {h = header} h) ind x equals colons stop k = lex_header c header x h.lexes equals colons stop (k true)
     lex_content (good.setting {form = form} {name = name} {value = value} named spelled formed h) ind x {more} equals colons stop k =
-        item_name c (codes "set") set_word refl
+        item_word c (codes "set") refl refl
         (space_step (name_no_blank name _ named.is_name)
         (name_step name named.is_name (head_word (setting_value_on value (x ∷ more)) (value_joins value (x ∷ more) stop)) (lex_setting_value form value h stop (k c) _)))
     lex_content (good.unexport {name = name} named) ind x {more} equals colons stop k =
-        item_name c (codes "unexport") unexport_word refl
+        item_word c (codes "unexport") refl refl
         (space_step (name_no_blank name _ named.is_name) (name_step name named.is_name (head_word (x ∷ more) stop) (k c _)))

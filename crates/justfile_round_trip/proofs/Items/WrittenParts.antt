@@ -1,63 +1,20 @@
--- Properties of the tokens of any text outside of bodies; and the parts of items there, other than headers, are good.
-use Rattle.std.proofs.Common.{ℕ, Bool, false, List, ◌∷◌, None, ◌≡◌, refl}
-use Rattle.std.specs.Str.{trim_end}
-use Rattle.justfile_vocabulary.specs.declared.token_kind.TokenKind.{TokenKind}
+-- In any text the parts of items other than headers are good.
+use Rattle.std.proofs.Common.{ℕ, false, List, ◌∷◌, None, refl}
+use Rattle.justfile_round_trip.proofs.Ahead.{Ahead, Passed, keep_quiet, lexed_name, past_token, value_good}
 use Rattle.justfile_vocabulary.specs.declared.token_kind.TokenKind.TheVariants as kinds
-use Rattle.justfile_model.specs.Grammars.Expressions.{Tokens, IsKind, BelowLimit, Expression, Sequence}
-use Rattle.justfile_model.specs.Grammars.Headers as h
-use Rattle.justfile_model.specs.Grammars.Headers.{PathOf, PathRest}
+use Rattle.justfile_model.specs.Grammars.Expressions.{Tokens, BelowLimit, Sequence}
 use Rattle.justfile_model.specs.Grammars.ItemParts as g
 use Rattle.justfile_model.specs.Grammars.ItemParts.{FilePath, Names, ValueOf}
 use Rattle.justfile_model.specs.Grammars.Settings.{SettingForm}
-use Rattle.justfile_model.specs.Lexing.SignificantTokens.{SignificantToken}
 use Rattle.justfile_model.specs.Trees.Tree.{lexeme, nothing}
-use Rattle.justfile_round_trip.proofs.RecipeBodies.BodyGood.{IsOutside, Walked, outside_after, quiet_stays, shifts, walk_outside}
-use Rattle.justfile_round_trip.proofs.Canon.{Shown, Value, Values}
+use Rattle.justfile_round_trip.proofs.RecipeBodies.BodyGood.{IsOutside, Walked, outside_after, quiet_walk}
+use Rattle.justfile_round_trip.proofs.Canon.{Shown, Values}
 use Rattle.justfile_round_trip.proofs.Items.CanonParts.{ShapeQuoted, ShapeSetting}
-use Rattle.justfile_round_trip.proofs.Comments.{good_comment}
-use Rattle.justfile_round_trip.proofs.Good.{GoodComment, GoodExpression, GoodName}
-use Rattle.justfile_round_trip.proofs.Items.GoodContents.{GoodFilePath, GoodNames, GoodPath, GoodSequence, GoodSettingValue}
-use Rattle.justfile_round_trip.proofs.Values.TokenFacts.{Around, Known, Sound, around, is_comment, outside}
+use Rattle.justfile_round_trip.proofs.Good.{GoodNames}
+use Rattle.justfile_round_trip.proofs.Items.GoodContents.{GoodFilePath, GoodSequence, GoodSettingValue}
+use Rattle.justfile_round_trip.proofs.Values.TokenFacts.{outside}
 use Rattle.justfile_round_trip.proofs.Walks.{walk_sequence}
-use Rattle.justfile_round_trip.proofs.Headers.WalksHeaders.{past_walked}
-use Rattle.justfile_round_trip.proofs.Values.WrittenValues.{fact_as, good_expression, good_sequence, past, sequence_at, value_at, within}
-
--- Of the tokens outside bodies: what is open around them, and what is known of each of them and of the bodies after them. A comment is the
--- token before them, or not.
-pub record Ahead (s : Around) (c : Bool) (ts : Tokens) : Type 0 where
-  pub facts : Sound s c ts
-  pub bodies : Walked IsOutside ts
-
--- after a token that doesn't begin or end a body
-pub past_token : {s : Around} {c : Bool} (t : SignificantToken) (ts : Tokens) (k : TokenKind) → IsKind k t → shifts k ≡ false → Ahead s c (t ∷ ts)
-    → Ahead (around k t.tok.lexeme s) (is_comment k) ts
-past_token {s} t ts k e stays h = record { facts = past s t ts k e h.facts.2; bodies = past_walked IsOutside outside_after t ts k e stays h.bodies }
-
-pub lexed_comment : {s : Around} {c : Bool} (t : SignificantToken) → IsKind kinds.Comment t → Known s c t.tok → GoodComment (trim_end t.tok.lexeme)
-lexed_comment t kind h = good_comment t.tok.lexeme h.utf8 (fact_as t kinds.Comment kind h)
-
-pub lexed_name : {s : Around} {c : Bool} (t : SignificantToken) → IsKind kinds.Identifier t → Known s c t.tok → GoodName t.tok.lexeme
-lexed_name t kind h = record { is_name = fact_as t kinds.Identifier kind h; utf8 = h.utf8 }
-
--- ---- the parts of items
-
--- a part that is good, and the properties of the tokens after it
-pub record Passed (Good : Type 0) (rest : Tokens) : Type 0 where
-  pub good : Good
-  pub following : Ahead outside false rest
-
--- the names of a path after its first one
-path_rest_good : {names : List (List ℕ)} {ts rest : Tokens} → PathRest lexeme names ts rest → Ahead outside false ts → Passed (GoodNames names) rest
-path_rest_good (h.last next) a = record { good = tt; following = a }
-path_rest_good (h.next {colons = t} {name = u} {tokens = ts} kind kind2 r) a =
-    let named = past_token t (u ∷ ts) kinds.ColonColon kind refl a in
-    let x = path_rest_good r (past_token u ts kinds.Identifier kind2 refl named) in
-    record { good = (lexed_name u kind2 named.facts.0, x.good); following = x.following }
-
-pub path_good : {names : List (List ℕ)} {ts rest : Tokens} → PathOf lexeme names ts rest → Ahead outside false ts → Passed (GoodPath names) rest
-path_good (h.path {name = t} {tokens = ts} kind r) a =
-    let x = path_rest_good r (past_token t ts kinds.Identifier kind refl a) in
-    record { good = (lexed_name t kind a.facts.0, x.good); following = x.following }
+use Rattle.justfile_round_trip.proofs.Values.WrittenValues.{fact_as, good_sequence, sequence_at, within}
 
 pub file_path_good : {q : ShapeQuoted} {ts rest : Tokens} → FilePath lexeme q ts rest → Ahead outside false ts → Passed (GoodFilePath q) rest
 file_path_good (g.plain {token = t} {rest = rest} kind) a = record {
@@ -83,12 +40,6 @@ names_good (g.more {name = t} {comma = u} {tokens = ts} kind kind2 r) a =
     record { good = (lexed_name t kind a.facts.0, x.good); following = x.following }
 
 module _ (limit : ℕ) where
-  pub value_good : {v : Value} {fs : Shown} {ts rest : Tokens} → Expression lexeme nothing (BelowLimit limit) false 0 v fs ts rest → Ahead outside false ts
-      → Passed (GoodExpression limit v) rest
-  value_good x a =
-      let v = value_at (BelowLimit limit) x outside false a.facts in
-      record { good = good_expression limit x v; following = record { facts = v.following; bodies = walk_outside limit x a.bodies } }
-
   -- inside brackets, and past the closing one
   pub sequence_good : {es : Values} {fs : Shown} {ts rest : Tokens} → Sequence lexeme nothing (BelowLimit limit) kinds.BracketR 0 es fs ts rest
       → Ahead (within outside None) false ts → Passed (GoodSequence limit es) rest
@@ -98,7 +49,7 @@ module _ (limit : ℕ) where
         good = good_sequence limit xs v;
         following = record {
           facts = v.following;
-          bodies = walk_sequence lexeme nothing (BelowLimit limit) (Walked IsOutside) (λ k t rest e quiets w. past_walked IsOutside outside_after t rest k e (quiet_stays k quiets) w) xs refl a.bodies;
+          bodies = walk_sequence lexeme nothing (BelowLimit limit) (Walked IsOutside) (quiet_walk IsOutside (keep_quiet outside_after)) xs refl a.bodies;
         };
       }
 
@@ -110,7 +61,7 @@ module _ (limit : ℕ) where
       record { good = tt; following = past_token u rest kinds.Identifier is.is_name refl (past_token t (u ∷ rest) kinds.ColonEquals kind refl a) }
   setting_value_good (g.no {operator = t} {word = u} {rest = rest} kind is) a =
       record { good = tt; following = past_token u rest kinds.Identifier is.is_name refl (past_token t (u ∷ rest) kinds.ColonEquals kind refl a) }
-  setting_value_good (g.expression {operator = t} {tokens = ts} kind x) a = value_good x (past_token t ts kinds.ColonEquals kind refl a)
-  setting_value_good (g.plain {operator = t} {tokens = ts} kind x) a = value_good x (past_token t ts kinds.ColonEquals kind refl a)
+  setting_value_good (g.expression {operator = t} {tokens = ts} kind x) a = value_good limit x (past_token t ts kinds.ColonEquals kind refl a)
+  setting_value_good (g.plain {operator = t} {tokens = ts} kind x) a = value_good limit x (past_token t ts kinds.ColonEquals kind refl a)
   setting_value_good (g.interpreter {operator = t} {opener = u} {tokens = ts} kind kind2 xs) a =
       sequence_good xs (past_token u ts kinds.BracketL kind2 refl (past_token t (u ∷ ts) kinds.ColonEquals kind refl a))

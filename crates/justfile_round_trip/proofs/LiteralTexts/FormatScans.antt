@@ -38,11 +38,8 @@ step_stable k x us vs n same_hidden same_end ih e =
 whole_ends : (d : StringDelimiter) (i : Bool) (more : List ℕ) → scan (record { delimiter = d; indented = i }) true 0 (delimiter_of (record { delimiter = d; indented = i }) ++ more) ≡ 0
 unfolding pieces_len
 whole_ends delimiters.Backtick true more = refl
-whole_ends delimiters.Backtick false more = refl
-whole_ends delimiters.QuoteDouble true more = refl
-whole_ends delimiters.QuoteDouble false more = refl
-whole_ends delimiters.QuoteSingle true more = refl
-whole_ends delimiters.QuoteSingle false more = refl
+whole_ends _ true more = refl
+whole_ends _ _ more = refl
 
 not_both : (p r s : Bool) → ((p && false) && r) ≡ ((p && false) && s)
 not_both true r s = refl
@@ -51,14 +48,11 @@ not_both false r s = refl
 -- no brace is in a delimiter
 same_escape : (d : StringDelimiter) (i : Bool) (xs a b : List ℕ) → is_interpolation_escape (xs ++ (delimiter_of (record { delimiter = d; indented = i }) ++ a)) ≡ is_interpolation_escape (xs ++ (delimiter_of (record { delimiter = d; indented = i }) ++ b))
 same_escape delimiters.Backtick i [] a b = refl
-same_escape delimiters.QuoteDouble i [] a b = refl
-same_escape delimiters.QuoteSingle i [] a b = refl
+same_escape _ i [] a b = refl
 same_escape delimiters.Backtick i (x ∷ []) a b = not_both (eqb x 123) _ _
-same_escape delimiters.QuoteDouble i (x ∷ []) a b = not_both (eqb x 123) _ _
-same_escape delimiters.QuoteSingle i (x ∷ []) a b = not_both (eqb x 123) _ _
+same_escape _ i (x ∷ []) a b = not_both (eqb x 123) _ _
 same_escape delimiters.Backtick i (x ∷ y ∷ []) a b = refl
-same_escape delimiters.QuoteDouble i (x ∷ y ∷ []) a b = refl
-same_escape delimiters.QuoteSingle i (x ∷ y ∷ []) a b = refl
+same_escape _ i (x ∷ y ∷ []) a b = refl
 same_escape d i (x ∷ y ∷ z ∷ []) a b = refl
 same_escape d i (x ∷ y ∷ z ∷ w ∷ xs) a b = refl
 
@@ -82,11 +76,8 @@ whole_stable k zero (x ∷ xs) a b e =
 braces_end : (d : StringDelimiter) (i : Bool) (more : List ℕ) → scan (record { delimiter = d; indented = i }) true 0 (123 ∷ 123 ∷ 32 ∷ more) ≡ 0
 unfolding pieces_len
 braces_end delimiters.Backtick true more = refl
-braces_end delimiters.Backtick false more = refl
-braces_end delimiters.QuoteDouble true more = refl
-braces_end delimiters.QuoteDouble false more = refl
-braces_end delimiters.QuoteSingle true more = refl
-braces_end delimiters.QuoteSingle false more = refl
+braces_end _ true more = refl
+braces_end _ _ more = refl
 
 -- after one byte: it hides no brace, and is none
 braces_one : (k : StringKind) (x : ℕ) (a b : List ℕ) → scan k true 0 (x ∷ 123 ∷ 123 ∷ a) ≡ 1 → scan k true 0 (x ∷ 123 ∷ 123 ∷ 32 ∷ b) ≡ 1

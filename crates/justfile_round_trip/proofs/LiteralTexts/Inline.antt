@@ -5,6 +5,8 @@ use Rattle.std.specs.List.{prefix_len, count_by}
 use Rattle.std.proofs.lemmas.List.{append-nil}
 use Rattle.std.specs.Str.{bytes_eq}
 use Rattle.std.proofs.lemmas.Bool.Decides.{nat_tests}
+use Rattle.std.proofs.lemmas.Bool.{and_parts}
+use Rattle.std.proofs.Math.Bool.{and-false}
 use Rattle.justfile_vocabulary.specs.declared.byte_class.ByteClass.{ByteClass}
 use Rattle.justfile_vocabulary.specs.declared.byte_class.ByteClass.TheVariants as classes
 use Rattle.justfile_token.specs.declared.delimiter.Delimiter.TheVariants.{FormatString}
@@ -68,6 +70,33 @@ abbrev pub IsName : List ℕ → Type 0
 IsName [] = ⊥
 IsName (c ∷ cs) = (class_of c ≡ classes.IdentifierStart) × Each in_word cs
 
+-- ---- fixed words
+
+abbrev all_word : List ℕ → Bool
+all_word [] = true
+all_word (b ∷ bs) = in_word (class_of b) && all_word bs
+
+each_word : (bs : List ℕ) → all_word bs ≡ true → Each in_word bs
+each_word [] h = tt
+each_word (b ∷ bs) h = let p = and_parts (in_word (class_of b)) (all_word bs) h in (p.0, each_word bs p.1)
+
+abbrev starts : ByteClass → Bool
+starts classes.IdentifierStart = true
+starts _ = false
+
+starts_name : (c : ByteClass) → starts c ≡ true → c ≡ classes.IdentifierStart
+starts_name classes.IdentifierStart h = refl
+starts_name _ h = cc
+
+-- a fixed word that is a name
+abbrev pub is_word : List ℕ → Bool
+is_word [] = false
+is_word (b ∷ bs) = starts (class_of b) && all_word bs
+
+pub word_name : (w : List ℕ) → is_word w ≡ true → IsName w
+word_name [] h = cc
+word_name (b ∷ bs) h = let p = and_parts (starts (class_of b)) (all_word bs) h in (starts_name (class_of b) p.0, each_word bs p.1)
+
 starts_no_brace : (x : ℕ) → class_of x ≡ classes.IdentifierStart → eqb x 125 ≡ false
 unfolding class_of
 starts_no_brace x h = go (eqb x 125) refl
@@ -79,10 +108,6 @@ starts_no_brace x h = go (eqb x 125) refl
 pub and_false : (a b c : Bool) → b ≡ false → (a && (b && c)) ≡ false
 and_false true b c e = rw e refl
 and_false false b c e = refl
-
-pub and_no : (a : Bool) → (a && false) ≡ false
-and_no true = refl
-and_no false = refl
 
 module _ {os : List OpenDelimiter} {ls : List (List ℕ)} {c : Bool} {i : Option Tok} {f : Bool} where
   pub name_step : (n : List ℕ) {more : List ℕ} {ts : List Mark} → IsName n → head_is in_word more ≡ false → LexesTo (amid os ls c i (bytes_eq n (102 ∷ []))) more ts → LexesTo (amid os ls c i f) (n ++ more) (mark Identifier n ∷ ts)
@@ -96,11 +121,15 @@ module _ {os : List OpenDelimiter} {ls : List (List ℕ)} {c : Bool} {i : Option
       ∙ ap (λ n. Ok (Identifier, n)) (run_each in_word (x ∷ xs) more word stop))
       (λ e. cc) (λ o n col. k)
 
+  pub word_step : (w : List ℕ) {more : List ℕ} {ts : List Mark} → is_word w ≡ true → head_is in_word more ≡ false
+      → LexesTo (amid os ls c i (bytes_eq w (102 ∷ []))) more ts → LexesTo (amid os ls c i f) (w ++ more) (mark Identifier w ∷ ts)
+  word_step w h stop k = name_step w (word_name w h) stop k
+
   pub space_step : {more : List ℕ} {ts : List Mark} → head_is blank more ≡ false → LexesTo (amid os ls c i false) more ts → LexesTo (amid os ls c i f) (32 ∷ more) (mark Whitespace (32 ∷ []) ∷ ts)
   unfolding token_by_class class_of
   space_step {more} {ts} stop k =
       step (amid os ls c i f) Whitespace (32 ∷ []) more ts
-      (amid_next os ls c i f 32 more (and_no (is_empty os)) ∙ ap (λ n. Ok (Whitespace, n)) (run_each blank (32 ∷ []) more (refl, tt) stop))
+      (amid_next os ls c i f 32 more (and-false (is_empty os)) ∙ ap (λ n. Ok (Whitespace, n)) (run_each blank (32 ∷ []) more (refl, tt) stop))
       (λ e. cc) (λ o n col. k)
 
 -- Literals.

@@ -1,8 +1,9 @@
 -- Format mode and plain mode agree on a literal.
 use Rattle.std.proofs.Common.{◌≡◌, ℕ, zero, suc, ◌+◌, ◌<◌, min, Bool, true, false, cond, eqb, ltb, List, [], ◌∷◌, length, get_or, take, drop, ◌⊎◌, inl, inr, ⊎_elim, refl, sym, ap, ◌∙◌, arith}
 use Rattle.std.specs.Prelude.{◌&&◌, ◌||◌, not}
-use Rattle.std.proofs.lemmas.Bool.{and_parts, cases_lt}
+use Rattle.std.proofs.lemmas.Bool.{and_parts, cases_lt, not-true}
 use Rattle.std.proofs.lemmas.List.{get_or-drop}
+use Rattle.std.proofs.Math.Bool.{or-false}
 use Rattle.justfile_token.specs.declared.string_kind.StringDelimiter.{StringDelimiter}
 use Rattle.justfile_token.specs.declared.string_kind.StringDelimiter.TheVariants as delimiters
 use Rattle.justfile_token.specs.declared.string_kind.StringKind.{StringKind}
@@ -26,11 +27,8 @@ Hidden (suc n) (suc m) (b ∷ bs) = Hidden n m bs
 no_brace : (d : StringDelimiter) (i : Bool) (bs : List ℕ) → scan (record { delimiter = d; indented = i }) false 0 (123 ∷ bs) ≡ suc (scan (record { delimiter = d; indented = i }) false 0 bs)
 unfolding pieces_len
 no_brace delimiters.Backtick true bs = refl
-no_brace delimiters.Backtick false bs = refl
-no_brace delimiters.QuoteDouble true bs = refl
-no_brace delimiters.QuoteDouble false bs = refl
-no_brace delimiters.QuoteSingle true bs = refl
-no_brace delimiters.QuoteSingle false bs = refl
+no_brace _ true bs = refl
+no_brace _ _ bs = refl
 
 -- braces at the front
 all_hidden : (n : ℕ) (bs : List ℕ) → Braces n bs → Hidden n 0 bs
@@ -124,16 +122,8 @@ start_in_front (a ∷ bs) (suc i) (suc n) l = start_in_front bs i n (omega arith
 no_start_at : (bs : List ℕ) (i : ℕ) → has_no_start bs ≡ true → is_interpolation_start (drop i bs) ≡ false
 no_start_at [] zero h = refl
 no_start_at [] (suc i) h = refl
-no_start_at (b ∷ bs) zero h = off (is_interpolation_start (b ∷ bs)) (and_parts (not (is_interpolation_start (b ∷ bs))) (has_no_start bs) h).0
-  where
-    off : (s : Bool) → not s ≡ true → s ≡ false
-    off true e = cc
-    off false e = refl
+no_start_at (b ∷ bs) zero h = not-true (is_interpolation_start (b ∷ bs)) (and_parts (not (is_interpolation_start (b ∷ bs))) (has_no_start bs) h).0
 no_start_at (b ∷ bs) (suc i) h = no_start_at bs i (and_parts (not (is_interpolation_start (b ∷ bs))) (has_no_start bs) h).1
-
-or_left : (a : Bool) → (a || false) ≡ true → a ≡ true
-or_left true h = refl
-or_left false h = h
 
 -- ---- the two ends
 
@@ -141,7 +131,7 @@ abbrev ends_at : StringKind → Bool → List ℕ → ℕ
 ends_at k format bs = raw_len (raw_texts.Literal k format) bs
 
 plain_stops : (k : StringKind) (bs : List ℕ) → ends_at k false bs < length bs → is_delimiter k (drop (ends_at k false bs) bs) ≡ true
-plain_stops k bs l = or_left (is_delimiter k (drop (ends_at k false bs) bs)) (raw_stops (raw_texts.Literal k false) bs l)
+plain_stops k bs l = sym (or-false (is_delimiter k (drop (ends_at k false bs) bs))) ∙ raw_stops (raw_texts.Literal k false) bs l
 
 start_there : (k : StringKind) (bs : List ℕ) → before_start k bs < length bs → is_interpolation_start (drop (before_start k bs) bs) ≡ true
 start_there k bs l = (stops (hides (raw_texts.Literal k true)) is_interpolation_start bs 0).stop l

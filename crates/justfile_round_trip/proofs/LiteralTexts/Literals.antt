@@ -4,6 +4,7 @@ use Rattle.std.specs.Prelude.{◌&&◌, ◌||◌}
 use Rattle.std.proofs.lemmas.Bool.{and_parts}
 use Rattle.std.proofs.lemmas.Bool.Decides.{nat_tests}
 use Rattle.std.specs.Char.{is_ascii_alphabetic, is_ascii_digit}
+use Rattle.std.proofs.lemmas.List.{get_or-drop, drop-drop}
 use Rattle.justfile_vocabulary.specs.declared.byte_class.ByteClass.{ByteClass}
 use Rattle.justfile_vocabulary.specs.declared.byte_class.ByteClass.TheVariants as classes
 use Rattle.justfile_token.specs.declared.string_kind.StringDelimiter.{StringDelimiter}
@@ -17,14 +18,16 @@ use Rattle.justfile_round_trip.proofs.LiteralTexts.Inline.{delimiter_of}
 
 -- ---- delimiters
 
-abbrev QuoteFact : ℕ → ByteClass → Type 0
-QuoteFact b classes.Quote = quote_of (delimiter_at b) ≡ b
-QuoteFact b _ = Unit {0}
+-- what the class of a byte says of it
+abbrev ClassFact : ℕ → ByteClass → Type 0
+ClassFact b classes.CarriageReturn = b ≡ 13
+ClassFact b classes.Quote = quote_of (delimiter_at b) ≡ b
+ClassFact b _ = Unit {0}
 
-record HasQuote (b : ℕ) (k : ByteClass) : Type 0 where
-  fact : QuoteFact b k
+record IsOfClass (b : ℕ) (k : ByteClass) : Type 0 where
+  fact : ClassFact b k
 
-either : (b : ℕ) (t : Bool) {x y : ByteClass} → (t ≡ true → HasQuote b x) → (t ≡ false → HasQuote b y) → HasQuote b (cond t x y)
+either : (b : ℕ) (t : Bool) {x y : ByteClass} → (t ≡ true → IsOfClass b x) → (t ≡ false → IsOfClass b y) → IsOfClass b (cond t x y)
 either b true f g = f refl
 either b false f g = g refl
 
@@ -36,12 +39,12 @@ quoted b h = by (eqb b 96) (eqb b 34) refl refl
     by false true e f = grind (arith, nat_tests)
     by false false e f = grind (arith, nat_tests)
 
-has_quote : (b : ℕ) → HasQuote b (class_of b)
+is_of_class : (b : ℕ) → IsOfClass b (class_of b)
 unfolding class_of
-has_quote b =
+is_of_class b =
     either b (eqb b 32 || eqb b 9) (λ h. record { fact = tt }) (λ _.
     either b (eqb b 10) (λ h. record { fact = tt }) (λ _.
-    either b (eqb b 13) (λ h. record { fact = tt }) (λ _.
+    either b (eqb b 13) (λ h. record { fact = grind (arith, nat_tests) }) (λ _.
     either b (is_ascii_alphabetic b || eqb b 95) (λ h. record { fact = tt }) (λ _.
     either b (is_ascii_digit b || eqb b 45) (λ h. record { fact = tt }) (λ _.
     either b (eqb b 39 || eqb b 34 || eqb b 96) (λ h. record { fact = quoted b h }) (λ _.
@@ -51,7 +54,10 @@ has_quote b =
     either b (ltb 193 b && ltb b 245) {x = classes.Lead} {y = classes.Other} (λ h. record { fact = tt }) (λ _. record { fact = tt }))))))))))
 
 pub quote_byte : (b : ℕ) → class_of b ≡ classes.Quote → quote_of (delimiter_at b) ≡ b
-quote_byte b e = (subst (HasQuote b) e (has_quote b)).fact
+quote_byte b e = (subst (IsOfClass b) e (is_of_class b)).fact
+
+pub return_byte : (b : ℕ) → class_of b ≡ classes.CarriageReturn → b ≡ 13
+return_byte b e = (subst (IsOfClass b) e (is_of_class b)).fact
 
 quote_positive : (d : StringDelimiter) → 0 < quote_of d
 quote_positive delimiters.Backtick = omega arith
@@ -64,24 +70,6 @@ front_byte [] q p h = absurd (no_zero q p h)
     no_zero : (q : ℕ) → 0 < q → eqb 0 q ≡ true → ⊥
     no_zero q p h = grind (arith, nat_tests)
 front_byte (x ∷ xs) q p h = let e : x ≡ q = grind (arith, nat_tests) in ap (λ y. y ∷ xs) e
-
-second_byte : (bs : List ℕ) → get_or (drop 1 bs) 0 0 ≡ get_or bs 1 0
-second_byte [] = refl
-second_byte (x ∷ xs) = refl
-
-third_byte : (bs : List ℕ) → get_or (drop 2 bs) 0 0 ≡ get_or bs 2 0
-third_byte [] = refl
-third_byte (x ∷ []) = refl
-third_byte (x ∷ y ∷ xs) = refl
-
-pub drop_two : (bs : List ℕ) → drop 1 (drop 1 bs) ≡ drop 2 bs
-drop_two [] = refl
-drop_two (x ∷ xs) = refl
-
-drop_three : (bs : List ℕ) → drop 1 (drop 2 bs) ≡ drop 3 bs
-drop_three [] = refl
-drop_three (x ∷ []) = refl
-drop_three (x ∷ y ∷ xs) = refl
 
 -- where a delimiter is at the front, its bytes are
 pub delimiter_front : (k : StringKind) (bs : List ℕ) → is_delimiter k bs ≡ true → bs ≡ delimiter_of k ++ drop (delimiter_len k) bs
@@ -98,8 +86,8 @@ delimiter_front k bs h = go k.indented h
         let last = and_parts (eqb (get_or bs 0 0) q && eqb (get_or bs 1 0) q) _ h in
         let firsts = and_parts (eqb (get_or bs 0 0) q) _ last.0 in
         front_byte bs q some firsts.0
-        ∙ ap (λ l. q ∷ l) (front_byte (drop 1 bs) q some (ap (λ b. eqb b q) (second_byte bs) ∙ firsts.1) ∙ ap (λ l. q ∷ l) (drop_two bs))
-        ∙ ap (λ l. q ∷ q ∷ l) (front_byte (drop 2 bs) q some (ap (λ b. eqb b q) (third_byte bs) ∙ last.1) ∙ ap (λ l. q ∷ l) (drop_three bs))
+        ∙ ap (λ l. q ∷ l) (front_byte (drop 1 bs) q some (ap (λ b. eqb b q) (get_or-drop 1 bs 0 0) ∙ firsts.1) ∙ ap (λ l. q ∷ l) (drop-drop 1 1 bs))
+        ∙ ap (λ l. q ∷ q ∷ l) (front_byte (drop 2 bs) q some (ap (λ b. eqb b q) (get_or-drop 2 bs 0 0) ∙ last.1) ∙ ap (λ l. q ∷ l) (drop-drop 1 2 bs))
     go false h = front_byte bs q some h
 
 -- a text that begins with a quote begins with the delimiter of its kind
@@ -131,11 +119,8 @@ scan k format = pieces_len (hides (raw_texts.Literal k format)) (ends (raw_texts
 pub delimiter_ends : (d : StringDelimiter) (i : Bool) (more : List ℕ) → scan (record { delimiter = d; indented = i }) false 0 (delimiter_of (record { delimiter = d; indented = i }) ++ more) ≡ 0
 unfolding pieces_len
 delimiter_ends delimiters.Backtick true more = refl
-delimiter_ends delimiters.Backtick false more = refl
-delimiter_ends delimiters.QuoteDouble true more = refl
-delimiter_ends delimiters.QuoteDouble false more = refl
-delimiter_ends delimiters.QuoteSingle true more = refl
-delimiter_ends delimiters.QuoteSingle false more = refl
+delimiter_ends _ true more = refl
+delimiter_ends _ _ more = refl
 
 -- whether a delimiter begins inside or at the end of the text is seen from the text and the delimiter after it
 pub same_delimiter : (d : StringDelimiter) (i : Bool) (x : ℕ) (xs a b : List ℕ) → is_delimiter (record { delimiter = d; indented = i }) (x ∷ xs ++ (delimiter_of (record { delimiter = d; indented = i }) ++ a)) ≡ is_delimiter (record { delimiter = d; indented = i }) (x ∷ xs ++ (delimiter_of (record { delimiter = d; indented = i }) ++ b))
@@ -175,10 +160,8 @@ pub same_opening : (d : StringDelimiter) (i : Bool) (inner following more : List
     → kind_of (delimiter_of (record { delimiter = d; indented = i }) ++ (inner ++ (delimiter_of (record { delimiter = d; indented = i }) ++ following))) ≡ record { delimiter = d; indented = i }
     → kind_of (delimiter_of (record { delimiter = d; indented = i }) ++ (inner ++ (delimiter_of (record { delimiter = d; indented = i }) ++ more))) ≡ record { delimiter = d; indented = i }
 same_opening delimiters.Backtick true inner following more stop e = refl
-same_opening delimiters.QuoteDouble true inner following more stop e = refl
-same_opening delimiters.QuoteSingle true inner following more stop e = refl
+same_opening _ true inner following more stop e = refl
 same_opening delimiters.Backtick false [] following more stop e = ap (λ b. record { delimiter = delimiters.Backtick; indented = b }) (no_quote delimiters.Backtick (get_or more 0 0) stop)
-same_opening delimiters.QuoteDouble false [] following more stop e = ap (λ b. record { delimiter = delimiters.QuoteDouble; indented = b }) (no_quote delimiters.QuoteDouble (get_or more 0 0) stop)
-same_opening delimiters.QuoteSingle false [] following more stop e = ap (λ b. record { delimiter = delimiters.QuoteSingle; indented = b }) (no_quote delimiters.QuoteSingle (get_or more 0 0) stop)
+same_opening d false [] following more stop e = ap (λ b. record { delimiter = d; indented = b }) (no_quote d (get_or more 0 0) stop)
 same_opening d false (x ∷ []) following more stop e = e
 same_opening d false (x ∷ y ∷ ys) following more stop e = e

@@ -4,13 +4,14 @@ use Rattle.std.specs.Prelude.{◌&&◌, ◌||◌}
 use Rattle.std.specs.Fmt.{decimal}
 use Rattle.std.specs.Str.{IsUtf8}
 use Rattle.std.specs.Str.Parse.{AllDigits}
-use Rattle.std.proofs.lemmas.Bool.{and_parts}
+use Rattle.std.proofs.lemmas.Bool.{and_parts, and_right}
 use Rattle.std.proofs.lemmas.Bool.Decides.{nat_tests}
 use Rattle.std.proofs.lemmas.Fmt.{decimal_is_IsNumeral}
 use Rattle.std.proofs.lemmas.Str.{IsUtf8-append, IsUtf8-from_ascii}
 use Rattle.std.proofs.lemmas.Str.Parse.{digit_from_value}
+use Rattle.std.specs.List.{AllByRecursion}
 use Rattle.justfile_vocabulary.specs.declared.signal.Signal.{Signal}
-use Rattle.justfile_vocabulary.specs.declared.signal.Signal.TheVariants.{Hangup, Interrupt, Quit}
+use Rattle.justfile_vocabulary.specs.declared.signal.Signal.TheVariants.{Hangup}
 use Rattle.justfile_token.specs.declared.string_kind.StringDelimiter.{StringDelimiter}
 use Rattle.justfile_token.specs.declared.string_kind.StringDelimiter.TheVariants as delimiters
 use Rattle.justfile_token.specs.declared.string_kind.StringKind.{StringKind}
@@ -39,16 +40,14 @@ pub record IsPlain (b : ℕ) : Type 0 where
   pub below : b < 91
 
 abbrev pub AllPlain : List ℕ → Type 0
-AllPlain [] = Unit {0}
-AllPlain (b ∷ bs) = IsPlain b × AllPlain bs
+AllPlain = AllByRecursion IsPlain
 
 no_backslash : (b : ℕ) → IsPlain b → eqb b 92 ≡ false
 no_backslash b h = grind (arith, nat_tests, h.below)
 
 plain_no_quote : (d : StringDelimiter) (b : ℕ) → IsPlain b → eqb b (quote_of d) ≡ false
 plain_no_quote delimiters.Backtick b h = grind (arith, nat_tests, h.below)
-plain_no_quote delimiters.QuoteDouble b h = grind (arith, nat_tests, h.above)
-plain_no_quote delimiters.QuoteSingle b h = grind (arith, nat_tests, h.above)
+plain_no_quote _ b h = grind (arith, nat_tests, h.above)
 
 -- ---- between quotes
 
@@ -57,10 +56,6 @@ once d = record { delimiter = d; indented = false }
 
 abbrev pub quoted : StringDelimiter → List ℕ → List ℕ
 quoted d inner = quote_of d ∷ (inner ++ (quote_of d ∷ []))
-
-and_right : (a b : Bool) → b ≡ false → (a && b) ≡ false
-and_right true b e = e
-and_right false b e = refl
 
 plain_scan : (d : StringDelimiter) (inner more : List ℕ) → AllPlain inner → scan (once d) false 0 (inner ++ (quote_of d ∷ more)) ≡ length inner
 unfolding pieces_len
@@ -75,19 +70,11 @@ plain_scan d (x ∷ xs) more h =
 plain_kind : (d : StringDelimiter) (inner more : List ℕ) → AllPlain inner → is_quote (get_or more 0 0) ≡ false → kind_of (quoted d inner ++ more) ≡ once d
 plain_kind delimiters.Backtick [] more h stop =
     ap (λ b. record { delimiter = delimiters.Backtick; indented = b }) (no_quote delimiters.Backtick (get_or more 0 0) stop)
-plain_kind delimiters.QuoteDouble [] more h stop =
-    ap (λ b. record { delimiter = delimiters.QuoteDouble; indented = b }) (no_quote delimiters.QuoteDouble (get_or more 0 0) stop)
-plain_kind delimiters.QuoteSingle [] more h stop =
-    ap (λ b. record { delimiter = delimiters.QuoteSingle; indented = b }) (no_quote delimiters.QuoteSingle (get_or more 0 0) stop)
+plain_kind d [] more h stop = ap (λ b. record { delimiter = d; indented = b }) (no_quote d (get_or more 0 0) stop)
 plain_kind delimiters.Backtick (x ∷ xs) more h stop =
-    ap (λ b. record { delimiter = delimiters.Backtick; indented = b && eqb (get_or ((xs ++ (96 ∷ [])) ++ more) 0 0) 96 })
-    (plain_no_quote delimiters.Backtick x h.0)
-plain_kind delimiters.QuoteDouble (x ∷ xs) more h stop =
-    ap (λ b. record { delimiter = delimiters.QuoteDouble; indented = b && eqb (get_or ((xs ++ (34 ∷ [])) ++ more) 0 0) 34 })
-    (plain_no_quote delimiters.QuoteDouble x h.0)
-plain_kind delimiters.QuoteSingle (x ∷ xs) more h stop =
-    ap (λ b. record { delimiter = delimiters.QuoteSingle; indented = b && eqb (get_or ((xs ++ (39 ∷ [])) ++ more) 0 0) 39 })
-    (plain_no_quote delimiters.QuoteSingle x h.0)
+    ap (λ b. record { delimiter = delimiters.Backtick; indented = b && eqb (get_or ((xs ++ (96 ∷ [])) ++ more) 0 0) 96 }) (plain_no_quote delimiters.Backtick x h.0)
+plain_kind d (x ∷ xs) more h stop =
+    ap (λ b. record { delimiter = d; indented = b && eqb (get_or ((xs ++ (quote_of d ∷ [])) ++ more) 0 0) (quote_of d) }) (plain_no_quote d x h.0)
 
 plain_delimited : (d : StringDelimiter) (inner : List ℕ) → AllPlain inner → IsDelimited (token_kind_of d) (quoted d inner)
 plain_delimited d inner h = record {
@@ -106,8 +93,7 @@ plain_utf8 inner more h u = IsUtf8-append inner more (IsUtf8-from_ascii inner (l
 
 quote_utf8 : (d : StringDelimiter) (more : List ℕ) → IsUtf8 more → IsUtf8 (quote_of d ∷ more)
 quote_utf8 delimiters.Backtick more u = plain (codes "`") more refl u
-quote_utf8 delimiters.QuoteDouble more u = plain (codes "\"") more refl u
-quote_utf8 delimiters.QuoteSingle more u = plain (codes "'") more refl u
+quote_utf8 d more u = plain (quote_of d ∷ []) more refl u
 
 -- ---- as values
 
@@ -172,8 +158,7 @@ capitals_plain (b ∷ bs) h =
 
 signal_plain : (s : Signal) → AllPlain (signal_name s)
 signal_plain Hangup = capitals_plain (signal_name Hangup) refl
-signal_plain Interrupt = capitals_plain (signal_name Interrupt) refl
-signal_plain Quit = capitals_plain (signal_name Quit) refl
+signal_plain s = capitals_plain (signal_name s) refl
 
 -- a signal in double quotes
 pub signal_good : (limit : ℕ) (s : Signal) → 0 < limit

@@ -5,7 +5,7 @@ use Rattle.std.specs.Str.{IsUtf8}
 use Rattle.justfile_vocabulary.specs.declared.token_kind.TokenKind.{TokenKind}
 use Rattle.justfile_vocabulary.specs.declared.token_kind.TokenKind.TheVariants as kinds
 use Rattle.justfile_token.specs.declared.string_kind.StringDelimiter.{StringDelimiter}
-use Rattle.justfile_token.specs.declared.string_kind.StringDelimiter.TheVariants.{Backtick, QuoteDouble, QuoteSingle}
+use Rattle.justfile_token.specs.declared.string_kind.StringDelimiter.TheVariants.{Backtick}
 use Rattle.justfile_token.specs.declared.string_kind.StringKind.{StringKind}
 use Rattle.justfile_token.specs.StringKind.{delimiter_len, delimiter_text, kind_of}
 use Rattle.justfile_model.specs.Lexing.Tok.{Tok}
@@ -35,16 +35,12 @@ text_is d false = refl
 
 ascii_front : (d : StringDelimiter) (i : Bool) (more : List ℕ) → get_or (delimiter_of (record { delimiter = d; indented = i }) ++ more) (delimiter_len (record { delimiter = d; indented = i }) - 1) 0 < 128
 ascii_front Backtick true more = omega arith
-ascii_front Backtick false more = omega arith
-ascii_front QuoteDouble true more = omega arith
-ascii_front QuoteDouble false more = omega arith
-ascii_front QuoteSingle true more = omega arith
-ascii_front QuoteSingle false more = omega arith
+ascii_front _ true more = omega arith
+ascii_front _ _ more = omega arith
 
 ascii_first : (d : StringDelimiter) (i : Bool) → get_or (delimiter_of (record { delimiter = d; indented = i })) 0 0 < 128
 ascii_first Backtick i = omega arith
-ascii_first QuoteDouble i = omega arith
-ascii_first QuoteSingle i = omega arith
+ascii_first _ i = omega arith
 
 quoted_by : (k : StringKind) (inner : List ℕ) → IsQuotedBy k (delimiter_of k ++ (inner ++ delimiter_of k))
 quoted_by k inner =

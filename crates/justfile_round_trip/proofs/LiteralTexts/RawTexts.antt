@@ -1,8 +1,9 @@
 -- Text of a body: where it ends before another text, and what it contains.
 use Rattle.std.proofs.Common.{◌≡◌, ℕ, zero, suc, Bool, true, false, cond, eqb, ltb, List, [], ◌∷◌, ◌++◌, length, get_or, drop, refl, sym, ap, ◌∙◌, subst, arith}
 use Rattle.std.specs.Prelude.{◌&&◌, ◌||◌, not}
-use Rattle.std.proofs.lemmas.Bool.{and_parts}
+use Rattle.std.proofs.lemmas.Bool.{and_parts, or_parts}
 use Rattle.std.proofs.lemmas.Bool.Decides.{nat_tests}
+use Rattle.std.proofs.Math.Numerals.{one-add}
 use Rattle.justfile_vocabulary.specs.ByteClass.{class_of}
 use Rattle.justfile_model.specs.declared.raw_text.RawText.TheVariants as raw_texts
 use Rattle.justfile_model.specs.Lexing.Bytes.{blank, line_feed, blank_len, is_line_end, is_interpolation_start, is_interpolation_escape}
@@ -40,10 +41,6 @@ four_braces (a ∷ b ∷ c ∷ d ∷ bs) h =
 
 three_braces : (b : ℕ) (bs : List ℕ) → Braces 4 (b ∷ bs) → (b ≡ 123) × Braces 3 bs
 three_braces b bs h = (h.0, h.1)
-
-or_false : (a b : Bool) → (a || b) ≡ false → (a ≡ false) × (b ≡ false)
-or_false true b h = cc
-or_false false b h = (refl, h)
 
 -- the scan of a text that doesn't end at its first byte
 record Scanned (b : ℕ) (bs : List ℕ) (n : ℕ) (hidden : Bool) : Type 0 where
@@ -84,8 +81,8 @@ brace_no_feed b e = ap (λ x. not (line_feed (class_of x))) e
 
 byte_no_feed : (b : ℕ) (bs : List ℕ) → ends raw_texts.Body (b ∷ bs) ≡ false → not (line_feed (class_of b)) ≡ true
 byte_no_feed b bs h =
-    let line = (or_false (is_line_end (b ∷ bs)) (is_interpolation_start (b ∷ bs)) h).0 in
-    let feed = (or_false (eqb b 10) (eqb b 13 && eqb (get_or bs 0 0) 10) line).0 in
+    let line = (or_parts (is_line_end (b ∷ bs)) (is_interpolation_start (b ∷ bs)) h).0 in
+    let feed = (or_parts (eqb b 10) (eqb b 13 && eqb (get_or bs 0 0) 10) line).0 in
     ap not (sym (is_line_feed b (class_of b) refl) ∙ feed)
 
 no_feed_from : (n : ℕ) (t a : List ℕ) → Braces n (t ++ a) → scan n (t ++ a) ≡ length t → NoFeed t
@@ -139,13 +136,13 @@ text_no_end b bs n e = by (is_line_end (b ∷ bs)) refl
   where
     by : (t : Bool) → is_line_end (b ∷ bs) ≡ t → (t || false) ≡ false
     by true g =
-        let line = (or_false (is_line_end (b ∷ bs)) (is_interpolation_start (b ∷ bs)) (after_first_byte b bs n (line_no_brace b bs g) e).0).0 in
+        let line = (or_parts (is_line_end (b ∷ bs)) (is_interpolation_start (b ∷ bs)) (after_first_byte b bs n (line_no_brace b bs g) e).0).0 in
         let bad : true ≡ false = sym g ∙ line in
         cc
     by false g = refl
 
 one_more : (b : ℕ) (bs : List ℕ) → blank (class_of b) ≡ true → blank_len (b ∷ bs) ≡ suc (blank_len bs)
-one_more b bs h = rw h (omega arith)
+one_more b bs h = rw h (one-add (blank_len bs))
 
 none_more : (b : ℕ) (bs : List ℕ) → blank (class_of b) ≡ false → blank_len (b ∷ bs) ≡ 0
 none_more b bs h = rw h refl
@@ -198,7 +195,7 @@ module _ (a b : List ℕ) where
   keeps_end c (d ∷ u) h e = e
 
   no_start_hides : (bs : List ℕ) → ends raw_texts.Body bs ≡ false → is_interpolation_escape bs ≡ false
-  no_start_hides bs h = rw ((or_false (is_line_end bs) (is_interpolation_start bs) h).1) refl
+  no_start_hides bs h = rw ((or_parts (is_line_end bs) (is_interpolation_start bs) h).1) refl
 
   stable : (n : ℕ) (u : List ℕ) → scan 0 b ≡ 0 → LastKeeps u → Braces n (u ++ a) → scan n (u ++ a) ≡ length u → scan n (u ++ b) ≡ length u
   stable zero [] here keeps h e = here
@@ -236,7 +233,7 @@ braces_keep a more (c ∷ []) h = λ e. keeps (eqb c 10) (eqb c 13) (eqb c 123) 
   where
     keeps : (l r s n b : Bool) → b ≡ true → ((l || (r && n)) || (s && b)) ≡ false → ((l || (r && false)) || (s && true)) ≡ false
     keeps true r s n b h e = cc
-    keeps false true true n true h e = let p = (or_false (n) true e).1 in cc
+    keeps false true true n true h e = let p = (or_parts (n) true e).1 in cc
     keeps false true false n true h e = refl
     keeps false false true n true h e = cc
     keeps false false false n true h e = refl

@@ -1,6 +1,7 @@
 -- A printed body, with any indentation, and the text after it lex to the printer's tokens.
 use Rattle.std.proofs.Common.{◌≡◌, ℕ, Bool, true, false, cond, List, [], ◌∷◌, ◌++◌, length, drop, None, Some, refl, sym, ap, ◌∙◌, subst}
 use Rattle.std.specs.Prelude.{◌&&◌, ◌||◌, not}
+use Rattle.std.proofs.Math.Bool.{or-true}
 use Rattle.justfile_vocabulary.specs.declared.token_kind.TokenKind.TheVariants as kinds
 use Rattle.justfile_vocabulary.specs.ByteClass.{class_of}
 use Rattle.justfile_model.specs.Lexing.Bytes.{blank, white, line_feed, blank_len, closes_levels}
@@ -104,11 +105,8 @@ module _ (limit : ℕ) where
   pub lines_step : (ind : List ℕ) (ls : List ShapeLine) (more : List ℕ) (ts : List Mark) → IsLevel ind → GoodLines limit ls → (pale_after ls ≡ true → more ≡ []) → LexesTo (at_line ind) more ts → LexesTo (at_line ind) (lines_on ind ls more) (lines_marks ind ls ts)
   lines_step ind [] more ts i good h k = k
   lines_step ind (Line n [] ∷ ls) more ts i good h k =
-      empty_step ind _ _ (stays_open ind ls more i good.2 (λ p. h (ap (λ b. b || pale_after ls) p))) (lines_step ind ls more ts i good.2 (λ p. h (ap (λ b. all_pale ls || b) p ∙ or_true (all_pale ls))) k)
-    where
-      or_true : (b : Bool) → (b || true) ≡ true
-      or_true true = refl
-      or_true false = refl
+      empty_step ind _ _ (stays_open ind ls more i good.2 (λ p. h (ap (λ b. b || pale_after ls) p)))
+      (lines_step ind ls more ts i good.2 (λ p. h (ap (λ b. all_pale ls || b) p ∙ or-true (all_pale ls))) k)
   lines_step ind (Line n (f ∷ fs) ∷ ls) more ts i good h k =
       level_step ind _ _ i (shown f fs _ good.0 good.1) (fragments_step ind (f ∷ fs) _ _ good.0 (body_line_end ind _ _ (lines_step ind ls more ts i good.2 h k)))
 

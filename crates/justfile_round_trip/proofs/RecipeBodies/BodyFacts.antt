@@ -1,17 +1,19 @@
 -- In the tokens of any text, each text of a body ends before what is printed after it, and only the last body can end in white lines that
 -- keep levels open.
-use Rattle.std.proofs.Common.{◌≡◌, ℕ, zero, suc, ◌+◌, ◌-◌, ◌<◌, ◌≤◌, Bool, true, false, cond, eqb, ltb, List, [], ◌∷◌, ◌++◌, inl, inr, length, get_or, take, drop, Option, Some, None, Ok, Err, refl, sym, ap, ◌∙◌, subst, ⊎_elim, arith, take-append-drop}
-use Rattle.std.specs.Prelude.{◌&&◌, ◌||◌, not, is_some, reverse}
-use Rattle.std.specs.Char.{is_ascii_alphabetic, is_ascii_digit}
+use Rattle.std.proofs.Common.{◌≡◌, ℕ, zero, suc, ◌+◌, ◌-◌, ◌<◌, ◌≤◌, Bool, true, false, cond, eqb, List, [], ◌∷◌, ◌++◌, inl, inr, length, get_or, take, drop, Option, Some, None, Ok, Err, refl, sym, ap, ◌∙◌, subst, ⊎_elim, arith, take-append-drop}
+use Rattle.std.specs.Prelude.{◌&&◌, ◌||◌, is_some, reverse}
 use Rattle.std.specs.Str.{bytes_eq}
-use Rattle.std.proofs.lemmas.Bool.{and_parts}
+use Rattle.std.proofs.lemmas.Bool.{and_parts, not-true}
 use Rattle.std.proofs.lemmas.Bool.Decides.{nat_tests}
-use Rattle.std.proofs.lemmas.List.{reverse-append, reverse-reverse}
+use Rattle.std.proofs.lemmas.List.{reverse-append, reverse-reverse, nil_from_length}
+use Rattle.std.proofs.Math.Bool.{or-false}
+use Rattle.std.proofs.Math.Numerals.{one-add}
+use Rattle.justfile_round_trip.proofs.LiteralTexts.Literals.{return_byte}
 use Rattle.justfile_vocabulary.specs.declared.byte_class.ByteClass.{ByteClass}
 use Rattle.justfile_vocabulary.specs.declared.byte_class.ByteClass.TheVariants as classes
 use Rattle.justfile_vocabulary.specs.declared.token_kind.TokenKind.{TokenKind}
 use Rattle.justfile_vocabulary.specs.declared.token_kind.TokenKind.TheVariants as kinds
-use Rattle.justfile_vocabulary.specs.ByteClass.{begins_fixed, class_of}
+use Rattle.justfile_vocabulary.specs.ByteClass.{class_of}
 use Rattle.justfile_model.specs.Lexing.Bytes.{blank, white, line_feed, blank_len, is_line_end, closes_levels}
 use Rattle.justfile_model.specs.Lexing.LexicalFault.{UnpairedCarriageReturn, Here}
 use Rattle.justfile_model.specs.Lexing.Tok.{Tok}
@@ -26,7 +28,7 @@ use Rattle.justfile_round_trip.proofs.LiteralTexts.Inline.{Each, head_is}
 use Rattle.justfile_round_trip.proofs.RecipeBodies.Lines.{at_item, item_next}
 use Rattle.justfile_round_trip.proofs.RecipeBodies.BodyLines.{IsRaw, IsWhite, white_blanks, closes_over, no_feed, swapped}
 use Rattle.justfile_round_trip.proofs.LiteralTexts.RawTexts.{scan, NoFeed, text_no_feed, text_rest, raw_newline, raw_braces}
-use Rattle.justfile_round_trip.proofs.Values.TokenFacts.{Runs, runs_one, runs_from}
+use Rattle.justfile_round_trip.proofs.Values.TokenFacts.{Runs, runs_one, runs_from, whitespace_kind}
 use Rattle.justfile_round_trip.proofs.Good.{pale}
 use Rattle.justfile_round_trip.proofs.RecipeBodies.BodyTokens.{InBody, Clear, At, First, Start, Amid, front, past, Ready, Seen, Empty, NotFirst, Closing, AtEnd, AtBlankLine, AtLevel, TokenFact, token_fact, no_interpolation, in_body_there, stops_here, not_blank_past, past_line_end}
 
@@ -47,10 +49,7 @@ past_after (suc n) [] l = refl
 past_after (suc n) (x ∷ xs) l = go (blank (class_of x)) l (past_after n xs)
   where
     go : (t : Bool) → suc n ≤ cond t (1 + blank_len xs) 0 → (n ≤ blank_len xs → past (drop n xs) ≡ past xs) → past (drop n xs) ≡ drop (cond t (1 + blank_len xs) 0) (x ∷ xs)
-    go true l ih = ih (omega (arith, l)) ∙ ap (λ k. drop k (x ∷ xs)) (up (blank_len xs))
-      where
-        up : (k : ℕ) → suc k ≡ 1 + k
-        up k = omega arith
+    go true l ih = ih (omega (arith, l)) ∙ ap (λ k. drop k (x ∷ xs)) (sym (one-add (blank_len xs)))
     go false l ih = absurd (omega (arith, l))
 
 taken_some : (n : ℕ) (rest : List ℕ) → 0 < n → n ≤ blank_len rest → is_empty (take n rest) ≡ false
@@ -123,11 +122,7 @@ pale_white : (t : List ℕ) → pale t ≡ true → NoFeed t → IsWhite t
 pale_white [] p h = tt
 pale_white (x ∷ xs) p h =
     let parts = and_parts (white (class_of x)) (pale xs) p in
-    (parts.0, off (line_feed (class_of x)) h.0, pale_white xs parts.1 h.1)
-  where
-    off : (b : Bool) → not b ≡ true → b ≡ false
-    off true e = cc
-    off false e = refl
+    (parts.0, not-true (line_feed (class_of x)) h.0, pale_white xs parts.1 h.1)
 
 text_closes : (last : Bool) (t following : List ℕ) → 0 < length t → pale t ≡ true → NoFeed t → closes_levels last (t ++ following) ≡ closes_levels false following
 text_closes last [] following n p h = absurd (omega (arith, n))
@@ -183,21 +178,14 @@ all_blank : (t following : List ℕ) → is_empty (past t) ≡ true → past (t 
 all_blank [] following h = refl
 all_blank (x ∷ xs) following h = go (blank (class_of x)) h (all_blank xs following)
   where
-    up : (k : ℕ) → 1 + k ≡ suc k
-    up k = omega arith
-
     go : (b : Bool) → is_empty (drop (cond b (1 + blank_len xs) 0) (x ∷ xs)) ≡ true → (is_empty (past xs) ≡ true → past (xs ++ following) ≡ past following) → drop (cond b (1 + blank_len (xs ++ following)) 0) (x ∷ xs ++ following) ≡ past following
-    go true h ih = ap (λ n. drop n (x ∷ xs ++ following)) (up (blank_len (xs ++ following))) ∙ ih (sym (ap (λ n. is_empty (drop n (x ∷ xs))) (up (blank_len xs))) ∙ h)
+    go true h ih = ap (λ n. drop n (x ∷ xs ++ following)) (one-add (blank_len (xs ++ following))) ∙ ih (sym (ap (λ n. is_empty (drop n (x ∷ xs))) (one-add (blank_len xs))) ∙ h)
     go false h ih = cc
 
 -- after the text the line ends
 past_end : (following : List ℕ) → begins_blank_line following ≡ true → begins_blank_line (past following) ≡ true
 past_end [] h = refl
-past_end (x ∷ xs) h = ap begins_blank_line (past_line_end x xs (left (is_line_end (x ∷ xs)) h)) ∙ h
-  where
-    left : (b : Bool) → (b || false) ≡ true → b ≡ true
-    left true h = refl
-    left false h = h
+past_end (x ∷ xs) h = ap begins_blank_line (past_line_end x xs (sym (or-false (is_line_end (x ∷ xs))) ∙ h)) ∙ h
 
 on_line : (w : At) (t following : List ℕ) → begins_blank_line following ≡ true → Seen w (t ++ following) → OnLine w t
 on_line First t following h s = tt
@@ -260,30 +248,6 @@ text_known w m t following s k n clear f e = (subst (FollowsText w t) e (after_t
 
 -- ---- after a body whose last lines hold its level open
 
-record HasReturn (b : ℕ) (k : ByteClass) : Type 0 where
-  fact : k ≡ classes.CarriageReturn → b ≡ 13
-
-other_class : (b : ℕ) (k : ByteClass) → (k ≡ classes.CarriageReturn → ⊥) → HasReturn b k
-other_class b k f = record { fact = λ e. absurd (f e) }
-
-either : (b : ℕ) (t : Bool) {x y : ByteClass} → (t ≡ true → HasReturn b x) → HasReturn b y → HasReturn b (cond t x y)
-either b true f g = f refl
-either b false f g = g
-
-has_return : (b : ℕ) → HasReturn b (class_of b)
-unfolding class_of
-has_return b =
-    either b (eqb b 32 || eqb b 9) {x = classes.Blank} (λ _. other_class b _ (λ e. cc))
-    (either b (eqb b 10) {x = classes.LineFeed} (λ _. other_class b _ (λ e. cc))
-    (either b (eqb b 13) {x = classes.CarriageReturn} (λ h. record { fact = λ _. grind (arith, nat_tests) })
-    (either b (is_ascii_alphabetic b || eqb b 95) {x = classes.IdentifierStart} (λ _. other_class b _ (λ e. cc))
-    (either b (is_ascii_digit b || eqb b 45) {x = classes.IdentifierContinue} (λ _. other_class b _ (λ e. cc))
-    (either b (eqb b 39 || eqb b 34 || eqb b 96) {x = classes.Quote} (λ _. other_class b _ (λ e. cc))
-    (either b (eqb b 40 || eqb b 91 || eqb b 123) {x = classes.Opener} (λ _. other_class b _ (λ e. cc))
-    (either b (eqb b 41 || eqb b 93 || eqb b 125) {x = classes.Closer} (λ _. other_class b _ (λ e. cc))
-    (either b (begins_fixed b) {x = classes.Fixed} (λ _. other_class b _ (λ e. cc))
-    (either b (ltb 193 b && ltb b 245) {x = classes.Lead} {y = classes.Other} (λ _. other_class b _ (λ e. cc)) (other_class b _ (λ e. cc)))))))))))
-
 -- a white byte that isn't a blank and doesn't begin a line end doesn't begin a token
 white_refused : (x : ℕ) (xs : List ℕ) (k : TokenKind) (n : ℕ) → white (class_of x) ≡ true → blank (class_of x) ≡ false → begins_blank_line (x ∷ xs) ≡ false → next (at_item false) (x ∷ xs) ≡ Ok (k, n) → ⊥
 unfolding token_by_class
@@ -298,7 +262,7 @@ white_refused x xs k n w b seen found = by (class_of x) refl w b (sym (item_next
     by classes.CarriageReturn e w b f = go (eqb (get_or xs 0 0) 10) refl f
       where
         at : x ≡ 13
-        at = (subst (HasReturn x) e (has_return x)).fact refl
+        at = return_byte x e
 
         go : (t : Bool) → eqb (get_or xs 0 0) 10 ≡ t → cond {A = NextToken} t (Ok (kinds.Eol, 2)) (Err (Here UnpairedCarriageReturn 0 1)) ≡ Ok (k, n) → ⊥
         go true h f = let bad : true ≡ false = sym (λ i. (eqb (at i) 10 || (eqb (at i) 13 && h i)) || false) ∙ seen in cc
@@ -342,11 +306,8 @@ no_blanks (l ∷ []) (y ∷ ys) n d h = let bad : true ≡ false = sym h ∙ ap 
 front_nothing : (x : ℕ) (xs : List ℕ) → front (x ∷ xs) ≡ [] → blank (class_of x) ≡ false
 front_nothing x xs h = by (blank (class_of x)) h
   where
-    up : (k : ℕ) → 1 + k ≡ suc k
-    up k = omega arith
-
     by : (b : Bool) → take (cond b (1 + blank_len xs) 0) (x ∷ xs) ≡ [] → b ≡ false
-    by true h = let bad : x ∷ take (blank_len xs) xs ≡ [] = sym (ap (λ n. take n (x ∷ xs)) (up (blank_len xs))) ∙ h in cc
+    by true h = let bad : x ∷ take (blank_len xs) xs ≡ [] = sym (ap (λ n. take n (x ∷ xs)) (one-add (blank_len xs))) ∙ h in cc
     by false h = refl
 
 module _ (m : Mode) (s : Tok) (k : TokenKind) (n : ℕ) (clear : Clear m) (b : InBody m) (one : length m.levels ≡ 1) where
@@ -483,10 +444,6 @@ BodySound s (t ∷ ts) = BodyToken s t.tok.kind t.tok.lexeme ts × BodySound (si
 next_is : (p : TokenKind → Type 0) → (p kinds.Whitespace → ⊥) → (g : Bool) (u : Tok) (us : List Tok) → p u.kind → NextIs p (significant_from g (u ∷ us))
 next_is p none g u us h = by (is_whitespace u.kind) refl
   where
-    whitespace_kind : (k : TokenKind) → is_whitespace k ≡ true → k ≡ kinds.Whitespace
-    whitespace_kind kinds.Whitespace h = refl
-    whitespace_kind _ h = cc
-
     by : (b : Bool) → is_whitespace u.kind ≡ b → NextIs p (cond b (significant_from false us) (record { tok = u; glued = g } ∷ significant_from true us))
     by true e = absurd (none (subst p (whitespace_kind u.kind e) h))
     by false e = h
@@ -501,10 +458,6 @@ not_first First rest e = e
 not_first Start rest e = tt
 not_first Amid rest e = tt
 
-no_bytes : (l : List ℕ) → length l ≡ 0 → l ≡ []
-no_bytes [] e = refl
-no_bytes (x ∷ xs) e = absurd (omega (arith, e))
-
 module _ (m : Mode) (l following : List ℕ) (t : Tok) (s : Situation) (g : Bool) (o : IsSituation m (l ++ following) s) where
   text_token : (ts : List Tok) → TokenFact s.at m (l ++ following) kinds.Text (length l) → Runs (mode_after kinds.Text t m) following ts → NextIs (TextKnown s.at l) (significant_from g ts)
   text_token [] f r = tt
@@ -513,7 +466,7 @@ module _ (m : Mode) (l following : List ℕ) (t : Tok) (s : Situation) (g : Bool
   dedent_token : (ts : List Tok) (f : TokenFact s.at m (l ++ following) kinds.Dedent (length l)) → InBody m → Runs (mode_after kinds.Dedent t m) following ts → s.held ≡ true → s.levels ≡ 1 → NextIs (λ k. k ≡ kinds.Eof) (significant_from g ts)
   dedent_token [] f b r held one = tt
   dedent_token (u ∷ us) f b r held one =
-      let same : l ++ following ≡ following = ap (λ v. v ++ following) (no_bytes l f.0) in
+      let same : l ++ following ≡ following = ap (λ v. v ++ following) (nil_from_length l f.0) in
       next_is (λ k. k ≡ kinds.Eof) (λ h. cc) g u us
       (only_end m t u.kind (length u.lexeme) o.clear b (o.levels ∙ one) following (subst (Closing m) same (f.2 b).0) (ap (closes_levels m.line_start) (sym same) ∙ o.held held b) r.2)
 
@@ -540,10 +493,6 @@ body_sound (t ∷ ts) m rest s glued o r = by (is_whitespace t.kind) refl (λ s'
 
     moved : IsSituation (mode_after t.kind t m) following (situation_after t.kind t.lexeme s)
     moved = situation_step m t.lexeme following t.kind t s refl fact here
-
-    whitespace_kind : (k : TokenKind) → is_whitespace k ≡ true → k ≡ kinds.Whitespace
-    whitespace_kind kinds.Whitespace h = refl
-    whitespace_kind _ h = cc
 
     by : (w : Bool) → is_whitespace t.kind ≡ w → ((s' : Situation) (g' : Bool) → IsSituation (mode_after t.kind t m) following s' → BodySound s' (significant_from g' ts))
         → BodySound s (cond w (significant_from false ts) (record { tok = t; glued = glued } ∷ significant_from true ts))

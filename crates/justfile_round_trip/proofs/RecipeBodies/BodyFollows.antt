@@ -1,6 +1,7 @@
 -- The text after a body in normal form: nothing, or an item, possibly after line ends.
-use Rattle.std.proofs.Common.{◌≡◌, ℕ, Bool, true, false, List, [], ◌∷◌, ◌++◌, refl, ap, arith, codes}
+use Rattle.std.proofs.Common.{◌≡◌, ℕ, Bool, true, false, List, [], ◌∷◌, ◌++◌, refl, ap, codes}
 use Rattle.std.specs.Prelude.{not}
+use Rattle.justfile_round_trip.proofs.RecipeBodies.Lines.{no_hash}
 use Rattle.justfile_vocabulary.specs.ByteClass.{class_of}
 use Rattle.justfile_model.specs.Lexing.Bytes.{white}
 use Rattle.justfile_model.specs.Lexing.Modes.{is_empty}
@@ -16,9 +17,8 @@ use Rattle.justfile_round_trip.proofs.Items.GoodContents as good_content
 use Rattle.justfile_round_trip.proofs.Items.GoodContents.{GoodContent}
 use Rattle.justfile_round_trip.proofs.Items.GoodItems as good
 use Rattle.justfile_round_trip.proofs.Items.GoodItems.{AtStart, blank_only, follows_body}
-use Rattle.justfile_round_trip.proofs.LiteralTexts.Inline.{IsName}
+use Rattle.justfile_round_trip.proofs.LiteralTexts.Inline.{IsName, word_name}
 use Rattle.justfile_round_trip.proofs.RecipeBodies.BodyLines.{ends_body, ends_at_item, ends_at_blank_line}
-use Rattle.justfile_round_trip.proofs.Items.LexesParts.{alias_word, eager_word, export_word, import_word, module_word, set_word, unexport_word}
 
 -- the items of a normal shape after a line end, or at the front
 record Rest (items : Shape) : Type 0 where
@@ -29,16 +29,12 @@ following [] = []
 following (i ∷ items) = items
 
 newline_rest : (items : Shape) → Rest items → Rest (after_newline items)
-newline_rest [] h = record { alone = λ e. refl }
-newline_rest (tree.Newline ∷ []) h = record { alone = λ e. refl }
 newline_rest (tree.Newline ∷ tree.Newline ∷ items) h = h
-newline_rest (tree.Newline ∷ _ ∷ items) h = record { alone = λ e. cc }
-newline_rest (_ ∷ items) h = record { alone = λ e. cc }
+newline_rest _ h = record { alone = λ e. cc }
 
 rest_is : (items : Shape) → Rest (normal_rest items)
-rest_is [] = record { alone = λ e. refl }
 rest_is (tree.Newline ∷ items) = newline_rest (normal_rest items) (rest_is items)
-rest_is (_ ∷ items) = record { alone = λ e. cc }
+rest_is _ = record { alone = λ e. cc }
 
 not_alone : (items : Shape) → Rest items → (items ≡ tree.Newline ∷ [] → ⊥) → not (blank_only items) ≡ true
 not_alone items h other = by (blank_only items) refl
@@ -52,18 +48,12 @@ pub newline_follows : (items : Shape) → follows_body (following (normal_rest (
 newline_follows items = by (normal_rest items) (rest_is items)
   where
     by : (r : Shape) → Rest r → follows_body (following (after_newline r)) ≡ true
-    by [] h = refl
-    by (tree.Newline ∷ []) h = refl
     by (tree.Newline ∷ tree.Newline ∷ r) h = not_alone (tree.Newline ∷ tree.Newline ∷ r) h (λ e. cc)
-    by (tree.Newline ∷ _ ∷ r) h = refl
-    by (_ ∷ r) h = refl
+    by _ h = refl
 
 hash_white : (x : ℕ) → x ≡ 35 → white (class_of x) ≡ false
 unfolding class_of
 hash_white x e = ap (λ y. white (class_of y)) e
-
-no_hash : ◌≡◌ {A = ℕ} 0 35 → ⊥
-no_hash e = omega (arith, e)
 
 -- how the content of a construct begins: with a name, or with `@`
 data Begins : List ℕ → Type 0 where
@@ -76,16 +66,15 @@ header_begins false name more h = with_name name more h
 
 assignment_begins : (eager export : Bool) (name more : List ℕ) → IsName name
     → Begins (word_on eager (codes "eager") (word_on export (codes "export") (name ++ more)))
-assignment_begins true export name more h = with_name (codes "eager") _ eager_word
-assignment_begins false true name more h = with_name (codes "export") _ export_word
+unfolding class_of
+assignment_begins true export name more h = with_name (codes "eager") _ (word_name (codes "eager") refl)
+assignment_begins false true name more h = with_name (codes "export") _ (word_name (codes "export") refl)
 assignment_begins false false name more h = with_name name _ h
 
 -- a construct is not empty: it begins with a bracket, or with its content
 construct_text : (entries : List ShapeEntry) {text : List ℕ} → Begins text → is_empty (entries_on entries text) ≡ false
 construct_text [] (with_name [] more h) = absurd h
-construct_text [] (with_name (x ∷ xs) more h) = refl
-construct_text [] (with_at more) = refl
-construct_text (e ∷ entries) h = refl
+construct_text _ _ = refl
 
 -- a construct can follow a body
 construct_follows : (entries : List ShapeEntry) {text : List ℕ} → Begins text → ends_body (entries_on entries text) ≡ true
@@ -97,14 +86,15 @@ construct_follows (e ∷ entries) h = ends_at_item 91 _ refl
 
 module _ (limit : ℕ) (ind : List ℕ) where
   content_begins : {content : ShapeContent} → GoodContent limit content → (more : List ℕ) → Begins (content_on ind content more)
-  content_begins (good_content.alias named path) more = with_name (codes "alias") _ alias_word
+  unfolding class_of
+  content_begins (good_content.alias named path) more = with_name (codes "alias") _ (word_name (codes "alias") refl)
   content_begins (good_content.assignment {eager = eager} {export = export} {name = name} one named h) more = assignment_begins eager export name _ named.is_name
   content_begins (good_content.function {name = name} named names h) more = with_name name _ named.is_name
-  content_begins (good_content.import path) more = with_name (codes "import") _ import_word
-  content_begins (good_content.module_named named path) more = with_name (codes "mod") _ module_word
+  content_begins (good_content.import path) more = with_name (codes "import") _ (word_name (codes "import") refl)
+  content_begins (good_content.module_named named path) more = with_name (codes "mod") _ (word_name (codes "mod") refl)
   content_begins (good_content.header {h = header} h) more = header_begins header.quiet header.name _ h.lexes.is_name
-  content_begins (good_content.setting named spelled formed h) more = with_name (codes "set") _ set_word
-  content_begins (good_content.unexport named) more = with_name (codes "unexport") _ unexport_word
+  content_begins (good_content.setting named spelled formed h) more = with_name (codes "set") _ (word_name (codes "set") refl)
+  content_begins (good_content.unexport named) more = with_name (codes "unexport") _ (word_name (codes "unexport") refl)
 
   -- the text of an item is not empty
   some_text : (j : ShapeItem) (items : Shape) → AtStart limit (j ∷ items) → is_empty (text_on ind (j ∷ items)) ≡ false

@@ -1,8 +1,9 @@
 -- A body that is parsed from the tokens of a text is good, if no line of it ends in a carriage return.
 use Rattle.std.proofs.Common.{◌≡◌, ℕ, suc, Bool, true, false, List, [], ◌∷◌, ◌⊎◌, inl, inr, refl, sym, ap, ◌∙◌, subst, ⊎_elim}
-use Rattle.std.specs.Prelude.{◌&&◌, ◌||◌, not}
+use Rattle.std.specs.Prelude.{◌&&◌, ◌||◌}
 use Rattle.std.specs.Str.{IsUtf8}
-use Rattle.std.proofs.lemmas.Bool.{and_parts}
+use Rattle.std.proofs.lemmas.Bool.{and_parts, not-true, or_right}
+use Rattle.std.proofs.Math.Bool.{and-true, and-false, and_assoc}
 use Rattle.justfile_vocabulary.specs.declared.token_kind.TokenKind.{TokenKind}
 use Rattle.justfile_vocabulary.specs.declared.token_kind.TokenKind.TheVariants as kinds
 use Rattle.justfile_model.specs.Lexing.SignificantTokens.{SignificantToken}
@@ -32,36 +33,17 @@ interpolating colon = record { at = Amid; held = false; colon = colon; body = tr
 
 quiet_keeps : (k : TokenKind) (l : List ℕ) (colon : Bool) → quiet k ≡ true → situation_after k l (interpolating colon) ≡ interpolating colon
 quiet_keeps kinds.Colon l colon h = cc
-quiet_keeps kinds.Indent l colon h = cc
-quiet_keeps kinds.Dedent l colon h = cc
-quiet_keeps kinds.Eol l colon h = cc
-quiet_keeps kinds.Text l colon h = cc
-quiet_keeps kinds.Whitespace l colon h = cc
-quiet_keeps kinds.InterpolationStart l colon h = cc
-quiet_keeps kinds.InterpolationEnd l colon h = cc
-quiet_keeps _ l colon h = refl
+quiet_keeps _ l colon h = cc
 
 -- an Indent after a colon, where no level is
 pub indent_leads : (l : List ℕ) (s : Situation) → s.colon ≡ true → s.interpolation ≡ false → s.levels ≡ 0 → situation_after kinds.Indent l s ≡ inner First false true
 indent_leads l s colon interpolation levels = λ i. record { at = First; held = false; colon = colon i; body = whole i; interpolation = interpolation i; levels = one i }
   where
-    or_true : (b : Bool) → (b || true) ≡ true
-    or_true true = refl
-    or_true false = refl
-
     whole : (s.body || s.colon) ≡ true
-    whole = ap (λ b. s.body || b) colon ∙ or_true s.body
+    whole = or_right s.body s.colon colon
 
     one : (situation_after kinds.Indent l s).levels ≡ 1
     one = ap suc levels
-
-and_assoc : (a b c : Bool) → ((a && b) && c) ≡ (a && (b && c))
-and_assoc true b c = refl
-and_assoc false b c = refl
-
-and_none : (a : Bool) → (a && false) ≡ false
-and_none true = refl
-and_none false = refl
 
 -- ---- lines
 
@@ -109,18 +91,15 @@ pub record Walked (P : Situation → Type 0) (ts : Tokens) : Type 0 where
   pub sound : BodySound situation ts
 
 module _ (P : Situation → Type 0) (keep : (k : TokenKind) (l : List ℕ) (s : Situation) → quiet k ≡ true → P s → P (situation_after k l s)) where
-  quiet_walk : (k : TokenKind) (t : SignificantToken) (rest : Tokens) → t.tok.kind ≡ k → quiet k ≡ true → Walked P (t ∷ rest) → Walked P rest
+  pub quiet_walk : (k : TokenKind) (t : SignificantToken) (rest : Tokens) → t.tok.kind ≡ k → quiet k ≡ true → Walked P (t ∷ rest) → Walked P rest
   quiet_walk k t rest e h w = record { situation = situation_after t.tok.kind t.tok.lexeme w.situation; is = keep t.tok.kind t.tok.lexeme w.situation (ap quiet e ∙ h) w.is; sound = w.sound.1 }
 
-  walk_past : (limit : ℕ) {condition : Bool} {depth : ℕ} {e : Value} {ns : Shown} {tokens rest : Tokens} → Expression lexeme nothing (BelowLimit limit) condition depth e ns tokens rest → Walked P tokens → Walked P rest
+  pub walk_past : (limit : ℕ) {condition : Bool} {depth : ℕ} {e : Value} {ns : Shown} {tokens rest : Tokens} → Expression lexeme nothing (BelowLimit limit) condition depth e ns tokens rest → Walked P tokens → Walked P rest
   walk_past limit = walk lexeme nothing (BelowLimit limit) (Walked P) quiet_walk
 
 pub quiet_stays : (k : TokenKind) → quiet k ≡ true → shifts k ≡ false
 quiet_stays kinds.Indent h = cc
-quiet_stays kinds.Dedent h = cc
-quiet_stays kinds.InterpolationStart h = cc
-quiet_stays kinds.InterpolationEnd h = cc
-quiet_stays _ h = refl
+quiet_stays _ h = cc
 
 -- ---- lines that are left out
 
@@ -190,10 +169,6 @@ module _ (limit : ℕ) where
       let w = walk_past (λ o. o ≡ interpolating colon) (λ k l o h e. ap (situation_after k l) e ∙ quiet_keeps k l colon h) limit x (record { situation = interpolating colon; is = refl; sound = s }) in
       subst (λ o. BodySound o rest) w.is w.sound
 
-  -- outside bodies
-  pub walk_outside : {condition : Bool} {depth : ℕ} {e : Value} {ns : Shown} {tokens rest : Tokens} → Expression lexeme nothing (BelowLimit limit) condition depth e ns tokens rest → Walked IsOutside tokens → Walked IsOutside rest
-  walk_outside = walk_past IsOutside (λ k l s h o. outside_after k l s (quiet_stays k h) o) limit
-
   trimmed_good : (ls : List ShapeLine) → GoodLines limit ls → GoodLines limit (trimmed ls)
   trimmed_good [] g = tt
   trimmed_good (Line n [] ∷ ls) g = by (trimmed ls) (trimmed_good ls g.2)
@@ -214,17 +189,13 @@ module _ (limit : ℕ) where
   raw_good : {ns : Shown} (w : At) (l : List ℕ) (fs : List Fragment) (tokens rest : Tokens) → LineOf fs ns tokens rest → NextIs (TextKnown w l) tokens → GoodFragments limit fs → IsUtf8 l → printable_fragments (Text l ∷ fs) ≡ true → GoodFragments limit (Text l ∷ fs) × LineBegins w (Text l ∷ fs)
   raw_good w l [] tokens rest r known good u p = by r known
     where
-      off : (b : Bool) → not b ≡ true → b ≡ false
-      off true e = cc
-      off false e = refl
-
       begins : (w : At) → LastKnown w l → LineBegins w (Text l ∷ [])
       begins First k = k.2
       begins Start k = k.1
       begins Amid k = tt
 
       last : LastKnown w l → GoodFragments limit (Text l ∷ []) × LineBegins w (Text l ∷ [])
-      last k = ((k.0 (off (ends_in_return l) p), u), begins w k)
+      last k = ((k.0 (not-true (ends_in_return l) p), u), begins w k)
 
       by : {ns : Shown} {tokens rest : Tokens} → LineOf [] ns tokens rest → NextIs (TextKnown w l) tokens → GoodFragments limit (Text l ∷ []) × LineBegins w (Text l ∷ [])
       by (g.line_ends e) known = last (subst (TextKnown w l) e known)
@@ -244,20 +215,12 @@ module _ (limit : ℕ) where
       by (g.interpolation e' reads e'' r) known = let k = subst (TextKnown w l) e' known in ((k.0, u, good), begins w k)
 
   line_good : {ns : Shown} (w : At) (held colon : Bool) {fs : List Fragment} {tokens rest : Tokens} → InLine w fs → LineOf fs ns tokens rest → BodySound (inner w held colon) tokens → PartsGood fs → printable_fragments fs ≡ true → LineGood w held colon fs rest
-  line_good Amid held colon i (g.line_ends {token = t} {rest} e) s v p = record { good = tt; begins = tt; place = Start; stands = inl refl; sound = subst (λ h. BodySound (inner Start h colon) rest) (sym (and_true held)) (sound_after (inner Amid held colon) kinds.Eol t rest e s) }
-    where
-      and_true : (b : Bool) → (b && true) ≡ b
-      and_true true = refl
-      and_true false = refl
-  line_good First held colon i (g.line_ends e) s v p = absurd i
-  line_good Start held colon i (g.line_ends e) s v p = absurd i
-  line_good Amid held colon i (g.body_ends {token = t} {rest} e) s v p = record { good = tt; begins = tt; place = Amid; stands = inr (tt, e); sound = subst (λ h. BodySound (inner Amid h colon) (t ∷ rest)) (sym (and_true held)) s }
-    where
-      and_true : (b : Bool) → (b && true) ≡ b
-      and_true true = refl
-      and_true false = refl
-  line_good First held colon i (g.body_ends e) s v p = absurd i
-  line_good Start held colon i (g.body_ends e) s v p = absurd i
+  line_good Amid held colon i (g.line_ends {token = t} {rest} e) s v p =
+      record { good = tt; begins = tt; place = Start; stands = inl refl; sound = subst (λ h. BodySound (inner Start h colon) rest) (sym (and-true held)) (sound_after (inner Amid held colon) kinds.Eol t rest e s) }
+  line_good Amid held colon i (g.body_ends {token = t} {rest} e) s v p =
+      record { good = tt; begins = tt; place = Amid; stands = inr (tt, e); sound = subst (λ h. BodySound (inner Amid h colon) (t ∷ rest)) (sym (and-true held)) s }
+  line_good _ held colon i (g.line_ends e) s v p = absurd i
+  line_good _ held colon i (g.body_ends e) s v p = absurd i
   line_good w held colon {fs} {tokens} {rest} i (g.text {token = t} {tokens = mid} e r) s v p = following r v p (line_good Amid (held && pale t.tok.lexeme) colon tt r (sound_after (inner w held colon) kinds.Text t mid e s))
     where
       following : {ns : Shown} {gs : List Fragment} → LineOf gs ns mid rest → PartsGood (Text t.tok.lexeme ∷ gs) → printable_fragments (Text t.tok.lexeme ∷ gs) ≡ true → (PartsGood gs → printable_fragments gs ≡ true → LineGood Amid (held && pale t.tok.lexeme) colon gs rest) → LineGood w held colon (Text t.tok.lexeme ∷ gs) rest
@@ -281,7 +244,7 @@ module _ (limit : ℕ) where
       following : {ns : Shown} {gs : List Fragment} → LineOf gs ns mid rest → PartsGood (Interpolation e ∷ gs) → printable_fragments (Interpolation e ∷ gs) ≡ true → (PartsGood gs → printable_fragments gs ≡ true → LineGood Amid false colon gs rest) → LineGood w held colon (Interpolation e ∷ gs) rest
       following {gs} r v p more =
           let m = more v.1 (printable_rest (Interpolation e) gs p) in
-          record { good = (v.0, m.good); begins = begins w gs; place = m.place; stands = m.stands; sound = subst (λ h. BodySound (inner m.place h colon) rest) (sym (and_none held)) m.sound }
+          record { good = (v.0, m.good); begins = begins w gs; place = m.place; stands = m.stands; sound = subst (λ h. BodySound (inner m.place h colon) rest) (sym (and-false held)) m.sound }
 
   -- ---- lines up to the dedent
 

@@ -1,11 +1,13 @@
 -- Printed lines of a body, and the end of the body, lex to the printer's tokens, token by token.
-use Rattle.std.proofs.Common.{◌≡◌, ℕ, zero, suc, ◌+◌, ◌-◌, Bool, true, false, cond, eqb, List, [], ◌∷◌, ◌++◌, length, get_or, take, drop, Option, Some, None, Ok, refl, sym, ap, ◌∙◌, subst, arith}
+use Rattle.std.proofs.Common.{◌≡◌, ℕ, zero, suc, ◌-◌, Bool, true, false, cond, eqb, List, [], ◌∷◌, ◌++◌, length, get_or, take, drop, Option, Some, None, Ok, refl, sym, ap, ◌∙◌, subst, arith}
 use Rattle.std.specs.Prelude.{◌&&◌, ◌||◌, not, nat_eq}
 use Rattle.std.specs.List.{list_all, list_any, starts_with}
 use Rattle.std.specs.Str.{bytes_eq}
-use Rattle.std.proofs.lemmas.Bool.{and_parts}
+use Rattle.std.proofs.lemmas.Bool.{and_parts, not-true}
 use Rattle.std.proofs.lemmas.Bool.Decides.{nat_tests}
 use Rattle.std.proofs.lemmas.Slice.Eq.{bytes_eq-Decides}
+use Rattle.std.proofs.Math.Seq.{take-append-add, drop-append-add}
+use Rattle.std.proofs.Math.Bool.{and-false}
 use Rattle.justfile_vocabulary.specs.declared.byte_class.ByteClass.{ByteClass}
 use Rattle.justfile_vocabulary.specs.declared.byte_class.ByteClass.TheVariants as classes
 use Rattle.justfile_vocabulary.specs.declared.token_kind.TokenKind.TheVariants.{Colon, Dedent, Eol, Indent, InterpolationEnd, InterpolationStart, Text, Whitespace}
@@ -20,8 +22,8 @@ use Rattle.justfile_model.specs.Lexing.Tok.{Tok}
 use Rattle.justfile_model.specs.Lexing.Modes.{Mode, is_empty}
 use Rattle.justfile_model.specs.Lexing.Next.{fixed_token, token_by_class, token_within_line, body_token, text_or, layout, begins_blank_line, next}
 use Rattle.justfile_round_trip.proofs.LiteralTexts.LexedModes.{Mark, mark, LexesTo, step, take_front}
-use Rattle.justfile_round_trip.proofs.LiteralTexts.Inline.{Each, head_is, amid, amid_next, and_no}
-use Rattle.justfile_round_trip.proofs.RecipeBodies.Lines.{at_item, run_more, laid_after}
+use Rattle.justfile_round_trip.proofs.LiteralTexts.Inline.{Each, head_is, amid, amid_next}
+use Rattle.justfile_round_trip.proofs.RecipeBodies.Lines.{at_item, run_more, laid_after, same_both}
 
 -- where a line of a body begins, and inside it
 abbrev pub at_line : List ℕ → Mode
@@ -58,7 +60,7 @@ not_mixed x xs e = go (eqb x 32) refl
     not_tab h = grind (arith, nat_tests)
 
     go : (t : Bool) → eqb x 32 ≡ t → is_mixed xs ≡ false
-    go true h = ap (λ b. list_any (λ y. eqb y 32) xs && b) (no_other x 9 xs (not_tab h) e) ∙ and_no (list_any (λ y. eqb y 32) xs)
+    go true h = ap (λ b. list_any (λ y. eqb y 32) xs && b) (no_other x 9 xs (not_tab h) e) ∙ and-false (list_any (λ y. eqb y 32) xs)
     go false h = ap (λ b. b && list_any (λ y. eqb y 9) xs) (no_other x 32 xs h e)
 
 is_blank_class : (x : ℕ) → is_space_or_tab x ≡ true → blank (class_of x) ≡ true
@@ -80,7 +82,7 @@ pub colon_step : {os : List OpenDelimiter} {ls : List (List ℕ)} {c : Bool} {i 
 unfolding token_by_class class_of fixed_token
 colon_step {os} {ls} {c} {i} {f} x {more} {ts} equals colon k =
     step (amid os ls c i f) Colon (58 ∷ []) (x ∷ more) ts
-    (amid_next os ls c i f 58 (x ∷ more) (and_no (is_empty os)) ∙ rw equals (rw colon refl))
+    (amid_next os ls c i f 58 (x ∷ more) (and-false (is_empty os)) ∙ rw equals (rw colon refl))
     (λ e. cc) (λ o n col. k)
 
 -- ---- inside a line of a body
@@ -125,19 +127,8 @@ indent_step [] line ts i none seen k = let e = i.some in cc
 indent_step (x ∷ xs) line ts i none seen k =
     step (at_item true) Indent (x ∷ xs) line ts (laid_after (at_item true) (x ∷ xs) line i.each none ∙ indent_chosen x xs line _ i.equal seen) (λ e. cc) (λ o n c. k)
 
-take_past : (xs ys : List ℕ) (n : ℕ) → take (length xs + n) (xs ++ ys) ≡ xs ++ take n ys
-take_past [] ys n = ap (λ k. take k ys) (omega arith)
-take_past (x ∷ xs) ys n = let s : length (x ∷ xs) + n ≡ suc (length xs + n) = omega arith in rw s (ap (λ l. x ∷ l) (take_past xs ys n))
-
-drop_past : (xs ys : List ℕ) (n : ℕ) → drop (length xs + n) (xs ++ ys) ≡ drop n ys
-drop_past [] ys n = ap (λ k. drop k ys) (omega arith)
-drop_past (x ∷ xs) ys n = let s : length (x ∷ xs) + n ≡ suc (length xs + n) = omega arith in rw s (drop_past xs ys n)
-
-same_refl : (xs : List ℕ) → bytes_eq xs xs ≡ true
-same_refl xs = (bytes_eq-Decides xs xs).1 refl
-
 begins : (ind v : List ℕ) → starts_with nat_eq (ind ++ v) ind ≡ true
-begins ind v = ap (bytes_eq ind) (take_front ind v) ∙ same_refl ind
+begins ind v = ap (bytes_eq ind) (take_front ind v) ∙ (bytes_eq-Decides ind ind).1 refl
 
 pub swapped : (a b : List ℕ) → bytes_eq a b ≡ false → bytes_eq b a ≡ false
 swapped a b h = by (bytes_eq b a) refl
@@ -184,7 +175,7 @@ level_step (x ∷ xs) line ts i seen k =
     let n = run_more ind line i.each in
     step (at_line ind) Whitespace ind line ts
     ((λ j. layout (at_line ind) (take (n j) (ind ++ line)) (drop (n j) (ind ++ line)) (ind ++ line))
-    ∙ (λ j. layout (at_line ind) (take_past ind line (blank_len line) j) (drop_past ind line (blank_len line) j) (ind ++ line))
+    ∙ (λ j. layout (at_line ind) (take-append-add ind line (blank_len line) j) (drop-append-add ind line (blank_len line) j) (ind ++ line))
     ∙ level_chosen x xs (take (blank_len line) line) _ _ seen)
     (λ e. cc)
     (λ o l c. subst (λ b. LexesTo (record (at_line ind) { line_start = b }) line ts) (sym (no_feed ind i.each (length ind - 1))) k)
@@ -207,11 +198,7 @@ white_blanks (x ∷ xs) each = let h = blank_white (class_of x) each.0 in (h.0, 
 pub closes_over : (last : Bool) (w rest : List ℕ) → IsWhite w → closes_levels last (w ++ rest) ≡ closes_levels (cond (is_empty w) last false) rest
 unfolding closes_levels
 closes_over last [] rest h = refl
-closes_over last (x ∷ xs) rest h = rw h.0 (rw h.1 (closes_over false xs rest h.2 ∙ ap (λ b. closes_levels b rest) (same (is_empty xs))))
-  where
-    same : (b : Bool) → cond b false false ≡ false
-    same true = refl
-    same false = refl
+closes_over last (x ∷ xs) rest h = rw h.0 (rw h.1 (closes_over false xs rest h.2 ∙ ap (λ b. closes_levels b rest) (same_both (is_empty xs) false)))
 
 pub closes_feed : (last : Bool) (rest : List ℕ) → closes_levels last (10 ∷ rest) ≡ closes_levels true rest
 unfolding closes_levels class_of
@@ -268,11 +255,8 @@ dedent_found ind [] i h = refl
 dedent_found [] (x ∷ xs) i h = let e = i.some in cc
 dedent_found (y ∷ ys) (x ∷ xs) i h =
     let parts = and_parts (closes_levels true (x ∷ xs)) (not (blank (class_of x))) h in
-    laid_after (at_line (y ∷ ys)) [] (x ∷ xs) tt (off (blank (class_of x)) parts.1) ∙ dedent_chosen y ys (x ∷ xs) (begins_blank_line (x ∷ xs)) refl (λ seen. closes_alike x xs (end_white x xs seen) parts.0)
-  where
-    off : (b : Bool) → not b ≡ true → b ≡ false
-    off true e = cc
-    off false e = refl
+    laid_after (at_line (y ∷ ys)) [] (x ∷ xs) tt (not-true (blank (class_of x)) parts.1)
+    ∙ dedent_chosen y ys (x ∷ xs) (begins_blank_line (x ∷ xs)) refl (λ seen. closes_alike x xs (end_white x xs seen) parts.0)
 
 pub dedent_step : (ind more : List ℕ) (ts : List Mark) → IsLevel ind → ends_body more ≡ true → LexesTo (at_item false) more ts → LexesTo (at_line ind) more (mark Dedent [] ∷ ts)
 dedent_step ind more ts i h k = step (at_line ind) Dedent [] more ts (dedent_found ind more i h) (λ e. cc) (λ o n c. k)

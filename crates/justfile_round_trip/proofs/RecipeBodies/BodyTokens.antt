@@ -7,125 +7,21 @@ use Rattle.std.proofs.lemmas.Bool.{and_parts}
 use Rattle.std.proofs.lemmas.Bool.Decides.{nat_tests}
 use Rattle.std.proofs.lemmas.List.Sums.{prefix_len-le-length}
 use Rattle.std.proofs.lemmas.Slice.Eq.{bytes_eq-Decides}
-use Rattle.justfile_vocabulary.specs.declared.byte_class.ByteClass.{ByteClass}
-use Rattle.justfile_vocabulary.specs.declared.byte_class.ByteClass.TheVariants as classes
-use Rattle.justfile_token.specs.declared.delimiter.Delimiter.{Delimiter}
-use Rattle.justfile_token.specs.declared.delimiter.Delimiter.TheVariants.{Brace, Bracket, Paren}
-use Rattle.justfile_token.specs.declared.string_kind.StringDelimiter.{StringDelimiter}
-use Rattle.justfile_token.specs.declared.string_kind.StringDelimiter.TheVariants as delimiters
-use Rattle.justfile_token.specs.declared.string_kind.StringKind.{StringKind}
+use Rattle.std.proofs.Math.Numerals.{one-add}
+use Rattle.justfile_round_trip.proofs.Facts.{plain, Plain, outside_plain}
 use Rattle.justfile_vocabulary.specs.declared.token_kind.TokenKind.{TokenKind}
 use Rattle.justfile_vocabulary.specs.declared.token_kind.TokenKind.TheVariants as kinds
 use Rattle.justfile_vocabulary.specs.ByteClass.{class_of}
-use Rattle.justfile_token.specs.StringKind.{kind_of, token_kind_of}
 use Rattle.justfile_model.specs.declared.open_delimiter.OpenDelimiter.{OpenDelimiter}
 use Rattle.justfile_model.specs.declared.raw_text.RawText.TheVariants as raw_texts
-use Rattle.justfile_model.specs.Lexing.Bytes.{blank, is_blank, blank_len, is_line_end, is_interpolation_start, is_interpolation_end, is_mixed, closes_levels, first_char}
-use Rattle.justfile_model.specs.Lexing.LexicalFault.{LexicalError}
-use Rattle.justfile_model.specs.Lexing.LiteralText.{raw_len, ends, pieces_len}
+use Rattle.justfile_model.specs.Lexing.Bytes.{blank, is_blank, blank_len, is_line_end, is_interpolation_start, is_interpolation_end, is_mixed, closes_levels}
+use Rattle.justfile_model.specs.Lexing.LiteralText.{ends, pieces_len}
 use Rattle.justfile_model.specs.Lexing.Modes.{Mode, is_empty, innermost, nested}
-use Rattle.justfile_model.specs.Lexing.Next.{NextToken, doubled_token, fixed_token, literal_part, literal_token, is_same, closing_delimiter, brace_by, token_by_class, token_outside_text, text_or, body_token, at_end_by, Region, InText, InInterpolation, OutsideText, region_by, token_in_region, token_within_line, blanks_or, tested_blanks, is_level, layout, begins_blank_line, next_by, next}
+use Rattle.justfile_model.specs.Lexing.Next.{NextToken, token_outside_text, text_or, body_token, at_end_by, Region, InText, InInterpolation, OutsideText, region_by, token_in_region, token_within_line, blanks_or, tested_blanks, is_level, layout, begins_blank_line, next_by, next}
 use Rattle.justfile_model.specs.Lexing.Tok.{Tok}
 use Rattle.justfile_round_trip.proofs.LiteralTexts.Inline.{head_is}
 use Rattle.justfile_round_trip.proofs.RecipeBodies.Lines.{none_here}
 use Rattle.justfile_round_trip.proofs.LiteralTexts.RawTexts.{scan, text_no_end}
-
--- ---- tokens other than indents, dedents, the end, and those of bodies alone
-
-abbrev plain : TokenKind → Bool
-plain kinds.Text = false
-plain kinds.Indent = false
-plain kinds.Dedent = false
-plain kinds.Eof = false
-plain kinds.InterpolationStart = false
-plain kinds.InterpolationEnd = false
-plain _ = true
-
-abbrev PlainBy : NextToken → Type 0
-PlainBy (Ok x) = plain x.0 ≡ true
-PlainBy (Err r) = Unit {0}
-
-record Plain (found : NextToken) : Type 0 where
-  by : PlainBy found
-
-is : {k : TokenKind} {n : ℕ} → plain k ≡ true → Plain (Ok (k, n))
-is e = record { by = e }
-
-refused : {r : LexicalError} → Plain (Err r)
-refused = record { by = tt }
-
-either : (b : Bool) {x y : NextToken} → Plain x → Plain y → Plain (cond b x y)
-either true p q = p
-either false p q = q
-
-module _ (rest : List ℕ) where
-  twice_plain : (b : ℕ) (k : TokenKind) → plain k ≡ true → Plain (doubled_token b k rest)
-  twice_plain b k e = either (eqb (get_or rest 1 0) b) (is e) (either (eqb (length (drop 1 rest)) 0) refused refused)
-
-  fixed_plain : (b : ℕ) → Plain (fixed_token b rest)
-  unfolding fixed_token
-  fixed_plain b =
-      let c = get_or rest 1 0 in
-      either (eqb b 33) (either (eqb c 61) (is refl) (either (eqb c 126) (is refl) (is refl)))
-      (either (eqb b 38) (twice_plain 38 _ refl)
-      (either (eqb b 124) (twice_plain 124 _ refl)
-      (either (eqb b 43) (either (eqb c 43) (is refl) (is refl))
-      (either (eqb b 61) (either (eqb c 61) (is refl) (either (eqb c 126) (is refl) (is refl)))
-      (either (eqb b 58) (either (eqb c 61) (is refl) (either (eqb c 58) (is refl) (is refl)))
-      (either (eqb b 36) (is refl)
-      (either (eqb b 42) (is refl)
-      (either (eqb b 44) (is refl)
-      (either (eqb b 47) (is refl)
-      (either (eqb b 63) (is refl)
-      (either (eqb b 64) (is refl) refused)))))))))))
-
-  part_plain : (k : StringKind) (format : Bool) (opener : ℕ) (more whole : TokenKind) → plain more ≡ true → plain whole ≡ true → Plain (literal_part k format opener more whole rest)
-  unfolding literal_part
-  part_plain k format opener more whole e f =
-      either (eqb (raw_len (raw_texts.Literal k format) (drop opener rest)) (length (drop opener rest))) refused
-      (either (format && is_interpolation_start (drop (raw_len (raw_texts.Literal k format) (drop opener rest)) (drop opener rest))) (is e) (is f))
-
-  literal_plain : (m : Mode) → Plain (literal_token m rest)
-  literal_plain m = part_plain _ _ _ kinds.FormatStringStart _ refl (whole (kind_of rest).delimiter)
-    where
-      whole : (d : StringDelimiter) → plain (token_kind_of d) ≡ true
-      whole delimiters.Backtick = refl
-      whole delimiters.QuoteDouble = refl
-      whole delimiters.QuoteSingle = refl
-
-  close_plain : (o : Option OpenDelimiter) (d : Delimiter) (k : TokenKind) → plain k ≡ true → Plain (closing_delimiter o d k)
-  close_plain None d k e = refused
-  close_plain (Some o) d k e = either (is_same o.delimiter d) (is e) refused
-
-  brace_plain : (f : Option StringKind) (o : Option OpenDelimiter) → Plain (brace_by f o rest)
-  brace_plain None o = close_plain o Brace kinds.BraceR refl
-  brace_plain (Some k) o = either (is_interpolation_end rest) (part_plain k true 2 kinds.FormatStringContinue kinds.FormatStringEnd refl refl) (close_plain o Brace kinds.BraceR refl)
-
-  inline_plain : (m : Mode) (k : ByteClass) → Plain (token_by_class m k rest)
-  unfolding token_by_class
-  inline_plain m classes.Blank = is refl
-  inline_plain m classes.LineFeed = either (nested m) (is refl) (is refl)
-  inline_plain m classes.CarriageReturn = either (eqb (get_or rest 1 0) 10) (either (nested m) (is refl) (is refl)) refused
-  inline_plain m classes.IdentifierStart = is refl
-  inline_plain m classes.IdentifierContinue = refused
-  inline_plain m classes.Quote = literal_plain m
-  inline_plain m classes.Opener =
-      either (eqb (get_or rest 0 0) 40) (is refl)
-      (either (eqb (get_or rest 0 0) 91) (is refl)
-      (either (eqb (get_or rest 0 0) 123) (is refl) refused))
-  inline_plain m classes.Closer =
-      either (eqb (get_or rest 0 0) 41) (close_plain _ Paren kinds.ParenR refl)
-      (either (eqb (get_or rest 0 0) 93) (close_plain _ Bracket kinds.BracketR refl)
-      (either (eqb (get_or rest 0 0) 125) (brace_plain _ _) refused))
-  inline_plain m classes.Fixed = fixed_plain (get_or rest 0 0)
-  inline_plain m classes.Lead = either (eqb (first_char rest) 65279) (is refl) refused
-  inline_plain m classes.Other =
-      either (eqb (get_or rest 0 0) 35) (is refl)
-      (either (eqb (get_or rest 0 0) 92)
-      (either (eqb (get_or rest 1 0) 10) (is refl)
-      (either (eqb (get_or rest 1 0) 13) (either (eqb (get_or rest 2 0) 10) (is refl) refused)
-      (either (eqb (length (drop 1 rest)) 0) refused refused)))
-      refused)
 
 -- ---- the place of a token in a body
 
@@ -312,12 +208,12 @@ inside_finds w m x xs i = by (region_by m.in_body m.interpolation) refl
   where
     interpolation : (b : Bool) → (is_empty m.openers && is_interpolation_end (x ∷ xs)) ≡ b → (InBody m → ⊥) → Finds w m (x ∷ xs) (cond b (Ok (kinds.InterpolationEnd, 2)) (token_outside_text m (x ∷ xs)))
     interpolation true h outside = record { fact = open_none m.openers (and_parts (is_empty m.openers) _ h).0 }
-    interpolation false h outside = plain_finds w m (x ∷ xs) _ outside (inline_plain (x ∷ xs) m (class_of x))
+    interpolation false h outside = plain_finds w m (x ∷ xs) _ outside (outside_plain m (x ∷ xs))
 
     by : (p : Region) → region_by m.in_body m.interpolation ≡ p → Finds w m (x ∷ xs) (token_in_region p m (x ∷ xs))
     by InText e = body_finds w m x xs e (i e)
     by InInterpolation e = interpolation _ refl (λ b. let bad : InInterpolation ≡ InText = sym e ∙ b in cc)
-    by OutsideText e = plain_finds w m (x ∷ xs) _ (λ b. let bad : OutsideText ≡ InText = sym e ∙ b in cc) (inline_plain (x ∷ xs) m (class_of x))
+    by OutsideText e = plain_finds w m (x ∷ xs) _ (λ b. let bad : OutsideText ≡ InText = sym e ∙ b in cc) (outside_plain m (x ∷ xs))
 
 -- ---- at the start of a line
 
@@ -326,10 +222,7 @@ past_blank [] = refl
 past_blank (x ∷ xs) = go (blank (class_of x)) refl (past_blank xs)
   where
     go : (t : Bool) → blank (class_of x) ≡ t → head_is blank (past xs) ≡ false → head_is blank (drop (cond t (1 + blank_len xs) 0) (x ∷ xs)) ≡ false
-    go true h ih = ap (λ n. head_is blank (drop n (x ∷ xs))) (one_and (blank_len xs)) ∙ ih
-      where
-        one_and : (n : ℕ) → 1 + n ≡ suc n
-        one_and n = omega arith
+    go true h ih = ap (λ n. head_is blank (drop n (x ∷ xs))) (one-add (blank_len xs)) ∙ ih
     go false h ih = h
 
 front_length : (rest : List ℕ) → length (front rest) ≡ blank_len rest

@@ -2,7 +2,6 @@
 use Rattle.std.proofs.Common.{◌≡◌, ℕ, ◌+◌, Bool, true, false, cond, eqb, List, [], ◌∷◌, ◌++◌, length, take, drop, Option, None, Ok, refl, sym, ap, ◌∙◌, subst, arith}
 use Rattle.std.specs.Prelude.{◌&&◌, slice_index}
 use Rattle.std.specs.Str.{bytes_eq}
-use Rattle.justfile_vocabulary.specs.declared.byte_class.ByteClass.TheVariants as classes
 use Rattle.justfile_vocabulary.specs.declared.token_kind.TokenKind.TheVariants.{Comment, Eol, Identifier}
 use Rattle.justfile_vocabulary.specs.ByteClass.{class_of}
 use Rattle.justfile_model.specs.declared.open_delimiter.OpenDelimiter.{OpenDelimiter}
@@ -10,10 +9,10 @@ use Rattle.justfile_model.specs.declared.raw_text.RawText.TheVariants as raw_tex
 use Rattle.justfile_model.specs.Lexing.Bytes.{blank, in_word, blank_len}
 use Rattle.justfile_model.specs.Lexing.LiteralText.{raw_len}
 use Rattle.justfile_model.specs.Lexing.Tok.{Tok}
-use Rattle.justfile_model.specs.Lexing.Modes.{Mode, is_empty}
+use Rattle.justfile_model.specs.Lexing.Modes.{Mode, is_empty, mode_after}
 use Rattle.justfile_model.specs.Lexing.Next.{token_by_class, token_within_line, layout, at_line_start, begins_blank_line, next}
-use Rattle.justfile_round_trip.proofs.LiteralTexts.LexedModes.{Mark, mark, LexesTo, step, take_front, drop_front}
-use Rattle.justfile_round_trip.proofs.LiteralTexts.Inline.{Each, head_is, amid, amid_next, IsName, run_each}
+use Rattle.justfile_round_trip.proofs.LiteralTexts.LexedModes.{Mark, mark, LexesTo, step, take_front, drop_front, placed}
+use Rattle.justfile_round_trip.proofs.LiteralTexts.Inline.{Each, head_is, amid, amid_next, IsName, is_word, word_name, run_each}
 
 -- where an item begins
 abbrev pub at_item : Bool → Mode
@@ -33,7 +32,7 @@ laid_after m ind line each none =
     let n : blank_len (ind ++ line) ≡ length ind = omega (arith, run_more ind line each, none_here line none) in
     (λ i. layout m (take (n i) (ind ++ line)) (drop (n i) (ind ++ line)) (ind ++ line)) ∙ (λ i. layout m (take_front ind line i) (drop_front ind line i) (ind ++ line))
 
-same_both : {A : Type 0} (b : Bool) (x : A) → cond b x x ≡ x
+pub same_both : {A : Type 0} (b : Bool) (x : A) → cond b x x ≡ x
 same_both true x = refl
 same_both false x = refl
 
@@ -52,6 +51,10 @@ item_name c (x ∷ xs) {more} {ts} h stop k =
     ∙ ap (λ q. token_by_class (at_item c) q (x ∷ xs ++ more)) h.0
     ∙ ap (λ n. Ok (Identifier, n)) (run_each in_word (x ∷ xs) more word stop))
     (λ e. cc) (λ o n col. k)
+
+pub item_word : (c : Bool) (w : List ℕ) {more : List ℕ} {ts : List Mark} → is_word w ≡ true → head_is in_word more ≡ false
+    → LexesTo (amid [] [] c None (bytes_eq w (102 ∷ []))) more ts → LexesTo (at_item c) (w ++ more) (mark Identifier w ∷ ts)
+item_word c w h stop k = item_name c w (word_name w h) stop k
 
 pub blank_line : (c : Bool) {more : List ℕ} {ts : List Mark} → LexesTo (at_item c) more ts → LexesTo (at_item c) (10 ∷ more) (mark Eol (10 ∷ []) ∷ ts)
 unfolding next layout token_within_line token_by_class class_of
@@ -83,27 +86,21 @@ hash_no_brace : (b : Bool) (x : ℕ) (xs : List ℕ) → x ≡ 35 → (b && (eqb
 hash_no_brace true x xs e = ap (λ y. eqb y 125 && eqb (slice_index (x ∷ xs) 1) 125) e
 hash_no_brace false x xs e = refl
 
+pub no_hash : ◌≡◌ {A = ℕ} 0 35 → ⊥
+no_hash e = omega (arith, e)
+
+-- where the class of its first byte decides
+comment_from : (m : Mode) (t : List ℕ) {more : List ℕ} {ts : List Mark} → IsComment t → ((x : ℕ) (xs : List ℕ) → x ≡ 35 → next m (x ∷ xs) ≡ token_by_class m (class_of x) (x ∷ xs))
+    → ((o n c : ℕ) → LexesTo (mode_after Comment (placed (mark Comment t) o n c) m) (10 ∷ more) ts) → LexesTo m (t ++ (10 ∷ more)) (mark Comment t ∷ ts)
+comment_from m [] h found k = absurd (no_hash h.first)
+comment_from m (x ∷ xs) {more} {ts} h found k =
+    step m Comment (x ∷ xs) (10 ∷ more) ts
+    (found x (xs ++ (10 ∷ more)) h.first ∙ hash_found m x (xs ++ (10 ∷ more)) h.first ∙ ap (λ n. Ok (Comment, n)) (h.ends more))
+    (λ e. cc) k
+
 pub comment_step : (os : List OpenDelimiter) (ls : List (List ℕ)) (c : Bool) (i : Option Tok) (f : Bool) (t : List ℕ) {more : List ℕ} {ts : List Mark} → IsComment t → LexesTo (amid os ls c i false) (10 ∷ more) ts
     → LexesTo (amid os ls c i f) (t ++ (10 ∷ more)) (mark Comment t ∷ ts)
-comment_step os ls c i f [] h k = absurd (no_first h.first)
-  where
-    no_first : ◌≡◌ {A = ℕ} 0 35 → ⊥
-    no_first e = omega arith
-comment_step os ls c i f (x ∷ xs) {more} {ts} h k =
-    step (amid os ls c i f) Comment (x ∷ xs) (10 ∷ more) ts
-    (amid_next os ls c i f x (xs ++ (10 ∷ more)) (hash_no_brace (is_empty os) x (xs ++ (10 ∷ more)) h.first)
-    ∙ hash_found (amid os ls c i f) x (xs ++ (10 ∷ more)) h.first
-    ∙ ap (λ n. Ok (Comment, n)) (h.ends more))
-    (λ e. cc) (λ o n col. k)
+comment_step os ls c i f t h k = comment_from (amid os ls c i f) t h (λ x xs e. amid_next os ls c i f x xs (hash_no_brace (is_empty os) x xs e)) (λ o n col. k)
 
 pub item_comment : (c : Bool) (t : List ℕ) {more : List ℕ} {ts : List Mark} → IsComment t → LexesTo (amid [] [] c None false) (10 ∷ more) ts → LexesTo (at_item c) (t ++ (10 ∷ more)) (mark Comment t ∷ ts)
-item_comment c [] h k = absurd (no_first h.first)
-  where
-    no_first : ◌≡◌ {A = ℕ} 0 35 → ⊥
-    no_first e = omega arith
-item_comment c (x ∷ xs) {more} {ts} h k =
-    step (at_item c) Comment (x ∷ xs) (10 ∷ more) ts
-    (item_next c x (xs ++ (10 ∷ more)) (hash_no_blank x h.first)
-    ∙ hash_found (at_item c) x (xs ++ (10 ∷ more)) h.first
-    ∙ ap (λ n. Ok (Comment, n)) (h.ends more))
-    (λ e. cc) (λ o n col. k)
+item_comment c t h k = comment_from (at_item c) t h (λ x xs e. item_next c x xs (hash_no_blank x e)) (λ o n col. k)

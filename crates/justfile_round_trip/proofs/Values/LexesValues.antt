@@ -22,9 +22,9 @@ use Rattle.justfile_model.specs.Lexing.Tok.{Tok}
 use Rattle.justfile_model.specs.Trees.Tree as tree
 use Rattle.justfile_model.specs.Trees.Tree.{Or, And, Comparison, Concatenation, ListConcatenation, Join, Root, If, IfElse, Not, StringLiteral, FormatLiteral, FormatString, Backtick, Assert, AssertMessage, Variable, Call, Group, ListOf, Last, Continue}
 use Rattle.justfile_round_trip.proofs.LiteralTexts.LexedModes.{Mark, mark, LexesTo}
-use Rattle.justfile_round_trip.proofs.LiteralTexts.Inline.{head_is, joins, head_word, amid, IsName, IsLiteral, name_step, space_step, literal_step, whole_step, start_step, continue_step, end_step}
+use Rattle.justfile_round_trip.proofs.LiteralTexts.Inline.{head_is, joins, head_word, amid, IsName, IsLiteral, name_step, word_step, space_step, literal_step, whole_step, start_step, continue_step, end_step}
 use Rattle.justfile_round_trip.proofs.Fixed as fixed
-use Rattle.justfile_round_trip.proofs.Fixed.{bang_step, close_brace_step, close_bracket_step, close_paren_step, open_brace_step, open_bracket_step, open_paren_step, plus_step, token_step}
+use Rattle.justfile_round_trip.proofs.Fixed.{bang_step, close_step, open_step, plus_step, token_step}
 use Rattle.justfile_round_trip.proofs.Canon.{Value, Values, ShapeParts, operator_codes, expr_on, exprs_on, others_on, parts_on, expr_marks, exprs_marks, others_marks, parts_marks}
 use Rattle.justfile_round_trip.proofs.Good.{IsDelimited, IsFormatLiteral, IsFormatStart, IsPartOf, GoodValue, GoodValues, GoodParts}
 
@@ -116,28 +116,6 @@ unfolding class_of
 others_join tree.none more h = h
 others_join (tree.more e es) more h = refl
 
--- ---- the words
-
-mark_name : IsName (codes "x")
-unfolding class_of
-mark_name = (refl, tt)
-
-format_name : IsName (codes "f")
-unfolding class_of
-format_name = (refl, tt)
-
-if_name : IsName (codes "if")
-unfolding class_of
-if_name = (refl, (refl, tt))
-
-else_name : IsName (codes "else")
-unfolding class_of
-else_name = (refl, (refl, (refl, (refl, tt))))
-
-assert_name : IsName (codes "assert")
-unfolding class_of
-assert_name = (refl, (refl, (refl, (refl, (refl, (refl, tt))))))
-
 string_no_backtick : (d : StringDelimiter) → token_kind_of d ≡ kinds.StringToken → is_backtick d ≡ false
 string_no_backtick delimiters.Backtick e = cc
 string_no_backtick delimiters.QuoteDouble e = refl
@@ -181,30 +159,30 @@ module _ (ls : List (List ℕ)) (c : Bool) (i : Option Tok) where
     lex_value os (Join l operator r) h stop k = lex_value os l h.0 refl (λ f. space_step refl (token_step fixed.slash (space_step (value_no_blank r _ h.1) (lex_value os r h.1 stop k))))
     lex_value os (Root operator r) h stop k = token_step fixed.slash (space_step (value_no_blank r _ h) (lex_value os r h stop k))
     lex_value os (If c' b) h stop k =
-        name_step (codes "if") if_name refl (space_step (value_no_blank c' _ h.0) (lex_value os c' h.0 refl (λ f. space_step refl (open_brace_step (λ line. space_step (value_no_blank b _ h.1)
-        (lex_value (opener Brace line ∷ os) b h.1 refl (λ f. space_step refl (close_brace_step (k false)))))))))
+        word_step (codes "if") refl refl (space_step (value_no_blank c' _ h.0) (lex_value os c' h.0 refl (λ f. space_step refl (open_step fixed.brace (λ line. space_step (value_no_blank b _ h.1)
+        (lex_value (opener Brace line ∷ os) b h.1 refl (λ f. space_step refl (close_step fixed.end_brace (k false)))))))))
     lex_value os (IfElse c' b o) {more} h stop k =
-        name_step (codes "if") if_name refl (space_step (value_no_blank c' _ h.0) (lex_value os c' h.0 refl (λ f. space_step refl (open_brace_step (λ line. space_step (value_no_blank b _ h.1)
-        (lex_value (opener Brace line ∷ os) b h.1 refl (λ f. space_step refl (close_brace_step (space_step refl (name_step (codes "else") else_name refl
+        word_step (codes "if") refl refl (space_step (value_no_blank c' _ h.0) (lex_value os c' h.0 refl (λ f. space_step refl (open_step fixed.brace (λ line. space_step (value_no_blank b _ h.1)
+        (lex_value (opener Brace line ∷ os) b h.1 refl (λ f. space_step refl (close_step fixed.end_brace (space_step refl (word_step (codes "else") refl refl
         (space_step (other_no_blank (is_conditional o) _ _ (value_no_blank o more h.2) refl)
         (either (is_conditional o) (lex_value os o h.2 stop k)
-        (open_brace_step (λ line. space_step (value_no_blank o _ h.2) (lex_value (opener Brace line ∷ os) o h.2 refl (λ f. space_step refl (close_brace_step (k false))))))))))))))))))
+        (open_step fixed.brace (λ line. space_step (value_no_blank o _ h.2) (lex_value (opener Brace line ∷ os) o h.2 refl (λ f. space_step refl (close_step fixed.end_brace (k false))))))))))))))))))
     lex_value os (Not e) {more} h stop k = let b = value_begins e more h in bang_step (expr_on e more) b.no_equals b.no_tilde (lex_value os e h stop k)
-    lex_value os (StringLiteral true l) {more} {ts} h stop k = name_step (codes "x") mark_name (literal_no_word h.kind l more h.literal) (delimited_step os kinds.StringToken l more ts h stop (k false))
+    lex_value os (StringLiteral true l) {more} {ts} h stop k = word_step (codes "x") refl (literal_no_word h.kind l more h.literal) (delimited_step os kinds.StringToken l more ts h stop (k false))
     lex_value os (StringLiteral false l) {more} {ts} h stop k = delimited_step os kinds.StringToken l more ts h stop (k false)
-    lex_value os (FormatLiteral l) {more} {ts} h stop k = name_step (codes "f") format_name (literal_no_word h.string.kind l more h.string.literal) (format_step os l more ts h stop (k false))
+    lex_value os (FormatLiteral l) {more} {ts} h stop k = word_step (codes "f") refl (literal_no_word h.string.kind l more h.string.literal) (format_step os l more ts h stop (k false))
     lex_value os (FormatString s e ps) {more} {ts} h stop k =
-        name_step (codes "f") format_name (start_no_word s _ h.0) (start_step (kind_of s) s _ h.0.part h.0.quoted h.0.opens (λ line. space_step (value_no_blank e _ h.1)
+        word_step (codes "f") refl (start_no_word s _ h.0) (start_step (kind_of s) s _ h.0.part h.0.quoted h.0.opens (λ line. space_step (value_no_blank e _ h.1)
         (lex_value (opener (FormatString (kind_of s)) line ∷ os) e h.1 refl (λ f. space_step (parts_no_blank (kind_of s) ps more h.2) (lex_parts os (kind_of s) line ps h.2 (k false))))))
     lex_value os (Backtick l) {more} {ts} h stop k = delimited_step os kinds.Backtick l more ts h stop (k false)
-    lex_value os (Assert name c') h stop k = name_step (codes "assert") assert_name refl (open_paren_step (λ line. lex_value (opener Paren line ∷ os) c' h refl (λ f. close_paren_step (k false))))
+    lex_value os (Assert name c') h stop k = word_step (codes "assert") refl refl (open_step fixed.paren (λ line. lex_value (opener Paren line ∷ os) c' h refl (λ f. close_step fixed.end_paren (k false))))
     lex_value os (AssertMessage name c' m) h stop k =
-        name_step (codes "assert") assert_name refl (open_paren_step (λ line. lex_value (opener Paren line ∷ os) c' h.0 refl (λ f. token_step fixed.comma (space_step (value_no_blank m _ h.1)
-        (lex_value (opener Paren line ∷ os) m h.1 refl (λ f. close_paren_step (k false)))))))
+        word_step (codes "assert") refl refl (open_step fixed.paren (λ line. lex_value (opener Paren line ∷ os) c' h.0 refl (λ f. token_step fixed.comma (space_step (value_no_blank m _ h.1)
+        (lex_value (opener Paren line ∷ os) m h.1 refl (λ f. close_step fixed.end_paren (k false)))))))
     lex_value os (Variable n) {more} h stop k = name_step n h (head_word more stop) (k _)
-    lex_value os (Call n es) h stop k = name_step n h.0 refl (open_paren_step (λ line. lex_values (opener Paren line ∷ os) es h.1 refl (λ f. close_paren_step (k false))))
-    lex_value os (Group e) h stop k = open_paren_step (λ line. lex_value (opener Paren line ∷ os) e h refl (λ f. close_paren_step (k false)))
-    lex_value os (ListOf operator es) h stop k = open_bracket_step (λ line. lex_values (opener Bracket line ∷ os) es h refl (λ f. close_bracket_step (k false)))
+    lex_value os (Call n es) h stop k = name_step n h.0 refl (open_step fixed.paren (λ line. lex_values (opener Paren line ∷ os) es h.1 refl (λ f. close_step fixed.end_paren (k false))))
+    lex_value os (Group e) h stop k = open_step fixed.paren (λ line. lex_value (opener Paren line ∷ os) e h refl (λ f. close_step fixed.end_paren (k false)))
+    lex_value os (ListOf operator es) h stop k = open_step fixed.bracket (λ line. lex_values (opener Bracket line ∷ os) es h refl (λ f. close_step fixed.end_bracket (k false)))
 
     pub lex_values : (os : List OpenDelimiter) (es : Values) {more : List ℕ} {ts : List Mark} → GoodValues es → head_is joins more ≡ false → ((f : Bool) → LexesTo (amid os ls c i f) more ts) → LexesTo (amid os ls c i false) (exprs_on es more) (exprs_marks es ts)
     lex_values os tree.none h stop k = k false

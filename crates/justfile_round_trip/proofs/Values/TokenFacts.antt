@@ -6,6 +6,7 @@ use Rattle.std.proofs.lemmas.Bool.{and_parts}
 use Rattle.std.proofs.lemmas.Bool.Decides.{nat_tests}
 use Rattle.std.proofs.lemmas.List.{reverse-append, reverse-reverse}
 use Rattle.std.proofs.lemmas.Str.{IsUtf8-take, IsUtf8-drop}
+use Rattle.std.proofs.Math.Bool.{or-false}
 use Rattle.justfile_vocabulary.specs.declared.token_kind.TokenKind.{TokenKind}
 use Rattle.justfile_vocabulary.specs.declared.token_kind.TokenKind.TheVariants as kinds
 use Rattle.justfile_token.specs.declared.string_kind.StringKind.{StringKind}
@@ -81,11 +82,7 @@ at_end_ends m None (l ∷ ls) = record { ends = (λ e. cc, λ e. cc) }
 next_ends : (m : Mode) (rest : List ℕ) → m.line_start ≡ false → begins_blank_line rest ≡ true → EndsLine m (next m rest)
 unfolding next
 next_ends m [] s h = at_end_ends m m.interpolation m.levels
-next_ends m (b ∷ bs) s h = subst (λ t. EndsLine m (next_by t m (b ∷ bs))) (sym s) (inside_ends m b bs (left (is_line_end (b ∷ bs)) h))
-  where
-    left : (a : Bool) → (a || false) ≡ true → a ≡ true
-    left true e = refl
-    left false e = e
+next_ends m (b ∷ bs) s h = subst (λ t. EndsLine m (next_by t m (b ∷ bs))) (sym s) (inside_ends m b bs (sym (or-false (is_line_end (b ∷ bs))) ∙ h))
 
 -- ---- the delimiters that are open around a token
 
@@ -206,7 +203,7 @@ abbrev pub Runs : Mode → List ℕ → List Tok → Type 0
 Runs m rest [] = Unit {0}
 Runs m rest (t ∷ ts) = (following : List ℕ) × (rest ≡ t.lexeme ++ following) × (next m rest ≡ Ok (t.kind, length t.lexeme)) × Runs (mode_after t.kind t m) following ts
 
-whitespace_kind : (k : TokenKind) → is_whitespace k ≡ true → k ≡ kinds.Whitespace
+pub whitespace_kind : (k : TokenKind) → is_whitespace k ≡ true → k ≡ kinds.Whitespace
 whitespace_kind kinds.Whitespace h = refl
 whitespace_kind _ h = cc
 

@@ -9,7 +9,7 @@ use Rattle.justfile_vocabulary.specs.declared.token_kind.TokenKind.{TokenKind}
 use Rattle.justfile_vocabulary.specs.declared.token_kind.TokenKind.TheVariants as kinds
 use Rattle.justfile_token.specs.StringKind.{kind_of}
 use Rattle.justfile_model.specs.declared.conditional_operator.ConditionalOperator.{ConditionalOperator}
-use Rattle.justfile_model.specs.declared.conditional_operator.ConditionalOperator.TheVariants.{Equality, Inequality, RegexMatch, RegexMismatch}
+use Rattle.justfile_model.specs.declared.conditional_operator.ConditionalOperator.TheVariants.{Equality}
 use Rattle.justfile_model.specs.Lexing.SignificantTokens.{SignificantToken}
 use Rattle.justfile_model.specs.Trees.Tree as tree
 use Rattle.justfile_model.specs.Trees.Tree.{lexeme, nothing}
@@ -44,9 +44,7 @@ either false x y u v = v
 
 operator_utf8 : (by : ConditionalOperator) (more : List ℕ) → IsUtf8 more → IsUtf8 (32 ∷ (operator_codes by ++ (32 ∷ more)))
 operator_utf8 Equality more u = plain (codes " == ") more refl u
-operator_utf8 Inequality more u = plain (codes " != ") more refl u
-operator_utf8 RegexMatch more u = plain (codes " =~ ") more refl u
-operator_utf8 RegexMismatch more u = plain (codes " !~ ") more refl u
+operator_utf8 by more u = plain (32 ∷ (operator_codes by ++ (32 ∷ []))) more refl u
 
 others_utf8 : (es : Values) (more : List ℕ) → IsUtf8 more → IsUtf8 (exprs_on es more) → IsUtf8 (others_on es more)
 others_utf8 tree.none more u v = u
@@ -64,11 +62,11 @@ past s t ts k e h = subst (λ x. Sound (around x t.tok.lexeme s) (is_comment x) 
 pub on : (s : Around) (c : Bool) (t : SignificantToken) (ts : Tokens) (k : TokenKind) → IsKind k t → ((l : List ℕ) → around k l s ≡ s) → is_comment k ≡ false → Sound s c (t ∷ ts) → Sound s false ts
 on s c t ts k e same no_comment h = subst (λ b. Sound s b ts) no_comment (subst (λ x. Sound x (is_comment k) ts) (same t.tok.lexeme) (past s t ts k e h.2))
 
-pub operator_around : (by : ConditionalOperator) (s : Around) (l : List ℕ) → around (operator_kind by) l s ≡ s
+operator_around : (by : ConditionalOperator) (s : Around) (l : List ℕ) → around (operator_kind by) l s ≡ s
 operator_around Equality s l = refl
 operator_around _ s l = refl
 
-pub operator_no_comment : (by : ConditionalOperator) → is_comment (operator_kind by) ≡ false
+operator_no_comment : (by : ConditionalOperator) → is_comment (operator_kind by) ≡ false
 operator_no_comment Equality = refl
 operator_no_comment _ = refl
 
